@@ -1,0 +1,94 @@
+-- Laws of the pieces between commas.
+use Rattle.std.proofs.Common.{◌≡◌, ℕ, suc, ◌+◌, ◌-◌, ◌<◌, ◌≤◌, Bool, true, false, List, [], ◌∷◌, ◌++◌, length, get_or, drop, refl, sym, ◌∙◌, ap, cond, arith, append_assoc, add-one, append-nil}
+use Rattle.std.specs.Prelude.{slice_range, filter, map}
+use Rattle.std.proofs.Math.Seq.{drop-cons, take-suc}
+use Rattle.std.proofs.lemmas.List.{get_or-drop, length-drop}
+use Rattle.std.proofs.lemmas.Grind.{common_steps}
+use Rattle.hx_fields.specs.Names.{pieces, in_front, cuts, next_place, trimmed, is_nonempty}
+use Rattle.hx_fields.specs.declared.cutting.Place.{Place}
+use Rattle.hx_fields.specs.declared.cutting.Place.TheVariants.{Outside, Quoted, Escaped}
+
+-- these bytes in front of the first piece
+abbrev pub all_in_front : List ℕ → List (List ℕ) → List (List ℕ)
+all_in_front cur [] = cur ∷ []
+all_in_front cur (p ∷ ps) = (cur ++ p) ∷ ps
+
+-- the members among some pieces
+abbrev pub kept : List (List ℕ) → List (List ℕ)
+kept ps = filter is_nonempty (map trimmed ps)
+
+-- a byte in front is one more byte of the front
+pub all_in_front-in_front : (cur : List ℕ) (b : ℕ) (ps : List (List ℕ)) → all_in_front cur (in_front b ps) ≡ all_in_front (cur ++ b ∷ []) ps
+all_in_front-in_front cur b [] = refl
+all_in_front-in_front cur b (p ∷ ps) = ap (λ q. q ∷ ps) (sym (append_assoc cur (b ∷ []) p))
+
+-- nothing in front changes nothing
+pub all_in_front-nil : (place : Place) (text : List ℕ) → all_in_front [] (pieces place text) ≡ pieces place text
+all_in_front-nil place [] = refl
+all_in_front-nil place (b ∷ bs) =
+    let P : List (List ℕ) → Type 0 = λ ps. all_in_front [] (in_front b ps) ≡ in_front b ps in
+    let front : P (pieces (next_place place b) bs) = front_of b (pieces (next_place place b) bs) in
+    elim (cuts place b) as (λ t. all_in_front [] (cond t ([] ∷ pieces Outside bs) (in_front b (pieces (next_place place b) bs)))
+    ≡ cond t ([] ∷ pieces Outside bs) (in_front b (pieces (next_place place b) bs))) [ true ↦ refl | false ↦ front ]
+  where
+    front_of : (b : ℕ) (ps : List (List ℕ)) → all_in_front [] (in_front b ps) ≡ in_front b ps
+    front_of b [] = refl
+    front_of b (p ∷ ps) = refl
+
+-- filtering goes element by element
+pub filter-cons : {X : Type 0} (p : X → Bool) (x : X) (xs : List X) → filter p (x ∷ xs) ≡ filter p (x ∷ []) ++ filter p xs
+filter-cons p x xs = elim (p x) as (λ t. cond t (x ∷ filter p xs) (filter p xs) ≡ cond t (x ∷ []) [] ++ filter p xs) [ true ↦ refl | false ↦ refl ]
+
+-- a byte that cuts stands outside quotes, and so does the next
+pub next_place-cuts : (place : Place) (b : ℕ) → cuts place b ≡ true → next_place place b ≡ Outside
+next_place-cuts Outside b h = grind (arith, common_steps)
+next_place-cuts Quoted b h = cc
+next_place-cuts Escaped b h = cc
+
+-- the pieces at a byte that doesn't cut, and at one that does
+pub pieces-goes_on : (place : Place) (b : ℕ) (bs : List ℕ) → cuts place b ≡ false → pieces place (b ∷ bs) ≡ in_front b (pieces (next_place place b) bs)
+pieces-goes_on place b bs h = rw h refl
+
+pub pieces-cut : (place : Place) (b : ℕ) (bs : List ℕ) → cuts place b ≡ true → pieces place (b ∷ bs) ≡ [] ∷ pieces Outside bs
+pieces-cut place b bs h = rw h refl
+
+-- a part with one more byte
+pub range_grows : (v : List ℕ) (s i : ℕ) → s ≤ i → i < length v → slice_range v s (i + 1) ≡ slice_range v s i ++ get_or v i 0 ∷ []
+range_grows v s i within at =
+    let e : i + 1 - s ≡ suc (i - s) = omega arith in
+    let place : s + (i - s) ≡ i = omega arith in
+    let inside : i - s < length (drop s v) = simp length-drop (omega arith) in
+    rw e (take-suc (drop s v) (i - s) 0 inside ∙ ap (λ x. slice_range v s i ++ x ∷ []) (get_or-drop s v (i - s) 0 ∙ ap (λ k. get_or v k 0) place))
+
+module _ (value : List ℕ) (start i : ℕ) (place : Place) (within : start ≤ i) (at : i < length value) where
+  -- the next byte joins the front
+  pub front_grows : cuts place (get_or value i 0) ≡ false
+      → all_in_front (slice_range value start i) (pieces place (drop i value))
+      ≡ all_in_front (slice_range value start (i + 1)) (pieces (next_place place (get_or value i 0)) (drop (i + 1) value))
+  front_grows h =
+      let b : ℕ = get_or value i 0 in
+      let cur : List ℕ = slice_range value start i in
+      let e : drop i value ≡ b ∷ drop (i + 1) value = rw add-one (drop-cons value i 0 at) in
+      let longer : cur ++ b ∷ [] ≡ slice_range value start (i + 1) = sym (range_grows value start i within at) in
+      ap (λ t. all_in_front cur (pieces place t)) e
+      ∙ ap (λ ps. all_in_front cur ps) (pieces-goes_on place b (drop (i + 1) value) h)
+      ∙ all_in_front-in_front cur b (pieces (next_place place b) (drop (i + 1) value))
+      ∙ ap (λ q. all_in_front q (pieces (next_place place b) (drop (i + 1) value))) longer
+
+  -- the front is a piece
+  pub front_ends : cuts place (get_or value i 0) ≡ true
+      → kept (all_in_front (slice_range value start i) (pieces place (drop i value)))
+      ≡ kept (slice_range value start i ∷ []) ++ kept (all_in_front (slice_range value (i + 1) (i + 1)) (pieces (next_place place (get_or value i 0)) (drop (i + 1) value)))
+  front_ends h =
+      let b : ℕ = get_or value i 0 in
+      let cur : List ℕ = slice_range value start i in
+      let rest : List (List ℕ) = pieces Outside (drop (i + 1) value) in
+      let e : drop i value ≡ b ∷ drop (i + 1) value = rw add-one (drop-cons value i 0 at) in
+      let none : slice_range value (i + 1) (i + 1) ≡ [] = grind (arith, common_steps) in
+      let after : all_in_front (slice_range value (i + 1) (i + 1)) (pieces (next_place place b) (drop (i + 1) value)) ≡ rest
+      = rw (none, next_place-cuts place b h) (all_in_front-nil Outside (drop (i + 1) value)) in
+      ap (λ t. kept (all_in_front cur (pieces place t))) e
+      ∙ ap (λ ps. kept (all_in_front cur ps)) (pieces-cut place b (drop (i + 1) value) h)
+      ∙ ap (λ q. kept (q ∷ rest)) (append-nil cur)
+      ∙ filter-cons is_nonempty (trimmed cur) (map trimmed rest)
+      ∙ ap (λ ps. kept (cur ∷ []) ++ kept ps) (sym after)

@@ -1,0 +1,75 @@
+-- How the bytes of field values are read: names, combined values, and the members of a list
+-- (RFC 9110, sections 5.1, 5.3, 5.5 and 5.6.1). No type of field lines is named here.
+--
+-- is_same_name: two names are one          joined: values as one value
+-- is_blank, trimmed: the spaces and tabs round a value
+-- pieces, members_of_value: what stands between the commas of a value
+use Rattle.std.specs.Prelude.{ℕ, ◌-◌, ◌==◌, nat_lt, if◌then◌else◌, Bool, false, ◌||◌, List, [], ◌∷◌, ◌++◌, length, take, drop, map, filter, codes, Option, Some, None}
+use Rattle.std.specs.List.{prefix_len, suffix_len, concat}
+use Rattle.std.specs.Str.{str_eq_ignore_ascii_case}
+use Rattle.hx_fields.specs.declared.cutting.Place.{Place}
+use Rattle.hx_fields.specs.declared.cutting.Place.TheVariants.{Outside, Quoted, Escaped}
+
+-- field names compare without ASCII case (RFC 9110, section 5.1)
+abbrev pub is_same_name : List ℕ → List ℕ → Bool
+is_same_name a b = str_eq_ignore_ascii_case a b
+
+-- several lines of a name are one value, joined in order by a comma and a space (RFC 9110, section 5.3)
+abbrev pub joined : List (List ℕ) → Option (List ℕ)
+joined [] = None
+joined (value ∷ values) = Some (value ++ concat (map (λ v. codes ", " ++ v) values))
+
+-- OWS = *( SP / HTAB ) (RFC 9110, section 5.6.3)
+abbrev pub is_blank : ℕ → Bool
+is_blank b = (b == 32) || (b == 9)
+
+-- a text without the spaces and tabs round it (RFC 9110, section 5.5)
+abbrev pub trimmed : List ℕ → List ℕ
+trimmed text =
+    let rest = drop (prefix_len is_blank text) text in
+    take (length rest - suffix_len is_blank rest) rest
+
+abbrev pub comma : ℕ
+comma = 44
+
+abbrev pub quote : ℕ
+quote = 34
+
+abbrev pub backslash : ℕ
+backslash = 92
+
+-- where the next byte stands: in a quoted string a backslash takes the next byte with it (RFC 9110, section 5.6.4)
+-- own: an unclosed quote runs to the end of its line
+abbrev pub next_place : Place → ℕ → Place
+next_place Outside b = if b == quote then Quoted else Outside
+next_place Quoted b = if b == quote then Outside else if b == backslash then Escaped else Quoted
+next_place Escaped b = Quoted
+
+-- a comma separates members only outside quotes
+abbrev pub cuts : Place → ℕ → Bool
+cuts Outside b = b == comma
+cuts Quoted b = false
+cuts Escaped b = false
+
+-- a byte in front of the first piece
+abbrev pub in_front : ℕ → List (List ℕ) → List (List ℕ)
+in_front b [] = (b ∷ []) ∷ []
+in_front b (p ∷ ps) = (b ∷ p) ∷ ps
+
+-- the pieces of a text between the commas that separate members; its first byte stands at this place
+abbrev pub pieces : Place → List ℕ → List (List ℕ)
+pieces place [] = [] ∷ []
+pieces place (b ∷ bs) =
+    if cuts place b then [] ∷ pieces Outside bs else in_front b (pieces (next_place place b) bs)
+
+abbrev pub is_nonempty : List ℕ → Bool
+is_nonempty text = nat_lt 0 (length text)
+
+-- the members of one line's value: its trimmed pieces, the empty ones dropped (RFC 9110, section 5.6.1)
+abbrev pub members_of_value : List ℕ → List (List ℕ)
+members_of_value value = filter is_nonempty (map trimmed (pieces Outside value))
+
+-- lists in a row
+abbrev pub flatten : List (List (List ℕ)) → List (List ℕ)
+flatten [] = []
+flatten (xs ∷ xss) = xs ++ flatten xss

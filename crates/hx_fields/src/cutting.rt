@@ -1,0 +1,127 @@
+//! Where a list's members stand in the bytes of a value. No function here takes memory.
+ghost use Rattle.std.specs.Prelude.{◌≡◌, ◌≤◌, ◌-◌, ◌∷◌, [], length, take, drop, ◌<◌, ◌+◌, MatchOption, IfSome};
+ghost use Rattle.std.specs.List.{prefix_len, suffix_len};
+ghost use Rattle.hx_fields.specs.Names.{is_same_name, pieces, is_blank, trimmed, cuts, next_place, members_of_value};
+ghost use Rattle.hx_fields.specs.declared.cutting.Place.{Place};
+
+/// Where a byte of a value stands.
+#[derive(Clone, Copy, Debug, PartialEq, Eq)]
+pub(crate) enum Place {
+    Outside,
+    Quoted,
+    /// In quotes, behind a backslash.
+    Escaped,
+}
+
+/// Whether two field names are one: they compare without ASCII case (RFC 9110, section 5.1).
+pub fn is_same_name(a: &[u8], b: &[u8]) -> bool
+    ensures { result ≡ is_same_name a.now b.now }
+{
+    a.eq_ignore_ascii_case(b)
+}
+
+fn is_blank(b: u8) -> bool
+    ensures { result ≡ is_blank b }
+{
+    b == b' ' || b == b'\t'
+}
+
+fn leading_blanks(text: &[u8]) -> usize
+    ensures count { result ≡ prefix_len is_blank text.now }
+    ensures bound { result ≤ length text.now }
+{
+    let mut n = 0;
+    while n < text.len() && is_blank(text[n]) {
+        n += 1;
+    }
+    n
+}
+
+fn trailing_start(text: &[u8]) -> usize
+    ensures start { result ≡ length text.now - suffix_len is_blank text.now }
+    ensures bound { result ≤ length text.now }
+{
+    let mut n = text.len();
+    while n > 0 && is_blank(text[n - 1]) {
+        n -= 1;
+    }
+    n
+}
+
+/// The text without spaces and tabs round it.
+pub fn trim_blanks(text: &[u8]) -> &[u8]
+    ensures value { result.now ≡ trimmed text.now }
+    ensures bound { length result.now ≤ length text.now }
+{
+    let rest = &text[leading_blanks(text)..];
+    &rest[..trailing_start(rest)]
+}
+
+fn cuts(place: Place, b: u8) -> bool
+    ensures { result ≡ cuts place b }
+{
+    place == Place::Outside && b == b','
+}
+
+fn next_place(place: Place, b: u8) -> Place
+    ensures { result ≡ next_place place b }
+{
+    match place {
+        Place::Outside => {
+            if b == b'"' {
+                Place::Quoted
+            } else {
+                Place::Outside
+            }
+        }
+        Place::Quoted => {
+            if b == b'"' {
+                Place::Outside
+            } else if b == b'\\' {
+                Place::Escaped
+            } else {
+                Place::Quoted
+            }
+        }
+        Place::Escaped => Place::Quoted,
+    }
+}
+
+/// Where the first piece ends: at a comma that separates members, or at the end.
+fn piece_end(text: &[u8]) -> usize
+    ensures within { result ≤ length text.now }
+    ensures last { result ≡ length text.now → pieces Place.Outside text.now ≡ text.now ∷ [] }
+    ensures cut { result < length text.now → pieces Place.Outside text.now ≡ take result text.now ∷ pieces Place.Outside (drop (result + 1) text.now) }
+{
+    let mut place = Place::Outside;
+    for (i, b) in text.iter().enumerate() {
+        if cuts(place, *b) {
+            return i;
+        }
+        place = next_place(place, *b);
+    }
+    text.len()
+}
+
+/// The first member of a value, and what stands behind it.
+pub fn next_member(value: &[u8]) -> Option<(&[u8], &[u8])>
+    ensures members { MatchOption result (members_of_value value.now ≡ []) (λ r. members_of_value value.now ≡ r.0.now ∷ members_of_value r.1.now) }
+    ensures shorter { IfSome result (λ r. length r.1.now < length value.now) }
+{
+    let mut rest = value;
+    loop {
+        let end = piece_end(rest);
+        let piece = trim_blanks(&rest[..end]);
+        if end == rest.len() {
+            return if piece.is_empty() {
+                None
+            } else {
+                Some((piece, &rest[end..]))
+            };
+        }
+        rest = &rest[end + 1..];
+        if !piece.is_empty() {
+            return Some((piece, rest));
+        }
+    }
+}

@@ -1,0 +1,205 @@
+//! A list of field lines, in the order in which they came.
+ghost use Rattle.std.specs.Prelude.{◌≡◌, ◌++◌, ◌∷◌, [], length, IfOk, OnOk, OnErr, slice_get, count_by, option_copied};
+ghost use Rattle.hx_fields.specs.Lines.{is_named, has, count_of, values_of, combined_of, members_of, without_named};
+ghost use Rattle.hx_fields.specs.Names.{members_of_value};
+
+use crate::byte_string::Bytes;
+use crate::cutting::{is_same_name, next_member};
+use crate::field_line::Field;
+use crate::member_list::Members;
+use std::alloc::{AllocError, Global};
+use std::marker::Model;
+
+/// Field lines. Contracts see the list of them.
+#[derive(Debug, Drop)]
+pub struct Fields {
+    lines: Vec<Field>,
+}
+
+impl Model for Fields {
+    ghost use Rattle.std.specs.Prelude.{List};
+    ghost use Rattle.hx_fields.specs.declared.field_line.Field.{Field};
+
+    ghost Value = { List Field };
+
+    ghost view = { λ f. f.lines.items };
+}
+
+impl Fields {
+    /// No lines.
+    pub fn new(alloc: Global) -> Fields
+        ensures { result ≡ [] }
+    {
+        Fields {
+            lines: Vec::new(alloc),
+        }
+    }
+
+    /// Puts a line at the end.
+    pub fn push(&mut self, name: &[u8], value: &[u8]) -> Result<(), AllocError>
+        ensures ok { OnOk result (self.new ≡ self.old ++ record { name = name.now; value = value.now } ∷ []) }
+        ensures err { OnErr result (self.new ≡ self.old) }
+    {
+        let line = Field::copy_of(*self.lines.allocator(), name, value)?;
+        self.lines.push(line)?;
+        Ok(())
+    }
+
+    /// How many lines there are.
+    pub fn len(&self) -> usize
+        ensures { result ≡ length self.now }
+    {
+        self.lines.len()
+    }
+
+    /// The line at this place, from 0.
+    pub fn get(&self, i: usize) -> Option<&Field>
+        ensures { option_copied result ≡ slice_get self.now i }
+    {
+        self.lines.get(i)
+    }
+
+    /// The lines, in order.
+    pub fn as_slice(&self) -> &[Field]
+        ensures { result.now ≡ self.now }
+    {
+        self.lines.as_slice()
+    }
+
+    /// A copy of these lines.
+    pub fn copy(&self, alloc: Global) -> Result<Fields, AllocError>
+        ensures { IfOk result (λ copied. copied ≡ self.now) }
+    {
+        let mut lines = Vec::with_capacity(alloc, self.lines.len())?;
+        for line in &self.lines {
+            lines.push(line.copy(alloc)?)?;
+        }
+        Ok(Fields { lines })
+    }
+
+    /// Whether a line of this name stands.
+    pub fn has(&self, name: &[u8]) -> bool
+        ensures { result ≡ has self.now name.now }
+    {
+        has_line(self.lines.as_slice(), name)
+    }
+
+    /// How many lines of this name stand.
+    pub fn count(&self, name: &[u8]) -> usize
+        ensures { result ≡ count_of self.now name.now }
+    {
+        count_lines(self.lines.as_slice(), name)
+    }
+
+    /// The value of the first line of this name.
+    pub fn value(&self, name: &[u8]) -> Option<&[u8]>
+        ensures { option_copied result ≡ slice_get (values_of self.now name.now) 0 }
+    {
+        for line in &self.lines {
+            if is_same_name(line.name.as_slice(), name) {
+                return Some(line.value.as_slice());
+            }
+        }
+        None
+    }
+
+    /// Takes out the lines of this name. No memory is taken.
+    pub fn remove_named(&mut self, name: &[u8])
+        ensures { self.new ≡ without_named self.old name.now }
+    {
+        retain_others(&mut self.lines, name);
+    }
+
+    /// The combined value of this name, if a line has it.
+    pub fn combined(&self, alloc: Global, name: &[u8]) -> Result<Option<Bytes>, AllocError>
+        ensures { IfOk result (λ value. value ≡ combined_of self.now name.now) }
+    {
+        combined_value(alloc, self.lines.as_slice(), name)
+    }
+
+    /// The members of this name, over all its lines.
+    pub fn members(&self, alloc: Global, name: &[u8]) -> Result<Members, AllocError>
+        ensures { IfOk result (λ found. found ≡ members_of self.now name.now) }
+    {
+        let mut found = Members::new(alloc);
+        for line in &self.lines {
+            if is_same_name(line.name.as_slice(), name) {
+                push_members(alloc, &mut found, line.value.as_slice())?;
+            }
+        }
+        Ok(found)
+    }
+
+    /// The first member of this name. No memory is taken.
+    pub fn first_member(&self, name: &[u8]) -> Option<&[u8]>
+        ensures { option_copied result ≡ slice_get (members_of self.now name.now) 0 }
+    {
+        for line in &self.lines {
+            if is_same_name(line.name.as_slice(), name) {
+                if let Some((member, _)) = next_member(line.value.as_slice()) {
+                    return Some(member);
+                }
+            }
+        }
+        None
+    }
+}
+
+fn has_line(lines: &[Field], name: &[u8]) -> bool
+    ensures { result ≡ has lines.now name.now }
+{
+    lines
+        .iter()
+        .any(|line| is_same_name(line.name.as_slice(), name))
+}
+
+fn count_lines(lines: &[Field], name: &[u8]) -> usize
+    ensures { result ≡ count_of lines.now name.now }
+{
+    let mut n = 0;
+    for line in lines {
+        if is_same_name(line.name.as_slice(), name) {
+            n += 1;
+        }
+    }
+    n
+}
+
+fn retain_others(lines: &mut Vec<Field>, name: &[u8])
+    ensures { lines.new.items ≡ without_named lines.old.items name.now }
+{
+    lines.retain(|line| !is_same_name(line.name.as_slice(), name));
+}
+
+fn combined_value(alloc: Global, lines: &[Field], name: &[u8]) -> Result<Option<Bytes>, AllocError>
+    ensures { IfOk result (λ value. value ≡ combined_of lines.now name.now) }
+{
+    let mut text = Vec::new(alloc);
+    let mut any = false;
+    for line in lines {
+        if is_same_name(line.name.as_slice(), name) {
+            if any {
+                text.extend_from_slice(b", ")?;
+            }
+            text.extend_from_slice(line.value.as_slice())?;
+            any = true;
+        }
+    }
+    Ok(if any {
+        Some(Bytes::from_vec(text))
+    } else {
+        None
+    })
+}
+
+/// Puts the members of one value at the end.
+fn push_members(alloc: Global, found: &mut Members, value: &[u8]) -> Result<(), AllocError>
+    ensures { OnOk result (found.new ≡ found.old ++ members_of_value value.now) }
+{
+    let mut rest = value;
+    while let Some((member, behind)) = next_member(rest) {
+        found.push(alloc, member)?;
+        rest = behind;
+    }
+    Ok(())
+}

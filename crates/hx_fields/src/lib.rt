@@ -1,0 +1,21 @@
+//! Field lines of HTTP messages: names, combined values and list members (RFC 9110, section 5).
+//!
+//! `specs/Names.antt` says how bytes are read, `specs/Lines.antt` what a list of lines says of a name.
+//! Nothing here knows what any field means.
+#![tactic(auto)]
+
+mod byte_string;
+mod cutting;
+mod field_line;
+mod field_lines;
+mod laws;
+mod member_list;
+#[cfg(test)]
+mod tests;
+
+pub use crate::byte_string::Bytes;
+pub use crate::cutting::{is_same_name, next_member, trim_blanks};
+pub use crate::field_line::Field;
+pub use crate::field_lines::Fields;
+pub use crate::laws::{members_are_cut_outside_quotes, values_are_joined};
+pub use crate::member_list::Members;
