@@ -12,6 +12,7 @@ mod laws;
 mod member_list;
 #[cfg(test)]
 mod tests;
+mod tokens;
 
 pub use crate::byte_string::Bytes;
 pub use crate::cutting::{is_same_name, next_member, trim_blanks};
@@ -19,3 +20,4 @@ pub use crate::field_line::Field;
 pub use crate::field_lines::Fields;
 pub use crate::laws::{members_are_cut_outside_quotes, values_are_joined};
 pub use crate::member_list::Members;
+pub use crate::tokens::is_token;

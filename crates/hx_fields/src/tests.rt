@@ -1,5 +1,5 @@
 //! Each call once, with ample memory.
-use crate::{Bytes, Field, Fields, is_same_name, next_member, trim_blanks};
+use crate::{Bytes, Field, Fields, is_same_name, is_token, next_member, trim_blanks};
 use std::test::Fail;
 
 #[test]
@@ -48,4 +48,17 @@ fn members_are_read_one_by_one(rt: HostRuntime) -> Result<(), Fail> {
     assert!(rt; second == b"b".as_slice());
     assert!(rt; next_member(rest).is_none());
     Ok(())
+}
+
+#[test]
+fn tokens_are_told(rt: HostRuntime) {
+    for (text, wanted) in [
+        ("max-age", true),
+        ("*", true),
+        ("", false),
+        ("a b", false),
+        ("\"a\"", false),
+    ] {
+        assert_eq!(rt; is_token(text.as_bytes()), wanted, "at {text}");
+    }
 }
