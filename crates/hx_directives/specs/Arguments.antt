@@ -1,0 +1,35 @@
+-- The argument of a directive: a token, or a quoted string (RFC 9111, section 5.2).
+use Rattle.std.specs.Prelude.{ℕ, ◌==◌, Bool, true, false, if◌then◌else◌, List, [], ◌∷◌, Option, Some, None, option_map}
+use Rattle.hx_fields.specs.Names.{quote, backslash, is_nonempty}
+use Rattle.hx_directives.specs.declared.arguments.Argument.{Argument}
+use Rattle.hx_directives.specs.declared.arguments.Argument.TheVariants.{Absent, Delta, Other}
+use Rattle.hx_directives.specs.Seconds.{seconds_of, capped}
+
+-- What stands before the quote that closes, where that quote is the last byte. A backslash takes the next byte
+-- with it and goes: quoted-pair = "\" ( HTAB / SP / VCHAR / obs-text ) (RFC 9110, section 5.6.4).
+-- The first argument: whether a backslash takes the first byte.
+abbrev pub quoted_content : Bool → List ℕ → Option (List ℕ)
+quoted_content is_taken [] = None
+quoted_content true (b ∷ rest) = option_map (λ content. b ∷ content) (quoted_content false rest)
+quoted_content false (b ∷ rest) =
+    if b == quote then (if is_nonempty rest then None else Some [])
+    else if b == backslash then quoted_content true rest
+    else option_map (λ content. b ∷ content) (quoted_content false rest)
+
+-- the content of a quoted string, and any other text as it stands
+abbrev pub unquoted : List ℕ → List ℕ
+unquoted [] = []
+unquoted (b ∷ rest) = if b == quote then content_or (b ∷ rest) (quoted_content false rest) else b ∷ rest
+  where
+    content_or : List ℕ → Option (List ℕ) → List ℕ
+    content_or text None = text
+    content_or text (Some content) = content
+
+-- what an argument says as seconds
+abbrev pub argument_of : Option (List ℕ) → Argument
+argument_of None = Absent
+argument_of (Some text) = of_seconds (seconds_of (unquoted text))
+  where
+    of_seconds : Option ℕ → Argument
+    of_seconds None = Other
+    of_seconds (Some seconds) = Delta (capped seconds)

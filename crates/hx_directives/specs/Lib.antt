@@ -1,0 +1,5 @@
+pub mod Seconds
+pub mod Arguments
+pub mod Occurrences
+pub mod Answers
+pub mod Cases

@@ -1,0 +1,63 @@
+-- Which directives occur in a message's Cache-Control lines, and with which arguments (RFC 9111, section 5.2).
+use Rattle.std.specs.Prelude.{ℕ, ◌+◌, ◌==◌, if◌then◌else◌, Bool, List, [], ◌∷◌, length, find, take, drop, position, unwrap_or, codes, Option, None, option_map}
+use Rattle.std.specs.List.{filter_map}
+use Rattle.hx_fields.specs.Names.{is_same_name, trimmed, members_of_value}
+use Rattle.hx_fields.specs.Tokens.{is_token}
+use Rattle.hx_fields.specs.Lines.{members_of}
+use Rattle.hx_fields.specs.declared.field_line.Field.{Field}
+use Rattle.hx_directives.specs.declared.names.Directive.{Directive}
+use Rattle.hx_directives.specs.declared.names.Directive.TheVariants.{MaxAge, SMaxage, MaxStale, MinFresh, StaleIfError, NoCache, NoStore, OnlyIfCached, MustRevalidate, ProxyRevalidate, MustUnderstand, Private, Public}
+use Rattle.hx_directives.specs.declared.occurrences.Occurrence.{Occurrence}
+use Rattle.hx_directives.specs.Arguments.{argument_of}
+
+-- the name of each directive that a rule reads (RFC 9111, sections 5.2.1 and 5.2.2; RFC 5861, section 4)
+abbrev pub name_of : Directive → List ℕ
+name_of MaxAge = codes "max-age"
+name_of SMaxage = codes "s-maxage"
+name_of MaxStale = codes "max-stale"
+name_of MinFresh = codes "min-fresh"
+name_of StaleIfError = codes "stale-if-error"
+name_of NoCache = codes "no-cache"
+name_of NoStore = codes "no-store"
+name_of OnlyIfCached = codes "only-if-cached"
+name_of MustRevalidate = codes "must-revalidate"
+name_of ProxyRevalidate = codes "proxy-revalidate"
+name_of MustUnderstand = codes "must-understand"
+name_of Private = codes "private"
+name_of Public = codes "public"
+
+abbrev pub all_directives : List Directive
+all_directives =
+    MaxAge ∷ SMaxage ∷ MaxStale ∷ MinFresh ∷ StaleIfError ∷ NoCache ∷ NoStore ∷ OnlyIfCached ∷ MustRevalidate
+    ∷ ProxyRevalidate ∷ MustUnderstand ∷ Private ∷ Public ∷ []
+
+-- the directive that a name spells, without case
+abbrev pub directive_of : List ℕ → Option Directive
+directive_of name = find (λ d. is_same_name name (name_of d)) all_directives
+
+abbrev pub is_equals : ℕ → Bool
+is_equals b = b == 61
+
+-- the name of a member: what stands before its first `=`, or all of it
+abbrev pub member_name : List ℕ → List ℕ
+member_name member = trimmed (take (unwrap_or (position is_equals member) (length member)) member)
+
+-- the argument of a member: what follows its first `=`
+abbrev pub member_argument : List ℕ → Option (List ℕ)
+member_argument member = option_map (λ i. trimmed (drop (i + 1) member)) (position is_equals member)
+
+-- the directive that a member spells, with its argument
+-- own: a name that is no token drops the member
+abbrev pub occurrence_of : List ℕ → Option Occurrence
+occurrence_of member =
+    option_map (λ d. record { directive = d; argument = argument_of (member_argument member) })
+    (if is_token (member_name member) then directive_of (member_name member) else None)
+
+-- the directives of one line; another line than Cache-Control has none
+abbrev pub line_occurrences : Field → List Occurrence
+line_occurrences line =
+    if is_same_name line.name (codes "Cache-Control") then filter_map occurrence_of (members_of_value line.value) else []
+
+-- the directives that occur, in order
+abbrev pub occurrences_of : List Field → List Occurrence
+occurrences_of fields = filter_map occurrence_of (members_of fields (codes "Cache-Control"))

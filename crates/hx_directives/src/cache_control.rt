@@ -1,0 +1,143 @@
+//! The directives of one message.
+//!
+//! They are read once, in order; each question is answered over the whole list.
+
+ghost use Rattle.std.specs.Prelude.{◌≡◌, ◌++◌, ◌∷◌, [], IfOk, OnOk, MatchOption};
+ghost use Rattle.std.specs.List.{filter_map};
+ghost use Rattle.hx_fields.specs.Names.{members_of_value};
+ghost use Rattle.hx_directives.specs.Occurrences.{occurrence_of, line_occurrences, occurrences_of};
+ghost use Rattle.hx_directives.specs.Answers.{has, arguments_of, seconds, first_valid, max_stale};
+
+use crate::answers::{MaxStale, Seconds};
+use crate::arguments::Argument;
+use crate::names::Directive;
+use crate::occurrences::{Occurrence, occurrence_of};
+use hx_fields::{Field, Fields, is_same_name, next_member};
+use std::alloc::{AllocError, Global};
+use std::marker::Model;
+
+/// The directives of a message.
+#[derive(Drop)]
+pub struct Directives {
+    found: Vec<Occurrence>,
+}
+
+impl Model for Directives {
+    ghost use Rattle.std.specs.Prelude.{List};
+    ghost use Rattle.hx_directives.specs.declared.occurrences.Occurrence.{Occurrence};
+
+    ghost Value = { List Occurrence };
+
+    ghost view = { λ d. d.found.items };
+}
+
+impl Directives {
+    /// Those that occur in a message's Cache-Control lines. Fails for want of memory alone.
+    pub fn of(alloc: Global, fields: &Fields) -> Result<Directives, AllocError>
+        ensures { IfOk result (λ d. d ≡ occurrences_of fields.now) }
+    {
+        let mut found = Vec::new(alloc);
+        for line in fields.as_slice() {
+            push_line(alloc, &mut found, line)?;
+        }
+        Ok(Directives { found })
+    }
+
+    /// Whether a directive occurs, whatever its argument.
+    pub fn has(&self, directive: Directive) -> bool
+        ensures { result ≡ has self.now directive }
+    {
+        self.found.iter().any(|o| o.directive == directive)
+    }
+
+    /// The seconds of a directive that is to occur once.
+    pub fn seconds(&self, directive: Directive) -> Seconds
+        ensures { result ≡ seconds self.now directive }
+    {
+        match next_argument(self.found.as_slice(), directive) {
+            None => Seconds::Absent,
+            Some((argument, rest)) => match next_argument(rest, directive) {
+                Some(_) => Seconds::Repeated,
+                None => match argument {
+                    Argument::Delta(n) => Seconds::Value(n),
+                    _ => Seconds::Bad,
+                },
+            },
+        }
+    }
+
+    /// The first valid seconds of a directive; invalid ones are ignored.
+    pub fn first_valid(&self, directive: Directive) -> Option<u32>
+        ensures { result ≡ first_valid self.now directive }
+    {
+        for o in &self.found {
+            if let Argument::Delta(n) = o.argument {
+                if o.directive == directive {
+                    return Some(n);
+                }
+            }
+        }
+        None
+    }
+
+    /// How stale a response a request accepts.
+    pub fn max_stale(&self) -> MaxStale
+        ensures { result ≡ max_stale self.now }
+    {
+        for o in &self.found {
+            if o.directive == Directive::MaxStale {
+                match o.argument {
+                    Argument::Absent => return MaxStale::Any,
+                    Argument::Delta(n) => return MaxStale::UpTo(n),
+                    Argument::Other => {}
+                }
+            }
+        }
+        MaxStale::Absent
+    }
+
+    /// A copy. Fails for want of memory alone.
+    pub fn copy(&self, alloc: Global) -> Result<Directives, AllocError>
+        ensures { IfOk result (λ d. d ≡ self.now) }
+    {
+        Ok(Directives {
+            found: Vec::from_slice(alloc, self.found.as_slice())?,
+        })
+    }
+}
+
+/// Puts the directives of a line at the end; another line than Cache-Control has none.
+fn push_line(alloc: Global, found: &mut Vec<Occurrence>, line: &Field) -> Result<(), AllocError>
+    ensures { OnOk result (found.new.items ≡ found.old.items ++ line_occurrences line.now) }
+{
+    if is_same_name(line.name.as_slice(), b"Cache-Control") {
+        push_value(alloc, found, line.value.as_slice())?;
+    }
+    Ok(())
+}
+
+/// Puts the directives of a line's value at the end.
+fn push_value(alloc: Global, found: &mut Vec<Occurrence>, value: &[u8]) -> Result<(), AllocError>
+    ensures { OnOk result (found.new.items ≡ found.old.items ++ filter_map occurrence_of (members_of_value value.now)) }
+{
+    let mut rest = value;
+    while let Some((member, after)) = next_member(rest) {
+        if let Some(occurrence) = occurrence_of(alloc, member)? {
+            found.push(occurrence)?;
+        }
+        rest = after;
+    }
+    Ok(())
+}
+
+/// The first argument of a directive, and the occurrences after it.
+fn next_argument(found: &[Occurrence], directive: Directive) -> Option<(Argument, &[Occurrence])>
+    ensures { MatchOption result (arguments_of found.now directive ≡ []) (λ r. arguments_of found.now directive ≡ r.0 ∷ arguments_of r.1.now directive) }
+{
+    for (i, o) in found.iter().enumerate() {
+        if o.directive == directive {
+            return Some((o.argument, &found[i + 1..]));
+        }
+    }
+    None
+}

@@ -1,0 +1,26 @@
+//! Cache-Control: which directives occur in a message, and what they say (RFC 9111, section 5.2).
+//!
+//! Contracts see `Directives` as the list of occurrences, `occurrences_of` the message's fields; what is
+//! asked of them is defined in `specs/Answers.antt`. Which rule reads which directive is decided above.
+#![tactic(auto)]
+
+mod answers;
+mod arguments;
+mod cache_control;
+mod laws;
+mod names;
+mod numbers;
+mod occurrences;
+#[cfg(test)]
+mod tests;
+
+pub use answers::{MaxStale, Seconds};
+pub use arguments::Argument;
+pub use cache_control::Directives;
+pub use laws::{
+    least_reuse_rule, must_understand_overrides_no_store, quoting_is_undone,
+    repeated_and_bad_seconds, seconds_are_capped,
+};
+pub use names::Directive;
+pub use numbers::capped_seconds;
+pub use occurrences::Occurrence;

@@ -1,0 +1,55 @@
+//! From members of Cache-Control to directives.
+
+ghost use Rattle.std.specs.Prelude.{◌≡◌, ◌<◌, length, position, IfOk, IfSome, option_copied};
+ghost use Rattle.hx_directives.specs.Occurrences.{is_equals, member_name, member_argument, occurrence_of};
+
+use crate::arguments::{Argument, argument_of};
+use crate::names::{Directive, directive_of};
+use hx_fields::{is_token, trim_blanks};
+use std::alloc::{AllocError, Global};
+
+/// A directive with its argument.
+#[derive(Clone, Copy, Debug, PartialEq, Eq)]
+pub struct Occurrence {
+    pub directive: Directive,
+    pub argument: Argument,
+}
+
+/// The directive that a member spells.
+pub fn occurrence_of(alloc: Global, member: &[u8]) -> Result<Option<Occurrence>, AllocError>
+    ensures { IfOk result (λ o. o ≡ occurrence_of member.now) }
+{
+    let (name, argument) = cut(member);
+    if !is_token(name) {
+        return Ok(None);
+    }
+    match directive_of(name) {
+        Some(directive) => Ok(Some(Occurrence {
+            directive,
+            argument: argument_of(alloc, argument)?,
+        })),
+        None => Ok(None),
+    }
+}
+
+/// The name and the argument of a member.
+fn cut(member: &[u8]) -> (&[u8], Option<&[u8]>)
+    ensures name { result.0.now ≡ member_name member.now }
+    ensures argument { option_copied result.1 ≡ member_argument member.now }
+{
+    match equals_at(member) {
+        Some(i) => (
+            trim_blanks(&member[..i]),
+            Some(trim_blanks(&member[i + 1..])),
+        ),
+        None => (trim_blanks(member), None),
+    }
+}
+
+/// Where the first `=` stands.
+fn equals_at(member: &[u8]) -> Option<usize>
+    ensures first { result ≡ position is_equals member.now }
+    ensures within { IfSome result (λ i. i < length member.now) }
+{
+    member.iter().position(|b| *b == b'=')
+}
