@@ -1,1 +1,4 @@
+pub mod Hosts
+pub mod Judgement
 pub mod Keys
+pub mod Paths

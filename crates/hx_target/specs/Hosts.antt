@@ -1,0 +1,70 @@
+-- Hosts and ports, as a Host field or an authority spells them (RFC 9110, section 7.2; RFC 3986, sections 3.2.2
+-- and 3.2.3).
+-- own: a host is a name of letters, digits, `-`, `.`, `_`, or an address in brackets, so that each host has one
+-- spelling but for its case ("Hosts are plain names").
+use Rattle.std.specs.Prelude.{ℕ, ◌+◌, ◌-◌, ◌*◌, ◌==◌, nat_le, Bool, ◌&&◌, ◌||◌, if◌then◌else◌, List, [], ◌∷◌, length, take, drop, map, slice_index, Option, Some, None}
+use Rattle.std.specs.List.{list_all}
+use Rattle.std.specs.Char.{is_ascii_alphanumeric, is_ascii_digit, is_ascii_hexdigit, to_ascii_lowercase}
+use Rattle.http_uri.specs.ByteClasses.{colon, left_bracket, right_bracket, split_once_front, split_once_through}
+
+-- a byte of a host that is a name
+abbrev pub is_name_byte : ℕ → Bool
+is_name_byte b = is_ascii_alphanumeric b || (b == 45) || (b == 46) || (b == 95)
+
+-- a byte of a host that is an address, between its brackets
+abbrev pub is_address_byte : ℕ → Bool
+is_address_byte b = is_ascii_hexdigit b || (b == colon) || (b == 46)
+
+-- 1 to 253 bytes of a name
+abbrev pub is_name : List ℕ → Bool
+is_name text = nat_le 1 (length text) && nat_le (length text) 253 && list_all is_name_byte text
+
+-- `[`, 2 to 45 bytes of an address, and `]`
+abbrev pub is_address : List ℕ → Bool
+is_address text =
+    nat_le 4 (length text) && nat_le (length text) 47 && (slice_index text (length text - 1) == right_bracket)
+    && list_all is_address_byte (drop 1 (take (length text - 1) text))
+
+-- a host: an address where it begins with `[`, else a name
+unfoldable pub is_host : List ℕ → Bool
+is_host text = if slice_index text 0 == left_bracket then is_address text else is_name text
+
+-- the host of a Host value: up to and with the first `]` where it begins with `[`, else up to the first `:`
+abbrev pub host_part : List ℕ → List ℕ
+host_part value =
+    if slice_index value 0 == left_bracket then split_once_through right_bracket value else split_once_front colon value
+
+-- what a Host value has after its host
+abbrev pub after_host : List ℕ → List ℕ
+after_host value = drop (length (host_part value)) value
+
+-- nothing, or `:` and a port, valid or not
+abbrev pub is_port_part : List ℕ → Bool
+is_port_part text = (length text == 0) || (slice_index text 0 == colon)
+
+-- a Host value of a valid host, then nothing or a `:`
+abbrev pub has_valid_host : List ℕ → Bool
+has_valid_host value = is_host (host_part value) && is_port_part (after_host value)
+
+-- the number that these digits spell behind n
+abbrev pub digits_on : ℕ → List ℕ → ℕ
+digits_on n [] = n
+digits_on n (c ∷ cs) = digits_on (n * 10 + (c - 48)) cs
+
+-- one to five digits of a value from 1 to 65535
+abbrev pub is_port : List ℕ → Bool
+is_port text =
+    nat_le 1 (length text) && nat_le (length text) 5 && list_all is_ascii_digit text && nat_le 1 (digits_on 0 text)
+    && nat_le (digits_on 0 text) 65535
+
+-- the port that a text spells; an empty one is 80, the default of `http` (RFC 9110, section 4.2.1)
+unfoldable pub port_of : List ℕ → Option ℕ
+port_of text = if length text == 0 then Some 80 else if is_port text then Some (digits_on 0 text) else None
+
+-- the port of a Host value
+abbrev pub port_part : List ℕ → Option ℕ
+port_part value = port_of (drop 1 (after_host value))
+
+-- ASCII letters in lower case
+abbrev pub lowercase : List ℕ → List ℕ
+lowercase text = map to_ascii_lowercase text

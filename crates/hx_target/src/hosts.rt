@@ -1,0 +1,163 @@
+//! Hosts and ports, as a Host field spells them (RFC 9110, section 7.2).
+//!
+//! Which texts are hosts and ports is in `specs/Hosts.antt`.
+ghost use Rattle.std.specs.Prelude.{◌≡◌, ◌≤◌, ◌<◌, ◌^◌, ◌+◌, ◌-◌, ◌*◌, length, slice_get, drop, codes, Some, IfOk, true};
+ghost use Rattle.std.specs.Char.{is_ascii_digit};
+ghost use Rattle.std.specs.Option.{option_copied};
+ghost use Rattle.std.specs.List.{list_all};
+ghost use Rattle.http_uri.specs.ByteClasses.{index_of};
+ghost use Rattle.hx_target.specs.Hosts.{is_name_byte, is_address_byte, is_name, is_address, is_host, host_part, after_host, has_valid_host, digits_on, is_port, port_of, port_part, lowercase};
+
+use hx_fields::Bytes;
+use std::alloc::{AllocError, Global};
+
+fn is_name_byte(b: u8) -> bool
+    ensures { result ≡ is_name_byte b }
+{
+    b.is_ascii_alphanumeric() || b == b'-' || b == b'.' || b == b'_'
+}
+
+fn is_address_byte(b: u8) -> bool
+    ensures { result ≡ is_address_byte b }
+{
+    b.is_ascii_hexdigit() || b == b':' || b == b'.'
+}
+
+fn are_name_bytes(text: &[u8]) -> bool
+    ensures { result ≡ list_all is_name_byte text.now }
+{
+    text.iter().all(|b| is_name_byte(*b))
+}
+
+fn are_address_bytes(text: &[u8]) -> bool
+    ensures { result ≡ list_all is_address_byte text.now }
+{
+    text.iter().all(|b| is_address_byte(*b))
+}
+
+fn are_digits(text: &[u8]) -> bool
+    ensures { result ≡ list_all is_ascii_digit text.now }
+{
+    text.iter().all(|b| b.is_ascii_digit())
+}
+
+fn is_name(text: &[u8]) -> bool
+    ensures { result ≡ is_name text.now }
+{
+    1 <= text.len() && text.len() <= 253 && are_name_bytes(text)
+}
+
+fn is_address(text: &[u8]) -> bool
+    ensures { result ≡ is_address text.now }
+{
+    if text.len() < 4 || text.len() > 47 {
+        return false;
+    }
+    let last = text.len() - 1;
+    text[last] == b']' && are_address_bytes(&text[..last][1..])
+}
+
+/// Whether a text is a host: 1 to 253 letters, digits, `-`, `.` and `_`, or in brackets 2 to 45
+/// hexadecimal digits, `:` and `.`.
+#[tactic(auto, unfolding(crate::specs::Hosts::is_host))]
+pub fn is_host(text: &[u8]) -> bool
+    ensures { result ≡ is_host text.now }
+{
+    if text.first() == Some(&b'[') {
+        is_address(text)
+    } else {
+        is_name(text)
+    }
+}
+
+/// Where a byte first stands, or the length.
+fn index_of(byte: u8, text: &[u8]) -> usize
+    ensures place { result ≡ index_of byte text.now }
+    ensures bound { result ≤ length text.now }
+{
+    let mut i = 0;
+    while i < text.len() && text[i] != byte {
+        i += 1;
+    }
+    i
+}
+
+/// The host of a Host value.
+pub fn host_part(value: &[u8]) -> &[u8]
+    ensures { result.now ≡ host_part value.now }
+{
+    if value.first() == Some(&b'[') {
+        let end = index_of(b']', value);
+        if end < value.len() {
+            &value[..end + 1]
+        } else {
+            value
+        }
+    } else {
+        &value[..index_of(b':', value)]
+    }
+}
+
+/// What a Host value has after its host.
+fn after_host(value: &[u8]) -> &[u8]
+    ensures { result.now ≡ after_host value.now }
+{
+    &value[host_part(value).len()..]
+}
+
+/// Whether a Host value has a valid host, then nothing or a `:`.
+pub fn has_valid_host(value: &[u8]) -> bool
+    ensures { result ≡ has_valid_host value.now }
+{
+    let rest = after_host(value);
+    is_host(host_part(value)) && (rest.is_empty() || rest[0] == b':')
+}
+
+/// The number that at most five digits spell.
+fn value_of(digits: &[u8]) -> u32
+    requires few { length digits.now ≤ 5 }
+    requires all { list_all is_ascii_digit digits.now ≡ true }
+    ensures { result ≡ digits_on 0 digits.now }
+{
+    let mut value = 0u32;
+    for digit in digits {
+        value = value * 10 + u32::from(*digit - b'0');
+    }
+    value
+}
+
+/// The port that a text spells, 80 where it is empty.
+#[tactic(auto, unfolding(crate::specs::Hosts::port_of))]
+fn port_of(text: &[u8]) -> Option<u16>
+    ensures { result ≡ port_of text.now }
+{
+    if text.is_empty() {
+        return Some(80);
+    }
+    if text.len() > 5 || !are_digits(text) {
+        return None;
+    }
+    match value_of(text) {
+        0 => None,
+        value => u16::try_from(value).ok(),
+    }
+}
+
+/// The port of a Host value with a valid host.
+pub fn port_part(value: &[u8]) -> Option<u16>
+    ensures { result ≡ port_part value.now }
+{
+    let rest = after_host(value);
+    if rest.is_empty() {
+        port_of(rest)
+    } else {
+        port_of(&rest[1..])
+    }
+}
+
+/// A text with its ASCII letters in lower case.
+pub fn lowercase(alloc: Global, text: &[u8]) -> Result<Bytes, AllocError>
+    ensures { IfOk result (λ lower. lower ≡ lowercase text.now) }
+{
+    Ok(Bytes::from_vec(text.to_ascii_lowercase(alloc)?))
+}
