@@ -1,0 +1,4 @@
+pub mod Dates
+pub mod Lifetime
+pub mod Age
+pub mod Cases

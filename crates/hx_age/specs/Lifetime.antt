@@ -1,0 +1,34 @@
+-- How long a response is fresh, and whether it says so (RFC 9111, section 4.2.1).
+-- own: no lifetime is guessed; a response that states none has 0 seconds, and isn't explicit.
+use Rattle.std.specs.Prelude.{ℕ, ◌-◌, if◌then◌else◌, true, false, List, codes, unwrap_or}
+use Rattle.hx_fields.specs.Lines.{has as has_line}
+use Rattle.hx_fields.specs.declared.field_line.Field.{Field}
+use Rattle.hx_directives.specs.Seconds.{capped}
+use Rattle.hx_directives.specs.Occurrences.{occurrences_of}
+use Rattle.hx_directives.specs.Answers.{has, seconds}
+use Rattle.hx_directives.specs.declared.names.Directive.TheVariants.{MaxAge, SMaxage}
+use Rattle.hx_directives.specs.declared.answers.Seconds.{Seconds}
+use Rattle.hx_directives.specs.declared.answers.Seconds.TheVariants.{Value}
+use Rattle.hx_age.specs.declared.lifetimes.Lifetime.{Lifetime}
+use Rattle.hx_age.specs.Dates.{date_of, expires_of}
+
+-- seconds that can't be read, or stand twice, are 0: the response is stale at once (RFC 9111, section 4.2.1)
+abbrev pub stated_seconds : Seconds → ℕ
+stated_seconds (Value n) = n
+stated_seconds _ = 0
+
+abbrev pub explicit_of : ℕ → Lifetime
+explicit_of n = record { explicit = true; seconds = capped n }
+
+-- Expires minus Date; an invalid Expires, as one that stands twice, is over at once (RFC 9111, section 5.3)
+abbrev pub until_expires : List Field → ℕ
+until_expires fields = unwrap_or (expires_of fields) 0 - unwrap_or (date_of fields) 0
+
+-- by s-maxage if it stands, else by max-age, else by Expires, else none
+abbrev pub lifetime_of : List Field → Lifetime
+lifetime_of fields =
+    let found = occurrences_of fields in
+    if has found SMaxage then explicit_of (stated_seconds (seconds found SMaxage))
+    else if has found MaxAge then explicit_of (stated_seconds (seconds found MaxAge))
+    else if has_line fields (codes "Expires") then explicit_of (until_expires fields)
+    else record { explicit = false; seconds = 0 }

@@ -1,0 +1,77 @@
+//! How long a response is fresh.
+
+ghost use Rattle.std.specs.Prelude.{◌≡◌};
+ghost use Rattle.hx_directives.specs.Seconds.{capped};
+ghost use Rattle.hx_directives.specs.Occurrences.{occurrences_of};
+ghost use Rattle.hx_age.specs.Lifetime.{explicit_of, stated_seconds, until_expires, lifetime_of};
+
+use crate::dates::single_date;
+use hx_directives::{Directive, Directives, Seconds};
+use hx_fields::Fields;
+
+/// In seconds; every larger number counts as this one (RFC 9111, section 1.2.2).
+const MOST_SECONDS: u64 = 2_147_483_648;
+
+/// A freshness lifetime.
+#[derive(Clone, Copy, Debug, PartialEq, Eq)]
+pub struct Lifetime {
+    /// The response states it.
+    pub explicit: bool,
+    /// Seconds, at most 2147483648.
+    pub seconds: u32,
+}
+
+impl Lifetime {
+    /// The lifetime of a response, whose directives the caller has read from the same fields.
+    pub fn of(fields: &Fields, directives: &Directives) -> Lifetime
+        requires { directives.now ≡ occurrences_of fields.now }
+        ensures { result ≡ lifetime_of fields.now }
+    {
+        if directives.has(Directive::SMaxage) {
+            Lifetime::explicit_of(stated_seconds(directives.seconds(Directive::SMaxage)))
+        } else if directives.has(Directive::MaxAge) {
+            Lifetime::explicit_of(stated_seconds(directives.seconds(Directive::MaxAge)))
+        } else if fields.has(b"Expires") {
+            Lifetime::explicit_of(until_expires(fields))
+        } else {
+            Lifetime {
+                explicit: false,
+                seconds: 0,
+            }
+        }
+    }
+
+    fn explicit_of(seconds: u64) -> Lifetime
+        ensures { result ≡ explicit_of seconds }
+    {
+        Lifetime {
+            explicit: true,
+            seconds: capped(seconds),
+        }
+    }
+}
+
+/// Seconds that can't be read, or stand twice, are 0.
+fn stated_seconds(seconds: Seconds) -> u64
+    ensures { result ≡ stated_seconds seconds }
+{
+    match seconds {
+        Seconds::Value(n) => u64::from(n),
+        _ => 0,
+    }
+}
+
+fn until_expires(fields: &Fields) -> u64
+    ensures { result ≡ until_expires fields.now }
+{
+    let expires = single_date(fields, b"Expires").unwrap_or(0);
+    let date = single_date(fields, b"Date").unwrap_or(0);
+    expires.saturating_sub(date)
+}
+
+/// At most 2147483648 seconds.
+pub(crate) fn capped(seconds: u64) -> u32
+    ensures { result ≡ capped seconds }
+{
+    seconds.min(MOST_SECONDS) as u32
+}
