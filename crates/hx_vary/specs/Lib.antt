@@ -1,0 +1,2 @@
+pub mod Vary
+pub mod Cases

@@ -1,0 +1,59 @@
+-- What a response's Vary says of the requests that it may answer (RFC 9111, section 4.1; RFC 9110, section 12.5.5).
+--
+-- nominated_of: what is kept of the earlier request
+-- vary_matches: a later request's values are those that were kept
+-- SelectsBoth: the same question, asked of the whole earlier request
+use Rattle.std.specs.Prelude.{◌≡◌, ℕ, Bool, true, false, if◌then◌else◌, ◌||◌, not, List, map, codes, bytes_eq, Option, Some, None}
+use Rattle.std.specs.List.{list_all, list_any}
+use Rattle.hx_fields.specs.Lines.{combined_of, members_of}
+use Rattle.hx_fields.specs.Tokens.{is_token}
+use Rattle.hx_fields.specs.declared.field_line.Field.{Field}
+use Rattle.hx_vary.specs.declared.nominated_values.NominatedValue.{NominatedValue}
+use Rattle.hx_vary.specs.declared.nominations.Nomination.{Nomination}
+use Rattle.hx_vary.specs.declared.nominations.Nomination.TheVariants.{Star, Names}
+
+-- the members of the response's Vary
+abbrev pub vary_names : List Field → List (List ℕ)
+vary_names response = members_of response (codes "Vary")
+
+-- the member nominates more than the field that it names
+-- own: a member that is no token is read as `*`
+abbrev pub is_star_member : List ℕ → Bool
+is_star_member name = bytes_eq name (codes "*") || not (is_token name)
+
+-- the response may answer no other request (RFC 9111, section 4.1)
+abbrev pub is_star : List Field → Bool
+is_star response = list_any is_star_member (vary_names response)
+
+-- both are absent, or equal bytes
+abbrev pub is_same_value : Option (List ℕ) → Option (List ℕ) → Bool
+is_same_value None None = true
+is_same_value (Some a) (Some b) = bytes_eq a b
+is_same_value None (Some b) = false
+is_same_value (Some a) None = false
+
+-- a name with the combined value that a request has of it
+abbrev pub kept_value : List Field → List ℕ → NominatedValue
+kept_value request name = record { name = name; value = combined_of request name }
+
+-- each nominated name with the value of the request
+abbrev pub kept_values : List Field → List Field → List NominatedValue
+kept_values response request = map (kept_value request) (vary_names response)
+
+-- what is kept of the request that a response answers
+abbrev pub nominated_of : List Field → List Field → Nomination
+nominated_of response request = if is_star response then Star else Names (kept_values response request)
+
+-- a request has each value that was kept
+abbrev pub vary_matches : List NominatedValue → List Field → Bool
+vary_matches kept request = list_all (λ k. is_same_value k.value (combined_of request k.name)) kept
+
+-- both requests have the same value of each name that the response nominates
+abbrev pub selects_both : List Field → List Field → List Field → Bool
+selects_both response earlier later =
+    list_all (λ name. is_same_value (combined_of earlier name) (combined_of later name)) (vary_names response)
+
+-- what is kept of a request decides just as the whole request would
+abbrev pub KeptIsEnough : Type 0
+KeptIsEnough = (response earlier later : List Field) →
+    vary_matches (kept_values response earlier) later ≡ selects_both response earlier later

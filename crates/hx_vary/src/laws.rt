@@ -1,0 +1,28 @@
+//! What the definitions say of the standard's cases and of worked ones.
+
+ghost use Rattle.std.specs.Prelude.{◌≡◌, true, false, [], ◌∷◌, codes};
+ghost use Rattle.hx_vary.specs.Vary.{KeptIsEnough, is_star, kept_values, nominated_of, vary_matches};
+ghost use Rattle.hx_vary.specs.Cases.{speaks, varying};
+
+use crate::nominations::Nomination;
+
+/// What is kept of a request decides just as the whole request would.
+pub fn kept_is_enough()
+    ensures { KeptIsEnough }
+{}
+
+/// Stored for a request in German: the same value, none, two lines, and a response without Vary.
+pub fn vary_values_are_compared()
+    ensures same { vary_matches (kept_values (varying (codes "Accept-Language")) (speaks (codes "de") ∷ [])) (speaks (codes "de") ∷ []) ≡ true }
+    ensures absent { vary_matches (kept_values (varying (codes "Accept-Language")) (speaks (codes "de") ∷ [])) [] ≡ false }
+    ensures empty { vary_matches (kept_values (varying (codes "accept-language")) []) (speaks [] ∷ []) ≡ false }
+    ensures two_lines { vary_matches (kept_values (varying (codes "Accept-Language")) (speaks (codes "de") ∷ [])) (speaks (codes "de") ∷ speaks (codes "en") ∷ []) ≡ false }
+    ensures no_vary { nominated_of [] (speaks (codes "de") ∷ []) ≡ Nomination.Names [] }
+{}
+
+/// A star among names, and a member that is no token.
+pub fn star_nominates_everything()
+    ensures star { is_star (varying (codes "Accept, *")) ≡ true }
+    ensures no_token { is_star (varying (codes "\"Accept\"")) ≡ true }
+    ensures names { is_star (varying (codes "Accept, *a")) ≡ false }
+{}

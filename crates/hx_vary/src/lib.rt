@@ -1,0 +1,16 @@
+//! Vary: what is kept of the request that a stored response answered, and whether a later request has the
+//! same (RFC 9111, section 4.1).
+//!
+//! The definitions are in `specs/Vary.antt`, with the law that what is kept decides as the whole earlier
+//! request would. Values compare as bytes: nothing here knows what a nominated field means.
+#![tactic(auto)]
+
+mod laws;
+mod nominated_values;
+mod nominations;
+#[cfg(test)]
+mod tests;
+
+pub use laws::{kept_is_enough, star_nominates_everything, vary_values_are_compared};
+pub use nominated_values::NominatedValue;
+pub use nominations::{Nominated, Nomination, matches};

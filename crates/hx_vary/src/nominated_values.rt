@@ -1,0 +1,63 @@
+//! One nominated field of an earlier request.
+
+ghost use Rattle.std.specs.Prelude.{◌≡◌, IfOk};
+ghost use Rattle.hx_fields.specs.Lines.{combined_of};
+ghost use Rattle.hx_vary.specs.Vary.{is_same_value, kept_value};
+
+use hx_fields::{Bytes, Fields};
+use std::alloc::{AllocError, Global};
+
+/// The name of a nominated field, and the combined value that the request had of it, if any.
+#[derive(Debug, Drop)]
+pub struct NominatedValue {
+    pub name: Bytes,
+    pub value: Option<Bytes>,
+}
+
+impl NominatedValue {
+    /// What a request has of a name.
+    pub(crate) fn of(
+        alloc: Global,
+        request: &Fields,
+        name: &[u8],
+    ) -> Result<NominatedValue, AllocError>
+        ensures { IfOk result (λ kept. kept ≡ kept_value request.now name.now) }
+    {
+        Ok(NominatedValue {
+            name: Bytes::copy_of(alloc, name)?,
+            value: request.combined(alloc, name)?,
+        })
+    }
+
+    /// Whether a later request has the same value of this name.
+    pub(crate) fn is_of(&self, alloc: Global, request: &Fields) -> Result<bool, AllocError>
+        ensures { IfOk result (λ same. same ≡ is_same_value self.now.value (combined_of request.now self.now.name)) }
+    {
+        let value = request.combined(alloc, self.name.as_slice())?;
+        Ok(is_same_value(&self.value, &value))
+    }
+
+    /// A copy of this value.
+    pub(crate) fn copy(&self, alloc: Global) -> Result<NominatedValue, AllocError>
+        ensures { IfOk result (λ copied. copied ≡ self.now) }
+    {
+        let value = match &self.value {
+            Some(value) => Some(value.copy(alloc)?),
+            None => None,
+        };
+        Ok(NominatedValue {
+            name: self.name.copy(alloc)?,
+            value,
+        })
+    }
+}
+
+fn is_same_value(a: &Option<Bytes>, b: &Option<Bytes>) -> bool
+    ensures { result ≡ is_same_value a.now b.now }
+{
+    match (a, b) {
+        (None, None) => true,
+        (Some(a), Some(b)) => a.as_slice() == b.as_slice(),
+        _ => false,
+    }
+}
