@@ -1,0 +1,20 @@
+-- The entries that the laws of worked cases speak of.
+use Rattle.std.specs.Prelude.{ℕ, List, [], codes}
+use Rattle.hx_target.specs.declared.keys.Key.{Key}
+use Rattle.hx_store.specs.Stored.{Stored}
+
+abbrev pub key_of : List ℕ → Key
+key_of path = record { host = codes "h"; port = 80; path_query = path }
+
+-- an entry of nothing but a serial and a path
+abbrev pub entry_of : ℕ → List ℕ → Stored
+entry_of serial path =
+    record {
+      serial = serial;
+      key = key_of path;
+      nominated = [];
+      status = 200;
+      fields = [];
+      content = [];
+      times = record { date = 0; age_value = 0; request_time = 0; response_time = 0 };
+    }

@@ -1,0 +1,5 @@
+pub mod Stored
+pub mod Serials
+pub mod Shelf
+pub mod Places
+pub mod Cases

@@ -1,0 +1,16 @@
+-- Lists of serials.
+use Rattle.std.specs.Prelude.{◌≡◌, ℕ, Bool, false, ◌||◌, ◌==◌, List, [], ◌∷◌, if◌then◌else◌, nat_le}
+
+abbrev pub is_in : ℕ → List ℕ → Bool
+is_in s [] = false
+is_in s (x ∷ xs) = (x == s) || is_in s xs
+
+-- no serial stands twice
+abbrev pub Distinct : List ℕ → Type 0
+Distinct [] = Unit {0}
+Distinct (x ∷ xs) = (is_in x xs ≡ false) × Distinct xs
+
+-- a serial before the first that isn't below it
+abbrev pub insert_ascending : ℕ → List ℕ → List ℕ
+insert_ascending s [] = s ∷ []
+insert_ascending s (x ∷ xs) = if nat_le s x then s ∷ x ∷ xs else x ∷ insert_ascending s xs

@@ -1,0 +1,48 @@
+-- What a bounded store holds: a list of entries, the latest stored or used first.
+--
+-- serials, holds, find_entry: the entries by their serials     serials_of: those with a key
+-- without, without_key: the entries that stay                  promoted: one comes first
+use Rattle.std.specs.Prelude.{ℕ, Bool, not, ◌==◌, Option, None, Some, List, [], ◌∷◌, if◌then◌else◌}
+use Rattle.std.specs.List.{filter}
+use Rattle.hx_target.specs.declared.keys.Key.{Key}
+use Rattle.hx_target.specs.Keys.{same_key}
+use Rattle.hx_store.specs.Stored.{Stored}
+use Rattle.hx_store.specs.Serials.{is_in, insert_ascending}
+
+abbrev pub serials : List Stored → List ℕ
+serials [] = []
+serials (e ∷ es) = e.serial ∷ serials es
+
+-- an entry of this serial is held
+abbrev pub holds : ℕ → List Stored → Bool
+holds s es = is_in s (serials es)
+
+abbrev pub find_entry : ℕ → List Stored → Option Stored
+find_entry s [] = None
+find_entry s (e ∷ es) = if e.serial == s then Some e else find_entry s es
+
+-- the entries but those with these serials
+abbrev pub without : List ℕ → List Stored → List Stored
+without gone es = filter (λ e. not (is_in e.serial gone)) es
+
+-- the entries but those with this key
+abbrev pub without_key : Key → List Stored → List Stored
+without_key key es = filter (λ e. not (same_key e.key key)) es
+
+-- the serials of the entries with this key, ascending
+abbrev pub serials_of : Key → List Stored → List ℕ
+serials_of key [] = []
+serials_of key (e ∷ es) = if same_key e.key key then insert_ascending e.serial (serials_of key es) else serials_of key es
+
+abbrev pub in_front : Option Stored → List Stored → List Stored
+in_front None es = es
+in_front (Some e) es = e ∷ es
+
+-- the held entry of this serial comes first
+abbrev pub promoted : ℕ → List Stored → List Stored
+promoted s es = in_front (find_entry s es) (without (s ∷ []) es)
+
+-- a bounded store: the most entries that it holds, and those that it holds, the latest stored or used first
+pub record Shelved : Type 0 where
+  pub limit : ℕ
+  pub entries : List Stored

@@ -1,0 +1,18 @@
+//! The bounded store of responses.
+//!
+//! A `Shelf` is seen as the list of its entries, the latest stored or used first; each call says exactly
+//! which list it leaves (`specs/Shelf.antt`). How entries are kept and found is the shelf's own matter.
+//! What may be stored or reused is decided above.
+#![tactic(auto)]
+
+mod entries;
+mod laws;
+mod list_shelf;
+mod serial_list;
+mod shelves;
+
+pub use entries::Entry;
+pub use laws::shelf_calls;
+pub use list_shelf::ListShelf;
+pub use serial_list::Serials;
+pub use shelves::Shelf;

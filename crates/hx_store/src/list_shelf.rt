@@ -1,0 +1,164 @@
+//! A shelf that is a list. A call costs one pass over the entries.
+
+ghost use Rattle.std.specs.Prelude.{◌≡◌, ◌≤◌, ◌+◌, ◌==◌, ◌∷◌, [], length, position, take, slice_get, MatchOption, OnOk, OnErr, IfErr};
+ghost use Rattle.hx_store.specs.Places.{IsAbsent, IsPlace};
+ghost use Rattle.hx_store.specs.Shelf.{without, without_key};
+
+use crate::entries::Entry;
+use crate::serial_list::Serials;
+use crate::shelves::Shelf;
+use hx_target::Key;
+use std::alloc::{AllocError, Global};
+use std::marker::Model;
+
+/// A store over a list, the latest stored or used first.
+#[derive(Drop)]
+pub struct ListShelf {
+    capacity: usize,
+    entries: Vec<Entry>,
+}
+
+impl Model for ListShelf {
+    ghost use Rattle.std.specs.Prelude.{◌≤◌, length};
+    ghost use Rattle.hx_store.specs.Serials.{Distinct};
+    ghost use Rattle.hx_store.specs.Shelf.{Shelved, serials};
+
+    ghost Value = { Shelved };
+
+    ghost view = { λ s. record { limit = s.capacity; entries = s.entries.items } };
+
+    ghost invariant = { λ s. (length s.entries.items ≤ s.capacity) × Distinct (serials s.entries.items) };
+}
+
+impl ListShelf {
+    /// An empty store that holds at most `capacity` entries. No memory is taken yet.
+    pub fn new(alloc: Global, capacity: usize) -> ListShelf
+        ensures { result ≡ record { limit = capacity; entries = [] } }
+    {
+        ListShelf {
+            capacity,
+            entries: Vec::new(alloc),
+        }
+    }
+
+    /// Where the entry of this serial stands.
+    fn place(&self, serial: u64) -> Option<usize>
+        ensures { MatchOption result (IsAbsent serial self.now.entries) (IsPlace serial self.now.entries) }
+    {
+        let _entries = &self.entries;
+        self.first_with(serial)
+    }
+
+    fn first_with(&self, serial: u64) -> Option<usize>
+        ensures { result ≡ position (λ e. e.serial == serial) self.now.entries }
+    {
+        self.entries.iter().position(|e| e.has_serial(serial))
+    }
+}
+
+/// The entry comes first, in place of those with the serials in `replaced`.
+fn put_first(entries: &mut Vec<Entry>, entry: Entry, replaced: &[u64]) -> Result<(), Entry>
+    ensures ok { OnOk result (entries.new.items ≡ entry ∷ without replaced.now entries.old.items) }
+    ensures err { OnErr result (entries.new.items ≡ entries.old.items) }
+    ensures given_back { IfErr result (λ e. e ≡ entry) }
+{
+    // Room comes first: where it is refused, the replaced entries have to stay.
+    if entries.reserve(1).is_err() {
+        return Err(entry);
+    }
+    entries.retain(|e| !e.is_among(replaced));
+    let _ = entries.insert(0, entry);
+    Ok(())
+}
+
+/// Takes the last one out where one too many stand.
+fn cut(entries: &mut Vec<Entry>, capacity: usize) -> Option<Entry>
+    requires { length entries.old.items ≤ capacity + 1 }
+    ensures items { entries.new.items ≡ take capacity entries.old.items }
+    ensures gone { result ≡ slice_get entries.old.items capacity }
+{
+    if entries.len() > capacity {
+        entries.pop()
+    } else {
+        None
+    }
+}
+
+impl Shelf for ListShelf {
+    ghost entries = { λ s. s.entries };
+
+    ghost limit = { λ s. s.limit };
+
+    fn capacity(&self) -> usize {
+        self.capacity
+    }
+
+    fn len(&self) -> usize {
+        self.entries.len()
+    }
+
+    fn contains(&self, serial: u64) -> bool {
+        self.place(serial).is_some()
+    }
+
+    fn peek(&self, serial: u64) -> Option<&Entry> {
+        match self.place(serial) {
+            Some(i) => Some(&self.entries[i]),
+            None => None,
+        }
+    }
+
+    fn find(&self, alloc: Global, key: &Key) -> Result<Serials, AllocError> {
+        let mut found = Serials::new(alloc);
+        let mut rest = self.entries.len();
+        while rest > 0 {
+            rest -= 1;
+            let entry = &self.entries[rest];
+            if entry.has_key(key) {
+                found.insert(entry.serial)?;
+            }
+        }
+        Ok(found)
+    }
+
+    fn put(&mut self, entry: Entry, replaced: &[u64]) -> Result<Option<Entry>, Entry> {
+        put_first(&mut self.entries, entry, replaced)?;
+        Ok(cut(&mut self.entries, self.capacity))
+    }
+
+    fn freshen(&mut self, entry: Entry) -> Entry {
+        match self.place(entry.serial) {
+            Some(i) => {
+                let old = self.entries.remove(i);
+                // The room that was just made takes it.
+                let _ = self.entries.insert(0, entry);
+                old
+            }
+            None => entry,
+        }
+    }
+
+    fn promote(&mut self, serial: u64) -> bool {
+        match self.place(serial) {
+            Some(i) => {
+                let entry = self.entries.remove(i);
+                let _ = self.entries.insert(0, entry);
+                true
+            }
+            None => false,
+        }
+    }
+
+    fn remove(&mut self, serial: u64) -> Option<Entry> {
+        match self.place(serial) {
+            Some(i) => Some(self.entries.remove(i)),
+            None => None,
+        }
+    }
+
+    fn invalidate(&mut self, key: &Key) -> usize {
+        let before = self.entries.len();
+        self.entries.retain(|e| !e.has_key(key));
+        before - self.entries.len()
+    }
+}

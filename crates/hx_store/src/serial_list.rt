@@ -1,0 +1,84 @@
+//! Serials in ascending order.
+
+ghost use Rattle.std.specs.Prelude.{◌≡◌, ◌≤◌, ◌-◌, ◌==◌, [], OnOk, OnErr, length, nat_le, slice_get};
+ghost use Rattle.std.specs.List.{position_or_len};
+ghost use Rattle.hx_store.specs.Serials.{insert_ascending};
+
+use std::alloc::{AllocError, Global};
+use std::marker::Model;
+
+/// Serials, of which callers see the list.
+#[derive(Debug, Drop)]
+pub struct Serials {
+    serials: Vec<u64>,
+}
+
+impl Model for Serials {
+    ghost use Rattle.std.specs.Prelude.{List, ℕ};
+
+    ghost Value = { List ℕ };
+
+    ghost view = { λ s. s.serials.items };
+}
+
+impl Serials {
+    /// None.
+    pub fn new(alloc: Global) -> Serials
+        ensures { result ≡ [] }
+    {
+        Serials {
+            serials: Vec::new(alloc),
+        }
+    }
+
+    /// Puts a serial before the first that isn't below it. Fails for want of memory alone.
+    pub fn insert(&mut self, serial: u64) -> Result<(), AllocError>
+        ensures ok { OnOk result (self.new ≡ insert_ascending serial self.old) }
+        ensures err { OnErr result (self.new ≡ self.old) }
+    {
+        let place = place_of(self.serials.as_slice(), serial);
+        self.serials.insert(place, serial)?;
+        Ok(())
+    }
+
+    /// The serials.
+    pub fn as_slice(&self) -> &[u64]
+        ensures { result.now ≡ self.now }
+    {
+        self.serials.as_slice()
+    }
+
+    /// How many there are.
+    pub fn len(&self) -> usize
+        ensures { result ≡ length self.now }
+    {
+        self.serials.len()
+    }
+
+    /// Whether there is none.
+    pub fn is_empty(&self) -> bool
+        ensures { result ≡ (length self.now == 0) }
+    {
+        self.serials.is_empty()
+    }
+
+    /// The last, which is the greatest where they were put in by `insert`.
+    pub fn last(&self) -> Option<u64>
+        ensures { result ≡ slice_get self.now (length self.now - 1) }
+    {
+        self.serials.as_slice().last().copied()
+    }
+}
+
+/// Where the first one stands that is not below `serial`, or else the end.
+fn place_of(serials: &[u64], serial: u64) -> usize
+    ensures place { result ≡ position_or_len (λ x. nat_le serial x) serials.now }
+    ensures within { result ≤ length serials.now }
+{
+    for (i, x) in serials.iter().enumerate() {
+        if serial <= *x {
+            return i;
+        }
+    }
+    serials.len()
+}
