@@ -1,0 +1,64 @@
+-- What the spans cover is what the head gives.
+use Rattle.std.proofs.Common.{◌≡◌, ℕ, Bool, List, map, take, length, slice_get, ap, subst, ◌∙◌, refl, [], ◌∷◌, Some, is_some, Result, Ok, Err, is_ok, IsTrue, get_or, arith}
+use Rattle.httpdate.specs.Date.{HasSecs, parse_secs}
+use Rattle.httpdate.specs.declared.date.HttpDate.{HttpDate}
+use Rattle.http_header.specs.Token as header
+use Rattle.httparse.specs.Grammar.{RequestHead, ResponseHead, field_value, is_token_byte, IsToken}
+use Rattle.httparse.specs.Grammar as grammar
+use Rattle.httparse.specs.Spans.{IsRequestAt, IsResponseAt, header_bytes, name_and_value}
+use Rattle.httparse.specs.declared.spans.HeaderSpan.{HeaderSpan}
+use Rattle.httparse.specs.declared.spans.RequestSpans.{RequestSpans}
+use Rattle.httparse.specs.declared.spans.ResponseSpans.{ResponseSpans}
+use Rattle.hx_fields.specs.declared.field_line.Field.{Field}
+use Rattle.hx_framing.specs.Head.{field_at, field_of, head_at, head_of}
+use Rattle.hx_framing.specs.StatusHead.{status_head_at, status_head_of}
+
+-- a line of a name and a value
+abbrev line : List ℕ × List ℕ → Field
+line p = record { name = p.0; value = p.1 }
+
+of_spans : (bytes : List ℕ) (spans : List HeaderSpan) → map (field_at bytes) spans ≡ map line (map (header_bytes bytes) spans)
+of_spans bytes [] = refl
+of_spans bytes (span ∷ spans) = ap (λ fs. field_at bytes span ∷ fs) (of_spans bytes spans)
+
+of_fields : (fields : List grammar.Field) → map line (map name_and_value fields) ≡ map field_of fields
+of_fields [] = refl
+of_fields (f ∷ fields) = ap (λ fs. field_of f ∷ fs) (of_fields fields)
+
+-- the lines of a head
+pub fields_at : (bytes : List ℕ) (spans : List HeaderSpan) (fields : List grammar.Field)
+    → map (header_bytes bytes) spans ≡ map name_and_value fields → map (field_at bytes) spans ≡ map field_of fields
+fields_at bytes spans fields same = of_spans bytes spans ∙ ap (map line) same ∙ of_fields fields
+
+pub head_at-is : (bytes : List ℕ) (spans : List HeaderSpan) (r : RequestSpans) (h : RequestHead)
+    → IsRequestAt bytes spans r h → head_at bytes spans r ≡ head_of h
+head_at-is bytes spans r h at =
+    let fields : map (field_at bytes) (take r.headers spans) ≡ map field_of h.fields
+    = fields_at bytes (take r.headers spans) h.fields at.fields in
+    λ i. record { method = at.method i; target = at.path i; minor = at.version i; fields = fields i }
+
+pub status_head_at-is : (bytes : List ℕ) (spans : List HeaderSpan) (r : ResponseSpans) (h : ResponseHead)
+    → IsResponseAt bytes spans r h → status_head_at bytes spans r ≡ status_head_of h
+status_head_at-is bytes spans r h at =
+    let fields : map (field_at bytes) (take r.headers spans) ≡ map field_of h.fields
+    = fields_at bytes (take r.headers spans) h.fields at.fields in
+    λ i. record { status = at.code i; fields = fields i }
+
+-- both crates mean one thing by a token
+same_token_byte : (b : ℕ) → is_token_byte b ≡ header.is_token_byte b
+unfolding is_token_byte header.is_token_byte
+same_token_byte b = refl
+
+pub is_token-same : (name : List ℕ) → IsToken name → header.IsToken name
+is_token-same name token = (token.0, λ k d inside. subst (λ (t : Bool). IsTrue t) (same_token_byte (get_or name k d)) (token.1 k d inside))
+
+-- the only value of a name
+pub only_value : (values : List (List ℕ)) (value : List ℕ) → slice_get values 0 ≡ Some value → length values ≡ 1 → values ≡ value ∷ []
+only_value [] value first one = absurd (omega arith)
+only_value (v ∷ []) value first one = cc
+only_value (v ∷ w ∷ values) value first one = absurd (omega arith)
+
+-- a date is read exactly where the text shows one
+pub is_ok-secs : {E : Type 0} (text : List ℕ) (r : Result HttpDate E) → HasSecs text r → is_ok r ≡ is_some (parse_secs text)
+is_ok-secs text (Ok d) secs = ap is_some secs
+is_ok-secs text (Err e) secs = ap is_some secs

@@ -1,0 +1,10 @@
+pub mod PlaceSteps
+pub mod HeadEnds
+pub mod HeadLemmas
+pub mod LengthLemmas
+pub mod RequestLemmas
+pub mod RequestOnce
+pub mod RequestStreams
+pub mod ResponseLemmas
+pub mod ResponseOnce
+pub mod ResponseStreams

@@ -1,0 +1,99 @@
+-- A request is the same whether the stream ended and whether its continue was given; and bytes that come later change nothing.
+use Rattle.std.proofs.Common.{◌≡◌, ℕ, ◌<◌, ◌≤◌, ◌&&◌, Bool, true, false, cond, List, ◌++◌, length, drop, take, ◌==◌, nat_lt, refl, sym, ap, ◌∙◌, subst, arith, Option, Some, None, Result, Ok, Err, length-append, length-take}
+use Rattle.std.proofs.lemmas.List.{drop-append-le, take-append-le}
+use Rattle.std.proofs.lemmas.Bool.{ltb-true, lt-ltb}
+use Rattle.hx_framing.specs.declared.request_head.Head.{Head}
+use Rattle.hx_framing.specs.declared.requests.Request.{Request}
+use Rattle.hx_framing.specs.declared.fault.FrameFault.{FrameFault}
+use Rattle.hx_framing.specs.declared.fault.FrameFault.TheVariants as fault
+use Rattle.hx_framing.specs.Places.{head_length, blank_length}
+use Rattle.hx_framing.specs.Head.{Judges}
+use Rattle.hx_framing.specs.Reading.{Reading, Incomplete, Over, Spelled, Faulty, cut_off, IsSettled, extended}
+use Rattle.hx_framing.specs.RequestReading.{with_head, ReadsBy, Reads}
+use Rattle.hx_framing.proofs.HeadEnds.{head_within_bytes, front_stable}
+
+-- ---- a request
+
+head_message : (max : ℕ) (e t : Bool) (bytes : List ℕ) (m : Request) (r : List ℕ) (j : Result Head FrameFault)
+    → Spelled m r ≡ with_head max e t bytes j → Spelled m r ≡ with_head max false true bytes j
+head_message max e t bytes m r (Err f) x = absurd cc
+head_message max e t bytes m r (Ok head) x = x
+
+no_message : (e over blank : Bool) (m : Request) (r : List ℕ) → Spelled m r ≡ cond over (Faulty fault.Head) (cond (e && blank) Over (cut_off e)) → ⊥
+no_message e true blank m r x = cc
+no_message true false true m r x = cc
+no_message true false false m r x = cc
+no_message false false blank m r x = cc
+
+pub reads_message : (max : ℕ) (e t : Bool) (u : List ℕ) (m : Request) (r : List ℕ) → Reads max e t u (Spelled m r) → Reads max false true u (Spelled m r)
+reads_message max e t u m r x = by_place (head_length (take 32768 u)) x
+  where
+    by_place : (o : Option ℕ) → ReadsBy max e t u o (Spelled m r) → ReadsBy max false true u o (Spelled m r)
+    by_place None x = absurd (no_message e (nat_lt 32768 (length u)) (blank_length u == length u) m r x)
+    by_place (Some n) x = (x.0, x.1, head_message max e t (drop n u) m r x.0 x.2)
+
+-- ---- what is due stays due where the stream ends
+
+head_ended : (max : ℕ) (t : Bool) (bytes : List ℕ) (r : Reading Request) (j : Result Head FrameFault)
+    → r ≡ with_head max false t bytes j → r ≡ with_head max true t bytes j
+head_ended max t bytes r (Err g) x = x
+head_ended max t bytes r (Ok head) x = x
+
+no_head_ended : (over blank : Bool) (r : Reading Request) → IsSettled r → r ≡ cond over (Faulty fault.Head) Incomplete
+    → r ≡ cond over (Faulty fault.Head) (cond blank Over (Faulty fault.Truncated))
+no_head_ended true blank r due x = x
+no_head_ended false blank r due x = absurd (subst IsSettled x due)
+
+pub reads_ended : (max : ℕ) (e t : Bool) (u : List ℕ) (r : Reading Request) → IsSettled r → Reads max e t u r → Reads max true t u r
+reads_ended max true t u r due x = x
+reads_ended max false t u r due x = by_place (head_length (take 32768 u)) x
+  where
+    by_place : (o : Option ℕ) → ReadsBy max false t u o r → ReadsBy max true t u o r
+    by_place None x = no_head_ended (nat_lt 32768 (length u)) (blank_length u == length u) r due x
+    by_place (Some n) x = (x.0, x.1, head_ended max t (drop n u) r x.0 x.2)
+
+-- before the stream's end no end is read
+pub reads_over : (max : ℕ) (t : Bool) (u : List ℕ) → Reads max false t u Over → ⊥
+reads_over max t u x = by_place (head_length (take 32768 u)) x
+  where
+    no_over : (over : Bool) → ◌≡◌ {A = Reading Request} Over (cond {A = Reading Request} over (Faulty fault.Head) Incomplete) → ⊥
+    no_over true x = cc
+    no_over false x = cc
+
+    head_over : (bytes : List ℕ) (j : Result Head FrameFault) → Over ≡ with_head max false t bytes j → ⊥
+    head_over bytes (Err f) x = cc
+    head_over bytes (Ok head) x = cc
+
+    by_place : (o : Option ℕ) → ReadsBy max false t u o Over → ⊥
+    by_place None x = no_over (nat_lt 32768 (length u)) x
+    by_place (Some n) x = head_over (drop n u) x.0 x.2
+
+-- ---- bytes that come later
+
+head_append : (max : ℕ) (t : Bool) (bytes w : List ℕ) (j : Result Head FrameFault)
+    → with_head max false t (bytes ++ w) j ≡ extended (with_head max false t bytes j) w
+head_append max t bytes w (Err g) = refl
+head_append max t bytes w (Ok head) = refl
+
+pub reads_append : (max : ℕ) (t : Bool) (u w : List ℕ) (r : Reading Request) → IsSettled r → Reads max false t u r → Reads max false t (u ++ w) (extended r w)
+reads_append max t u w r due x = by_place (head_length (take 32768 u)) refl x
+  where
+    by_place : (o : Option ℕ) → head_length (take 32768 u) ≡ o → ReadsBy max false t u o r → Reads max false t (u ++ w) (extended r w)
+    by_place None place x = by_test (nat_lt 32768 (length u)) refl x
+      where
+        by_test : (s : Bool) → nat_lt 32768 (length u) ≡ s → r ≡ cond s (Faulty fault.Head) Incomplete → Reads max false t (u ++ w) (extended r w)
+        by_test true p x =
+            let long : 32768 < length u = ltb-true _ _ p in
+            let same : take 32768 (u ++ w) ≡ take 32768 u = take-append-le 32768 u w (omega arith) in
+            let over : nat_lt 32768 (length (u ++ w)) ≡ true = lt-ltb _ _ (omega (arith, length-append u w)) in
+            subst (λ (o : Option ℕ). ReadsBy max false t (u ++ w) o (extended r w)) (sym (ap head_length same ∙ place))
+            (ap (λ (r : Reading Request). extended r w) x ∙ sym (ap (λ (s : Bool). cond {A = Reading Request} s (Faulty fault.Head) Incomplete) over))
+        by_test false p x = absurd (subst IsSettled x due)
+    by_place (Some n) place x =
+        let still = front_stable 32768 n u w place in
+        let within : n ≤ length u = omega (arith, head_within_bytes (take 32768 u) n place, length-take 32768 u) in
+        subst (λ (o : Option ℕ). ReadsBy max false t (u ++ w) o (extended r w)) (sym still) (
+          x.0,
+          subst (λ (b : List ℕ). Judges b x.0) (sym (take-append-le n u w within)) x.1,
+          ap (λ (r : Reading Request). extended r w) x.2 ∙ sym (head_append max t (drop n u) w x.0) ∙ ap (λ b. with_head max false t b x.0) (sym (drop-append-le n u w within)),
+        )

@@ -1,0 +1,46 @@
+-- What the definitions of request streams say is one thing.
+use Rattle.std.proofs.Common.{◌≡◌, ℕ, Bool, true, false, List, [], ◌∷◌, length, take, drop, refl, sym, ap, ◌∙◌, subst, Option, Some, None, Result, Ok, Err, arith}
+use Rattle.httparse.proofs.GrammarLemmas.{request_unique}
+use Rattle.hx_framing.specs.declared.request_head.Head.{Head}
+use Rattle.hx_framing.specs.declared.fault.FrameFault.{FrameFault}
+use Rattle.hx_framing.specs.declared.requests.Request.{Request}
+use Rattle.hx_framing.specs.declared.answer.Next.{Next}
+use Rattle.hx_framing.specs.Places.{head_length}
+use Rattle.hx_framing.specs.Head.{Judges, head_of, is_taken}
+use Rattle.hx_framing.specs.Reading.{Reading, Spelled}
+use Rattle.hx_framing.specs.RequestReading.{Reads, ReadsBy, with_head}
+use Rattle.hx_framing.specs.Progress.{Progress, next_of}
+use Rattle.hx_framing.specs.RequestStream.{StreamSpells, Answers}
+
+pub judged_once_lem : (bytes : List ℕ) (a b : Result Head FrameFault) → Judges bytes a → Judges bytes b → a ≡ b
+judged_once_lem bytes (Ok a) (Ok b) x y = ap Ok (x.2 ∙ ap head_of (request_unique bytes x.0 y.0 [] [] x.1.0 y.1.0).0 ∙ sym y.2)
+judged_once_lem bytes (Ok a) (Err g) x y = absurd (let no_head = y.0 x.0 x.1 in let head = ap (is_taken bytes) x.2 ∙ no_head in cc (head, x.3))
+judged_once_lem bytes (Err f) (Ok b) x y = absurd (let no_head = x.0 y.0 y.1 in let head = ap (is_taken bytes) y.2 ∙ no_head in cc (head, y.3))
+judged_once_lem bytes (Err f) (Err g) x y = ap Err (x.1 ∙ sym y.1)
+
+pub read_once_lem : (max : ℕ) (ended told : Bool) (bytes : List ℕ) (a b : Reading Request) → Reads max ended told bytes a → Reads max ended told bytes b → a ≡ b
+read_once_lem max ended told bytes a b x y = by_place (head_length (take 32768 bytes)) x y
+  where
+    by_place : (o : Option ℕ) → ReadsBy max ended told bytes o a → ReadsBy max ended told bytes o b → a ≡ b
+    by_place None x y = x ∙ sym y
+    by_place (Some n) x y = x.2 ∙ ap (with_head max ended told (drop n bytes)) (judged_once_lem (take n bytes) x.0 y.0 x.1 y.1) ∙ sym y.2
+
+same_parts : (m n : Request) (r q : List ℕ) → Spelled m r ≡ Spelled n q → (m ≡ n) × (r ≡ q)
+same_parts m n r q e = (cc, cc)
+
+pub spelled_once_lem : (max : ℕ) (stream : List ℕ) (ms ns : List Request) (r q : List ℕ) → length ms ≡ length ns
+    → StreamSpells max stream ms r → StreamSpells max stream ns q → (ms ≡ ns) × (r ≡ q)
+spelled_once_lem max stream [] [] r q long x y = (refl, x ∙ sym y)
+spelled_once_lem max stream [] (n ∷ ns) r q long x y = absurd (omega arith)
+spelled_once_lem max stream (m ∷ ms) [] r q long x y = absurd (omega arith)
+spelled_once_lem max stream (m ∷ ms) (n ∷ ns) r q long x y =
+    let first = same_parts m n x.0 y.0 (read_once_lem max false true stream _ _ x.1 y.1) in
+    let later = spelled_once_lem max y.0 ms ns r q (omega arith) (subst (λ (b : List ℕ). StreamSpells max b ms r) first.1 x.2) y.2 in
+    (λ i. first.0 i ∷ later.0 i, later.1)
+
+pub answered_once_lem : (p : Progress Request) (a b : Next Request) → Answers p a → Answers p b → a ≡ b
+answered_once_lem p a b x y =
+    let rest = (spelled_once_lem p.max_body p.stream p.given p.given x.rest y.rest refl x.spells y.spells).1 in
+    x.answer_is
+    ∙ ap next_of (read_once_lem p.max_body p.ended p.told y.rest x.reading y.reading (subst (λ (b : List ℕ). Reads p.max_body p.ended p.told b x.reading) rest x.reads) y.reads)
+    ∙ sym y.answer_is

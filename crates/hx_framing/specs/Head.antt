@@ -1,0 +1,52 @@
+-- Which bytes are the head of a request, and what it gives (RFC 9112, sections 2 to 5).
+use Rattle.std.specs.Prelude.{◌≡◌, ℕ, ◌≤◌, ◌&&◌, ◌==◌, Bool, true, false, List, [], map, length, take, codes, bytes_eq, Result, Ok, Err}
+use Rattle.std.specs.List.{list_all}
+use Rattle.httparse.specs.Grammar.{RequestHead, ReadsRequest, field_value}
+use Rattle.httparse.specs.Grammar as grammar
+use Rattle.httparse.specs.Spans.{span_bytes}
+use Rattle.httparse.specs.declared.spans.HeaderSpan.{HeaderSpan}
+use Rattle.httparse.specs.declared.spans.RequestSpans.{RequestSpans}
+use Rattle.hx_fields.specs.declared.field_line.Field.{Field}
+use Rattle.hx_fields.specs.Lines.{is_named}
+use Rattle.hx_framing.specs.declared.request_head.Head.{Head}
+use Rattle.hx_framing.specs.declared.fault.FrameFault.{FrameFault}
+use Rattle.hx_framing.specs.declared.fault.FrameFault.TheVariants as fault
+use Rattle.hx_framing.specs.Places.{blank_length, most_field_lines}
+
+-- a line's name, and its value without the white space around it
+abbrev pub field_of : grammar.Field → Field
+field_of f = record { name = f.name; value = field_value f }
+
+-- what a head of the grammar gives
+abbrev pub head_of : RequestHead → Head
+head_of h = record { method = h.method; target = h.target; minor = h.minor; fields = map field_of h.fields }
+
+-- the line that a header's spans cover
+abbrev pub field_at : List ℕ → HeaderSpan → Field
+field_at bytes h = record { name = span_bytes bytes h.name; value = span_bytes bytes h.value }
+
+-- the head that the spans cover
+abbrev pub head_at : List ℕ → List HeaderSpan → RequestSpans → Head
+head_at bytes spans r = record {
+  method = span_bytes bytes r.method;
+  target = span_bytes bytes r.path;
+  minor = r.version;
+  fields = map (field_at bytes) (take r.headers spans);
+}
+
+-- just these bytes are the head h
+abbrev pub IsHead : List ℕ → RequestHead → Type 0
+IsHead bytes h = ReadsRequest bytes h [] × (length h.fields ≤ most_field_lines)
+
+-- own: the heads that are taken so far: GET of HTTP/1.1, with Host lines alone and no empty line in front
+abbrev pub is_taken : List ℕ → Head → Bool
+is_taken bytes head =
+    blank_length bytes == 0
+    && bytes_eq head.method (codes "GET")
+    && (head.minor == 1)
+    && list_all (is_named (codes "host")) head.fields
+
+-- how the bytes of a whole head are judged
+abbrev pub Judges : List ℕ → Result Head FrameFault → Type 0
+Judges bytes (Ok head) = (h : RequestHead) × IsHead bytes h × (head ≡ head_of h) × (is_taken bytes head ≡ true)
+Judges bytes (Err f) = ((h : RequestHead) → IsHead bytes h → is_taken bytes (head_of h) ≡ false) × (f ≡ fault.Head)

@@ -1,0 +1,16 @@
+pub mod Fault
+pub mod Places
+pub mod Reading
+pub mod Progress
+pub mod Found
+pub mod Head
+pub mod RequestReading
+pub mod RequestStream
+pub mod RequestState
+pub mod StatusHead
+pub mod ResponseReading
+pub mod ResponseStream
+pub mod Waits
+pub mod ResponseState
+pub mod Text
+pub mod Examples

@@ -1,0 +1,63 @@
+-- A stream of messages as far as it has come, and what a reader answers of it.
+--
+-- Progress: a stream so far and what was given of it    start, fed, finished, moved: how it goes on
+-- next_of: the answer to a reading    IsDue: there is something to do    cost: what an answer takes of what is to come
+use Rattle.std.specs.Prelude.{ℕ, Bool, true, false, List, [], ◌∷◌, ◌++◌}
+use Rattle.hx_framing.specs.declared.answer.Next.{Next}
+use Rattle.hx_framing.specs.declared.answer.Next.TheVariants as next
+use Rattle.hx_framing.specs.Reading.{Reading, Incomplete, Continue, Over, Spelled, Faulty}
+
+-- max_body, to_head: the most content in bytes, and whether it answers a HEAD
+-- stream, ended: its bytes so far, and whether more may come
+-- given, told: the messages given, and whether the continue of the next was
+pub record Progress (M : Type 0) : Type 0 where
+  pub max_body : ℕ
+  pub to_head : Bool
+  pub stream : List ℕ
+  pub ended : Bool
+  pub given : List M
+  pub told : Bool
+
+abbrev pub start : {M : Type 0} → ℕ → Bool → Progress M
+start max_body to_head =
+    record { max_body = max_body; to_head = to_head; stream = []; ended = false; given = []; told = false }
+
+-- a piece has come
+abbrev pub fed : {M : Type 0} → Progress M → List ℕ → Progress M
+fed p piece = record p { stream = p.stream ++ piece }
+
+-- the stream has ended
+abbrev pub finished : {M : Type 0} → Progress M → Progress M
+finished p = record p { ended = true }
+
+-- what is answered where that is read
+abbrev pub next_of : {M : Type 0} → Reading M → Next M
+next_of Incomplete = next.More
+next_of Continue = next.NeedsContinue
+next_of Over = next.End
+next_of (Spelled m rest) = next.Message m
+next_of (Faulty f) = next.Refused f
+
+-- after that answer
+abbrev pub moved : {M : Type 0} → Progress M → Next M → Progress M
+moved p next.More = p
+moved p next.NeedsContinue = record p { told = true }
+moved p (next.Message m) = record p { given = p.given ++ m ∷ []; told = false }
+moved p (next.Refused f) = p
+moved p next.End = p
+
+-- there is something to do
+abbrev pub IsDue : {M : Type 0} → Next M → Type 0
+IsDue next.More = ⊥
+IsDue next.NeedsContinue = Unit {0}
+IsDue (next.Message m) = Unit {0}
+IsDue (next.Refused f) = Unit {0}
+IsDue next.End = Unit {0}
+
+-- what an answer takes of what is still to come
+abbrev pub cost : {M : Type 0} → Next M → ℕ
+cost next.More = 0
+cost next.NeedsContinue = 1
+cost (next.Message m) = 1
+cost (next.Refused f) = 0
+cost next.End = 0

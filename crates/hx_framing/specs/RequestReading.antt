@@ -1,0 +1,36 @@
+-- What stands at the front of the unread bytes of a request stream (RFC 9112, sections 2 and 6).
+use Rattle.std.specs.Prelude.{◌≡◌, ℕ, ◌&&◌, Bool, cond, List, Option, Some, None, Result, Ok, Err, length, take, drop, nat_lt, ◌==◌}
+use Rattle.hx_framing.specs.declared.request_head.Head.{Head}
+use Rattle.hx_framing.specs.declared.requests.Request.{Request}
+use Rattle.hx_framing.specs.declared.fault.FrameFault.{FrameFault}
+use Rattle.hx_framing.specs.declared.fault.FrameFault.TheVariants as fault
+use Rattle.hx_framing.specs.Places.{head_length, blank_length, most_head_bytes}
+use Rattle.hx_framing.specs.Head.{Judges}
+use Rattle.hx_framing.specs.Reading.{Reading, Over, Spelled, Faulty, cut_off}
+
+-- a head with its content
+abbrev pub request_of : Head → Option (List ℕ) → Request
+request_of head content =
+    record { method = head.method; target = head.target; minor = head.minor; fields = head.fields; content = content }
+
+-- behind a judged head
+-- own: a head that is taken so far announces no content
+abbrev pub with_head : ℕ → Bool → Bool → List ℕ → Result Head FrameFault → Reading Request
+with_head max_body ended told bytes (Err f) = Faulty f
+with_head max_body ended told bytes (Ok head) = Spelled (request_of head None) bytes
+
+-- no head ends within the limit; empty lines alone are no message
+abbrev pub without_head : Bool → List ℕ → Reading Request
+without_head ended bytes =
+    cond (nat_lt most_head_bytes (length bytes)) (Faulty fault.Head)
+    (cond (ended && (blank_length bytes == length bytes)) Over (cut_off ended))
+
+abbrev pub ReadsBy : ℕ → Bool → Bool → List ℕ → Option ℕ → Reading Request → Type 0
+ReadsBy max_body ended told bytes None reading = reading ≡ without_head ended bytes
+ReadsBy max_body ended told bytes (Some n) reading =
+    (judged : Result Head FrameFault) × Judges (take n bytes) judged × (reading ≡ with_head max_body ended told (drop n bytes) judged)
+
+-- ended: the stream ends behind these bytes; told: the continue of this message was given
+abbrev pub Reads : ℕ → Bool → Bool → List ℕ → Reading Request → Type 0
+Reads max_body ended told bytes reading =
+    ReadsBy max_body ended told bytes (head_length (take most_head_bytes bytes)) reading

@@ -1,0 +1,25 @@
+-- A stream of requests: its messages, and what a reader answers of it (RFC 9112, sections 2 to 7 and 9.3).
+use Rattle.std.specs.Prelude.{◌≡◌, ℕ, true, false, List, [], ◌∷◌}
+use Rattle.hx_framing.specs.declared.requests.Request.{Request}
+use Rattle.hx_framing.specs.declared.answer.Next.{Next}
+use Rattle.hx_framing.specs.Reading.{Reading, Spelled}
+use Rattle.hx_framing.specs.RequestReading.{Reads}
+use Rattle.hx_framing.specs.Progress.{Progress, next_of}
+
+-- the bytes begin with this request; what follows is rest
+abbrev pub SpellsRequest : ℕ → List ℕ → Request → List ℕ → Type 0
+SpellsRequest max_body bytes message rest = Reads max_body false true bytes (Spelled message rest)
+
+-- the stream spells these requests, and then comes rest
+abbrev pub StreamSpells : ℕ → List ℕ → List Request → List ℕ → Type 0
+StreamSpells max_body stream [] rest = rest ≡ stream
+StreamSpells max_body stream (message ∷ messages) rest =
+    (middle : List ℕ) × SpellsRequest max_body stream message middle × StreamSpells max_body middle messages rest
+
+-- the answer is the one that the stream has behind the requests given
+pub record Answers (p : Progress Request) (answer : Next Request) : Type 0 where
+  pub rest : List ℕ
+  pub reading : Reading Request
+  pub spells : StreamSpells p.max_body p.stream p.given rest
+  pub reads : Reads p.max_body p.ended p.told rest reading
+  pub answer_is : answer ≡ next_of reading

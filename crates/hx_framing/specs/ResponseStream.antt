@@ -1,0 +1,28 @@
+-- A stream of one response: what a reader answers of it (RFC 9112, sections 4, 6 and 9.3).
+use Rattle.std.specs.Prelude.{◌≡◌, ℕ, Bool, List, [], ◌∷◌}
+use Rattle.hx_framing.specs.declared.responses.Response.{Response}
+use Rattle.hx_framing.specs.declared.answer.Next.{Next}
+use Rattle.hx_framing.specs.declared.answer.Next.TheVariants.{End}
+use Rattle.hx_framing.specs.Reading.{Reading, Spelled}
+use Rattle.hx_framing.specs.ResponseReading.{Reads}
+use Rattle.hx_framing.specs.Progress.{Progress, next_of}
+
+-- the bytes, of which no more come where ended holds, begin with this response; what follows is rest
+abbrev pub SpellsResponse : ℕ → Bool → Bool → List ℕ → Response → List ℕ → Type 0
+SpellsResponse max_body to_head ended bytes message rest = Reads max_body to_head ended bytes (Spelled message rest)
+
+-- none was given, or the one that the stream spells
+abbrev pub IsGiven : Progress Response → List Response → Type 0
+IsGiven p [] = Unit {0}
+IsGiven p (message ∷ []) = (rest : List ℕ) × SpellsResponse p.max_body p.to_head p.ended p.stream message rest
+IsGiven p (message ∷ other ∷ more) = ⊥
+
+-- before the message what the stream reads as, and then the end, whatever follows
+abbrev pub AnswersBy : Progress Response → List Response → Next Response → Type 0
+AnswersBy p [] answer =
+    (reading : Reading Response) × Reads p.max_body p.to_head p.ended p.stream reading × (answer ≡ next_of reading)
+AnswersBy p (message ∷ more) answer = answer ≡ End
+
+pub record Answers (p : Progress Response) (answer : Next Response) : Type 0 where
+  pub spells : IsGiven p p.given
+  pub by : AnswersBy p p.given answer

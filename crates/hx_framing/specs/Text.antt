@@ -1,0 +1,52 @@
+-- The bytes of requests and responses that are sent (RFC 9112, sections 3 to 7).
+--
+-- field_line, field_lines, length_line, close_line: lines of a head    request_text, response_text: whole messages
+use Rattle.std.specs.Prelude.{ℕ, ◌++◌, Bool, true, if◌then◌else◌, List, [], length, codes, decimal, Option, Some, None}
+use Rattle.std.specs.List.{flat_map}
+use Rattle.hx_fields.specs.declared.field_line.Field.{Field}
+use Rattle.hx_framing.specs.declared.requests.Request.{Request}
+
+abbrev pub crlf : List ℕ
+crlf = codes "\r\n"
+
+-- field-line = field-name ":" OWS field-value OWS (RFC 9112, section 5)
+abbrev pub field_line : Field → List ℕ
+field_line f = f.name ++ codes ": " ++ f.value ++ crlf
+
+abbrev pub field_lines : List Field → List ℕ
+field_lines fields = flat_map field_line fields
+
+-- the line that announces a length, where one is told (RFC 9110, section 8.6)
+abbrev pub length_line : Option ℕ → List ℕ
+length_line None = []
+length_line (Some n) = codes "Content-Length: " ++ decimal n ++ crlf
+
+-- the line that closes the connection behind this message (RFC 9112, section 9.6)
+abbrev pub close_line : Bool → List ℕ
+close_line close = if close then codes "Connection: close\r\n" else []
+
+abbrev pub content_length : Option (List ℕ) → Option ℕ
+content_length None = None
+content_length (Some content) = Some (length content)
+
+abbrev pub content_bytes : Option (List ℕ) → List ℕ
+content_bytes None = []
+content_bytes (Some content) = content
+
+-- request-line = method SP request-target SP HTTP-version (RFC 9112, section 3)
+abbrev pub request_line : Request → List ℕ
+request_line r = r.method ++ codes " " ++ r.target ++ codes " HTTP/1.1" ++ crlf
+
+-- own: a request closes its connection
+abbrev pub request_text : Request → List ℕ
+request_text r =
+    request_line r ++ field_lines r.fields ++ length_line (content_length r.content) ++ close_line true
+    ++ crlf ++ content_bytes r.content
+
+-- status-line = HTTP-version SP status-code SP [ reason-phrase ] (RFC 9112, section 4); no reason phrase is written
+abbrev pub status_line : ℕ → List ℕ
+status_line status = codes "HTTP/1.1 " ++ decimal status ++ codes " " ++ crlf
+
+abbrev pub response_text : ℕ → List Field → Option ℕ → Bool → List ℕ → List ℕ
+response_text status fields length close content =
+    status_line status ++ field_lines fields ++ length_line length ++ close_line close ++ crlf ++ content

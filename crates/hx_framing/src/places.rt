@@ -1,0 +1,110 @@
+//! Where the head of a message ends. The definitions are in `specs/Places.antt`.
+ghost use Rattle.std.specs.Prelude.{◌≡◌, ◌≤◌, ◌<◌, ℕ, length, drop, take, slice_index, IfSome};
+ghost use Rattle.hx_framing.specs.Places.{blank_at, empty_at, blank_length, empty_line_from, head_length};
+
+/// The most bytes of a head, with the empty lines in front of it.
+pub(crate) const MOST_HEAD_BYTES: usize = 32768;
+
+/// The most field lines of a head.
+pub(crate) const MOST_FIELD_LINES: usize = 100;
+
+/// The bytes from an index on.
+pub(crate) fn rest_from(bytes: &[u8], at: usize) -> &[u8]
+    requires { at ≤ length bytes.now }
+    ensures { result.now ≡ drop at bytes.now }
+{
+    &bytes[at..]
+}
+
+/// The byte at an index, or 0 past the end.
+fn byte_at(bytes: &[u8], i: usize) -> u8
+    ensures { result ≡ slice_index bytes.now i }
+{
+    if i < bytes.len() { bytes[i] } else { 0 }
+}
+
+fn blank_at(bytes: &[u8]) -> usize
+    ensures size { result ≡ blank_at bytes.now }
+    ensures within { result ≤ length bytes.now }
+{
+    if byte_at(bytes, 0) == b'\n' {
+        1
+    } else if byte_at(bytes, 0) == b'\r' && byte_at(bytes, 1) == b'\n' {
+        2
+    } else {
+        0
+    }
+}
+
+fn empty_at(bytes: &[u8]) -> usize
+    ensures size { result ≡ empty_at bytes.now }
+    ensures within { result ≤ length bytes.now }
+{
+    if byte_at(bytes, 0) != b'\n' {
+        0
+    } else if byte_at(bytes, 1) == b'\n' {
+        2
+    } else if byte_at(bytes, 1) == b'\r' && byte_at(bytes, 2) == b'\n' {
+        3
+    } else {
+        0
+    }
+}
+
+/// How many bytes the empty lines in front take.
+pub(crate) fn blank_length(bytes: &[u8]) -> usize
+    ensures size { result ≡ blank_length bytes.now }
+    ensures within { result ≤ length bytes.now }
+{
+    let mut at = 0;
+    while blank_at(rest_from(bytes, at)) > 0 {
+        at += blank_at(rest_from(bytes, at));
+    }
+    at
+}
+
+/// Where the first empty line from an index on ends.
+fn empty_line_from(bytes: &[u8], from: usize) -> Option<usize>
+    requires { from ≤ length bytes.now }
+    ensures place { result ≡ empty_line_from from (drop from bytes.now) }
+    ensures within { IfSome result (λ end. end ≤ length bytes.now) }
+    ensures some { IfSome result (λ end. 0 < end) }
+{
+    for at in from..bytes.len() {
+        let empty = empty_at(rest_from(bytes, at));
+        if empty > 0 {
+            return Some(at + empty);
+        }
+    }
+    None
+}
+
+/// How many bytes a head takes.
+fn head_length(bytes: &[u8]) -> Option<usize>
+    ensures size { result ≡ head_length bytes.now }
+    ensures within { IfSome result (λ end. end ≤ length bytes.now) }
+    ensures some { IfSome result (λ end. 0 < end) }
+{
+    empty_line_from(bytes, blank_length(bytes))
+}
+
+/// The first bytes, at most so many.
+fn first(bytes: &[u8], limit: usize) -> &[u8]
+    ensures value { result.now ≡ take limit bytes.now }
+    ensures len { length result.now ≤ length bytes.now }
+{
+    if limit < bytes.len() {
+        &bytes[..limit]
+    } else {
+        bytes
+    }
+}
+
+/// How many bytes a head takes, if it ends within the limit.
+pub(crate) fn head_within(bytes: &[u8], limit: usize) -> Option<usize>
+    ensures size { result ≡ head_length (take limit bytes.now) }
+    ensures within { IfSome result (λ end. end ≤ length bytes.now) }
+    ensures some { IfSome result (λ end. 0 < end) }
+{
+    head_length(first(bytes, limit))
+}

@@ -1,0 +1,111 @@
+//! Messages as they are sent. Their bytes are in `specs/Text.antt` (RFC 9112, sections 3 to 7).
+ghost use Rattle.std.specs.Prelude.{◌≡◌, ◌++◌, Option, OnOk, IfOk};
+ghost use Rattle.hx_framing.specs.Text.{field_line, field_lines, length_line, close_line, request_line, status_line, request_text, response_text};
+
+use crate::requests::Request;
+use hx_fields::{Bytes, Field, Fields};
+use itoa::Buffer;
+use std::alloc::{AllocError, Global};
+
+fn write_line(text: &mut Vec<u8>, line: &Field) -> Result<(), AllocError>
+    ensures { OnOk result (text.new.items ≡ text.old.items ++ field_line line.now) }
+{
+    text.extend_from_slice(line.name.as_slice())?;
+    text.extend_from_slice(b": ")?;
+    text.extend_from_slice(line.value.as_slice())?;
+    text.extend_from_slice(b"\r\n")?;
+    Ok(())
+}
+
+fn write_lines(text: &mut Vec<u8>, lines: &[Field]) -> Result<(), AllocError>
+    ensures { OnOk result (text.new.items ≡ text.old.items ++ field_lines lines.now) }
+{
+    for line in lines {
+        write_line(text, line)?;
+    }
+    Ok(())
+}
+
+fn write_length(text: &mut Vec<u8>, length: Option<u64>) -> Result<(), AllocError>
+    ensures { OnOk result (text.new.items ≡ text.old.items ++ length_line length) }
+{
+    if let Some(n) = length {
+        let mut digits = Buffer::new();
+        text.extend_from_slice(b"Content-Length: ")?;
+        text.extend_from_slice(digits.format(n).as_bytes())?;
+        text.extend_from_slice(b"\r\n")?;
+    }
+    Ok(())
+}
+
+fn write_close(text: &mut Vec<u8>, close: bool) -> Result<(), AllocError>
+    ensures { OnOk result (text.new.items ≡ text.old.items ++ close_line close) }
+{
+    if close {
+        text.extend_from_slice(b"Connection: close\r\n")?;
+    }
+    Ok(())
+}
+
+fn write_request_line(text: &mut Vec<u8>, request: &Request) -> Result<(), AllocError>
+    ensures { OnOk result (text.new.items ≡ text.old.items ++ request_line request.now) }
+{
+    text.extend_from_slice(request.method.as_str().as_bytes())?;
+    text.extend_from_slice(b" ")?;
+    text.extend_from_slice(request.target.as_slice())?;
+    text.extend_from_slice(b" HTTP/1.1\r\n")?;
+    Ok(())
+}
+
+fn write_status_line(text: &mut Vec<u8>, status: u16) -> Result<(), AllocError>
+    ensures { OnOk result (text.new.items ≡ text.old.items ++ status_line status) }
+{
+    let mut digits = Buffer::new();
+    text.extend_from_slice(b"HTTP/1.1 ")?;
+    text.extend_from_slice(digits.format(status).as_bytes())?;
+    text.extend_from_slice(b" \r\n")?;
+    Ok(())
+}
+
+/// The bytes of a request that is sent to an origin: its lines, a Content-Length where it has content, and
+/// `Connection: close`.
+pub fn write_request(alloc: Global, request: &Request) -> Result<Bytes, AllocError>
+    ensures { IfOk result (λ text. text ≡ request_text request.now) }
+{
+    let content = match &request.content {
+        Some(content) => Some(content.as_slice()),
+        None => None,
+    };
+    let mut text = Vec::new(alloc);
+    write_request_line(&mut text, request)?;
+    write_lines(&mut text, request.fields.as_slice())?;
+    write_length(&mut text, content.map(|content| content.len() as u64))?;
+    write_close(&mut text, true)?;
+    text.extend_from_slice(b"\r\n")?;
+    if let Some(content) = content {
+        text.extend_from_slice(content)?;
+    }
+    Ok(Bytes::from_vec(text))
+}
+
+/// The bytes of a response that is sent to a client. `length` is the Content-Length in bytes, where one is told;
+/// `close` tells that the connection closes behind it.
+pub fn write_response(
+    alloc: Global,
+    status: u16,
+    fields: &Fields,
+    length: Option<u64>,
+    close: bool,
+    content: &[u8],
+) -> Result<Bytes, AllocError>
+    ensures { IfOk result (λ text. text ≡ response_text status fields.now length close content.now) }
+{
+    let mut text = Vec::new(alloc);
+    write_status_line(&mut text, status)?;
+    write_lines(&mut text, fields.as_slice())?;
+    write_length(&mut text, length)?;
+    write_close(&mut text, close)?;
+    text.extend_from_slice(b"\r\n")?;
+    text.extend_from_slice(content)?;
+    Ok(Bytes::from_vec(text))
+}
