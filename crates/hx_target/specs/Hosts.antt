@@ -3,6 +3,7 @@
 -- own: a host is a name of letters, digits, `-`, `.`, `_`, or an address in brackets, so that each host has one
 -- spelling but for its case ("Hosts are plain names").
 use Rattle.std.specs.Prelude.{ℕ, ◌+◌, ◌-◌, ◌*◌, ◌==◌, nat_le, Bool, ◌&&◌, ◌||◌, if◌then◌else◌, List, [], ◌∷◌, length, take, drop, map, slice_index, Option, Some, None}
+use Rattle.std.specs.Option.{option_and_then}
 use Rattle.std.specs.List.{list_all}
 use Rattle.std.specs.Char.{is_ascii_alphanumeric, is_ascii_digit, is_ascii_hexdigit, to_ascii_lowercase}
 use Rattle.http_uri.specs.ByteClasses.{colon, left_bracket, right_bracket, split_once_front, split_once_through}
@@ -51,15 +52,18 @@ abbrev pub digits_on : ℕ → List ℕ → ℕ
 digits_on n [] = n
 digits_on n (c ∷ cs) = digits_on (n * 10 + (c - 48)) cs
 
--- one to five digits of a value from 1 to 65535
-abbrev pub is_port : List ℕ → Bool
-is_port text =
-    nat_le 1 (length text) && nat_le (length text) 5 && list_all is_ascii_digit text && nat_le 1 (digits_on 0 text)
-    && nat_le (digits_on 0 text) 65535
+-- the number that one to five digits spell
+unfoldable pub short_number : List ℕ → Option ℕ
+short_number text =
+    if nat_le 1 (length text) && nat_le (length text) 5 && list_all is_ascii_digit text then Some (digits_on 0 text) else None
+
+-- a number from 1 to 65535
+abbrev pub if_port : ℕ → Option ℕ
+if_port n = if nat_le 1 n && nat_le n 65535 then Some n else None
 
 -- the port that a text spells; an empty one is 80, the default of `http` (RFC 9110, section 4.2.1)
 unfoldable pub port_of : List ℕ → Option ℕ
-port_of text = if length text == 0 then Some 80 else if is_port text then Some (digits_on 0 text) else None
+port_of text = if length text == 0 then Some 80 else option_and_then if_port (short_number text)
 
 -- the port of a Host value
 abbrev pub port_part : List ℕ → Option ℕ

@@ -6,7 +6,7 @@ ghost use Rattle.std.specs.Char.{is_ascii_digit};
 ghost use Rattle.std.specs.Option.{option_copied};
 ghost use Rattle.std.specs.List.{list_all};
 ghost use Rattle.http_uri.specs.ByteClasses.{index_of};
-ghost use Rattle.hx_target.specs.Hosts.{is_name_byte, is_address_byte, is_name, is_address, is_host, host_part, after_host, has_valid_host, digits_on, is_port, port_of, port_part, lowercase};
+ghost use Rattle.hx_target.specs.Hosts.{is_name_byte, is_address_byte, is_name, is_address, is_host, host_part, after_host, has_valid_host, digits_on, short_number, port_of, port_part, lowercase};
 
 use hx_fields::Bytes;
 use std::alloc::{AllocError, Global};
@@ -126,6 +126,17 @@ fn value_of(digits: &[u8]) -> u32
     value
 }
 
+/// The number that one to five digits spell.
+#[tactic(auto, unfolding(crate::specs::Hosts::short_number))]
+pub fn short_number(text: &[u8]) -> Option<u32>
+    ensures { result ≡ short_number text.now }
+{
+    if text.is_empty() || text.len() > 5 || !are_digits(text) {
+        return None;
+    }
+    Some(value_of(text))
+}
+
 /// The port that a text spells, 80 where it is empty.
 #[tactic(auto, unfolding(crate::specs::Hosts::port_of))]
 fn port_of(text: &[u8]) -> Option<u16>
@@ -134,12 +145,9 @@ fn port_of(text: &[u8]) -> Option<u16>
     if text.is_empty() {
         return Some(80);
     }
-    if text.len() > 5 || !are_digits(text) {
-        return None;
-    }
-    match value_of(text) {
-        0 => None,
-        value => u16::try_from(value).ok(),
+    match short_number(text) {
+        Some(port) if 1 <= port && port <= 65_535 => Some(port as u16),
+        _ => None,
     }
 }
 

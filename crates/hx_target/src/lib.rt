@@ -16,7 +16,7 @@ mod targets;
 mod tests;
 
 pub use faults::TargetFault;
-pub use hosts::is_host;
+pub use hosts::{is_host, short_number};
 pub use keys::Key;
 pub use laws::{a_target_is_judged_in_one_way, equal_keys_are_one, no_dot_segment_passes};
 pub use paths::has_dot_segment;

@@ -1,5 +1,5 @@
 //! Targets and Host lines with the fault that each must give, and one that is read.
-use crate::{Key, TargetFault, has_dot_segment, is_host, read_target};
+use crate::{Key, TargetFault, has_dot_segment, is_host, read_target, short_number};
 use hx_fields::{Bytes, Fields};
 use std::alloc::{AllocError, Global};
 use std::test::Fail;
@@ -114,6 +114,9 @@ fn a_long_target_is_refused_past_its_limit(rt: HostRuntime) -> Result<(), Fail> 
 fn hosts_and_dot_segments_are_told(rt: HostRuntime) -> Result<(), Fail> {
     assert!(rt; is_host(b"a-B_1."));
     assert!(rt; !is_host(b"a%41"));
+    assert_eq!(rt; short_number(b"00450"), Some(450));
+    assert_eq!(rt; short_number(b""), None);
+    assert_eq!(rt; short_number(b"-1"), None);
     assert!(rt; has_dot_segment(b"/a/./b"));
     assert!(rt; !has_dot_segment(b"/a/.../b"));
     Ok(())

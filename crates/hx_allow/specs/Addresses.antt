@@ -1,0 +1,41 @@
+-- Addresses of origins: four decimal numbers and a port.
+use Rattle.std.specs.Prelude.{ℕ, nat_le, ◌==◌, nat_lt, Bool, false, not, ◌&&◌, if◌then◌else◌, List, [], ◌∷◌, length, slice_index, Option, Some, None}
+use Rattle.std.specs.Option.{option_map, option_and_then}
+use Rattle.hx_target.specs.Hosts.{short_number}
+
+-- what stands before the first of these bytes, and what stands behind it
+abbrev pub cut_at : ℕ → List ℕ → Option (List ℕ × List ℕ)
+cut_at separator [] = None
+cut_at separator (b ∷ bs) = if b == separator then Some ([], bs) else option_map (λ p. (b ∷ p.0, p.1)) (cut_at separator bs)
+
+-- a zero in front of further digits
+abbrev pub has_leading_zero : List ℕ → Bool
+has_leading_zero text = nat_lt 1 (length text) && (slice_index text 0 == 48)
+
+abbrev pub is_within : ℕ → ℕ → Option ℕ → Bool
+is_within low high None = false
+is_within low high (Some n) = nat_le low n && nat_le n high
+
+-- a decimal number within bounds, without leading zeros
+abbrev pub is_number : ℕ → ℕ → List ℕ → Bool
+is_number low high text = not (has_leading_zero text) && is_within low high (short_number text)
+
+abbrev pub rest_after_octet : List ℕ × List ℕ → Option (List ℕ)
+rest_after_octet p = if is_number 0 255 p.0 then Some p.1 else None
+
+-- what follows a number from 0 to 255 and this byte
+abbrev pub after_octet : ℕ → List ℕ → Option (List ℕ)
+after_octet separator text = option_and_then rest_after_octet (cut_at separator text)
+
+-- what follows three numbers with a dot each, and one with a colon
+abbrev pub port_text : List ℕ → Option (List ℕ)
+port_text text =
+    option_and_then (after_octet 58) (option_and_then (after_octet 46) (option_and_then (after_octet 46) (after_octet 46 text)))
+
+abbrev pub is_port_text : Option (List ℕ) → Bool
+is_port_text None = false
+is_port_text (Some text) = is_number 1 65535 text
+
+-- four numbers from 0 to 255 joined by `.`, then `:` and a port
+unfoldable pub is_address : List ℕ → Bool
+is_address text = is_port_text (port_text text)

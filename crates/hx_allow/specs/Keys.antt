@@ -1,0 +1,25 @@
+-- The keys of numbers, as they stand in the table, and the numbers of faults.
+use Rattle.std.specs.Prelude.{ℕ, List, codes}
+use Rattle.hx_allow.specs.declared.faults.ConfigFault.{ConfigFault}
+use Rattle.hx_allow.specs.declared.faults.ConfigFault.TheVariants.{NotToml, UnknownKey, BadName, BadNumber, BadHost, BadMethod, BadPath, BadOrigin, NoLines, OutOfMemory}
+use Rattle.hx_allow.specs.declared.faults.NumberKey.{NumberKey}
+use Rattle.hx_allow.specs.declared.faults.NumberKey.TheVariants.{Version, Capacity, MaxBody, MaxStored}
+
+abbrev pub key_text : NumberKey → List ℕ
+key_text Version = codes "version"
+key_text Capacity = codes "capacity"
+key_text MaxBody = codes "max_body"
+key_text MaxStored = codes "max_stored"
+
+-- the numbers of the faults, which order them
+abbrev pub fault_number : ConfigFault → ℕ
+fault_number NotToml = 1
+fault_number (UnknownKey key) = 2
+fault_number BadName = 3
+fault_number (BadNumber key) = 4
+fault_number (BadHost line) = 5
+fault_number (BadMethod line) = 6
+fault_number (BadPath line) = 7
+fault_number (BadOrigin line) = 8
+fault_number NoLines = 9
+fault_number OutOfMemory = 10

@@ -1,0 +1,7 @@
+pub mod Addresses
+pub mod Keys
+pub mod LineTables
+pub mod Lines
+pub mod Matching
+pub mod Tables
+pub mod Values

@@ -1,0 +1,18 @@
+-- The operator's table as plain lists.
+use Rattle.std.specs.Prelude.{ℕ, List, Option}
+
+-- A line: the only host that it matches or none for every one, its methods with `*` among them, its path, and the
+-- address of its origin or none where it denies.
+pub record Line : Type 0 where
+  pub host : Option (List ℕ)
+  pub methods : List (List ℕ)
+  pub path : List ℕ
+  pub origin : Option (List ℕ)
+
+-- The whole table. Limits are bytes, but for the capacity, which is entries.
+pub record Table : Type 0 where
+  pub name : List ℕ
+  pub capacity : ℕ
+  pub max_body : ℕ
+  pub max_stored : ℕ
+  pub lines : List Line

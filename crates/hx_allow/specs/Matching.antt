@@ -1,0 +1,74 @@
+-- Which line of the operator's table decides on a request.
+--
+-- matches_line: a line's host, a method and its path match
+-- verdict_of: the first line that matches
+use Rattle.std.specs.Prelude.{◌≤◌, IsSome, ℕ, ◌+◌, ◌-◌, ◌==◌, nat_lt, Bool, true, not, ◌&&◌, ◌||◌, if◌then◌else◌, List, [], ◌∷◌, length, take, slice_index, slice_get, codes, bytes_eq, Option, Some, None, is_some}
+use Rattle.std.specs.Option.{option_and_then}
+use Rattle.std.specs.List.{list_any}
+use Rattle.hx_target.specs.declared.targets.Target.{Target}
+use Rattle.hx_allow.specs.Lines.{Line}
+use Rattle.hx_allow.specs.declared.verdicts.Verdict.{Verdict}
+use Rattle.hx_allow.specs.declared.verdicts.Verdict.TheVariants.{Allowed, DeniedBy, NoLine}
+
+-- ports aren't compared
+abbrev pub matches_host : Option (List ℕ) → List ℕ → Bool
+matches_host None asked = true
+matches_host (Some host) asked = bytes_eq host asked
+
+-- methods that no line allows: a tunnel, and two that need Max-Forwards (RFC 9110, sections 7.6.2 and 9.3.6)
+abbrev pub is_never_allowed : List ℕ → Bool
+is_never_allowed method = bytes_eq method (codes "CONNECT") || bytes_eq method (codes "TRACE") || bytes_eq method (codes "OPTIONS")
+
+abbrev pub is_any_or_same : List ℕ → List ℕ → Bool
+is_any_or_same method text = bytes_eq text (codes "*") || bytes_eq text method
+
+-- methods compare with their case (RFC 9110, section 9.1)
+abbrev pub matches_method : List (List ℕ) → List ℕ → Bool
+matches_method methods method = not (is_never_allowed method) && list_any (is_any_or_same method) methods
+
+-- the path of a line begins the asked one, and a slash follows
+abbrev pub is_continued : List ℕ → List ℕ → Bool
+is_continued path asked =
+    nat_lt (length path) (length asked) && bytes_eq (take (length path) asked) path && (slice_index asked (length path) == 47)
+
+-- `/` matches all; any other path itself and what continues it with a slash
+abbrev pub matches_path : List ℕ → List ℕ → Bool
+matches_path path asked = bytes_eq path (codes "/") || bytes_eq path asked || is_continued path asked
+
+unfoldable pub matches_line : Line → List ℕ → Target → Bool
+matches_line line method target =
+    matches_host line.host target.key.host && matches_method line.methods method && matches_path line.path target.table_path
+
+-- what a line of this number says where it decides
+abbrev pub verdict_by : ℕ → Line → Verdict
+verdict_by n line = if is_some line.origin then Allowed n else DeniedBy n
+
+-- the first line that matches, where the first of the list has this number
+abbrev pub verdict_from : ℕ → List Line → List ℕ → Target → Verdict
+verdict_from n [] method target = NoLine
+verdict_from n (line ∷ lines) method target =
+    if matches_line line method target then verdict_by n line else verdict_from (n + 1) lines method target
+
+-- the first line that matches; lines are counted from 1
+unfoldable pub verdict_of : List Line → List ℕ → Target → Verdict
+verdict_of lines method target = verdict_from 1 lines method target
+
+-- the origin of the line with this number, where it stands and doesn't deny
+abbrev pub origin_of : List Line → ℕ → Option (List ℕ)
+origin_of lines n = option_and_then (λ (line : Line). line.origin) (slice_get lines (n - 1))
+
+-- a line of this number stands and has an origin
+abbrev pub IsAllowing : List Line → ℕ → Type 0
+IsAllowing lines n = (1 ≤ n) × IsSome (origin_of lines n)
+
+-- where the verdict allows, its line stands and has an origin
+abbrev pub NamesAnOrigin : List Line → Verdict → Type 0
+NamesAnOrigin lines (Allowed n) = IsAllowing lines n
+NamesAnOrigin lines (DeniedBy n) = Unit {0}
+NamesAnOrigin lines NoLine = Unit {0}
+
+-- the number of the line that decided
+abbrev pub line_number : Verdict → Option ℕ
+line_number (Allowed n) = Some n
+line_number (DeniedBy n) = Some n
+line_number NoLine = None

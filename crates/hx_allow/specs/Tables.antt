@@ -1,0 +1,112 @@
+-- What a TOML table says as an operator's table, or its first fault.
+--
+-- table_fault: the first fault that stands      table_of: what is said where none stands
+-- judge_table: one or the other
+-- ReadsAs: the same of bytes, with the reading of TOML as a relation
+use Rattle.std.specs.Prelude.{◌≡◌, ◌⊎◌, ◌≤◌, ℕ, ◌==◌, nat_le, Bool, true, not, ◌&&◌, ◌||◌, if◌then◌else◌, List, [], ◌∷◌, length, slice_index, find, codes, IsUtf8, Option, Some, None, is_some, is_none, unwrap_or, Result, Ok, Err}
+use Rattle.std.specs.Option.{option_and_then}
+use Rattle.std.specs.List.{list_all}
+use Rattle.std.specs.Char.{is_ascii_lowercase, is_ascii_digit}
+use Rattle.toml.specs.Data.{Items, no_items, Members, get_member, as_table}
+use Rattle.toml.specs.Parse.{parse_document}
+use Rattle.hx_allow.specs.Keys.{key_text}
+use Rattle.hx_allow.specs.Lines.{Table}
+use Rattle.hx_allow.specs.LineTables.{lines_fault, lines_of, has_key}
+use Rattle.hx_allow.specs.Values.{first_unknown, text_at, number_between, is_some_and, counts_within, all_items, items_at}
+use Rattle.hx_allow.specs.declared.values.Scope.TheVariants.{Top}
+use Rattle.hx_allow.specs.declared.faults.ConfigFault.{ConfigFault}
+use Rattle.hx_allow.specs.declared.faults.ConfigFault.TheVariants.{NotToml, UnknownKey, BadName, BadNumber, NoLines}
+use Rattle.hx_allow.specs.declared.faults.NumberKey.{NumberKey}
+use Rattle.hx_allow.specs.declared.faults.NumberKey.TheVariants.{Version, Capacity, MaxBody, MaxStored}
+
+-- What isn't read yet: a second line.
+abbrev pub line_limit : ℕ
+line_limit = 1
+
+-- a lower-case letter, then at most 31 lower-case letters, digits and `-`
+abbrev pub is_name_byte : ℕ → Bool
+is_name_byte b = is_ascii_lowercase b || is_ascii_digit b || (b == 45)
+
+unfoldable pub is_name : List ℕ → Bool
+is_name text = nat_le (length text) 32 && is_ascii_lowercase (slice_index text 0) && list_all is_name_byte text
+
+-- the least and the greatest number of a key
+abbrev pub least : NumberKey → ℕ
+least Version = 1
+least Capacity = 1
+least MaxBody = 0
+least MaxStored = 0
+
+abbrev pub greatest : NumberKey → ℕ
+greatest Version = 1
+greatest Capacity = 65536
+greatest MaxBody = 16777216
+greatest MaxStored = 16777216
+
+abbrev pub number_at : NumberKey → Members → Option ℕ
+number_at key t = number_between (least key) (greatest key) (get_member (key_text key) t)
+
+-- an array of tables, as many as are read
+abbrev pub are_lines : Items → Bool
+are_lines ds = counts_within line_limit ds && all_items (λ d. is_some (as_table d)) ds
+
+abbrev pub if_lines : Items → Option Items
+if_lines ds = if are_lines ds then Some ds else None
+
+abbrev pub lines_at : Members → Option Items
+lines_at t = option_and_then if_lines (items_at (codes "line") t)
+
+-- the keys of numbers, in the order in which they are looked at
+abbrev pub number_keys : List NumberKey
+number_keys = Version ∷ Capacity ∷ MaxBody ∷ MaxStored ∷ []
+
+-- the first key whose number is missing or out of bounds
+abbrev pub number_fault : Members → Option NumberKey
+number_fault t = find (λ key. is_none (number_at key t)) number_keys
+
+-- the first fault of a table, in the order in which they are looked for
+unfoldable pub table_fault : Members → Option ConfigFault
+table_fault t = after_keys (first_unknown Top t)
+  where
+    after_name : Option NumberKey → Option ConfigFault
+    after_name (Some key) = Some (BadNumber key)
+    after_name None = if is_none (lines_at t) then Some NoLines else lines_fault 1 (unwrap_or (lines_at t) no_items)
+
+    after_keys : Option (List ℕ) → Option ConfigFault
+    after_keys (Some key) = Some (UnknownKey key)
+    after_keys None =
+        if not (is_some_and is_name (text_at (codes "name") t)) then Some BadName
+        else after_name (number_fault t)
+
+-- what a table says, where it has no fault
+unfoldable pub table_of : Members → Table
+table_of t = record {
+  name = unwrap_or (text_at (codes "name") t) [];
+  capacity = unwrap_or (number_at Capacity t) 0;
+  max_body = unwrap_or (number_at MaxBody t) 0;
+  max_stored = unwrap_or (number_at MaxStored t) 0;
+  lines = lines_of (unwrap_or (lines_at t) no_items);
+}
+
+abbrev pub fault_or_table : Option ConfigFault → Members → Result Table ConfigFault
+fault_or_table (Some fault) t = Err fault
+fault_or_table None t = Ok (table_of t)
+
+-- the first fault of a table, or what it says
+unfoldable pub judge_table : Members → Result Table ConfigFault
+judge_table t = fault_or_table (table_fault t) t
+
+-- the bytes are TOML of this table, within the limit
+abbrev pub IsTable : List ℕ → Members → Type 0
+IsTable bytes t = (length bytes ≤ 1048576) × IsUtf8 bytes × (parse_document bytes ≡ Some t)
+
+-- what the bytes are read as: what their table says, or NotToml where they are none
+abbrev pub ReadsAs : List ℕ → Result Table ConfigFault → Type 0
+ReadsAs bytes r =
+    ((t : Members) × IsTable bytes t × (r ≡ judge_table t))
+    ⊎ (((t : Members) → ¬ (IsTable bytes t)) × (r ≡ Err NotToml))
+
+-- memory is taken before a fault is told only for the bytes of a key
+abbrev pub wants_memory : Option ConfigFault → Bool
+wants_memory None = true
+wants_memory (Some fault) = has_key (Some fault)

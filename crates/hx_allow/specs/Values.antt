@@ -1,0 +1,64 @@
+-- What the operator's table reads of a TOML table: keys, texts, numbers and arrays.
+use Rattle.std.specs.Prelude.{ℕ, ◌+◌, nat_le, ℤ, pos, negsuc, Bool, true, false, ◌&&◌, if◌then◌else◌, List, [], ◌∷◌, codes, bytes_eq, Option, Some, None}
+use Rattle.std.specs.Option.{option_and_then}
+use Rattle.std.specs.List.{list_any}
+use Rattle.toml.specs.Data.{Data, as_integer, Items, no_items, item, Members, no_members, member, get_member, as_str, as_array}
+use Rattle.hx_allow.specs.declared.values.Scope.{Scope}
+use Rattle.hx_allow.specs.declared.values.Scope.TheVariants.{Top, Line}
+
+-- the keys that stand at the top, and in a line
+abbrev pub known_keys : Scope → List (List ℕ)
+known_keys Top = codes "version" ∷ codes "name" ∷ codes "capacity" ∷ codes "max_body" ∷ codes "max_stored" ∷ codes "line" ∷ []
+known_keys Line = codes "host" ∷ codes "methods" ∷ codes "path" ∷ codes "origin" ∷ []
+
+abbrev pub is_known : Scope → List ℕ → Bool
+is_known scope key = list_any (bytes_eq key) (known_keys scope)
+
+-- the first key that isn't known; the members of a table ascend by the bytes of their keys, so it is the least
+abbrev pub first_unknown : Scope → Members → Option (List ℕ)
+first_unknown scope no_members = None
+first_unknown scope (member key value ms) = if is_known scope key then first_unknown scope ms else Some key
+
+abbrev pub text_at : List ℕ → Members → Option (List ℕ)
+text_at key ms = option_and_then as_str (get_member key ms)
+
+abbrev pub within : ℕ → ℕ → Option ℤ → Option ℕ
+within low high None = None
+within low high (Some (pos n)) = if nat_le low n && nat_le n high then Some n else None
+within low high (Some (negsuc n)) = None
+
+-- a whole number within bounds
+abbrev pub number_between : ℕ → ℕ → Option Data → Option ℕ
+number_between low high value = within low high (option_and_then as_integer value)
+
+abbrev pub is_some_and : {A : Type 0} → (A → Bool) → Option A → Bool
+is_some_and test None = false
+is_some_and test (Some x) = test x
+
+abbrev pub item_count : Items → ℕ
+item_count no_items = 0
+item_count (item d ds) = item_count ds + 1
+
+abbrev pub all_items : (Data → Bool) → Items → Bool
+all_items test no_items = true
+all_items test (item d ds) = test d && all_items test ds
+
+abbrev pub counts_within : ℕ → Items → Bool
+counts_within most ds = nat_le 1 (item_count ds) && nat_le (item_count ds) most
+
+-- the text, but for the one that stands for none
+abbrev pub unless_text : List ℕ → Option (List ℕ) → Option (List ℕ)
+unless_text word None = None
+unless_text word (Some text) = if bytes_eq text word then None else Some text
+
+abbrev pub with_text : Option (List ℕ) → List (List ℕ) → List (List ℕ)
+with_text None texts = texts
+with_text (Some text) texts = text ∷ texts
+
+-- the texts among some items
+abbrev pub texts_of : Items → List (List ℕ)
+texts_of no_items = []
+texts_of (item d ds) = with_text (as_str d) (texts_of ds)
+
+abbrev pub items_at : List ℕ → Members → Option Items
+items_at key ms = option_and_then as_array (get_member key ms)

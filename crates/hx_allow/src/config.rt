@@ -1,0 +1,119 @@
+//! The operator's table, read.
+ghost use Rattle.std.specs.Prelude.{◌≡◌, ◌≤◌, length, Some, Err, slice_get};
+ghost use Rattle.hx_allow.specs.Matching.{verdict_of, origin_of, IsAllowing, NamesAnOrigin};
+ghost use Rattle.std.specs.Option.{option_copied};
+ghost use Rattle.hx_allow.specs.Tables.{ReadsAs};
+
+use crate::lines::Line;
+use crate::{ConfigFault, Verdict, reading};
+use http::Method;
+use hx_target::Target;
+use std::alloc::Global;
+use std::marker::Model;
+
+/// The operator's table: the proxy's name, its limits, and which requests go to which origin.
+#[derive(Drop)]
+pub struct Config {
+    pub(crate) name: String,
+    pub(crate) capacity: usize,
+    pub(crate) max_body: u64,
+    pub(crate) max_stored: u64,
+    pub(crate) lines: Vec<Line>,
+}
+
+impl Model for Config {
+    ghost use Rattle.std.specs.Prelude.{string_bytes, length, ◌≤◌};
+    ghost use Rattle.hx_allow.specs.Lines.{Table};
+
+    ghost Value = { Table };
+
+    ghost view = { λ c. record { name = string_bytes c.name; capacity = c.capacity; max_body = c.max_body; max_stored = c.max_stored; lines = c.lines.items } };
+
+    ghost invariant = { λ c. length c.lines.items ≤ 256 };
+}
+
+impl Config {
+    /// Reads a table. The least fault in the order of looking is answered, and want of memory last.
+    pub fn read(alloc: Global, bytes: &[u8]) -> Result<Config, ConfigFault>
+        ensures table { ¬ (result ≡ Err ConfigFault.OutOfMemory) → ReadsAs bytes.now result }
+        // That a text is too long is told without memory.
+        ensures memory_last { result ≡ Err ConfigFault.OutOfMemory → length bytes.now ≤ 1048576 }
+    {
+        reading::read(alloc, bytes)
+    }
+
+    /// What the table says of a request: the first line decides whose host, a method and path match.
+    #[tactic(auto, unfolding(crate::specs::Matching::verdict_of))]
+    pub fn judge(&self, method: &Method, target: &Target) -> Verdict
+        ensures verdict { result ≡ verdict_of self.now.lines method.now target.now }
+        ensures allowing { NamesAnOrigin self.now.lines result }
+    {
+        let mut number = 1u16;
+        for line in &self.lines {
+            if line.matches(method, target) {
+                return if line.origin.is_some() {
+                    Verdict::Allowed(number)
+                } else {
+                    Verdict::DeniedBy(number)
+                };
+            }
+            number += 1;
+        }
+        Verdict::NoLine
+    }
+
+    /// The address of the origin of a line that `judge` has answered as allowing: four numbers and a port.
+    pub fn origin(&self, line: u16) -> &str
+        requires { IsAllowing self.now.lines line }
+        ensures { origin_of self.now.lines line ≡ Some result.now }
+    {
+        match line_at(&self.lines, usize::from(line) - 1) {
+            Some(line) => match &line.origin {
+                Some(origin) => origin.as_str(),
+                None => "",
+            },
+            None => "",
+        }
+    }
+
+    /// The proxy's name, as it stands in Via and Cache-Status.
+    pub fn name(&self) -> &str
+        ensures { result.now ≡ self.now.name }
+    {
+        self.name.as_str()
+    }
+
+    /// The most entries of the store.
+    pub fn capacity(&self) -> usize
+        ensures { result ≡ self.now.capacity }
+    {
+        self.capacity
+    }
+
+    /// The most bytes of a message's content.
+    pub fn max_body(&self) -> u64
+        ensures { result ≡ self.now.max_body }
+    {
+        self.max_body
+    }
+
+    /// The most bytes of a stored content.
+    pub fn max_stored(&self) -> u64
+        ensures { result ≡ self.now.max_stored }
+    {
+        self.max_stored
+    }
+
+    /// How many lines the table has.
+    pub fn lines(&self) -> usize
+        ensures { result ≡ length self.now.lines }
+    {
+        self.lines.len()
+    }
+}
+
+fn line_at(lines: &[Line], index: usize) -> Option<&Line>
+    ensures { option_copied result ≡ slice_get lines.now index }
+{
+    lines.get(index)
+}

@@ -1,0 +1,89 @@
+//! Why an operator's table is refused.
+ghost use Rattle.std.specs.Prelude.{◌≡◌};
+ghost use Rattle.hx_allow.specs.declared.faults.ConfigFault.TheVariants.{OutOfMemory};
+ghost use Rattle.hx_allow.specs.Keys.{fault_number, key_text};
+
+use hx_fields::Bytes;
+use std::alloc::AllocError;
+
+/// A key of the table that has a number.
+#[derive(Clone, Copy, Debug, PartialEq, Eq, Hash)]
+pub enum NumberKey {
+    /// The version of the table's format, 1.
+    Version,
+    /// The most entries of the store, 1 to 65,536.
+    Capacity,
+    /// The most bytes of a message's content, at most 16,777,216.
+    MaxBody,
+    /// The most bytes of a stored content, at most 16,777,216.
+    MaxStored,
+}
+
+impl NumberKey {
+    /// The key as it stands in the table.
+    pub fn as_str(self) -> &'static str
+        ensures { result.now ≡ key_text self }
+    {
+        match self {
+            NumberKey::Version => "version",
+            NumberKey::Capacity => "capacity",
+            NumberKey::MaxBody => "max_body",
+            NumberKey::MaxStored => "max_stored",
+        }
+    }
+}
+
+/// Why a table is refused, in the order of the faults' numbers. A key that is missing or has a value of
+/// another type has the fault of that key.
+#[derive(Drop)]
+pub enum ConfigFault {
+    /// The text isn't TOML, or has more than 1,048,576 bytes.
+    NotToml,
+    /// A key that isn't known, at the top or in a line: of several the least by its bytes.
+    UnknownKey(Bytes),
+    /// `name` is no lower-case letter followed by at most 31 lower-case letters, digits and `-`.
+    BadName,
+    /// The number of this key isn't in its range.
+    BadNumber(NumberKey),
+    /// `host` of this line, counted from 1, is neither `"*"` nor a host in lower case.
+    BadHost(u16),
+    /// `methods` of this line isn't an array of 1 to 32 texts that are `"*"` or a token of at most 15
+    /// bytes other than CONNECT, TRACE and OPTIONS.
+    BadMethod(u16),
+    /// `path` of this line is no path.
+    BadPath(u16),
+    /// `origin` of this line is neither `"deny"` nor four numbers and a port.
+    BadOrigin(u16),
+    /// `line` is no array of tables, or has too few or too many.
+    NoLines,
+    /// Memory ran out.
+    OutOfMemory,
+}
+
+impl ConfigFault {
+    /// The fault's number, 1 to 10.
+    pub fn number(&self) -> u8
+        ensures { result ≡ fault_number self.now }
+    {
+        match self {
+            ConfigFault::NotToml => 1,
+            ConfigFault::UnknownKey(_) => 2,
+            ConfigFault::BadName => 3,
+            ConfigFault::BadNumber(_) => 4,
+            ConfigFault::BadHost(_) => 5,
+            ConfigFault::BadMethod(_) => 6,
+            ConfigFault::BadPath(_) => 7,
+            ConfigFault::BadOrigin(_) => 8,
+            ConfigFault::NoLines => 9,
+            ConfigFault::OutOfMemory => 10,
+        }
+    }
+}
+
+impl From<AllocError> for ConfigFault {
+    ghost from_gives = { λ _ e. e ≡ OutOfMemory };
+
+    fn from(_e: AllocError) -> ConfigFault {
+        ConfigFault::OutOfMemory
+    }
+}

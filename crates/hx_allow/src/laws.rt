@@ -1,0 +1,26 @@
+//! What the definitions of `specs/` say together, and what they give on the table of the first example: each
+//! function's contract is a law, and its body is empty.
+ghost use Rattle.std.specs.Prelude.{◌≡◌, List, ℕ, Result, Ok, Err, Some, None, [], ◌∷◌, codes, option_map};
+ghost use Rattle.std.specs.List.{position_from};
+ghost use Rattle.toml.specs.Parse.{parse_document};
+ghost use Rattle.hx_target.specs.declared.targets.Target.{Target};
+ghost use Rattle.hx_allow.specs.Lines.{Line, Table};
+ghost use Rattle.hx_allow.specs.Matching.{matches_line, verdict_of, line_number};
+ghost use Rattle.hx_allow.specs.Tables.{judge_table, ReadsAs};
+ghost use Rattle.hx_allow.specs.declared.faults.ConfigFault.{ConfigFault as Fault};
+
+/// A text is read in one way.
+pub fn a_table_is_read_in_one_way()
+    ensures { (bytes : List ℕ) (r s : Result Table Fault) → ReadsAs bytes r → ReadsAs bytes s → r ≡ s }
+{}
+
+/// The line that a verdict names is the first that matches; where none is named, none matches.
+pub fn the_first_line_that_matches_decides()
+    ensures { (lines : List Line) (method : List ℕ) (target : Target) → line_number (verdict_of lines method target) ≡ position_from (λ line. matches_line line method target) 1 lines }
+{}
+
+/// The table of the first example.
+#[tactic(auto, unfolding(toml::proofs::OnLiterals::toml_on_literals, crate::specs::Tables::judge_table, crate::specs::Tables::table_fault, crate::specs::Tables::table_of, crate::specs::Tables::is_name, crate::specs::LineTables::line_fault, crate::specs::LineTables::line_of, crate::specs::LineTables::is_line_host, crate::specs::LineTables::is_line_method, crate::specs::LineTables::is_line_path, crate::specs::Addresses::is_address, hx_target::specs::Hosts::short_number, hx_target::specs::Paths::has_dot_segment))]
+pub fn a_whole_table_is_read()
+    ensures { option_map judge_table (parse_document (codes "version = 1\nname = \"edge\"\ncapacity = 2\nmax_body = 1000\nmax_stored = 1000\n\n[[line]]\nhost = \"*\"\nmethods = [\"GET\", \"HEAD\", \"POST\"]\npath = \"/\"\norigin = \"127.0.0.1:8081\"\n")) ≡ Some (Ok (record { name = codes "edge"; capacity = 2; max_body = 1000; max_stored = 1000; lines = record { host = None; methods = codes "GET" ∷ codes "HEAD" ∷ codes "POST" ∷ []; path = codes "/"; origin = Some (codes "127.0.0.1:8081") } ∷ [] })) }
+{}

@@ -1,0 +1,25 @@
+//! The operator's table: which requests go to which origin, and the limits of the store.
+//!
+//! `Config::read` takes a TOML text or names its first fault; `judge` names the first line that matches a
+//! request. What a table is and when a line matches is in `specs/`.
+#![tactic(auto)]
+
+mod addresses;
+mod config;
+mod faults;
+mod laws;
+mod line_tables;
+mod lines;
+mod reading;
+mod tables;
+#[cfg(test)]
+mod tests;
+mod values;
+mod verdicts;
+
+pub use config::Config;
+pub use faults::{ConfigFault, NumberKey};
+pub use laws::{
+    a_table_is_read_in_one_way, a_whole_table_is_read, the_first_line_that_matches_decides,
+};
+pub use verdicts::Verdict;

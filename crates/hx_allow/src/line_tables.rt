@@ -1,0 +1,271 @@
+//! The lines of a TOML table: the first fault among them, and what they say.
+ghost use Rattle.std.specs.Prelude.{◌≡◌, ◌≤◌, ◌+◌, length, IfOk, Some, true, codes, unwrap_or, [], string_bytes};
+ghost use Rattle.std.specs.Option.{option_copied, option_map};
+ghost use Rattle.toml.specs.Data.{as_str, as_table, no_items};
+ghost use Rattle.hx_target.specs.Paths.{table_path_of};
+ghost use Rattle.std.specs.List.{list_any, list_all};
+ghost use Rattle.std.specs.Char.{is_ascii_uppercase};
+ghost use Rattle.toml.specs.View.{table_view, items_view, view};
+ghost use Rattle.hx_allow.specs.Values.{is_some_and, items_at, unless_text, texts_of};
+ghost use Rattle.hx_allow.specs.LineTables.{is_line_host, is_line_method, are_line_methods, is_path_byte, is_left_out, ends_open, is_line_path, is_line_origin, line_fault, line_of, lines_fault, lines_of, item_fault, has_key};
+
+use crate::ConfigFault;
+use crate::addresses::is_address;
+use crate::lines::{Line, is_never_allowed};
+use crate::values::{Scope, array_at, counts_within, first_unknown, text_at};
+use hx_fields::{Bytes, is_token};
+use hx_target::{has_dot_segment, is_host};
+use std::alloc::{AllocError, Global};
+use toml::{Table, Value};
+
+fn has_uppercase(text: &[u8]) -> bool
+    ensures { result ≡ list_any is_ascii_uppercase text.now }
+{
+    text.iter().any(|b| b.is_ascii_uppercase())
+}
+
+#[tactic(auto, unfolding(crate::specs::LineTables::is_line_host))]
+fn is_line_host(text: &[u8]) -> bool
+    ensures { result ≡ is_line_host text.now }
+{
+    text == b"*".as_slice() || (is_host(text) && !has_uppercase(text))
+}
+
+fn is_good_host(text: Option<&str>) -> bool
+    ensures { result ≡ is_some_and is_line_host (option_copied text.entry) }
+{
+    match text {
+        Some(text) => is_line_host(text.as_bytes()),
+        None => false,
+    }
+}
+
+#[tactic(auto, unfolding(crate::specs::LineTables::is_line_method))]
+fn is_line_method(text: &[u8]) -> bool
+    ensures { result ≡ is_line_method text.now }
+{
+    text == b"*".as_slice() || (is_token(text) && text.len() <= 15 && !is_never_allowed(text))
+}
+
+fn is_method_value(value: &Value) -> bool
+    ensures { result ≡ is_some_and is_line_method (as_str (view value.now)) }
+{
+    match value.as_str() {
+        Some(text) => is_line_method(text.as_bytes()),
+        None => false,
+    }
+}
+
+fn are_line_methods(values: &[Value]) -> bool
+    ensures { result ≡ are_line_methods (items_view values.now) }
+{
+    if !counts_within(32, values) {
+        return false;
+    }
+    for value in values {
+        if !is_method_value(value) {
+            return false;
+        }
+    }
+    true
+}
+
+fn are_good_methods(table: &Table) -> bool
+    ensures { result ≡ is_some_and are_line_methods (items_at (codes "methods") (table_view table.now)) }
+{
+    match array_at(table, "methods") {
+        Some(values) => are_line_methods(values),
+        None => false,
+    }
+}
+
+fn is_path_byte(b: u8) -> bool
+    ensures { result ≡ is_path_byte b }
+{
+    0x21 <= b && b <= 0x7e && b != b'?' && b != b'#'
+}
+
+fn are_path_bytes(text: &[u8]) -> bool
+    ensures { result ≡ list_all is_path_byte text.now }
+{
+    text.iter().all(|b| is_path_byte(*b))
+}
+
+fn has_escape(text: &[u8]) -> bool
+    ensures { result ≡ is_left_out text.now }
+{
+    text.contains(&b'%')
+}
+
+fn ends_open(text: &[u8]) -> bool
+    ensures { result ≡ ends_open text.now }
+{
+    text.len() == 1 || text.last() != Some(&b'/')
+}
+
+/// Whether a text is a path of a line.
+#[tactic(auto, unfolding(crate::specs::LineTables::is_line_path))]
+fn is_line_path(text: &[u8]) -> bool
+    ensures { result ≡ is_line_path text.now }
+{
+    if text.first() != Some(&b'/') || !ends_open(text) {
+        return false;
+    }
+    are_path_bytes(text) && !has_escape(text) && !has_dot_segment(text)
+}
+
+fn is_good_path(text: Option<&str>) -> bool
+    ensures { result ≡ is_some_and is_line_path (option_copied text.entry) }
+{
+    match text {
+        Some(text) => is_line_path(text.as_bytes()),
+        None => false,
+    }
+}
+
+fn is_good_origin(text: Option<&str>) -> bool
+    ensures { result ≡ is_some_and is_line_origin (option_copied text.entry) }
+{
+    match text {
+        Some(text) => text == "deny" || is_address(text.as_bytes()),
+        None => false,
+    }
+}
+
+/// The fault of a key that isn't known, with its bytes, or want of memory.
+pub fn unknown_key_fault(alloc: Global, key: &str) -> ConfigFault
+    ensures { ¬ (result ≡ ConfigFault.OutOfMemory) → result ≡ ConfigFault.UnknownKey key.now }
+{
+    match Bytes::copy_of(alloc, key.as_bytes()) {
+        Ok(key) => ConfigFault::UnknownKey(key),
+        Err(_) => ConfigFault::OutOfMemory,
+    }
+}
+
+/// The first fault of a line. Only the bytes of an unknown key take memory.
+#[tactic(auto, unfolding(crate::specs::LineTables::line_fault))]
+fn line_fault(alloc: Global, number: u16, table: &Table) -> Option<ConfigFault>
+    ensures first { ¬ (result ≡ Some ConfigFault.OutOfMemory) → result ≡ line_fault number (table_view table.now) }
+    ensures memory_last { result ≡ Some ConfigFault.OutOfMemory → has_key (line_fault number (table_view table.now)) ≡ true }
+{
+    if let Some(key) = first_unknown(Scope::Line, table) {
+        return Some(unknown_key_fault(alloc, key));
+    }
+    if !is_good_host(text_at(table, "host")) {
+        return Some(ConfigFault::BadHost(number));
+    }
+    if !are_good_methods(table) {
+        return Some(ConfigFault::BadMethod(number));
+    }
+    if !is_good_path(text_at(table, "path")) {
+        return Some(ConfigFault::BadPath(number));
+    }
+    if !is_good_origin(text_at(table, "origin")) {
+        return Some(ConfigFault::BadOrigin(number));
+    }
+    None
+}
+
+/// The text of a host, but for one that stands for every host.
+fn host_rule(alloc: Global, text: Option<&str>) -> Result<Option<Bytes>, AllocError>
+    ensures { IfOk result (λ host. host ≡ unless_text (codes "*") (option_copied text.entry)) }
+{
+    match text {
+        Some(text) if text != "*" => Ok(Some(Bytes::copy_of(alloc, text.as_bytes())?)),
+        _ => Ok(None),
+    }
+}
+
+/// The address of an origin, but for the word that denies.
+fn origin_rule(alloc: Global, text: Option<&str>) -> Result<Option<String>, AllocError>
+    ensures { IfOk result (λ origin. option_map string_bytes origin ≡ unless_text (codes "deny") (option_copied text.entry)) }
+{
+    match text {
+        Some(text) if text != "deny" => Ok(Some(String::from_str(alloc, text)?)),
+        _ => Ok(None),
+    }
+}
+
+/// The path of a line, normalised as the table path of a target.
+fn path_rule(alloc: Global, text: Option<&str>) -> Result<Bytes, AllocError>
+    ensures { IfOk result (λ path. path ≡ table_path_of (unwrap_or (option_copied text.entry) [])) }
+{
+    match text {
+        Some(text) => Bytes::copy_of(alloc, text.as_bytes()),
+        None => Ok(Bytes::new(alloc)),
+    }
+}
+
+fn copy_texts(alloc: Global, values: &[Value]) -> Result<Vec<Bytes>, AllocError>
+    ensures { IfOk result (λ texts. texts.items ≡ texts_of (items_view values.now)) }
+{
+    let mut texts = Vec::new(alloc);
+    for value in values {
+        if let Some(text) = value.as_str() {
+            texts.push(Bytes::copy_of(alloc, text.as_bytes())?)?;
+        }
+    }
+    Ok(texts)
+}
+
+fn method_texts(alloc: Global, table: &Table) -> Result<Vec<Bytes>, AllocError>
+    ensures { IfOk result (λ texts. texts.items ≡ texts_of (unwrap_or (items_at (codes "methods") (table_view table.now)) no_items)) }
+{
+    match array_at(table, "methods") {
+        Some(values) => copy_texts(alloc, values),
+        None => Ok(Vec::new(alloc)),
+    }
+}
+
+/// What a line without fault says.
+#[tactic(auto, unfolding(crate::specs::LineTables::line_of))]
+fn line_of(alloc: Global, table: &Table) -> Result<Line, AllocError>
+    ensures { IfOk result (λ line. line ≡ line_of (table_view table.now)) }
+{
+    Ok(Line {
+        host: host_rule(alloc, text_at(table, "host"))?,
+        methods: method_texts(alloc, table)?,
+        path: path_rule(alloc, text_at(table, "path"))?,
+        origin: origin_rule(alloc, text_at(table, "origin"))?,
+    })
+}
+
+fn item_fault(alloc: Global, number: u16, value: &Value) -> Option<ConfigFault>
+    ensures first { ¬ (result ≡ Some ConfigFault.OutOfMemory) → result ≡ item_fault number (as_table (view value.now)) }
+    ensures memory_last { result ≡ Some ConfigFault.OutOfMemory → has_key (item_fault number (as_table (view value.now))) ≡ true }
+{
+    match value.as_table() {
+        Some(table) => line_fault(alloc, number, table),
+        None => None,
+    }
+}
+
+/// The first fault among at most 256 lines, which are counted from 1.
+pub fn lines_fault(alloc: Global, values: &[Value]) -> Option<ConfigFault>
+    requires { length values.now ≤ 256 }
+    ensures first { ¬ (result ≡ Some ConfigFault.OutOfMemory) → result ≡ lines_fault 1 (items_view values.now) }
+    ensures memory_last { result ≡ Some ConfigFault.OutOfMemory → has_key (lines_fault 1 (items_view values.now)) ≡ true }
+{
+    let mut number = 1u16;
+    for value in values {
+        if let Some(fault) = item_fault(alloc, number, value) {
+            return Some(fault);
+        }
+        number += 1;
+    }
+    None
+}
+
+/// What lines without fault say.
+pub fn lines_of(alloc: Global, values: &[Value]) -> Result<Vec<Line>, AllocError>
+    ensures said { IfOk result (λ lines. lines.items ≡ lines_of (items_view values.now)) }
+    ensures few { IfOk result (λ lines. length lines.items ≤ length values.now) }
+{
+    let mut lines = Vec::new(alloc);
+    for value in values {
+        if let Some(table) = value.as_table() {
+            lines.push(line_of(alloc, table)?)?;
+        }
+    }
+    Ok(lines)
+}

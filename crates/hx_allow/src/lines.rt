@@ -1,0 +1,92 @@
+//! A line of the table, and which requests it matches.
+ghost use Rattle.std.specs.Prelude.{◌≡◌, ◌≤◌, length, drop, option_map, string_bytes};
+ghost use Rattle.std.specs.Option.{option_copied};
+ghost use Rattle.std.specs.List.{list_any};
+ghost use Rattle.hx_allow.specs.Matching.{matches_host, is_never_allowed, matches_method, is_any_or_same, matches_path, matches_line};
+
+use http::Method;
+use hx_fields::Bytes;
+use hx_target::Target;
+use std::marker::Model;
+
+/// A line of the table.
+#[derive(Drop)]
+pub struct Line {
+    /// The only host that it matches, or none where it matches every one.
+    pub host: Option<Bytes>,
+    /// The methods that it matches, `*` among them where it matches nearly all.
+    pub methods: Vec<Bytes>,
+    /// The path that it matches, with all that is below it.
+    pub path: Bytes,
+    /// The address of the origin, or none where the line denies.
+    pub origin: Option<String>,
+}
+
+impl Model for Line {
+    ghost use Rattle.std.specs.Prelude.{option_map, string_bytes};
+    ghost use Rattle.hx_allow.specs.Lines.{Line as PlainLine};
+
+    ghost Value = { PlainLine };
+
+    ghost view = { λ l. record { host = l.host; methods = l.methods.items; path = l.path; origin = option_map string_bytes l.origin } };
+}
+
+fn matches_host(host: Option<&Bytes>, asked: &[u8]) -> bool
+    ensures { result ≡ matches_host (option_copied host.entry) asked.now }
+{
+    match host {
+        Some(host) => host.as_slice() == asked,
+        None => true,
+    }
+}
+
+/// Whether no line matches the method, `*` included.
+pub fn is_never_allowed(method: &[u8]) -> bool
+    ensures { result ≡ is_never_allowed method.now }
+{
+    method == b"CONNECT".as_slice()
+        || method == b"TRACE".as_slice()
+        || method == b"OPTIONS".as_slice()
+}
+
+fn is_any_or_same(text: &[u8], method: &[u8]) -> bool
+    ensures { result ≡ is_any_or_same method.now text.now }
+{
+    text == b"*".as_slice() || text == method
+}
+
+fn has_any_or_same(methods: &[Bytes], method: &[u8]) -> bool
+    ensures { result ≡ list_any (is_any_or_same method.now) methods.now }
+{
+    methods
+        .iter()
+        .any(|text| is_any_or_same(text.as_slice(), method))
+}
+
+fn matches_method(methods: &[Bytes], method: &[u8]) -> bool
+    ensures { result ≡ matches_method methods.now method.now }
+{
+    !is_never_allowed(method) && has_any_or_same(methods, method)
+}
+
+/// Whether a table path is the path of a line, or continues it with a slash.
+fn matches_path(path: &[u8], asked: &[u8]) -> bool
+    ensures { result ≡ matches_path path.now asked.now }
+{
+    if path == b"/".as_slice() || path == asked {
+        return true;
+    }
+    path.len() < asked.len() && &asked[..path.len()] == path && asked[path.len()] == b'/'
+}
+
+impl Line {
+    /// Whether the line's host, a method and its path match.
+    #[tactic(auto, unfolding(crate::specs::Matching::matches_line))]
+    pub fn matches(&self, method: &Method, target: &Target) -> bool
+        ensures { result ≡ matches_line self.now method.now target.now }
+    {
+        matches_host(self.host.as_ref(), target.key.host.as_slice())
+            && matches_method(self.methods.as_slice(), method.as_str().as_bytes())
+            && matches_path(self.path.as_slice(), target.table_path.as_slice())
+    }
+}

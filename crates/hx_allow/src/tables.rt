@@ -1,0 +1,163 @@
+//! The top of the operator's table: its first fault, and what it says.
+ghost use Rattle.std.specs.Prelude.{◌≡◌, ◌≤◌, IfOk, Err, Some, true, codes, is_some, length, IfSome};
+ghost use Rattle.std.specs.Option.{option_map, option_copied};
+ghost use Rattle.std.specs.List.{list_all};
+ghost use Rattle.toml.specs.Data.{as_table};
+ghost use Rattle.toml.specs.View.{table_view, array_view, items_view, view};
+ghost use Rattle.hx_allow.specs.Values.{is_some_and, text_at};
+ghost use Rattle.hx_allow.specs.LineTables.{has_key};
+ghost use Rattle.hx_allow.specs.Tables.{is_name_byte, is_name, number_at, are_lines, lines_at, table_fault, table_of, judge_table, number_fault, wants_memory};
+
+use crate::line_tables::{lines_fault, lines_of, unknown_key_fault};
+use crate::values::{Scope, array_at, counts_within, first_unknown, number_between, text_at};
+use crate::{Config, ConfigFault, NumberKey};
+use std::alloc::{AllocError, Global};
+use toml::value::Array;
+use toml::{Table, Value};
+
+/// The most lines of a table.
+const MAX_LINES: usize = 1;
+
+fn is_name_byte(b: u8) -> bool
+    ensures { result ≡ is_name_byte b }
+{
+    b.is_ascii_lowercase() || b.is_ascii_digit() || b == b'-'
+}
+
+fn are_name_bytes(text: &[u8]) -> bool
+    ensures { result ≡ list_all is_name_byte text.now }
+{
+    text.iter().all(|b| is_name_byte(*b))
+}
+
+#[tactic(auto, unfolding(crate::specs::Tables::is_name))]
+fn is_name(text: &[u8]) -> bool
+    ensures { result ≡ is_name text.now }
+{
+    match text.first() {
+        Some(b) => text.len() <= 32 && b.is_ascii_lowercase() && are_name_bytes(text),
+        None => false,
+    }
+}
+
+fn is_good_name(text: Option<&str>) -> bool
+    ensures { result ≡ is_some_and is_name (option_copied text.entry) }
+{
+    match text {
+        Some(text) => is_name(text.as_bytes()),
+        None => false,
+    }
+}
+
+fn number_at(table: &Table, key: NumberKey) -> Option<u32>
+    ensures { result ≡ number_at key (table_view table.now) }
+{
+    match key {
+        NumberKey::Version => number_between(table, "version", 1, 1),
+        NumberKey::Capacity => number_between(table, "capacity", 1, 65_536),
+        NumberKey::MaxBody => number_between(table, "max_body", 0, 16_777_216),
+        NumberKey::MaxStored => number_between(table, "max_stored", 0, 16_777_216),
+    }
+}
+
+fn are_lines(values: &[Value]) -> bool
+    ensures lines { result ≡ are_lines (items_view values.now) }
+    ensures few { result ≡ true → length values.now ≤ 256 }
+{
+    if !counts_within(MAX_LINES, values) {
+        return false;
+    }
+    for value in values {
+        if !value.is_table() {
+            return false;
+        }
+    }
+    true
+}
+
+/// The array of lines, where it has tables alone and as many as are read.
+fn lines_at(table: &Table) -> Option<&Array>
+    ensures found { option_map (λ a. array_view a.now) result ≡ lines_at (table_view table.now) }
+    ensures few { IfSome result (λ a. length a.now.items ≤ 256) }
+{
+    match array_at(table, "line") {
+        Some(values) => {
+            if are_lines(values) {
+                Some(values)
+            } else {
+                None
+            }
+        }
+        None => None,
+    }
+}
+
+/// The first fault of a number, in the order of the keys.
+fn number_fault(table: &Table) -> Option<NumberKey>
+    ensures { result ≡ number_fault (table_view table.now) }
+{
+    if number_at(table, NumberKey::Version).is_none() {
+        return Some(NumberKey::Version);
+    }
+    if number_at(table, NumberKey::Capacity).is_none() {
+        return Some(NumberKey::Capacity);
+    }
+    if number_at(table, NumberKey::MaxBody).is_none() {
+        return Some(NumberKey::MaxBody);
+    }
+    if number_at(table, NumberKey::MaxStored).is_none() {
+        return Some(NumberKey::MaxStored);
+    }
+    None
+}
+
+/// The first fault of a table. Only the bytes of an unknown key take memory.
+#[tactic(auto, unfolding(crate::specs::Tables::table_fault))]
+fn table_fault(alloc: Global, table: &Table) -> Option<ConfigFault>
+    ensures first { ¬ (result ≡ Some ConfigFault.OutOfMemory) → result ≡ table_fault (table_view table.now) }
+    ensures memory_last { result ≡ Some ConfigFault.OutOfMemory → has_key (table_fault (table_view table.now)) ≡ true }
+{
+    if let Some(key) = first_unknown(Scope::Top, table) {
+        return Some(unknown_key_fault(alloc, key));
+    }
+    if !is_good_name(text_at(table, "name")) {
+        return Some(ConfigFault::BadName);
+    }
+    if let Some(key) = number_fault(table) {
+        return Some(ConfigFault::BadNumber(key));
+    }
+    match lines_at(table) {
+        Some(values) => lines_fault(alloc, values),
+        None => Some(ConfigFault::NoLines),
+    }
+}
+
+/// What a table without fault says.
+#[tactic(auto, unfolding(crate::specs::Tables::table_of))]
+fn config_of(alloc: Global, table: &Table) -> Result<Config, AllocError>
+    ensures { IfOk result (λ config. config ≡ table_of (table_view table.now)) }
+{
+    let lines = match lines_at(table) {
+        Some(values) => lines_of(alloc, values)?,
+        None => Vec::new(alloc),
+    };
+    Ok(Config {
+        name: String::from_str(alloc, text_at(table, "name").unwrap_or(""))?,
+        capacity: number_at(table, NumberKey::Capacity).unwrap_or(0) as usize,
+        max_body: u64::from(number_at(table, NumberKey::MaxBody).unwrap_or(0)),
+        max_stored: u64::from(number_at(table, NumberKey::MaxStored).unwrap_or(0)),
+        lines,
+    })
+}
+
+/// What a table says, or its first fault.
+#[tactic(auto, unfolding(crate::specs::Tables::judge_table))]
+pub fn judge_table(alloc: Global, table: &Table) -> Result<Config, ConfigFault>
+    ensures judged { ¬ (result ≡ Err ConfigFault.OutOfMemory) → result ≡ judge_table (table_view table.now) }
+    ensures memory_last { result ≡ Err ConfigFault.OutOfMemory → wants_memory (table_fault (table_view table.now)) ≡ true }
+{
+    match table_fault(alloc, table) {
+        Some(fault) => Err(fault),
+        None => Ok(config_of(alloc, table)?),
+    }
+}
