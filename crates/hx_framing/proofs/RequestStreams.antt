@@ -73,13 +73,13 @@ due_finished p a due x = record {
 -- ---- a reader
 
 -- what is read in the unread bytes is read in the stream
-kept_reads : (s : State) (p : Progress Request) (rest : List ℕ) (r : Reading Request) → s.fault ≡ None → Keeps s p rest s.fault
-    → Reads p.max_body s.ended s.told s.unread r → Reads p.max_body p.ended p.told rest r
-kept_reads s p rest r none keeps reads =
-    let k = subst (λ (o : Option FrameFault). Keeps s p rest o) none keeps in
+kept_reads : (s : State) (p : Progress Request) (r : Reading Request) → s.fault ≡ None → (stands : StandsFor s p)
+    → Reads p.max_body s.ended s.told s.unread r → Reads p.max_body p.ended p.told stands.rest r
+kept_reads s p r none stands reads =
+    let k = subst (λ (o : Option FrameFault). Keeps s p stands.rest o) none stands.keeps in
     subst (λ (u : List ℕ). Reads p.max_body p.ended p.told u r) k.0
-    (subst (λ (t : Bool). Reads p.max_body p.ended t s.unread r) k.2
-    (subst (λ (e : Bool). Reads p.max_body e s.told s.unread r) k.1 reads))
+    (subst (λ (t : Bool). Reads p.max_body p.ended t s.unread r) k.1
+    (subst (λ (e : Bool). Reads p.max_body e s.told s.unread r) stands.ended reads))
 
 -- what is read in the unread bytes, whatever the limit and the continue
 abbrev pub ReadsAlways : State → Reading Request → Type 0
@@ -91,7 +91,7 @@ answers_by s p r none reads stands = record {
   rest = stands.rest;
   reading = r;
   spells = stands.spells;
-  reads = kept_reads s p stands.rest r none stands.keeps (reads p.max_body s.told);
+  reads = kept_reads s p r none stands (reads p.max_body s.told);
   answer_is = refl;
 }
 
@@ -109,13 +109,13 @@ answers_fault s p f some stands = record {
 pub stands_message : (s : State) (p : Progress Request) (m : Request) (rest : List ℕ) → s.fault ≡ None → ReadsAlways s (Spelled m rest) → StandsFor s p
     → StandsFor (record s { unread = rest; told = false }) (record p { given = p.given ++ m ∷ []; told = false })
 stands_message s p m rest none reads stands =
-    let k = subst (λ (o : Option FrameFault). Keeps s p stands.rest o) none stands.keeps in
     record {
       max_body = stands.max_body;
+      ended = stands.ended;
       rest = rest;
       spells = spells_push p.max_body p.stream p.given m stands.rest rest stands.spells
-          (reads_message p.max_body p.ended p.told stands.rest m rest (kept_reads s p stands.rest (Spelled m rest) none stands.keeps (reads p.max_body s.told)));
-      keeps = subst (λ (o : Option FrameFault). Keeps (record s { unread = rest; told = false }) (record p { given = p.given ++ m ∷ []; told = false }) rest o) (sym none) (refl, k.1, refl);
+          (reads_message p.max_body p.ended p.told stands.rest m rest (kept_reads s p (Spelled m rest) none stands (reads p.max_body s.told)));
+      keeps = subst (λ (o : Option FrameFault). Keeps (record s { unread = rest; told = false }) (record p { given = p.given ++ m ∷ []; told = false }) rest o) (sym none) (refl, refl);
     }
 
 -- the fault is kept
@@ -123,9 +123,10 @@ pub stands_fault : (s : State) (p : Progress Request) (f : FrameFault) → s.fau
     → StandsFor (record s { fault = Some f }) p
 stands_fault s p f none reads stands = record {
   max_body = stands.max_body;
+  ended = stands.ended;
   rest = stands.rest;
   spells = stands.spells;
-  keeps = kept_reads s p stands.rest (Faulty f) none stands.keeps (reads p.max_body s.told);
+  keeps = kept_reads s p (Faulty f) none stands (reads p.max_body s.told);
 }
 
 -- a piece has come
@@ -135,10 +136,11 @@ stands_fed s p piece none stands =
     let k = subst (λ (o : Option FrameFault). Keeps s p stands.rest o) none stands.keeps in
     record {
       max_body = stands.max_body;
+      ended = stands.ended;
       rest = stands.rest ++ piece;
       spells = spells_append p.max_body p.stream p.given stands.rest piece stands.spells;
       keeps = subst (λ (o : Option FrameFault). Keeps (record s { unread = s.unread ++ piece }) (fed p piece) (stands.rest ++ piece) o) (sym none)
-          (ap (λ b. b ++ piece) k.0, k.1, k.2);
+          (ap (λ b. b ++ piece) k.0, k.1);
     }
 
 -- after a fault what comes doesn't count
@@ -148,6 +150,7 @@ stands_fed_faulty s p piece f some stands open_still =
     let k = subst (λ (o : Option FrameFault). Keeps s p stands.rest o) some stands.keeps in
     record {
       max_body = stands.max_body;
+      ended = stands.ended;
       rest = stands.rest ++ piece;
       spells = spells_append p.max_body p.stream p.given stands.rest piece stands.spells;
       keeps = subst (λ (o : Option FrameFault). Keeps s (fed p piece) (stands.rest ++ piece) o) (sym some)
@@ -160,11 +163,15 @@ stands_fed_faulty s p piece f some stands open_still =
 pub stands_finished : (s : State) (p : Progress Request) → StandsFor s p → StandsFor (record s { ended = true }) (finished p)
 stands_finished s p stands = record {
   max_body = stands.max_body;
+  ended = refl;
   rest = stands.rest;
   spells = stands.spells;
   keeps = by_fault s.fault stands.keeps;
 }
   where
     by_fault : (o : Option FrameFault) → Keeps s p stands.rest o → Keeps (record s { ended = true }) (finished p) stands.rest o
-    by_fault None k = (k.0, refl, k.2)
+    by_fault None k = k
     by_fault (Some f) k = reads_ended p.max_body p.ended p.told stands.rest (Faulty f) tt k
+
+pub ended_is : (s : State) (p : Progress Request) → StandsFor s p → s.ended ≡ p.ended
+ended_is s p stands = stands.ended

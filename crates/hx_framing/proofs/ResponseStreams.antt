@@ -74,12 +74,12 @@ record Before (s : State) (p : Progress Response) (given : List Response) : Type
   ended : s.ended ≡ p.ended
   waits : Waits p.max_body p.to_head p.stream s.wanted
 
-before_by : (s : State) (p : Progress Response) (given : List Response) → KeepsBy s p phase.Reading given → Before s p given
-before_by s p [] k = record { none = refl; unread = k.0; ended = k.1; waits = k.2 }
-before_by s p (m ∷ more) k = absurd k
+before_by : (s : State) (p : Progress Response) (given : List Response) → s.ended ≡ p.ended → KeepsBy s p phase.Reading given → Before s p given
+before_by s p [] ended k = record { none = refl; unread = k.0; ended = ended; waits = k.1 }
+before_by s p (m ∷ more) ended k = absurd k
 
 before : (s : State) (p : Progress Response) → s.phase ≡ phase.Reading → StandsFor s p → Before s p p.given
-before s p reading stands = before_by s p p.given (subst (λ (f : Phase). KeepsBy s p f p.given) reading stands.keeps)
+before s p reading stands = before_by s p p.given stands.ended (subst (λ (f : Phase). KeepsBy s p f p.given) reading stands.keeps)
 
 -- what is read in the unread bytes, whatever request is answered
 abbrev pub ReadsAlways : State → Reading Response → Type 0
@@ -151,6 +151,7 @@ stands_message s p m rest reading reads stands =
     record {
       max_body = stands.max_body;
       to_head = stands.to_head;
+      ended = stands.ended;
       spells = subst (λ (g : List Response). IsGiven q (g ++ m ∷ [])) (sym keeps.none) (rest, kept_reads s p (Spelled m rest) stands.max_body keeps reads);
       keeps = subst (λ (g : List Response). KeepsBy (record s { phase = phase.Given }) q phase.Given (g ++ m ∷ [])) (sym keeps.none) tt;
     }
@@ -163,6 +164,7 @@ stands_fault s p f reading reads stands =
     record {
       max_body = stands.max_body;
       to_head = stands.to_head;
+      ended = stands.ended;
       spells = stands.spells;
       keeps = subst (λ (g : List Response). KeepsBy (record s { phase = phase.Faulty f }) p (phase.Faulty f) g) (sym keeps.none)
           (kept_reads s p (Faulty f) stands.max_body keeps reads);
@@ -176,11 +178,11 @@ stands_waits s p wanted reading waits stands =
     record {
       max_body = stands.max_body;
       to_head = stands.to_head;
+      ended = stands.ended;
       spells = stands.spells;
       keeps = subst (λ (f : Phase). KeepsBy (record s { wanted = wanted }) p f p.given) (sym reading)
           (subst (λ (g : List Response). KeepsBy (record s { wanted = wanted }) p phase.Reading g) (sym keeps.none) (
             keeps.unread,
-            keeps.ended,
             subst (λ (m : ℕ). Waits m p.to_head p.stream wanted) stands.max_body
                 (subst (λ (u : List ℕ). Waits s.max_body p.to_head u wanted) keeps.unread (waits p.to_head)),
           ));
@@ -198,10 +200,11 @@ stands_fed s p piece reading stands =
     record {
       max_body = stands.max_body;
       to_head = stands.to_head;
+      ended = stands.ended;
       spells = subst (λ (g : List Response). IsGiven (fed p piece) g) (sym keeps.none) tt;
       keeps = subst (λ (f : Phase). KeepsBy (record s { unread = s.unread ++ piece }) (fed p piece) f p.given) (sym reading)
           (subst (λ (g : List Response). KeepsBy (record s { unread = s.unread ++ piece }) (fed p piece) phase.Reading g) (sym keeps.none)
-          (ap (λ b. b ++ piece) keeps.unread, keeps.ended, waits));
+          (ap (λ b. b ++ piece) keeps.unread, waits));
     }
 
 pub stands_fed_given : (s : State) (p : Progress Response) (piece : List ℕ) → s.phase ≡ phase.Given → StandsFor s p → p.ended ≡ false
@@ -209,6 +212,7 @@ pub stands_fed_given : (s : State) (p : Progress Response) (piece : List ℕ) �
 stands_fed_given s p piece given stands open_still = record {
   max_body = stands.max_body;
   to_head = stands.to_head;
+  ended = stands.ended;
   spells = given_fed p piece p.given open_still stands.spells;
   keeps = subst (λ (f : Phase). KeepsBy s (fed p piece) f p.given) (sym given)
       (by_given p.given (subst (λ (f : Phase). KeepsBy s p f p.given) given stands.keeps));
@@ -223,6 +227,7 @@ pub stands_fed_faulty : (s : State) (p : Progress Response) (piece : List ℕ) (
 stands_fed_faulty s p piece f faulty stands open_still = record {
   max_body = stands.max_body;
   to_head = stands.to_head;
+  ended = stands.ended;
   spells = given_fed p piece p.given open_still stands.spells;
   keeps = subst (λ (f : Phase). KeepsBy s (fed p piece) f p.given) (sym faulty)
       (by_given p.given (subst (λ (f : Phase). KeepsBy s p f p.given) faulty stands.keeps));
@@ -236,14 +241,18 @@ pub stands_finished : (s : State) (p : Progress Response) → StandsFor s p → 
 stands_finished s p stands = record {
   max_body = stands.max_body;
   to_head = stands.to_head;
+  ended = refl;
   spells = given_finished p p.given stands.spells;
   keeps = by_phase s.phase p.given stands.keeps;
 }
   where
     by_phase : (f : Phase) (g : List Response) → KeepsBy s p f g → KeepsBy (record s { ended = true }) (finished p) f g
-    by_phase phase.Reading [] k = (k.0, refl, k.2)
+    by_phase phase.Reading [] k = k
     by_phase phase.Reading (m ∷ more) k = k
     by_phase phase.Given [] k = k
     by_phase phase.Given (m ∷ more) k = k
     by_phase (phase.Faulty f) [] k = reads_ended p.max_body p.to_head p.ended p.stream (Faulty f) tt k
     by_phase (phase.Faulty f) (m ∷ more) k = k
+
+pub ended_is : (s : State) (p : Progress Response) → StandsFor s p → s.ended ≡ p.ended
+ended_is s p stands = stands.ended

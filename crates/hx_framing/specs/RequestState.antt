@@ -17,12 +17,13 @@ pub record State : Type 0 where
 
 -- until a fault the reader keeps what follows the messages given; from then on the stream has that fault there
 abbrev pub Keeps : State → Progress Request → List ℕ → Option FrameFault → Type 0
-Keeps s p rest None = (s.unread ≡ rest) × (s.ended ≡ p.ended) × (s.told ≡ p.told)
+Keeps s p rest None = (s.unread ≡ rest) × (s.told ≡ p.told)
 Keeps s p rest (Some f) = Reads p.max_body p.ended p.told rest (Faulty f)
 
 -- the reader stands for the stream
 pub record StandsFor (s : State) (p : Progress Request) : Type 0 where
   pub max_body : s.max_body ≡ p.max_body
+  pub ended : s.ended ≡ p.ended
   pub rest : List ℕ
   pub spells : StreamSpells p.max_body p.stream p.given rest
   pub keeps : Keeps s p rest s.fault

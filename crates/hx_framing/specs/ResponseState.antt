@@ -20,7 +20,7 @@ pub record State : Type 0 where
 
 -- before the message the reader keeps the stream; behind it, or from a fault on, what comes doesn't count
 abbrev pub KeepsBy : State → Progress Response → Phase → List Response → Type 0
-KeepsBy s p phase.Reading [] = (s.unread ≡ p.stream) × (s.ended ≡ p.ended) × Waits p.max_body p.to_head p.stream s.wanted
+KeepsBy s p phase.Reading [] = (s.unread ≡ p.stream) × Waits p.max_body p.to_head p.stream s.wanted
 KeepsBy s p phase.Reading (message ∷ more) = ⊥
 KeepsBy s p phase.Given [] = ⊥
 KeepsBy s p phase.Given (message ∷ more) = Unit {0}
@@ -31,6 +31,7 @@ KeepsBy s p (phase.Faulty f) (message ∷ more) = ⊥
 pub record StandsFor (s : State) (p : Progress Response) : Type 0 where
   pub max_body : s.max_body ≡ p.max_body
   pub to_head : s.to_head ≡ p.to_head
+  pub ended : s.ended ≡ p.ended
   pub spells : IsGiven p p.given
   pub keeps : KeepsBy s p s.phase p.given
 

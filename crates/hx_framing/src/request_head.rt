@@ -27,9 +27,10 @@ pub(crate) struct Head {
 }
 
 /// Where the parts of a head are, if just these bytes are one.
-fn find_head(bytes: &[u8], spans: &mut [HeaderSpan; 100]) -> Option<RequestSpans>
+fn find_head(bytes: &[u8], spans: &mut [HeaderSpan; MOST_FIELD_LINES]) -> Option<RequestSpans>
     ensures within { IfSome result (IsRequestWithin bytes.now spans.new) }
-    ensures found { IfSome result (λ r. (h : RequestHead) × IsHead bytes.now h × IsRequestAt bytes.now spans.new r h) }
+    ensures found { IfSome result (λ r. (h : RequestHead) × IsHead bytes.now h
+        × IsRequestAt bytes.now spans.new r h) }
     ensures none { IfNone result ((h : RequestHead) → ¬ (IsHead bytes.now h)) }
 {
     match parse_request(bytes, spans) {

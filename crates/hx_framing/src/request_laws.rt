@@ -10,22 +10,28 @@ ghost use Rattle.hx_framing.specs.RequestState.{State, StandsFor};
 
 /// One thing stands at the front of the unread bytes.
 pub fn read_once()
-    ensures { (max_body : ℕ) → (ended told : Bool) → (bytes : List ℕ) → (a b : Reading Request) → Reads max_body ended told bytes a → Reads max_body ended told bytes b → a ≡ b }
+    ensures { (max_body : ℕ) → (ended told : Bool) → (bytes : List ℕ) → (a b : Reading Request)
+        → Reads max_body ended told bytes a → Reads max_body ended told bytes b → a ≡ b }
 {}
 
 /// What is due stays due, whatever comes behind it: so it doesn't matter how the stream is cut.
 pub fn read_stays()
-    ensures { (max_body : ℕ) → (told : Bool) → (bytes more : List ℕ) → (reading : Reading Request) → IsSettled reading → Reads max_body false told bytes reading → Reads max_body false told (bytes ++ more) (extended reading more) }
+    ensures { (max_body : ℕ) → (told : Bool) → (bytes more : List ℕ) → (reading : Reading Request)
+        → IsSettled reading → Reads max_body false told bytes reading
+        → Reads max_body false told (bytes ++ more) (extended reading more) }
 {}
 
 /// A stream begins with one list of so many requests.
 pub fn spelled_once()
-    ensures { (max_body : ℕ) → (stream : List ℕ) → (ms ns : List Request) → (r q : List ℕ) → length ms ≡ length ns → StreamSpells max_body stream ms r → StreamSpells max_body stream ns q → (ms ≡ ns) × (r ≡ q) }
+    ensures { (max_body : ℕ) → (stream : List ℕ) → (ms ns : List Request) → (r q : List ℕ)
+        → length ms ≡ length ns → StreamSpells max_body stream ms r
+        → StreamSpells max_body stream ns q → (ms ≡ ns) × (r ≡ q) }
 {}
 
 /// The requests given are those that the stream spells.
 pub fn given_are_spelled()
-    ensures { (reader : State) → (p : Progress Request) → StandsFor reader p → (rest : List ℕ) × StreamSpells p.max_body p.stream p.given rest }
+    ensures { (reader : State) → (p : Progress Request) → StandsFor reader p → (rest : List ℕ)
+        × StreamSpells p.max_body p.stream p.given rest }
 {}
 
 /// One answer is right.
@@ -35,6 +41,8 @@ pub fn answered_once()
 
 /// An answer that is due stays the right one, whatever comes and where the stream ends.
 pub fn due_stays()
-    ensures piece { (p : Progress Request) → (answer : Next Request) → (piece : List ℕ) → p.ended ≡ false → IsDue answer → Answers p answer → Answers (fed p piece) answer }
-    ensures end { (p : Progress Request) → (answer : Next Request) → IsDue answer → Answers p answer → Answers (finished p) answer }
+    ensures piece { (p : Progress Request) → (answer : Next Request) → (piece : List ℕ)
+        → p.ended ≡ false → IsDue answer → Answers p answer → Answers (fed p piece) answer }
+    ensures end { (p : Progress Request) → (answer : Next Request) → IsDue answer → Answers p answer
+        → Answers (finished p) answer }
 {}

@@ -57,7 +57,8 @@ impl RequestReader {
 
     /// Takes the next piece of the stream, before `finish`. An `Err` changes nothing.
     pub fn feed(&mut self, piece: &[u8]) -> Result<(), AllocError>
-        ensures stands { OnOk result ((p : Progress Request) → StandsFor self.old p → p.ended ≡ false → StandsFor self.new (fed p piece.now)) }
+        ensures stands { OnOk result ((p : Progress Request) → StandsFor self.old p
+            → p.ended ≡ false → StandsFor self.new (fed p piece.now)) }
         ensures weight { weight self.new ≤ weight self.old + 2 * length piece.now }
         ensures err { OnErr result (self.new ≡ self.old) }
     {
@@ -73,16 +74,26 @@ impl RequestReader {
 
     /// The stream has ended. No memory is taken.
     pub fn finish(&mut self)
-        ensures stands { (p : Progress Request) → StandsFor self.old p → StandsFor self.new (finished p) }
+        ensures stands { (p : Progress Request) → StandsFor self.old p
+            → StandsFor self.new (finished p) }
         ensures weight { weight self.new ≡ weight self.old }
     {
         self.ended = true;
     }
 
+    /// Whether the stream has ended.
+    pub fn has_ended(&self) -> bool
+        ensures { (p : Progress Request) → StandsFor self.now p → result ≡ p.ended }
+    {
+        self.ended
+    }
+
     /// What is due behind the messages given. An `Err` changes nothing.
     pub fn next(&mut self, alloc: Global) -> Result<Next<Request>, AllocError>
-        ensures answers { IfOk result (λ answer. (p : Progress Request) → StandsFor self.old p → Answers p answer) }
-        ensures stands { IfOk result (λ answer. (p : Progress Request) → StandsFor self.old p → StandsFor self.new (moved p answer)) }
+        ensures answers { IfOk result (λ answer. (p : Progress Request) → StandsFor self.old p
+            → Answers p answer) }
+        ensures stands { IfOk result (λ answer. (p : Progress Request) → StandsFor self.old p
+            → StandsFor self.new (moved p answer)) }
         ensures weight { IfOk result (λ answer. weight self.new + cost answer ≤ weight self.old) }
         ensures err { OnErr result (self.new ≡ self.old) }
     {

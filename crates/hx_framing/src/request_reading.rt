@@ -53,7 +53,8 @@ pub(crate) fn read_request(
     ended: bool,
     bytes: &[u8],
 ) -> Result<Found<Request>, AllocError>
-    ensures reads { IfOk result (λ found. (max_body : ℕ) → (told : Bool) → Reads max_body ended told bytes.now (reading_of bytes.now found)) }
+    ensures reads { IfOk result (λ found. (max_body : ℕ) → (told : Bool)
+        → Reads max_body ended told bytes.now (reading_of bytes.now found)) }
     ensures within { IfOk result (IsWithin ended bytes.now) }
 {
     match head_within(bytes, MOST_HEAD_BYTES) {

@@ -10,17 +10,23 @@ ghost use Rattle.hx_framing.specs.ResponseState.{State, StandsFor};
 
 /// One thing stands at the front of the stream.
 pub fn read_once()
-    ensures { (max_body : ℕ) → (to_head ended : Bool) → (bytes : List ℕ) → (a b : Reading Response) → Reads max_body to_head ended bytes a → Reads max_body to_head ended bytes b → a ≡ b }
+    ensures { (max_body : ℕ) → (to_head ended : Bool) → (bytes : List ℕ) → (a b : Reading Response)
+        → Reads max_body to_head ended bytes a → Reads max_body to_head ended bytes b → a ≡ b }
 {}
 
 /// What is due stays due, whatever comes behind it: so it doesn't matter how the stream is cut.
 pub fn read_stays()
-    ensures { (max_body : ℕ) → (to_head : Bool) → (bytes more : List ℕ) → (reading : Reading Response) → IsSettled reading → Reads max_body to_head false bytes reading → Reads max_body to_head false (bytes ++ more) (extended reading more) }
+    ensures { (max_body : ℕ) → (to_head : Bool) → (bytes more : List ℕ)
+        → (reading : Reading Response) → IsSettled reading
+        → Reads max_body to_head false bytes reading
+        → Reads max_body to_head false (bytes ++ more) (extended reading more) }
 {}
 
 /// A stream begins with one response.
 pub fn spelled_once()
-    ensures { (max_body : ℕ) → (to_head ended : Bool) → (stream : List ℕ) → (m n : Response) → (r q : List ℕ) → SpellsResponse max_body to_head ended stream m r → SpellsResponse max_body to_head ended stream n q → (m ≡ n) × (r ≡ q) }
+    ensures { (max_body : ℕ) → (to_head ended : Bool) → (stream : List ℕ) → (m n : Response)
+        → (r q : List ℕ) → SpellsResponse max_body to_head ended stream m r
+        → SpellsResponse max_body to_head ended stream n q → (m ≡ n) × (r ≡ q) }
 {}
 
 /// No response was given, or the one that the stream spells.
@@ -35,6 +41,8 @@ pub fn answered_once()
 
 /// An answer that is due stays the right one, whatever comes and where the stream ends.
 pub fn due_stays()
-    ensures piece { (p : Progress Response) → (answer : Next Response) → (piece : List ℕ) → p.ended ≡ false → IsDue answer → Answers p answer → Answers (fed p piece) answer }
-    ensures end { (p : Progress Response) → (answer : Next Response) → IsDue answer → Answers p answer → Answers (finished p) answer }
+    ensures piece { (p : Progress Response) → (answer : Next Response) → (piece : List ℕ)
+        → p.ended ≡ false → IsDue answer → Answers p answer → Answers (fed p piece) answer }
+    ensures end { (p : Progress Response) → (answer : Next Response) → IsDue answer
+        → Answers p answer → Answers (finished p) answer }
 {}

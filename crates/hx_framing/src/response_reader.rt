@@ -53,7 +53,8 @@ impl Model for ResponseReader {
 impl ResponseReader {
     ghost use Rattle.hx_framing.specs.ResponseState.{StandsFor, weight};
 
-    /// A reader of an empty stream. A content has at most `max_body` bytes; `to_head` says that a HEAD is answered.
+    /// A reader of an empty stream. A content has at most `max_body` bytes; `to_head` says that it
+    /// answers a HEAD.
     pub fn new(alloc: Global, max_body: u64, to_head: bool) -> ResponseReader
         ensures stands { StandsFor result (start max_body to_head) }
         ensures weight { weight result ≡ 0 }
@@ -70,7 +71,8 @@ impl ResponseReader {
 
     /// Takes the next piece of the stream, before `finish`. An `Err` changes nothing.
     pub fn feed(&mut self, piece: &[u8]) -> Result<(), AllocError>
-        ensures stands { OnOk result ((p : Progress Response) → StandsFor self.old p → p.ended ≡ false → StandsFor self.new (fed p piece.now)) }
+        ensures stands { OnOk result ((p : Progress Response) → StandsFor self.old p
+            → p.ended ≡ false → StandsFor self.new (fed p piece.now)) }
         ensures weight { weight self.new ≤ weight self.old + 2 * length piece.now }
         ensures err { OnErr result (self.new ≡ self.old) }
     {
@@ -87,16 +89,26 @@ impl ResponseReader {
 
     /// The stream has ended. No memory is taken.
     pub fn finish(&mut self)
-        ensures stands { (p : Progress Response) → StandsFor self.old p → StandsFor self.new (finished p) }
+        ensures stands { (p : Progress Response) → StandsFor self.old p
+            → StandsFor self.new (finished p) }
         ensures weight { weight self.new ≤ weight self.old + 1 }
     {
         self.ended = true;
     }
 
+    /// Whether the stream has ended.
+    pub fn has_ended(&self) -> bool
+        ensures { (p : Progress Response) → StandsFor self.now p → result ≡ p.ended }
+    {
+        self.ended
+    }
+
     /// What is due: one message, and then the end. An `Err` changes nothing.
     pub fn next(&mut self, alloc: Global) -> Result<Next<Response>, AllocError>
-        ensures answers { IfOk result (λ answer. (p : Progress Response) → StandsFor self.old p → Answers p answer) }
-        ensures stands { IfOk result (λ answer. (p : Progress Response) → StandsFor self.old p → StandsFor self.new (moved p answer)) }
+        ensures answers { IfOk result (λ answer. (p : Progress Response) → StandsFor self.old p
+            → Answers p answer) }
+        ensures stands { IfOk result (λ answer. (p : Progress Response) → StandsFor self.old p
+            → StandsFor self.new (moved p answer)) }
         ensures weight { IfOk result (λ answer. weight self.new + cost answer ≤ weight self.old) }
         ensures due { IfOk result (λ answer. IsDue answer → 1 ≤ weight self.new + cost answer) }
         ensures err { OnErr result (self.new ≡ self.old) }

@@ -120,7 +120,8 @@ fn with_length(
 ) -> Result<Found<Response>, AllocError>
     requires some { 0 < at }
     requires within { at ≤ size bytes.now }
-    ensures reads { IfOk result (λ found. reading_of bytes.now found ≡ with_length ended head (drop at bytes.now) (Ok length)) }
+    ensures reads { IfOk result (λ found. reading_of bytes.now found
+        ≡ with_length ended head (drop at bytes.now) (Ok length)) }
     ensures within { IfOk result (IsWithin ended bytes.now) }
     ensures wants { IfOk result (WantsAtMost (at + length)) }
 {
@@ -153,9 +154,11 @@ pub(crate) fn read_response(
     ended: bool,
     bytes: &[u8],
 ) -> Result<Found<Response>, AllocError>
-    ensures reads { IfOk result (λ found. (to_head : Bool) → Reads max_body to_head ended bytes.now (reading_of bytes.now found)) }
+    ensures reads { IfOk result (λ found. (to_head : Bool)
+        → Reads max_body to_head ended bytes.now (reading_of bytes.now found)) }
     ensures within { IfOk result (IsWithin ended bytes.now) }
-    ensures waits { IfOk result (λ found. (to_head : Bool) → WaitsFor max_body to_head bytes.now found) }
+    ensures waits { IfOk result (λ found. (to_head : Bool)
+        → WaitsFor max_body to_head bytes.now found) }
 {
     match head_within(bytes, MOST_HEAD_BYTES) {
         None => Ok(without_head(ended, bytes)),

@@ -23,9 +23,10 @@ pub(crate) struct StatusHead {
 }
 
 /// Where the parts of a head are, if just these bytes are one.
-fn find_head(bytes: &[u8], spans: &mut [HeaderSpan; 100]) -> Option<ResponseSpans>
+fn find_head(bytes: &[u8], spans: &mut [HeaderSpan; MOST_FIELD_LINES]) -> Option<ResponseSpans>
     ensures within { IfSome result (IsResponseWithin bytes.now spans.new) }
-    ensures found { IfSome result (λ r. (h : ResponseHead) × IsStatusHead bytes.now h × IsResponseAt bytes.now spans.new r h) }
+    ensures found { IfSome result (λ r. (h : ResponseHead) × IsStatusHead bytes.now h
+        × IsResponseAt bytes.now spans.new r h) }
     ensures none { IfNone result ((h : ResponseHead) → ¬ (IsStatusHead bytes.now h)) }
 {
     match parse_response(bytes, spans) {

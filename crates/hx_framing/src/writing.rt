@@ -98,7 +98,8 @@ pub fn write_response(
     close: bool,
     content: &[u8],
 ) -> Result<Bytes, AllocError>
-    ensures { IfOk result (λ text. text ≡ response_text status fields.now length close content.now) }
+    ensures { IfOk result (λ text. text
+        ≡ response_text status fields.now length close content.now) }
 {
     let mut text = Vec::new(alloc);
     write_status_line(&mut text, status)?;

@@ -27,7 +27,9 @@ fn memory_is_found(rt: HostRuntime) -> Result<(), Fail> {
         _ => assert!(&rt; false),
     }
     assert!(&rt; matches!(reader.next(rt.alloc())?, Next::More));
+    assert!(&rt; !reader.has_ended());
     reader.finish();
+    assert!(&rt; reader.has_ended());
     assert!(&rt; matches!(reader.next(rt.alloc())?, Next::End));
     Ok(())
 }

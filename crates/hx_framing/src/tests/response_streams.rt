@@ -37,7 +37,9 @@ fn memory_is_found(rt: HostRuntime) -> Result<(), Fail> {
     // Behind the message comes the end, whatever follows.
     reader.feed(OK)?;
     assert!(&rt; matches!(reader.next(rt.alloc())?, Next::End));
+    assert!(&rt; !reader.has_ended());
     reader.finish();
+    assert!(&rt; reader.has_ended());
     assert!(&rt; matches!(reader.next(rt.alloc())?, Next::End));
     Ok(())
 }
