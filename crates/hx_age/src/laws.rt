@@ -26,7 +26,8 @@ pub fn moment_goes_backwards()
 /// Both numbers are capped to one, so nothing is left of the lifetime.
 #[tactic(auto, unfolding(httpdate::proofs::OnLiterals::httpdate_on_literals))]
 pub fn seconds_are_capped()
-    ensures lifetime { lifetime_of (controlled (codes "max-age=99999999999")) ≡ record { explicit = true; seconds = 2147483648 } }
+    ensures lifetime { lifetime_of (controlled (codes "max-age=99999999999"))
+        ≡ record { explicit = true; seconds = 2147483648 } }
     ensures times { times_of (aged (codes "4294967296")) 0 0 ≡ moments 0 2147483648 0 0 }
     ensures age { age_of (moments 0 2147483648 0 0) 0 ≡ 2147483648 }
     ensures greatest_sum { age_of (moments 0 2147483648 0 (2 ^ 64 - 1)) (2 ^ 64 - 1) ≡ 2147483648 }
@@ -41,13 +42,15 @@ pub fn repeated_and_bad_seconds()
     ensures quoted { lifetime_of (controlled (codes "max-age=\"60\"")) ≡ explicit_of 60 }
     ensures shared { lifetime_of (controlled (codes "s-maxage=5, max-age=60")) ≡ explicit_of 5 }
     ensures shared_bad { lifetime_of (controlled (codes "max-age=60, s-maxage=x")) ≡ explicit_of 0 }
-    ensures none { lifetime_of (controlled (codes "public")) ≡ record { explicit = false; seconds = 0 } }
+    ensures none { lifetime_of (controlled (codes "public"))
+        ≡ record { explicit = false; seconds = 0 } }
 {}
 
 /// A minute after Date; an Expires that is no date is over at once; max-age comes first.
 #[tactic(auto, unfolding(httpdate::proofs::OnLiterals::httpdate_on_literals))]
 pub fn lifetime_ends_by_expires()
-    ensures minute { lifetime_of (expiring (codes "Thu, 01 Jan 1970 00:02:41 GMT")) ≡ explicit_of 60 }
+    ensures minute { lifetime_of (expiring (codes "Thu, 01 Jan 1970 00:02:41 GMT"))
+        ≡ explicit_of 60 }
     ensures past { lifetime_of (expiring (codes "Thu, 01 Jan 1970 00:01:40 GMT")) ≡ explicit_of 0 }
     ensures no_date { lifetime_of (expiring (codes "0")) ≡ explicit_of 0 }
     ensures max_age_first { lifetime_of (expiring (codes "Thu, 01 Jan 1970 00:02:41 GMT") ++ controlled (codes "max-age=5"))

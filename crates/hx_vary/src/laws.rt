@@ -1,8 +1,8 @@
 //! What the definitions say of the standard's cases and of worked ones.
 
 ghost use Rattle.std.specs.Prelude.{◌≡◌, true, false, [], ◌∷◌, codes};
-ghost use Rattle.hx_vary.specs.Vary.{KeptIsEnough, is_star, kept_values, nominated_of, vary_matches};
-ghost use Rattle.hx_vary.specs.Cases.{speaks, varying};
+ghost use Rattle.hx_vary.specs.Vary.{KeptIsEnough, is_star, nominated_of, vary_matches};
+ghost use Rattle.hx_vary.specs.Cases.{kept_for, speaks, varying};
 
 use crate::nominations::Nomination;
 
@@ -11,12 +11,13 @@ pub fn kept_is_enough()
     ensures { KeptIsEnough }
 {}
 
-/// Stored for a request in German: the same value, none, two lines, and a response without Vary.
+/// Stored for a request in German: the same value, none, an empty one, two lines, and a response without Vary.
 pub fn vary_values_are_compared()
-    ensures same { vary_matches (kept_values (varying (codes "Accept-Language")) (speaks (codes "de") ∷ [])) (speaks (codes "de") ∷ []) ≡ true }
-    ensures absent { vary_matches (kept_values (varying (codes "Accept-Language")) (speaks (codes "de") ∷ [])) [] ≡ false }
-    ensures empty { vary_matches (kept_values (varying (codes "accept-language")) []) (speaks [] ∷ []) ≡ false }
-    ensures two_lines { vary_matches (kept_values (varying (codes "Accept-Language")) (speaks (codes "de") ∷ [])) (speaks (codes "de") ∷ speaks (codes "en") ∷ []) ≡ false }
+    ensures same { vary_matches (kept_for (speaks (codes "de") ∷ [])) (speaks (codes "de") ∷ []) ≡ true }
+    ensures absent { vary_matches (kept_for (speaks (codes "de") ∷ [])) [] ≡ false }
+    ensures empty { vary_matches (kept_for []) (speaks [] ∷ []) ≡ false }
+    ensures two_lines { vary_matches (kept_for (speaks (codes "de") ∷ [])) (speaks (codes "de") ∷ speaks (codes "en") ∷ [])
+        ≡ false }
     ensures no_vary { nominated_of [] (speaks (codes "de") ∷ []) ≡ Nomination.Names [] }
 {}
 
