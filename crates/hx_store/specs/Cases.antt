@@ -18,3 +18,16 @@ entry_of serial path =
       content = [];
       times = record { date = 0; age_value = 0; request_time = 0; response_time = 0 };
     }
+
+abbrev pub first : Stored
+first = entry_of 1 (codes "/a")
+
+abbrev pub second : Stored
+second = entry_of 2 (codes "/b")
+
+abbrev pub third : Stored
+third = entry_of 3 (codes "/c")
+
+-- of the same key as the third
+abbrev pub fourth : Stored
+fourth = entry_of 4 (codes "/c")

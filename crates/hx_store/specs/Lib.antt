@@ -1,5 +1,6 @@
 pub mod Stored
 pub mod Serials
 pub mod Shelf
+pub mod Found
 pub mod Places
 pub mod Cases

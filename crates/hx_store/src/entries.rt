@@ -40,7 +40,15 @@ impl Model for Entry {
 
     ghost Value = { Stored };
 
-    ghost view = { λ e. record { serial = e.serial; key = e.key; nominated = e.nominated; status = e.status; fields = e.fields; content = e.content; times = e.times } };
+    ghost view = { λ e. record {
+      serial = e.serial;
+      key = e.key;
+      nominated = e.nominated;
+      status = e.status;
+      fields = e.fields;
+      content = e.content;
+      times = e.times;
+    } };
 
     ghost invariant = { λ e. e.directives ≡ occurrences_of e.fields };
 }

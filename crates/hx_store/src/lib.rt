@@ -10,9 +10,11 @@ mod laws;
 mod list_shelf;
 mod serial_list;
 mod shelves;
+#[cfg(test)]
+mod tests;
 
 pub use entries::Entry;
-pub use laws::shelf_calls;
+pub use laws::{found_serials_are_those_of_the_key, shelf_calls};
 pub use list_shelf::ListShelf;
 pub use serial_list::Serials;
 pub use shelves::Shelf;

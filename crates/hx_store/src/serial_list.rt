@@ -1,6 +1,6 @@
 //! Serials in ascending order.
 
-ghost use Rattle.std.specs.Prelude.{◌≡◌, ◌≤◌, ◌-◌, ◌==◌, [], OnOk, OnErr, length, nat_le, slice_get};
+ghost use Rattle.std.specs.Prelude.{◌≡◌, ◌≤◌, ◌-◌, ◌==◌, [], IfOk, OnOk, OnErr, length, nat_le, slice_get};
 ghost use Rattle.std.specs.List.{position_or_len};
 ghost use Rattle.hx_store.specs.Serials.{insert_ascending};
 
@@ -41,6 +41,15 @@ impl Serials {
         Ok(())
     }
 
+    /// A copy of these serials. Fails for want of memory alone.
+    pub fn copy(&self, alloc: Global) -> Result<Serials, AllocError>
+        ensures { IfOk result (λ copied. copied ≡ self.now) }
+    {
+        Ok(Serials {
+            serials: Vec::from_slice(alloc, self.as_slice())?,
+        })
+    }
+
     /// The serials.
     pub fn as_slice(&self) -> &[u64]
         ensures { result.now ≡ self.now }
@@ -66,7 +75,7 @@ impl Serials {
     pub fn last(&self) -> Option<u64>
         ensures { result ≡ slice_get self.now (length self.now - 1) }
     {
-        self.serials.as_slice().last().copied()
+        self.as_slice().last().copied()
     }
 }
 
