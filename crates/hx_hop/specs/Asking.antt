@@ -1,0 +1,45 @@
+-- What every later rule sees of a request (RFC 9110, section 7.6.1).
+use Rattle.std.specs.Prelude.{◌≡◌, ◌==◌, Bool, not, ◌||◌, List, filter, codes, Result, Ok, Err}
+use Rattle.hx_fields.specs.declared.field_line.Field.{Field}
+use Rattle.hx_fields.specs.Lines.{is_named, values_of}
+use Rattle.hx_framing.specs.declared.requests.Request.{Request}
+use Rattle.hx_target.specs.declared.faults.TargetFault.{TargetFault}
+use Rattle.hx_target.specs.declared.targets.Target.{Target}
+use Rattle.hx_target.specs.Judgement.{Judged}
+use Rattle.hx_hop.specs.declared.asked_for.Asked.{Asked}
+
+-- What isn't taken out yet: the fields of one connection, and those that members of Connection name.
+abbrev pub stripped : List Field → List Field
+stripped fields = fields
+
+-- the target has taken in Host, and the reader has carried out Expect (RFC 9110, section 10.1.1)
+abbrev pub is_taken_out : Field → Bool
+is_taken_out line = is_named (codes "Host") line || is_named (codes "Expect") line
+
+-- the lines that go on
+abbrev pub kept_fields : List Field → List Field
+kept_fields fields = filter (λ line. not (is_taken_out line)) (stripped fields)
+
+-- the client's connection closes after the answer: own for HTTP/1.0 ("Connections of HTTP/1.0 close")
+abbrev pub closes : Request → Bool
+closes request = request.minor == 0
+
+-- the request with its target read
+abbrev pub asked_of : Request → Target → Asked
+asked_of request target = record {
+  method = request.method;
+  minor = request.minor;
+  target = target;
+  fields = kept_fields request.fields;
+  content = request.content;
+  close = closes request;
+}
+
+abbrev pub asked_by : Request → Result Target TargetFault → Result Asked TargetFault
+asked_by request (Ok target) = Ok (asked_of request target)
+asked_by request (Err fault) = Err fault
+
+-- What is asked: the target is judged with the fields as received, and a request whose target is refused has its fault.
+abbrev pub IsAsked : Request → Result Asked TargetFault → Type 0
+IsAsked request r =
+    (target : Result Target TargetFault) × Judged request.target (values_of request.fields (codes "Host")) target × (r ≡ asked_by request target)

@@ -1,0 +1,53 @@
+-- The request that goes to an origin (RFC 9110, section 7.6).
+use Rattle.std.specs.Prelude.{ℕ, ◌==◌, Bool, not, ◌&&◌, ◌||◌, if◌then◌else◌, List, [], ◌∷◌, ◌++◌, filter, codes, decimal, Option, Some, None, is_some}
+use Rattle.hx_fields.specs.declared.field_line.Field.{Field}
+use Rattle.hx_fields.specs.Lines.{is_named}
+use Rattle.hx_framing.specs.declared.requests.Request.{Request}
+use Rattle.hx_target.specs.declared.keys.Key.{Key}
+use Rattle.hx_hop.specs.declared.asked_for.Asked.{Asked}
+use Rattle.hx_hop.specs.declared.validators.Conditions.{Conditions}
+
+abbrev pub line : List ℕ → List ℕ → Field
+line name value = record { name = name; value = value }
+
+-- the port is written unless it is the default one (RFC 9110, section 7.2)
+abbrev pub host_text : Key → List ℕ
+host_text key = if key.port == 80 then key.host else key.host ++ codes ":" ++ decimal key.port
+
+-- the version that was received, and the proxy's name (RFC 9110, section 7.6.3)
+abbrev pub via_text : ℕ → List ℕ → List ℕ
+via_text minor name = (if minor == 0 then codes "1.0 " else codes "1.1 ") ++ name
+
+-- a line of the two conditions that the proxy sends in the client's place
+abbrev pub is_condition : Field → Bool
+is_condition f = is_named (codes "If-None-Match") f || is_named (codes "If-Modified-Since") f
+
+-- the client's lines, without its conditions where the proxy sends its own
+abbrev pub client_lines : Bool → List Field → List Field
+client_lines conditional fields = filter (λ f. not (conditional && is_condition f)) fields
+
+abbrev pub opt_line : List ℕ → Option (List ℕ) → List Field
+opt_line name None = []
+opt_line name (Some value) = line name value ∷ []
+
+-- the proxy's conditions (RFC 9110, sections 13.1.2 and 13.1.3)
+abbrev pub condition_lines : Option Conditions → List Field
+condition_lines None = []
+condition_lines (Some conditions) =
+    opt_line (codes "If-None-Match") conditions.etag ++ opt_line (codes "If-Modified-Since") conditions.modified
+
+-- in order: Host, the client's lines, the proxy's conditions, Via
+abbrev pub forwarded_lines : Asked → List ℕ → Option Conditions → List Field
+forwarded_lines asked name conditions =
+    line (codes "Host") (host_text asked.target.key) ∷ client_lines (is_some conditions) asked.fields ++ condition_lines conditions
+    ++ line (codes "Via") (via_text asked.minor name) ∷ []
+
+-- the request that goes to the origin
+unfoldable pub forwarded_of : Asked → List ℕ → Option Conditions → Request
+forwarded_of asked name conditions = record {
+  method = asked.method;
+  target = asked.target.key.path_query;
+  minor = 1;
+  fields = forwarded_lines asked name conditions;
+  content = asked.content;
+}

@@ -1,0 +1,4 @@
+pub mod Asking
+pub mod Bypass
+pub mod Examples
+pub mod Forwarding

@@ -1,0 +1,58 @@
+//! From a request that was read to one that rules see.
+ghost use Rattle.std.specs.Prelude.{◌≡◌, codes, Err, false, IfOk};
+ghost use Rattle.hx_fields.specs.Lines.{values_of};
+ghost use Rattle.hx_target.specs.Judgement.{is_malformed};
+ghost use Rattle.hx_hop.specs.Asking.{is_taken_out, kept_fields, asked_of, IsAsked};
+
+use crate::Asked;
+use crate::asked_for::copy_content;
+use hx_fields::{Field, Fields, is_same_name};
+use hx_framing::Request;
+use hx_target::{Target, TargetFault, read_target};
+use std::alloc::{AllocError, Global};
+
+/// Whether a line doesn't go on.
+fn is_taken_out(line: &Field) -> bool
+    ensures { result ≡ is_taken_out line.now }
+{
+    is_same_name(line.name.as_slice(), b"Host") || is_same_name(line.name.as_slice(), b"Expect")
+}
+
+/// The lines that go on.
+fn kept_fields(alloc: Global, fields: &Fields) -> Result<Fields, AllocError>
+    ensures { IfOk result (λ kept. kept ≡ kept_fields fields.now) }
+{
+    let mut kept = Fields::new(alloc);
+    for line in fields.as_slice() {
+        if !is_taken_out(line) {
+            kept.push(line.name.as_slice(), line.value.as_slice())?;
+        }
+    }
+    Ok(kept)
+}
+
+fn asked_of(alloc: Global, request: &Request, target: Target) -> Result<Asked, AllocError>
+    ensures { IfOk result (λ asked. asked ≡ asked_of request.now target) }
+{
+    Ok(Asked {
+        method: request.method.clone()?,
+        minor: request.minor,
+        target,
+        fields: kept_fields(alloc, &request.fields)?,
+        content: copy_content(alloc, request.content.as_ref())?,
+        close: request.minor == 0,
+    })
+}
+
+/// The request as every later rule sees it, or the least fault of its target. The target is read from the
+/// fields as they were received.
+pub fn ask(alloc: Global, request: &Request) -> Result<Asked, TargetFault>
+    ensures asked { ¬ (result ≡ Err TargetFault.OutOfMemory) → IsAsked request.now result }
+    // A target that is malformed is told so without memory.
+    ensures memory_last { result ≡ Err TargetFault.OutOfMemory → is_malformed request.now.target ≡ false }
+{
+    match read_target(alloc, request.target.as_slice(), &request.fields) {
+        Ok(target) => Ok(asked_of(alloc, request, target)?),
+        Err(fault) => Err(fault),
+    }
+}
