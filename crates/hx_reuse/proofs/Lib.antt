@@ -1,0 +1,3 @@
+pub mod Members
+pub mod Latest
+pub mod RuleLemmas

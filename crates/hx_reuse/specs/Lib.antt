@@ -1,0 +1,3 @@
+pub mod Words
+pub mod Chosen
+pub mod Rules

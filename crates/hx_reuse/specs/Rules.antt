@@ -1,0 +1,126 @@
+-- Which rules keep a stored response from being sent (RFC 9111, sections 4 and 5.2.1), and which is the first.
+--
+-- Standing: what the rules on a chosen response read     against: the condition of each of these rules
+-- stands: the condition of each rule                     reuse_rules: the rules by their numbers
+-- reuse_rule_of: the least that stands                   decision_of: what is done with a request
+use Rattle.std.specs.Prelude.{ℕ, ◌+◌, ◌==◌, nat_lt, if◌then◌else◌, Bool, true, false, not, ◌&&◌, ◌||◌, List, [], ◌∷◌, length, find, codes, bytes_eq, Option, Some, None, is_some, is_none, option_map}
+use Rattle.hx_directives.specs.Occurrences.{occurrences_of}
+use Rattle.hx_directives.specs.Answers.{has, first_valid, max_stale}
+use Rattle.hx_directives.specs.declared.occurrences.Occurrence.{Occurrence}
+use Rattle.hx_directives.specs.declared.names.Directive.TheVariants as directive
+use Rattle.hx_directives.specs.declared.answers.MaxStale.{MaxStale}
+use Rattle.hx_directives.specs.declared.answers.MaxStale.TheVariants.{Absent, Any, UpTo}
+use Rattle.hx_age.specs.declared.lifetimes.Lifetime.{Lifetime}
+use Rattle.hx_age.specs.Lifetime.{lifetime_of}
+use Rattle.hx_age.specs.Age.{age_of, is_fresh_of, staleness_of}
+use Rattle.hx_hop.specs.declared.asked_for.Asked.{Asked}
+use Rattle.hx_hop.specs.Bypass.{has_content, asks_for_range, has_precondition}
+use Rattle.hx_store.specs.Stored.{Stored}
+use Rattle.hx_reuse.specs.Chosen.{of_key, chosen_of}
+use Rattle.hx_reuse.specs.Words.{number_of}
+use Rattle.hx_reuse.specs.declared.rule.ReuseRule.{ReuseRule}
+use Rattle.hx_reuse.specs.declared.rule.ReuseRule.TheVariants.{Method, Content, Range, Precondition, UriMiss, VaryMiss, ResponseNoCache, RequestNoCache, AboveMaxAge, BelowMinFresh, MustRevalidate, NoLifetime, StaleNoCache, NoMaxStale, PastMaxStale, StaleMaxAge, StaleMinFresh}
+use Rattle.hx_reuse.specs.declared.decision.Decision.{Decision}
+use Rattle.hx_reuse.specs.declared.decision.Decision.TheVariants.{Hit, Forward}
+
+-- there is a value, and it passes
+abbrev pub is_some_and : {A : Type 0} → (A → Bool) → Option A → Bool
+is_some_and test None = false
+is_some_and test (Some x) = test x
+
+-- what the rules on a chosen response read of it and of the request
+pub record Standing : Type 0 where
+  pub lifetime : Lifetime
+  pub age : ℕ
+  pub response : List Occurrence
+  pub request : List Occurrence
+
+abbrev pub stands_at : Lifetime → ℕ → List Occurrence → List Occurrence → Standing
+stands_at lifetime age response request = record { lifetime = lifetime; age = age; response = response; request = request }
+
+abbrev pub standing : Stored → Asked → ℕ → Standing
+standing e asked now =
+    stands_at (lifetime_of e.fields) (age_of e.times now) (occurrences_of e.fields) (occurrences_of asked.fields)
+
+abbrev pub fresh : Standing → Bool
+fresh s = is_fresh_of s.lifetime s.age
+
+-- the response may not be sent stale (RFC 9111, sections 5.2.2.2, 5.2.2.8 and 5.2.2.10)
+abbrev pub must_revalidate : Standing → Bool
+must_revalidate s =
+    (has s.response directive.MustRevalidate || has s.response directive.ProxyRevalidate) || has s.response directive.SMaxage
+
+-- the age is above the request's max-age (RFC 9111, section 5.2.1.1)
+abbrev pub above_max_age : Standing → Bool
+above_max_age s = is_some_and (λ most. nat_lt most s.age) (first_valid s.request directive.MaxAge)
+
+-- fresh for less than the request's min-fresh (RFC 9111, section 5.2.1.3)
+abbrev pub below_min_fresh : Standing → Bool
+below_min_fresh s = is_some_and (λ least. nat_lt s.lifetime.seconds (s.age + least)) (first_valid s.request directive.MinFresh)
+
+-- the request takes stale responses, up to a staleness (RFC 9111, section 5.2.1.2)
+abbrev pub accepts_stale : MaxStale → Bool
+accepts_stale Absent = false
+accepts_stale _ = true
+
+abbrev pub past_limit : ℕ → MaxStale → Bool
+past_limit n (UpTo limit) = nat_lt limit n
+past_limit n _ = false
+
+-- the conditions of the rules on the chosen response
+abbrev pub against : ReuseRule → Standing → Bool
+against ResponseNoCache s = has s.response directive.NoCache
+against RequestNoCache s = fresh s && has s.request directive.NoCache
+against AboveMaxAge s = fresh s && above_max_age s
+against BelowMinFresh s = fresh s && below_min_fresh s
+against MustRevalidate s = not (fresh s) && must_revalidate s
+against NoLifetime s = not (fresh s) && not s.lifetime.explicit
+against StaleNoCache s = not (fresh s) && has s.request directive.NoCache
+against NoMaxStale s = not (fresh s) && not (accepts_stale (max_stale s.request))
+against PastMaxStale s = not (fresh s) && past_limit (staleness_of s.lifetime s.age) (max_stale s.request)
+against StaleMaxAge s = not (fresh s) && above_max_age s
+against StaleMinFresh s = not (fresh s) && is_some (first_valid s.request directive.MinFresh)
+against _ s = false
+
+-- the condition of each rule
+abbrev pub stands : ReuseRule → List Stored → Asked → ℕ → Bool
+stands Method held asked now = not (bytes_eq asked.method (codes "GET") || bytes_eq asked.method (codes "HEAD"))
+stands Content held asked now = has_content asked
+stands Range held asked now = asks_for_range asked
+stands Precondition held asked now = has_precondition asked
+stands UriMiss held asked now = length (of_key held asked) == 0
+stands VaryMiss held asked now = is_none (chosen_of held asked)
+stands rule held asked now = is_some_and (λ e. against rule (standing e asked now)) (chosen_of held asked)
+
+-- the rules by their numbers
+abbrev pub request_rules : List ReuseRule
+request_rules = Method ∷ Content ∷ Range ∷ Precondition ∷ []
+
+abbrev pub entry_rules : List ReuseRule
+entry_rules =
+    ResponseNoCache ∷ RequestNoCache ∷ AboveMaxAge ∷ BelowMinFresh ∷ MustRevalidate ∷ NoLifetime ∷ StaleNoCache
+    ∷ NoMaxStale ∷ PastMaxStale ∷ StaleMaxAge ∷ StaleMinFresh ∷ []
+
+abbrev pub reuse_rules : List ReuseRule
+reuse_rules =
+    Method ∷ Content ∷ Range ∷ Precondition ∷ UriMiss ∷ VaryMiss
+    ∷ ResponseNoCache ∷ RequestNoCache ∷ AboveMaxAge ∷ BelowMinFresh ∷ MustRevalidate ∷ NoLifetime ∷ StaleNoCache
+    ∷ NoMaxStale ∷ PastMaxStale ∷ StaleMaxAge ∷ StaleMinFresh ∷ []
+
+-- the least rule that stands
+unfoldable pub reuse_rule_of : List Stored → Asked → ℕ → Option ReuseRule
+reuse_rule_of held asked now = find (λ rule. stands rule held asked now) reuse_rules
+
+-- the rule speaks of the chosen response: its number is 7 or more
+abbrev pub names_entry : ReuseRule → Bool
+names_entry rule = nat_lt 6 (number_of rule)
+
+abbrev pub decided : Option ReuseRule → Option ℕ → Decision
+decided (Some rule) serial = Forward rule (if names_entry rule then serial else None)
+decided None (Some serial) = Hit serial
+decided None None = Hit 0
+
+-- the chosen response is sent, or the request goes forward by the least rule; a rule from the seventh on names
+-- the response that it stands against
+unfoldable pub decision_of : List Stored → Asked → ℕ → Decision
+decision_of held asked now = decided (reuse_rule_of held asked now) (option_map (λ e. e.serial) (chosen_of held asked))

@@ -1,0 +1,153 @@
+//! The least rule against a request, and against the response that was chosen for it.
+ghost use Rattle.std.specs.Prelude.{◌≡◌, ℕ, List, false, find, ◌||◌, nat_lt, ◌+◌};
+ghost use Rattle.hx_directives.specs.Occurrences.{occurrences_of};
+ghost use Rattle.hx_directives.specs.Answers.{first_valid, has, max_stale};
+ghost use Rattle.hx_directives.specs.declared.names.Directive.TheVariants.{MaxAge, MinFresh, NoCache, MustRevalidate, ProxyRevalidate, SMaxage};
+ghost use Rattle.hx_age.specs.Age.{is_fresh_of, staleness_of};
+ghost use Rattle.hx_store.specs.Stored.{Stored};
+ghost use Rattle.hx_reuse.specs.Rules.{is_some_and, against, stands, past_limit, accepts_stale, stands_at, standing, request_rules, entry_rules};
+
+use crate::rule::ReuseRule;
+use hx_age::{Lifetime, current_age, is_fresh, staleness};
+use hx_directives::{Directive, Directives, MaxStale};
+use hx_hop::Asked;
+use hx_store::Entry;
+
+/// The least rule on the request alone.
+pub(crate) fn request_rule(asked: &Asked) -> Option<ReuseRule>
+    ensures { (held : List Stored) (now : ℕ) → result ≡ find (λ r. stands r held asked.now now) request_rules }
+{
+    if asked.method.as_str() != "GET" && asked.method.as_str() != "HEAD" {
+        return Some(ReuseRule::Method);
+    }
+    if asked.has_content() {
+        return Some(ReuseRule::Content);
+    }
+    if asked.asks_for_range() {
+        return Some(ReuseRule::Range);
+    }
+    if asked.has_precondition() {
+        return Some(ReuseRule::Precondition);
+    }
+    None
+}
+
+fn is_above_max_age(age: u32, request: &Directives) -> bool
+    ensures { result ≡ is_some_and (λ most. nat_lt most age) (first_valid request.now MaxAge) }
+{
+    match request.first_valid(Directive::MaxAge) {
+        Some(most) => most < age,
+        None => false,
+    }
+}
+
+fn is_below_min_fresh(lifetime: Lifetime, age: u32, request: &Directives) -> bool
+    ensures { result ≡ is_some_and (λ least. nat_lt lifetime.seconds (age + least)) (first_valid request.now MinFresh) }
+{
+    match request.first_valid(Directive::MinFresh) {
+        Some(least) => u64::from(lifetime.seconds) < u64::from(age) + u64::from(least),
+        None => false,
+    }
+}
+
+fn is_past_limit(lifetime: Lifetime, age: u32, request: &Directives) -> bool
+    ensures { result ≡ past_limit (staleness_of lifetime age) (max_stale request.now) }
+{
+    match request.max_stale() {
+        MaxStale::UpTo(limit) => limit < staleness(lifetime, age),
+        MaxStale::Absent => false,
+        MaxStale::Any => false,
+    }
+}
+
+fn accepts_stale(request: &Directives) -> bool
+    ensures { result ≡ accepts_stale (max_stale request.now) }
+{
+    request.max_stale() != MaxStale::Absent
+}
+
+fn must_revalidate(response: &Directives) -> bool
+    ensures { result ≡ ((has response.now MustRevalidate || has response.now ProxyRevalidate) || has response.now SMaxage) }
+{
+    response.has(Directive::MustRevalidate)
+        || response.has(Directive::ProxyRevalidate)
+        || response.has(Directive::SMaxage)
+}
+
+/// The least rule on a response that would be sent.
+fn rule_against(
+    lifetime: Lifetime,
+    age: u32,
+    response: &Directives,
+    request: &Directives,
+) -> Option<ReuseRule>
+    ensures { result ≡ find (λ r. against r (stands_at lifetime age response.now request.now)) entry_rules }
+{
+    if response.has(Directive::NoCache) {
+        return Some(ReuseRule::ResponseNoCache);
+    }
+    let fresh = is_fresh(lifetime, age);
+    if fresh && request.has(Directive::NoCache) {
+        return Some(ReuseRule::RequestNoCache);
+    }
+    if fresh && is_above_max_age(age, request) {
+        return Some(ReuseRule::AboveMaxAge);
+    }
+    if fresh && is_below_min_fresh(lifetime, age, request) {
+        return Some(ReuseRule::BelowMinFresh);
+    }
+    if fresh {
+        return None;
+    }
+    stale_rule(lifetime, age, response, request)
+}
+
+/// The least rule on a stale response without no-cache.
+fn stale_rule(
+    lifetime: Lifetime,
+    age: u32,
+    response: &Directives,
+    request: &Directives,
+) -> Option<ReuseRule>
+    requires validated_not { has response.now NoCache ≡ false }
+    requires stale { is_fresh_of lifetime age ≡ false }
+    ensures { result ≡ find (λ r. against r (stands_at lifetime age response.now request.now)) entry_rules }
+{
+    if must_revalidate(response) {
+        return Some(ReuseRule::MustRevalidate);
+    }
+    if !lifetime.explicit {
+        return Some(ReuseRule::NoLifetime);
+    }
+    if request.has(Directive::NoCache) {
+        return Some(ReuseRule::StaleNoCache);
+    }
+    if !accepts_stale(request) {
+        return Some(ReuseRule::NoMaxStale);
+    }
+    if is_past_limit(lifetime, age, request) {
+        return Some(ReuseRule::PastMaxStale);
+    }
+    if is_above_max_age(age, request) {
+        return Some(ReuseRule::StaleMaxAge);
+    }
+    if request.first_valid(Directive::MinFresh).is_some() {
+        return Some(ReuseRule::StaleMinFresh);
+    }
+    None
+}
+
+/// The least rule on the chosen response.
+pub(crate) fn rule_on(
+    entry: &Entry,
+    asked: &Asked,
+    asked_directives: &Directives,
+    now: u64,
+) -> Option<ReuseRule>
+    requires { asked_directives.now ≡ occurrences_of asked.now.fields }
+    ensures { result ≡ find (λ r. against r (standing entry.now asked.now now)) entry_rules }
+{
+    let lifetime = Lifetime::of(&entry.fields, &entry.directives);
+    let age = current_age(&entry.times, now);
+    rule_against(lifetime, age, &entry.directives, asked_directives)
+}

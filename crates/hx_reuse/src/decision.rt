@@ -1,0 +1,51 @@
+//! What is done with a request: the least rule that stands, or the response that may be sent.
+ghost use Rattle.std.specs.Prelude.{◌≡◌, IfOk};
+ghost use Rattle.hx_directives.specs.Occurrences.{occurrences_of};
+ghost use Rattle.hx_store.specs.Serials.{Distinct};
+ghost use Rattle.hx_store.specs.Shelf.{serials as serials_held, serials_of};
+ghost use Rattle.hx_reuse.specs.Rules.{decision_of};
+
+use crate::against::{request_rule, rule_on};
+use crate::chosen::latest_of;
+use crate::rule::ReuseRule;
+use hx_directives::Directives;
+use hx_hop::Asked;
+use hx_store::Shelf;
+use std::alloc::{AllocError, Global};
+
+/// What the reuse rules say of a request.
+#[derive(Clone, Copy, Debug, PartialEq, Eq)]
+pub enum Decision {
+    /// No rule stands against the stored response of this serial.
+    Hit(u64),
+    /// The least rule that stands. From the seventh on it stands against the response of the serial.
+    Forward(ReuseRule, Option<u64>),
+}
+
+/// What is done with a request at a moment in Unix seconds: its directives and the serials that the shelf holds
+/// for its key are handed in.
+pub fn decide<S: Shelf>(
+    alloc: Global,
+    asked: &Asked,
+    asked_directives: &Directives,
+    shelf: &S,
+    serials: &[u64],
+    now: u64,
+) -> Result<Decision, AllocError>
+    requires directives { asked_directives.now ≡ occurrences_of asked.now.fields }
+    requires distinct { Distinct (serials_held (S.entries shelf.now)) }
+    requires serials { serials.now ≡ serials_of asked.now.target.key (S.entries shelf.now) }
+    ensures { IfOk result (λ decision. decision ≡ decision_of (S.entries shelf.now) asked.now now) }
+{
+    match request_rule(asked) {
+        Some(rule) => Ok(Decision::Forward(rule, None)),
+        None if serials.is_empty() => Ok(Decision::Forward(ReuseRule::UriMiss, None)),
+        None => match latest_of(alloc, asked, shelf, serials)? {
+            Some(entry) => match rule_on(entry, asked, asked_directives, now) {
+                Some(rule) => Ok(Decision::Forward(rule, Some(entry.serial))),
+                None => Ok(Decision::Hit(entry.serial)),
+            },
+            None => Ok(Decision::Forward(ReuseRule::VaryMiss, None)),
+        },
+    }
+}

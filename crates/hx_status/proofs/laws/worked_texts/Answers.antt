@@ -1,0 +1,19 @@
+use Rattle.std.proofs.Common.{refl}
+use Rattle.std.specs.Fmt.{digits}
+use Rattle.hx_status.proofs.laws.worked_texts.Goals as goal
+
+pub returns-clause-hit : goal.returns-clause-hit
+unfolding digits
+returns-clause-hit c = refl
+
+pub returns-clause-stored : goal.returns-clause-stored
+unfolding digits
+returns-clause-stored c = refl
+
+pub returns-clause-error : goal.returns-clause-error
+unfolding digits
+returns-clause-error c = refl
+
+pub returns-clause-denied : goal.returns-clause-denied
+unfolding digits
+returns-clause-denied c = refl

@@ -1,0 +1,63 @@
+-- The member of Cache-Status that the proxy adds (RFC 9211, section 2). Its parameters come in this order.
+--
+-- member_text: the member
+-- how_text, fwd_status_text, ttl_text, flag_text, detail_text: its parameters
+use Rattle.std.specs.Prelude.{ℕ, ℤ, List, [], ◌∷◌, ◌++◌, codes, Bool, true, false, Option, Some, None}
+use Rattle.std.specs.Fmt.{decimal, signed_decimal}
+use Rattle.hx_reuse.specs.Words.{reason_of, detail_of}
+use Rattle.hx_status.specs.declared.status.How.{How}
+use Rattle.hx_status.specs.declared.status.How.TheVariants.{Hit, Fwd}
+use Rattle.hx_status.specs.declared.status.Detail.{Detail}
+use Rattle.hx_status.specs.declared.status.Detail.TheVariants.{StaleIfError, ReuseAfterError, ReuseAfter304}
+use Rattle.hx_status.specs.declared.status.Status.{Status}
+
+-- a stored response that no rule forbade, or the reason for going forward (RFC 9211, sections 2.1 and 2.2)
+abbrev pub how_text : How → List ℕ
+how_text Hit = codes ";hit"
+how_text (Fwd rule) = codes ";fwd=" ++ reason_of rule
+
+-- the status of the origin's answer (RFC 9211, section 2.3)
+abbrev pub fwd_status_text : Option ℕ → List ℕ
+fwd_status_text None = []
+fwd_status_text (Some status) = codes ";fwd-status=" ++ decimal status
+
+-- the seconds of freshness left (RFC 9211, section 2.4)
+abbrev pub ttl_text : Option ℤ → List ℕ
+ttl_text None = []
+ttl_text (Some seconds) = codes ";ttl=" ++ signed_decimal seconds
+
+-- stored and collapsed (RFC 9211, sections 2.5 and 2.6)
+abbrev pub flag_text : Bool → List ℕ → List ℕ
+flag_text true text = text
+flag_text false text = []
+
+-- the words of steps that sent a stored response after all
+abbrev pub word_of : Detail → List ℕ
+word_of StaleIfError = codes "stale-if-error"
+word_of ReuseAfterError = codes "reuse-after-error"
+word_of ReuseAfter304 = codes "reuse-after-304"
+
+abbrev pub rule_detail : How → Option (List ℕ)
+rule_detail Hit = None
+rule_detail (Fwd rule) = detail_of rule
+
+-- the word of such a step stands in place of the rule's
+abbrev pub detail_or : Option Detail → How → Option (List ℕ)
+detail_or (Some detail) how = Some (word_of detail)
+detail_or None how = rule_detail how
+
+abbrev pub detail_named : Status → Option (List ℕ)
+detail_named status = detail_or status.detail status.how
+
+abbrev pub word_text : Option (List ℕ) → List ℕ
+word_text None = []
+word_text (Some word) = codes ";detail=" ++ word
+
+-- what tells the rule from others of its reason (RFC 9211, section 2.8)
+abbrev pub detail_text : Status → List ℕ
+detail_text status = word_text (detail_named status)
+
+abbrev pub member_text : List ℕ → Status → List ℕ
+member_text name status =
+    name ++ how_text status.how ++ fwd_status_text status.fwd_status ++ ttl_text status.ttl
+    ++ flag_text status.stored (codes ";stored") ++ flag_text status.collapsed (codes ";collapsed") ++ detail_text status

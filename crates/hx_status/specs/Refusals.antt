@@ -1,0 +1,111 @@
+-- The proxy's own answers: a status, and a text that names the first rule against the request. The text is
+-- the value of the field Refusal and the content (own, so that an answer to HEAD names its cause too).
+--
+-- status_of, text_of: the answer to a cause    origin_text: where the origin failed
+-- frame_word, target_word: the words of faults
+use Rattle.std.specs.Prelude.{ℕ, List, [], ◌∷◌, ◌++◌, codes, Option, Some, None}
+use Rattle.std.specs.Fmt.{decimal}
+use Rattle.hx_framing.specs.declared.fault.FrameFault.{FrameFault}
+use Rattle.hx_framing.specs.declared.fault.FrameFault.TheVariants as frame
+use Rattle.hx_target.specs.declared.faults.TargetFault.{TargetFault}
+use Rattle.hx_target.specs.declared.faults.TargetFault.TheVariants as target
+use Rattle.hx_reuse.specs.declared.rule.ReuseRule.{ReuseRule}
+use Rattle.hx_reuse.specs.declared.rule.ErrorRule.{ErrorRule}
+use Rattle.hx_reuse.specs.Words.{reason_of, detail_of, error_word_of}
+use Rattle.hx_status.specs.Member.{word_text}
+use Rattle.hx_status.specs.declared.cause.FailKind.{FailKind}
+use Rattle.hx_status.specs.declared.cause.FailKind.TheVariants.{Refused, TimedOut, Closed, BadAnswer, TooLarge}
+use Rattle.hx_status.specs.declared.cause.Cause.{Cause}
+use Rattle.hx_status.specs.declared.cause.Cause.TheVariants.{Denied, NoLine, OnlyIfCached, Origin, Frame, Target}
+
+-- reason and detail of a reuse rule, as in Cache-Status
+abbrev pub rule_text : ReuseRule → List ℕ
+rule_text rule = codes ";fwd=" ++ reason_of rule ++ word_text (detail_of rule)
+
+abbrev pub kind_word : FailKind → List ℕ
+kind_word Refused = codes "refused"
+kind_word TimedOut = codes "timed-out"
+kind_word Closed = codes "closed"
+kind_word BadAnswer = codes "bad-answer"
+kind_word TooLarge = codes "too-large"
+
+abbrev pub error_text : Option ErrorRule → List ℕ
+error_text None = []
+error_text (Some rule) = codes ";stale-if-error=" ++ error_word_of rule
+
+-- how the origin failed, and the rules against a stored response
+abbrev pub origin_text : FailKind → ReuseRule → Option ErrorRule → List ℕ
+origin_text kind rule error = codes "origin " ++ kind_word kind ++ rule_text rule ++ error_text error
+
+-- 502 Bad Gateway, 504 Gateway Timeout (RFC 9110, sections 15.6.3 and 15.6.5)
+abbrev pub origin_status : FailKind → ℕ
+origin_status Refused = 502
+origin_status TimedOut = 504
+origin_status Closed = 502
+origin_status BadAnswer = 502
+origin_status TooLarge = 502
+
+abbrev pub frame_word : FrameFault → List ℕ
+frame_word frame.Head = codes "head"
+frame_word frame.Version = codes "version"
+frame_word frame.BothLengths = codes "both-lengths"
+frame_word frame.Length = codes "length"
+frame_word frame.Coding = codes "coding"
+frame_word frame.Chunk = codes "chunk"
+frame_word frame.TooLarge = codes "too-large"
+frame_word frame.Expect = codes "expect"
+frame_word frame.Truncated = codes "truncated"
+frame_word frame.Status = codes "status"
+
+-- 400 but for: 505, 501, 413 and 417 (RFC 9110, sections 15.5 and 15.6). A truncated request gets no answer,
+-- and only answers of origins have a status, so these two are never sent.
+abbrev pub frame_status : FrameFault → ℕ
+frame_status frame.Head = 400
+frame_status frame.Version = 505
+frame_status frame.BothLengths = 400
+frame_status frame.Length = 400
+frame_status frame.Coding = 501
+frame_status frame.Chunk = 400
+frame_status frame.TooLarge = 413
+frame_status frame.Expect = 417
+frame_status frame.Truncated = 400
+frame_status frame.Status = 400
+
+abbrev pub target_word : TargetFault → List ℕ
+target_word target.Form = codes "form"
+target_word target.Scheme = codes "scheme"
+target_word target.Host = codes "host"
+target_word target.Port = codes "port"
+target_word target.Userinfo = codes "userinfo"
+target_word target.Escape = codes "escape"
+target_word target.DotSegment = codes "dot-segment"
+target_word target.TooLong = codes "too-long"
+target_word target.OutOfMemory = codes "out-of-memory"
+
+-- 400, or 414 for a target that is too long (RFC 9110, sections 15.5.1 and 15.5.15). Want of memory is never sent.
+abbrev pub target_status : TargetFault → ℕ
+target_status target.Form = 400
+target_status target.Scheme = 400
+target_status target.Host = 400
+target_status target.Port = 400
+target_status target.Userinfo = 400
+target_status target.Escape = 400
+target_status target.DotSegment = 400
+target_status target.TooLong = 414
+target_status target.OutOfMemory = 400
+
+abbrev pub status_of : Cause → ℕ
+status_of (Denied line) = 403
+status_of NoLine = 403
+status_of (OnlyIfCached rule) = 504
+status_of (Origin kind rule error) = origin_status kind
+status_of (Frame fault) = frame_status fault
+status_of (Target fault) = target_status fault
+
+abbrev pub text_of : Cause → List ℕ
+text_of (Denied line) = codes "denied by line " ++ decimal line
+text_of NoLine = codes "no line allows it"
+text_of (OnlyIfCached rule) = codes "only-if-cached" ++ rule_text rule
+text_of (Origin kind rule error) = origin_text kind rule error
+text_of (Frame fault) = codes "refused: " ++ frame_word fault
+text_of (Target fault) = codes "refused: " ++ target_word fault

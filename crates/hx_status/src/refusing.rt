@@ -1,0 +1,151 @@
+//! The proxy's own answers.
+ghost use Rattle.std.specs.Prelude.{◌≡◌, ◌++◌, IfOk, OnOk};
+ghost use Rattle.hx_status.specs.Refusals.{status_of, text_of, rule_text, error_text, kind_word, origin_text, origin_status, frame_word, frame_status, target_word, target_status};
+
+use crate::cause::{Cause, FailKind};
+use crate::telling::push_detail;
+use hx_fields::Bytes;
+use hx_framing::FrameFault;
+use hx_reuse::{ErrorRule, ReuseRule};
+use hx_target::TargetFault;
+use std::alloc::{AllocError, Global};
+
+fn kind_word(kind: FailKind) -> &'static str
+    ensures { result.now ≡ kind_word kind }
+{
+    match kind {
+        FailKind::Refused => "refused",
+        FailKind::TimedOut => "timed-out",
+        FailKind::Closed => "closed",
+        FailKind::BadAnswer => "bad-answer",
+        FailKind::TooLarge => "too-large",
+    }
+}
+
+fn frame_word(fault: FrameFault) -> &'static str
+    ensures { result.now ≡ frame_word fault }
+{
+    match fault {
+        FrameFault::Head => "head",
+        FrameFault::Version => "version",
+        FrameFault::BothLengths => "both-lengths",
+        FrameFault::Length => "length",
+        FrameFault::Coding => "coding",
+        FrameFault::Chunk => "chunk",
+        FrameFault::TooLarge => "too-large",
+        FrameFault::Expect => "expect",
+        FrameFault::Truncated => "truncated",
+        FrameFault::Status => "status",
+    }
+}
+
+fn target_word(fault: TargetFault) -> &'static str
+    ensures { result.now ≡ target_word fault }
+{
+    match fault {
+        TargetFault::Form => "form",
+        TargetFault::Scheme => "scheme",
+        TargetFault::Host => "host",
+        TargetFault::Port => "port",
+        TargetFault::Userinfo => "userinfo",
+        TargetFault::Escape => "escape",
+        TargetFault::DotSegment => "dot-segment",
+        TargetFault::TooLong => "too-long",
+        TargetFault::OutOfMemory => "out-of-memory",
+    }
+}
+
+fn frame_status(fault: FrameFault) -> u16
+    ensures { result ≡ frame_status fault }
+{
+    match fault {
+        FrameFault::Version => 505,
+        FrameFault::Coding => 501,
+        FrameFault::TooLarge => 413,
+        FrameFault::Expect => 417,
+        FrameFault::Head
+        | FrameFault::BothLengths
+        | FrameFault::Length
+        | FrameFault::Chunk
+        | FrameFault::Truncated
+        | FrameFault::Status => 400,
+    }
+}
+
+fn status_of(cause: Cause) -> u16
+    ensures { result ≡ status_of cause }
+{
+    match cause {
+        Cause::Denied(_) | Cause::NoLine => 403,
+        Cause::OnlyIfCached(_) => 504,
+        Cause::Origin(FailKind::TimedOut, _, _) => 504,
+        Cause::Origin(FailKind::Refused, _, _) => 502,
+        Cause::Origin(FailKind::Closed, _, _) => 502,
+        Cause::Origin(FailKind::BadAnswer, _, _) => 502,
+        Cause::Origin(FailKind::TooLarge, _, _) => 502,
+        Cause::Frame(fault) => frame_status(fault),
+        Cause::Target(TargetFault::TooLong) => 414,
+        Cause::Target(_) => 400,
+    }
+}
+
+fn push_rule(out: &mut Vec<u8>, rule: ReuseRule) -> Result<(), AllocError>
+    ensures { OnOk result (out.new.items ≡ out.old.items ++ rule_text rule) }
+{
+    out.extend_from_slice(b";fwd=")?;
+    out.extend_from_slice(rule.reason().as_bytes())?;
+    push_detail(out, rule.detail())
+}
+
+fn push_error(out: &mut Vec<u8>, rule: Option<ErrorRule>) -> Result<(), AllocError>
+    ensures { OnOk result (out.new.items ≡ out.old.items ++ error_text rule) }
+{
+    match rule {
+        None => Ok(()),
+        Some(rule) => {
+            out.extend_from_slice(b";stale-if-error=")?;
+            out.extend_from_slice(rule.word().as_bytes())
+        }
+    }
+}
+
+fn text_of(alloc: Global, cause: Cause) -> Result<Bytes, AllocError>
+    ensures { IfOk result (λ text. text ≡ text_of cause) }
+{
+    let mut out = Vec::new(alloc);
+    match cause {
+        Cause::Denied(line) => {
+            let digits = line.to_string(alloc)?;
+            out.extend_from_slice(b"denied by line ")?;
+            out.extend_from_slice(digits.as_str().as_bytes())?;
+        }
+        Cause::NoLine => out.extend_from_slice(b"no line allows it")?,
+        Cause::OnlyIfCached(rule) => {
+            out.extend_from_slice(b"only-if-cached")?;
+            push_rule(&mut out, rule)?;
+        }
+        Cause::Origin(kind, rule, error) => {
+            out.extend_from_slice(b"origin ")?;
+            out.extend_from_slice(kind_word(kind).as_bytes())?;
+            push_rule(&mut out, rule)?;
+            push_error(&mut out, error)?;
+        }
+        Cause::Frame(fault) => {
+            out.extend_from_slice(b"refused: ")?;
+            out.extend_from_slice(frame_word(fault).as_bytes())?;
+        }
+        Cause::Target(fault) => {
+            out.extend_from_slice(b"refused: ")?;
+            out.extend_from_slice(target_word(fault).as_bytes())?;
+        }
+    }
+    Ok(Bytes::from_vec(out))
+}
+
+/// The status and the text of the proxy's own answer.
+pub fn refusal(alloc: Global, cause: Cause) -> Result<(u16, Bytes), AllocError>
+    ensures status { IfOk result (λ own. own.0 ≡ status_of cause) }
+    ensures text { IfOk result (λ own. own.1 ≡ text_of cause) }
+{
+    Ok((status_of(cause), text_of(alloc, cause)?))
+}

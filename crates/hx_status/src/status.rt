@@ -1,0 +1,36 @@
+//! What Cache-Status says of an answer.
+
+use hx_reuse::ReuseRule;
+
+/// Whether the answer is a stored response that no rule forbade, or the rule that sent the request forward
+/// (RFC 9211, sections 2.1 and 2.2).
+#[derive(Clone, Copy, Debug, PartialEq, Eq)]
+pub enum How {
+    Hit,
+    Fwd(ReuseRule),
+}
+
+/// Why a stored response was sent though the request had gone forward.
+#[derive(Clone, Copy, Debug, PartialEq, Eq)]
+pub enum Detail {
+    /// The origin failed, and stale-if-error allows it (RFC 5861, section 4).
+    StaleIfError,
+    /// The origin failed, and no reuse rule stands any more.
+    ReuseAfterError,
+    /// A 304 validated nothing that is held, and no reuse rule stands any more.
+    ReuseAfter304,
+}
+
+/// How a request was handled (RFC 9211, section 2).
+#[derive(Clone, Copy, Debug, PartialEq, Eq)]
+pub struct Status {
+    pub how: How,
+    /// The status of the origin's answer in this step, where it isn't the one sent.
+    pub fwd_status: Option<u16>,
+    /// Seconds of freshness left, below 0 where it is stale.
+    pub ttl: Option<i64>,
+    pub stored: bool,
+    pub collapsed: bool,
+    /// Named in place of the detail of the rule.
+    pub detail: Option<Detail>,
+}

@@ -1,0 +1,107 @@
+//! The member of Cache-Status that this proxy adds (RFC 9211).
+ghost use Rattle.std.specs.Prelude.{◌≡◌, ◌++◌, IfOk, OnOk, Bool, option_copied};
+ghost use Rattle.std.specs.Fmt.{decimal, signed_decimal};
+ghost use Rattle.hx_reuse.specs.Words.{reason_of, detail_of};
+ghost use Rattle.hx_status.specs.Member.{member_text, how_text, fwd_status_text, ttl_text, flag_text, detail_text, word_text, detail_named, word_of};
+
+use crate::status::{Detail, How, Status};
+use hx_fields::Bytes;
+use std::alloc::{AllocError, Global};
+
+fn push_how(out: &mut Vec<u8>, how: How) -> Result<(), AllocError>
+    ensures { OnOk result (out.new.items ≡ out.old.items ++ how_text how) }
+{
+    match how {
+        How::Hit => out.extend_from_slice(b";hit"),
+        How::Fwd(rule) => {
+            out.extend_from_slice(b";fwd=")?;
+            out.extend_from_slice(rule.reason().as_bytes())
+        }
+    }
+}
+
+fn push_fwd_status(alloc: Global, out: &mut Vec<u8>, status: Option<u16>) -> Result<(), AllocError>
+    ensures { OnOk result (out.new.items ≡ out.old.items ++ fwd_status_text status) }
+{
+    match status {
+        None => Ok(()),
+        Some(status) => {
+            let digits = status.to_string(alloc)?;
+            out.extend_from_slice(b";fwd-status=")?;
+            out.extend_from_slice(digits.as_str().as_bytes())
+        }
+    }
+}
+
+fn push_ttl(alloc: Global, out: &mut Vec<u8>, ttl: Option<i64>) -> Result<(), AllocError>
+    ensures { OnOk result (out.new.items ≡ out.old.items ++ ttl_text ttl) }
+{
+    match ttl {
+        None => Ok(()),
+        Some(seconds) => {
+            let digits = seconds.to_string(alloc)?;
+            out.extend_from_slice(b";ttl=")?;
+            out.extend_from_slice(digits.as_str().as_bytes())
+        }
+    }
+}
+
+fn push_flag(out: &mut Vec<u8>, is_set: bool, text: &str) -> Result<(), AllocError>
+    ensures { OnOk result (out.new.items ≡ out.old.items ++ flag_text is_set text.now) }
+{
+    if is_set {
+        out.extend_from_slice(text.as_bytes())
+    } else {
+        Ok(())
+    }
+}
+
+fn word(detail: Detail) -> &'static str
+    ensures { result.now ≡ word_of detail }
+{
+    match detail {
+        Detail::StaleIfError => "stale-if-error",
+        Detail::ReuseAfterError => "reuse-after-error",
+        Detail::ReuseAfter304 => "reuse-after-304",
+    }
+}
+
+/// The detail in place of the rule's, else the rule's.
+fn detail_named(status: &Status) -> Option<&'static str>
+    ensures { option_copied result ≡ detail_named status.now }
+{
+    match status.detail {
+        Some(detail) => Some(word(detail)),
+        None => match status.how {
+            How::Hit => None,
+            How::Fwd(rule) => rule.detail(),
+        },
+    }
+}
+
+/// Adds `;detail=WORD` where there is one.
+pub(crate) fn push_detail(out: &mut Vec<u8>, word: Option<&'static str>) -> Result<(), AllocError>
+    ensures { OnOk result (out.new.items ≡ out.old.items ++ word_text (option_copied word.entry)) }
+{
+    match word {
+        None => Ok(()),
+        Some(word) => {
+            out.extend_from_slice(b";detail=")?;
+            out.extend_from_slice(word.as_bytes())
+        }
+    }
+}
+
+/// The member that the proxy of this name adds to Cache-Status.
+pub fn member(alloc: Global, name: &str, status: &Status) -> Result<Bytes, AllocError>
+    ensures { IfOk result (λ text. text ≡ member_text name.now status.now) }
+{
+    let mut out = Vec::from_slice(alloc, name.as_bytes())?;
+    push_how(&mut out, status.how)?;
+    push_fwd_status(alloc, &mut out, status.fwd_status)?;
+    push_ttl(alloc, &mut out, status.ttl)?;
+    push_flag(&mut out, status.stored, ";stored")?;
+    push_flag(&mut out, status.collapsed, ";collapsed")?;
+    push_detail(&mut out, detail_named(status))?;
+    Ok(Bytes::from_vec(out))
+}

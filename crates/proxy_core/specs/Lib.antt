@@ -1,0 +1,5 @@
+pub mod Moments
+pub mod Replies
+pub mod Storing
+pub mod Outcomes
+pub mod State

@@ -1,0 +1,137 @@
+-- What an event with its outcome leaves of the core.
+--
+-- State: what contracts see of a core     after: what a step leaves
+-- Steps: a step that was done             Refuses: one that wasn't
+use Rattle.std.specs.Prelude.{◌≡◌, ◌⊎◌, ℕ, ◌+◌, ◌^◌, ◌≤◌, ◌==◌, nat_lt, not, Bool, false, List, [], ◌∷◌, ◌++◌, take, filter, Option, Some, None, cond}
+use Rattle.hx_framing.specs.declared.responses.Response.{Response}
+use Rattle.hx_hop.specs.declared.asked_for.Asked.{Asked}
+use Rattle.hx_allow.specs.Lines.{Table}
+use Rattle.hx_store.specs.Stored.{Stored}
+use Rattle.hx_store.specs.Shelf.{holds, find_entry, without, in_front, promoted}
+use Rattle.hx_reuse.specs.Rules.{decision_of}
+use Rattle.hx_reuse.specs.declared.decision.Decision.{Decision}
+use Rattle.hx_reuse.specs.declared.decision.Decision.TheVariants as decision
+use Rattle.hx_reuse.specs.declared.rule.ReuseRule.{ReuseRule}
+use Rattle.hx_reuse.specs.declared.rule.ReuseRule.TheVariants.{UriMiss}
+use Rattle.proxy_core.specs.declared.exchange.Exchange.{Exchange}
+use Rattle.proxy_core.specs.declared.outcome.Outcome.{Outcome}
+use Rattle.proxy_core.specs.declared.outcome.Outcome.TheVariants.{Reply, Forward, Ended}
+use Rattle.proxy_core.specs.declared.event.Event.{Event}
+use Rattle.proxy_core.specs.declared.event.Event.TheVariants.{Arrive, Answer, Fail, Abandon}
+use Rattle.proxy_core.specs.declared.fault.CoreFault.{CoreFault}
+use Rattle.proxy_core.specs.declared.fault.CoreFault.TheVariants.{OutOfMemory}
+use Rattle.proxy_core.specs.Moments.{IsDateOf}
+use Rattle.proxy_core.specs.Outcomes.{find_exchange, id_of, outcome_by, fault_by}
+use Rattle.proxy_core.specs.Storing.{made}
+
+-- the operator's table, the most responses that are held, those held, the latest stored or used first, the open
+-- exchanges in the order of arrival, and the next serial if one is left
+pub record State : Type 0 where
+  pub table : Table
+  pub limit : ℕ
+  pub entries : List Stored
+  pub exchanges : List Exchange
+  pub next : Option ℕ
+
+abbrev pub stored_in : Outcome → Option ℕ
+stored_in (Reply r) = r.stored
+stored_in (Forward line bytes) = None
+stored_in Ended = None
+
+abbrev pub used_in : Outcome → Option ℕ
+used_in (Reply r) = r.used
+used_in (Forward line bytes) = None
+used_in Ended = None
+
+abbrev pub removed_in : Outcome → List ℕ
+removed_in (Reply r) = r.removed
+removed_in (Forward line bytes) = []
+removed_in Ended = []
+
+-- what is used comes first
+abbrev pub used_list : Option ℕ → List Stored → List Stored
+used_list None es = es
+used_list (Some serial) es = promoted serial es
+
+-- the response that an answer makes
+abbrev pub stored_form : Option Exchange → Event → ℕ → Option Stored
+stored_form (Some x) (Answer now id r) serial = Some (made serial x r now)
+stored_form (Some x) (Arrive now id asked) serial = None
+stored_form (Some x) (Fail now id kind) serial = None
+stored_form (Some x) (Abandon id) serial = None
+stored_form None event serial = None
+
+abbrev pub taken : List ℕ → List Stored → List Stored
+taken [] es = es
+taken (s ∷ gone) es = without (s ∷ gone) es
+
+-- what is removed goes; what is stored comes first, and beyond the limit the last one goes
+abbrev pub stored_list : Option Exchange → Event → Option ℕ → List ℕ → ℕ → List Stored → List Stored
+stored_list x event None removed limit es = taken removed es
+stored_list x event (Some serial) removed limit es = take limit (in_front (stored_form x event serial) (without removed es))
+
+abbrev pub entries_after : ℕ → List Stored → Option Exchange → Event → Outcome → List Stored
+entries_after limit es x event o = stored_list x event (stored_in o) (removed_in o) limit (used_list (used_in o) es)
+
+-- an exchange ends
+abbrev pub closed : ℕ → List Exchange → List Exchange
+closed id xs = filter (λ x. not (x.id == id)) xs
+
+-- the rule that is kept from the arrival on
+abbrev pub rule_of : Decision → ReuseRule
+rule_of (decision.Hit serial) = UriMiss
+rule_of (decision.Forward rule against) = rule
+
+abbrev pub opened : List Stored → ℕ → ℕ → Asked → Exchange
+opened es now id asked = record { id = id; asked = asked; rule = rule_of (decision_of es asked now); request_time = now }
+
+-- the open exchanges after an event, in the order of arrival
+abbrev pub open_after : List Stored → List Exchange → Event → Outcome → List Exchange
+open_after es xs (Arrive now id asked) (Forward line bytes) = xs ++ opened es now id asked ∷ []
+open_after es xs (Arrive now id asked) (Reply r) = xs
+open_after es xs (Arrive now id asked) Ended = xs
+open_after es xs (Answer now id r) outcome = closed id xs
+open_after es xs (Fail now id kind) outcome = closed id xs
+open_after es xs (Abandon id) outcome = closed id xs
+
+-- the serial after this one, if one is left
+abbrev pub next_of : ℕ → Option ℕ
+next_of serial = cond (nat_lt (serial + 1) (2 ^ 64)) (Some (serial + 1)) None
+
+abbrev pub next_after : Option ℕ → Option ℕ → Option ℕ
+next_after next None = next
+next_after next (Some serial) = next_of serial
+
+abbrev pub after : State → Event → Outcome → State
+after s event outcome = record {
+  table = s.table;
+  limit = s.limit;
+  entries = entries_after s.limit s.entries (find_exchange (id_of event) s.exchanges) event outcome;
+  exchanges = open_after s.entries s.exchanges event outcome;
+  next = next_after s.next (stored_in outcome);
+}
+
+-- no serial from the next one on is held
+abbrev pub NoneFrom : Option ℕ → List Stored → Type 0
+NoneFrom None es = Unit {0}
+NoneFrom (Some next) es = (serial : ℕ) → next ≤ serial → holds serial es ≡ false
+
+-- the text is the date of the event's moment
+abbrev pub IsStamp : Event → List ℕ → Type 0
+IsStamp (Arrive now id asked) date = IsDateOf now date
+IsStamp (Answer now id r) date = IsDateOf now date
+IsStamp (Fail now id kind) date = IsDateOf now date
+IsStamp (Abandon id) date = Unit {0}
+
+-- one accepted step: no fault stands, the outcome is that of its case, and the core is as the case leaves it
+pub record Steps (s : State) (event : Event) (outcome : Outcome) (t : State) : Type 0 where
+  pub date : List ℕ
+  pub stamp : IsStamp event date
+  pub allowed : fault_by s.exchanges event ≡ None
+  pub outcome_is : outcome ≡ outcome_by s.table date s.entries s.exchanges s.next event
+  pub leaves : t ≡ after s event outcome
+
+-- a step is refused by the least fault that stands, or where none does by want of memory
+abbrev pub Refuses : State → Event → CoreFault → Type 0
+Refuses s event fault =
+    (fault_by s.exchanges event ≡ Some fault) ⊎ ((fault_by s.exchanges event ≡ None) × (fault ≡ OutOfMemory))

@@ -1,0 +1,14 @@
+//! Why a step is not done.
+
+/// The least fault that stands. Each leaves the core as it was.
+#[derive(Clone, Copy, Debug, PartialEq, Eq)]
+pub enum CoreFault {
+    /// An exchange of that id is open.
+    IdTaken = 1,
+    /// No exchange of that id is open.
+    UnknownId,
+    /// The moment lies past the year 9999.
+    MomentTooLate,
+    /// Memory ran out.
+    OutOfMemory,
+}

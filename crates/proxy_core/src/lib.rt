@@ -1,0 +1,32 @@
+//! The proxy as a machine without sockets: what each arrival, answer and failure gives, and what it leaves.
+//!
+//! ```text
+//! arrive: denied -> 403 | no rule -> the stored response      no exchange opens
+//!         a rule -> OPEN -- answer or fail --> a reply         the id is free again
+//!                   OPEN -- abandon --> nothing                the id is free again
+//! ```
+//! `specs/Outcomes.antt` says what a step gives, over the held responses and the open exchanges;
+//! `specs/State.antt` what it leaves. Nothing here reads a clock: each step is handed its moment.
+#![tactic(auto)]
+
+mod answering;
+mod arriving;
+mod event;
+mod exchange;
+mod exchange_list;
+mod failing;
+mod fault;
+mod judging;
+mod moments;
+mod outcome;
+mod proxy;
+mod reply_text;
+mod serial_numbers;
+mod storing;
+
+pub use crate::event::Event;
+pub use crate::exchange::Exchange;
+pub use crate::fault::CoreFault;
+pub use crate::outcome::{Outcome, Reply};
+pub use crate::proxy::Core;
+pub use crate::reply_text::refused;

@@ -1,0 +1,29 @@
+//! What a step gives.
+
+use hx_fields::Bytes;
+use hx_store::Serials;
+
+/// An answer to the client, with what the step did to the store.
+#[derive(Drop)]
+pub struct Reply {
+    /// The whole message.
+    pub bytes: Bytes,
+    /// Whether the connection closes behind it.
+    pub close: bool,
+    /// The serial that was stored.
+    pub stored: Option<u64>,
+    /// The serial that was sent.
+    pub used: Option<u64>,
+    /// The serials that were taken out, ascending. An evicted one isn't among them.
+    pub removed: Serials,
+}
+
+/// What a step gives.
+#[derive(Drop)]
+pub enum Outcome {
+    Reply(Reply),
+    /// A request for the origin of this line of the table.
+    Forward(u16, Bytes),
+    /// The exchange was abandoned.
+    Ended,
+}

@@ -1,0 +1,96 @@
+//! The core: the operator's table, a shelf, the open exchanges and the next serial.
+ghost use Rattle.std.specs.Prelude.{◌≡◌, ◌≤◌, [], Some, IfOk, IfErr, OnErr};
+ghost use Rattle.proxy_core.specs.Outcomes.{fault_by};
+ghost use Rattle.proxy_core.specs.declared.event.Event.TheVariants.{Abandon};
+ghost use Rattle.proxy_core.specs.State.{State, Steps, Refuses};
+
+use crate::event::Event;
+use crate::exchange::Exchange;
+use crate::exchange_list;
+use crate::fault::CoreFault;
+use crate::moments::moment_fault;
+use crate::outcome::Outcome;
+use hx_allow::Config;
+use hx_store::Shelf;
+use std::alloc::Global;
+use std::marker::Model;
+
+/// One thread's proxy. Contracts see its `State`.
+#[derive(Drop)]
+pub struct Core<S: Shelf> {
+    pub(crate) config: Config,
+    pub(crate) shelf: S,
+    pub(crate) exchanges: Vec<Exchange>,
+    pub(crate) next: Option<u64>,
+}
+
+impl<S: Shelf> Model for Core<S> {
+    ghost use Rattle.proxy_core.specs.State.{State, NoneFrom};
+
+    ghost Value = { State };
+
+    ghost view = { λ c. record { table = c.config; limit = S.limit c.shelf; entries = S.entries c.shelf; exchanges = c.exchanges.items; next = c.next } };
+
+    ghost invariant = { λ c. NoneFrom c.next (S.entries c.shelf) };
+}
+
+impl<S: Shelf> Core<S> {
+    /// A core with an empty shelf of the configured capacity. Serials begin at `first_serial`, 1 or more.
+    pub fn new(alloc: Global, config: Config, shelf: S, first_serial: u64) -> Self
+        requires { S.entries shelf ≡ [] }
+        ensures { result ≡ record { table = config; limit = S.limit shelf; entries = []; exchanges = []; next = Some first_serial } }
+    {
+        Core {
+            config,
+            shelf,
+            exchanges: Vec::new(alloc),
+            next: Some(first_serial),
+        }
+    }
+
+    /// The operator's table, as `new` was given it.
+    pub fn config(&self) -> &Config
+        ensures { result.now ≡ self.now.table }
+    {
+        &self.config
+    }
+
+    /// The least fault that stands at an event, want of memory aside.
+    pub fn fault(&self, event: &Event) -> Option<CoreFault>
+        ensures { result ≡ fault_by self.now.exchanges event.now }
+    {
+        match event {
+            Event::Arrive(now, id, _) => match exchange_list::find(self.exchanges.as_slice(), *id) {
+                Some(_) => Some(CoreFault::IdTaken),
+                None => moment_fault(*now),
+            },
+            Event::Answer(now, id, _) => match exchange_list::find(self.exchanges.as_slice(), *id) {
+                Some(_) => moment_fault(*now),
+                None => Some(CoreFault::UnknownId),
+            },
+            Event::Fail(now, id, _) => match exchange_list::find(self.exchanges.as_slice(), *id) {
+                Some(_) => moment_fault(*now),
+                None => Some(CoreFault::UnknownId),
+            },
+            Event::Abandon(id) => match exchange_list::find(self.exchanges.as_slice(), *id) {
+                Some(_) => None,
+                None => Some(CoreFault::UnknownId),
+            },
+        }
+    }
+
+    /// The client went away: its exchange ends without an answer. No memory is taken.
+    pub fn abandon(&mut self, id: u64) -> Result<Outcome, CoreFault>
+        ensures ok { IfOk result (λ outcome. Steps self.old (Abandon id) outcome self.new) }
+        ensures err { IfErr result (λ fault. fault_by self.old.exchanges (Abandon id) ≡ Some fault) }
+        ensures unchanged { OnErr result (self.new ≡ self.old) }
+    {
+        match exchange_list::find(self.exchanges.as_slice(), id) {
+            None => Err(CoreFault::UnknownId),
+            Some(_) => {
+                exchange_list::close(&mut self.exchanges, id);
+                Ok(Outcome::Ended)
+            }
+        }
+    }
+}
