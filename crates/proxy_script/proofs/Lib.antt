@@ -1,0 +1,3 @@
+pub mod ItemLaws
+pub mod LineLaws
+pub mod NumberLaws

@@ -1,0 +1,239 @@
+-- A line that is spelled is read, and one that is read is spelled so.
+use Rattle.std.proofs.Common.{◌≡◌, ℕ, ◌^◌, ◌<◌, List, [], ◌∷◌, ◌++◌, refl, ap, sym, ◌∙◌, subst, Bool, true, false, cond, nat_lt, Option, None, Some, arith}
+use Rattle.std.specs.Prelude.{find, codes}
+use Rattle.std.specs.Option.{option_map, option_and_then}
+use Rattle.std.specs.Fmt.{decimal}
+use Rattle.std.specs.Str.{bytes_eq}
+use Rattle.std.proofs.lemmas.Bool.{ltb-true, lt-ltb}
+use Rattle.std.proofs.lemmas.Slice.Eq.{bytes_eq-Decides}
+use Rattle.proxy_script.specs.Numbers.{cut_at, number_of}
+use Rattle.proxy_script.specs.Lines.{word_text, words, failure_text, failures, word_in, rest_text, line_text, FitsLine, if_moment, both, failure_of, two_numbers, number_and_failure, header_with, word_of, header_by, header_of, is_config, same, if_placed, placed}
+use Rattle.proxy_script.specs.declared.words.Word.{Word}
+use Rattle.proxy_script.specs.declared.words.Word.TheVariants as word
+use Rattle.proxy_script.specs.declared.failures.Failure.{Failure}
+use Rattle.proxy_script.specs.declared.failures.Failure.TheVariants.{Refused, TimedOut, Closed}
+use Rattle.proxy_script.specs.declared.headers.Header.{Header}
+use Rattle.proxy_script.specs.declared.headers.Header.TheVariants.{Config, At, Accept, Client, Link, End, Gone, Shut, Fail}
+use Rattle.proxy_script.proofs.NumberLaws.{cut_found, cut_again, lacks, lacks-append, lacks_decimal, number_found, number_again, same_pair}
+
+-- what is found passes the test
+passes_by : {X : Type 0} (p : X → Bool) (y x : X) (o : Option X) (t : Bool) → p y ≡ t → (o ≡ Some x → p x ≡ true) → cond t (Some y) o ≡ Some x → p x ≡ true
+passes_by p y x o true is later e = let this : y ≡ x = cc in subst (λ z. p z ≡ true) this is
+passes_by p y x o false is later e = later e
+
+pub found_passes : {X : Type 0} (p : X → Bool) (xs : List X) (x : X) → find p xs ≡ Some x → p x ≡ true
+found_passes p [] x e = cc
+found_passes p (y ∷ ys) x e = passes_by p y x (find p ys) (p y) refl (λ h. found_passes p ys x h) e
+
+word_again : (w : Word) → word_of (word_text w) ≡ Some w
+word_again word.Config = refl
+word_again word.At = refl
+word_again word.Accept = refl
+word_again word.Client = refl
+word_again word.Link = refl
+word_again word.End = refl
+word_again word.Gone = refl
+word_again word.Shut = refl
+word_again word.Fail = refl
+
+failure_again : (f : Failure) → failure_of (failure_text f) ≡ Some f
+failure_again Refused = refl
+failure_again TimedOut = refl
+failure_again Closed = refl
+
+word_lacks : (w : Word) → lacks 32 (word_text w) ≡ true
+word_lacks word.Config = refl
+word_lacks word.At = refl
+word_lacks word.Accept = refl
+word_lacks word.Client = refl
+word_lacks word.Link = refl
+word_lacks word.End = refl
+word_lacks word.Gone = refl
+word_lacks word.Shut = refl
+word_lacks word.Fail = refl
+
+word_one_line : (w : Word) → lacks 10 (word_text w) ≡ true
+word_one_line word.Config = refl
+word_one_line word.At = refl
+word_one_line word.Accept = refl
+word_one_line word.Client = refl
+word_one_line word.Link = refl
+word_one_line word.End = refl
+word_one_line word.Gone = refl
+word_one_line word.Shut = refl
+word_one_line word.Fail = refl
+
+failure_one_line : (f : Failure) → lacks 10 (failure_text f) ≡ true
+failure_one_line Refused = refl
+failure_one_line TimedOut = refl
+failure_one_line Closed = refl
+
+word_found : (text : List ℕ) (w : Word) → word_of text ≡ Some w → text ≡ word_text w
+word_found text w e = (bytes_eq-Decides text (word_text w)).0 (found_passes (λ word. bytes_eq text (word_text word)) words w e)
+
+failure_found : (text : List ℕ) (f : Failure) → failure_of text ≡ Some f → text ≡ failure_text f
+failure_found text f e = (bytes_eq-Decides text (failure_text f)).0 (found_passes (λ failure. bytes_eq text (failure_text failure)) failures f e)
+
+-- lines that are spelled
+
+rest_one_line : (h : Header) → FitsLine h → lacks 10 (rest_text h) ≡ true
+rest_one_line (Config n) fits = lacks_decimal 10 n (omega arith) fits
+rest_one_line (At n) fits = lacks_decimal 10 n (omega arith) (omega (arith, fits))
+rest_one_line (Accept n) fits = lacks_decimal 10 n (omega arith) fits
+rest_one_line (Client n len) fits = lacks-append 10 (decimal n) (32 ∷ decimal len) (lacks_decimal 10 n (omega arith) fits.0) (lacks_decimal 10 len (omega arith) fits.1)
+rest_one_line (Link n len) fits = lacks-append 10 (decimal n) (32 ∷ decimal len) (lacks_decimal 10 n (omega arith) fits.0) (lacks_decimal 10 len (omega arith) fits.1)
+rest_one_line (End n) fits = lacks_decimal 10 n (omega arith) fits
+rest_one_line (Gone n) fits = lacks_decimal 10 n (omega arith) fits
+rest_one_line (Shut n) fits = lacks_decimal 10 n (omega arith) fits
+rest_one_line (Fail n f) fits = lacks-append 10 (decimal n) (32 ∷ failure_text f) (lacks_decimal 10 n (omega arith) fits) (failure_one_line f)
+
+-- a line has no LF
+pub line_one_line : (h : Header) → FitsLine h → lacks 10 (line_text h) ≡ true
+line_one_line h fits = lacks-append 10 (word_text (word_in h)) (32 ∷ rest_text h) (word_one_line (word_in h)) (rest_one_line h fits)
+
+two_again : (n len : ℕ) → n < 2 ^ 64 → len < 2 ^ 64 → two_numbers (decimal n ++ 32 ∷ decimal len) ≡ Some (n, len)
+two_again n len small few = rw (cut_again 32 (decimal n) (decimal len) (lacks_decimal 32 n (omega arith) small), number_again n small, number_again len few) refl
+
+failing_again : (l : ℕ) (f : Failure) → l < 2 ^ 64 → number_and_failure (decimal l ++ 32 ∷ failure_text f) ≡ Some (l, f)
+failing_again l f small = ap (option_and_then (λ p. both (number_of p.0) (failure_of p.1))) (cut_again 32 (decimal l) (failure_text f) (lacks_decimal 32 l (omega arith) small)) ∙ (ap (λ o. both o (failure_of (failure_text f))) (number_again l small) ∙ ap (both (Some l)) (failure_again f))
+
+with_again : (h : Header) → FitsLine h → header_with (word_in h) (rest_text h) ≡ Some h
+with_again (Config n) fits = rw (number_again n fits) refl
+with_again (At n) fits =
+    let small : n < 2 ^ 64 = omega (arith, fits) in
+    ap (λ o. option_map At (option_and_then if_moment o)) (number_again n small) ∙ rw (lt-ltb n 253402300800 fits) refl
+with_again (Accept n) fits = rw (number_again n fits) refl
+with_again (Client n len) fits = ap (option_map (λ p. Client p.0 p.1)) (two_again n len fits.0 fits.1)
+with_again (Link n len) fits = ap (option_map (λ p. Link p.0 p.1)) (two_again n len fits.0 fits.1)
+with_again (End n) fits = rw (number_again n fits) refl
+with_again (Gone n) fits = rw (number_again n fits) refl
+with_again (Shut n) fits = rw (number_again n fits) refl
+with_again (Fail n f) fits = ap (option_map (λ p. Fail p.0 p.1)) (failing_again n f fits)
+
+pub line_again : (h : Header) → FitsLine h → header_of (line_text h) ≡ Some h
+unfolding header_of
+line_again h fits =
+    ap (option_and_then header_by) (cut_again 32 (word_text (word_in h)) (rest_text h) (word_lacks (word_in h)))
+    ∙ (ap (option_and_then (λ word. header_with word (rest_text h))) (word_again (word_in h)) ∙ with_again h fits)
+
+placed_if : (t : Bool) (first : Bool) (h : Header) → t ≡ first → cond (same t first) (Some h) None ≡ Some h
+placed_if true true h e = refl
+placed_if false false h e = refl
+placed_if true false h e = cc
+placed_if false true h e = cc
+
+pub placed_again : (first : Bool) (h : Header) → FitsLine h → is_config h ≡ first → placed first (line_text h) ≡ Some h
+placed_again first h fits here =
+    ap (option_and_then (if_placed first)) (line_again h fits) ∙ placed_if (is_config h) first h here
+
+-- lines that are read
+
+one_found : (v : ℕ → Header) (o : Option ℕ) (bs : List ℕ) (w : Word) (h : Header) → number_of bs ≡ o → ((n : ℕ) → line_text (v n) ≡ word_text w ++ 32 ∷ decimal n) → ((n : ℕ) → n < 2 ^ 64 → FitsLine (v n)) → option_map v o ≡ Some h → (line_text h ≡ word_text w ++ 32 ∷ bs) × FitsLine h
+one_found v None bs w h is text fits e = cc
+one_found v (Some n) bs w h is text fits e =
+    let this : v n ≡ h = cc in
+    let found = number_found bs n is in
+    (subst (λ g. line_text g ≡ word_text w ++ 32 ∷ bs) this (text n ∙ ap (λ ds. word_text w ++ 32 ∷ ds) (sym found.0)), subst FitsLine this (fits n found.1))
+
+moment_by : (t : Bool) (n m : ℕ) → cond t (Some n) None ≡ Some m → (t ≡ true) × (n ≡ m)
+moment_by true n m e = (refl, cc)
+moment_by false n m e = cc
+
+moment_found : (o : Option ℕ) (bs : List ℕ) (h : Header) → number_of bs ≡ o → option_map At (option_and_then if_moment o) ≡ Some h → (line_text h ≡ codes "at" ++ 32 ∷ bs) × FitsLine h
+moment_found None bs h is e = cc
+moment_found (Some n) bs h is e = of_moment (if_moment n) refl e
+  where
+    of_moment : (o : Option ℕ) → if_moment n ≡ o → option_map At o ≡ Some h → (line_text h ≡ codes "at" ++ 32 ∷ bs) × FitsLine h
+    of_moment None has k = cc
+    of_moment (Some m) has k =
+        let this : At m ≡ h = cc in
+        let parts = moment_by (nat_lt n 253402300800) n m has in
+        let found = number_found bs n is in
+        let small : n < 253402300800 = ltb-true n 253402300800 parts.0 in
+        let text : line_text (At m) ≡ codes "at" ++ 32 ∷ bs = ap (λ k. codes "at" ++ 32 ∷ decimal k) (sym parts.1) ∙ ap (λ ds. codes "at" ++ 32 ∷ ds) (sym found.0) in
+        (subst (λ g. line_text g ≡ codes "at" ++ 32 ∷ bs) this text, subst FitsLine this (subst (λ k. k < 253402300800) parts.1 small))
+
+two_found_by : (o q : Option ℕ) (a b : List ℕ) (n len : ℕ) → number_of a ≡ o → number_of b ≡ q → both o q ≡ Some (n, len) → (a ≡ decimal n) × (b ≡ decimal len) × (n < 2 ^ 64) × (len < 2 ^ 64)
+two_found_by None q a b n len is also e = cc
+two_found_by (Some k) None a b n len is also e = cc
+two_found_by (Some k) (Some m) a b n len is also e =
+    let parts = same_pair e in
+    let first = number_found a k is in
+    let second = number_found b m also in
+    (first.0 ∙ ap decimal parts.0, second.0 ∙ ap decimal parts.1, subst (λ x. x < 2 ^ 64) parts.0 first.1, subst (λ x. x < 2 ^ 64) parts.1 second.1)
+
+two_found : (o : Option (List ℕ × List ℕ)) (bs : List ℕ) (n len : ℕ) → cut_at 32 bs ≡ o → option_and_then (λ p. both (number_of p.0) (number_of p.1)) o ≡ Some (n, len) → (bs ≡ decimal n ++ 32 ∷ decimal len) × (n < 2 ^ 64) × (len < 2 ^ 64)
+two_found None bs n len is e = cc
+two_found (Some p) bs n len is e =
+    let parts = two_found_by (number_of p.0) (number_of p.1) p.0 p.1 n len refl refl e in
+    (cut_found 32 bs p.0 p.1 is ∙ rw (parts.0, parts.1) refl, parts.2, parts.3)
+
+pair_found : (v : ℕ → ℕ → Header) (w : Word) (o : Option (ℕ × ℕ)) (bs : List ℕ) (h : Header) → two_numbers bs ≡ o → ((n len : ℕ) → line_text (v n len) ≡ word_text w ++ 32 ∷ (decimal n ++ 32 ∷ decimal len)) → ((n len : ℕ) → n < 2 ^ 64 → len < 2 ^ 64 → FitsLine (v n len)) → option_map (λ p. v p.0 p.1) o ≡ Some h → (line_text h ≡ word_text w ++ 32 ∷ bs) × FitsLine h
+pair_found v w None bs h is text fits e = cc
+pair_found v w (Some p) bs h is text fits e =
+    let this : v p.0 p.1 ≡ h = cc in
+    let found = two_found (cut_at 32 bs) bs p.0 p.1 refl is in
+    (subst (λ g. line_text g ≡ word_text w ++ 32 ∷ bs) this (text p.0 p.1 ∙ ap (λ r. word_text w ++ 32 ∷ r) (sym found.0)), subst FitsLine this (fits p.0 p.1 found.1 found.2))
+
+failing_by : (o : Option ℕ) (q : Option Failure) (a b : List ℕ) (l : ℕ) (f : Failure) → number_of a ≡ o → failure_of b ≡ q → both o q ≡ Some (l, f) → (a ≡ decimal l) × (b ≡ failure_text f) × (l < 2 ^ 64)
+failing_by None q a b l f is also e = cc
+failing_by (Some k) None a b l f is also e = cc
+failing_by (Some k) (Some g) a b l f is also e =
+    let parts = same_pair e in
+    let first = number_found a k is in
+    (first.0 ∙ ap decimal parts.0, failure_found b g also ∙ ap failure_text parts.1, subst (λ x. x < 2 ^ 64) parts.0 first.1)
+
+failing_found : (o : Option (ℕ × Failure)) (bs : List ℕ) (h : Header) → number_and_failure bs ≡ o → option_map (λ p. Fail p.0 p.1) o ≡ Some h → (line_text h ≡ codes "fail" ++ 32 ∷ bs) × FitsLine h
+failing_found None bs h is e = cc
+failing_found (Some p) bs h is e = of_cut (cut_at 32 bs) refl is
+  where
+    of_cut : (o : Option (List ℕ × List ℕ)) → cut_at 32 bs ≡ o → option_and_then (λ q. both (number_of q.0) (failure_of q.1)) o ≡ Some p → (line_text h ≡ codes "fail" ++ 32 ∷ bs) × FitsLine h
+    of_cut None cut k = cc
+    of_cut (Some q) cut k =
+        let this : Fail p.0 p.1 ≡ h = cc in
+        let parts = failing_by (number_of q.0) (failure_of q.1) q.0 q.1 p.0 p.1 refl refl k in
+        let rest : bs ≡ decimal p.0 ++ 32 ∷ failure_text p.1 = cut_found 32 bs q.0 q.1 cut ∙ rw (parts.0, parts.1) refl in
+        (subst (λ g. line_text g ≡ codes "fail" ++ 32 ∷ bs) this (ap (λ r. codes "fail" ++ 32 ∷ r) (sym rest)), subst FitsLine this parts.2)
+
+with_found : (w : Word) (bs : List ℕ) (h : Header) → header_with w bs ≡ Some h → (line_text h ≡ word_text w ++ 32 ∷ bs) × FitsLine h
+with_found word.Config bs h e = one_found Config (number_of bs) bs word.Config h refl (λ n. refl) (λ n k. k) e
+with_found word.At bs h e = moment_found (number_of bs) bs h refl e
+with_found word.Accept bs h e = one_found Accept (number_of bs) bs word.Accept h refl (λ n. refl) (λ n k. k) e
+with_found word.Client bs h e = pair_found Client word.Client (two_numbers bs) bs h refl (λ n len. refl) (λ n len a b. (a, b)) e
+with_found word.Link bs h e = pair_found Link word.Link (two_numbers bs) bs h refl (λ n len. refl) (λ n len a b. (a, b)) e
+with_found word.End bs h e = one_found End (number_of bs) bs word.End h refl (λ n. refl) (λ n k. k) e
+with_found word.Gone bs h e = one_found Gone (number_of bs) bs word.Gone h refl (λ n. refl) (λ n k. k) e
+with_found word.Shut bs h e = one_found Shut (number_of bs) bs word.Shut h refl (λ n. refl) (λ n k. k) e
+with_found word.Fail bs h e = failing_found (number_and_failure bs) bs h refl e
+
+by_found : (o : Option Word) (p : List ℕ × List ℕ) (h : Header) → word_of p.0 ≡ o → option_and_then (λ word. header_with word p.1) o ≡ Some h → (line_text h ≡ p.0 ++ 32 ∷ p.1) × FitsLine h
+by_found None p h is e = cc
+by_found (Some w) p h is e =
+    let found = with_found w p.1 h e in
+    (found.0 ∙ ap (λ text. text ++ 32 ∷ p.1) (sym (word_found p.0 w is)), found.1)
+
+line_found_by : (o : Option (List ℕ × List ℕ)) (line : List ℕ) (h : Header) → cut_at 32 line ≡ o → option_and_then header_by o ≡ Some h → (line ≡ line_text h) × FitsLine h
+line_found_by None line h is e = cc
+line_found_by (Some p) line h is e =
+    let found = by_found (word_of p.0) p h refl e in
+    (cut_found 32 line p.0 p.1 is ∙ sym found.0, found.1)
+
+pub line_found : (line : List ℕ) (h : Header) → header_of line ≡ Some h → (line ≡ line_text h) × FitsLine h
+unfolding header_of
+line_found line h e = line_found_by (cut_at 32 line) line h refl e
+
+placed_by : (t first : Bool) (g h : Header) → cond (same t first) (Some g) None ≡ Some h → (t ≡ first) × (g ≡ h)
+placed_by true true g h e = (refl, cc)
+placed_by false false g h e = (refl, cc)
+placed_by true false g h e = cc
+placed_by false true g h e = cc
+
+pub placed_found : (first : Bool) (line : List ℕ) (h : Header) → placed first line ≡ Some h → (line ≡ line_text h) × FitsLine h × (is_config h ≡ first)
+placed_found first line h e = of_header (header_of line) refl e
+  where
+    of_header : (o : Option Header) → header_of line ≡ o → option_and_then (if_placed first) o ≡ Some h → (line ≡ line_text h) × FitsLine h × (is_config h ≡ first)
+    of_header None is k = cc
+    of_header (Some g) is k =
+        let parts = placed_by (is_config g) first g h k in
+        let found = line_found line g is in
+        (found.0 ∙ ap line_text parts.1, subst FitsLine parts.1 found.1, ap is_config (sym parts.1) ∙ parts.0)

@@ -1,0 +1,4 @@
+pub mod Effects
+pub mod Lines
+pub mod Numbers
+pub mod Script

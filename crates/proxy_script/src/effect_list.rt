@@ -1,0 +1,78 @@
+//! What a proxy does, and its text.
+ghost use Rattle.std.specs.Prelude.{◌≡◌, ◌++◌, OnOk, IfOk, decimal};
+ghost use Rattle.proxy_script.specs.Effects.{block_text, effect_text, effects_text};
+
+use hx_fields::Bytes;
+use itoa::Buffer;
+use std::alloc::{AllocError, Global};
+
+/// What a proxy does.
+#[derive(Drop)]
+pub enum Effect {
+    /// Bytes go to a client.
+    Client(u64, Bytes),
+    /// A link is opened to an address, four numbers and a port, and bytes go to it.
+    Forward(u64, Bytes, Bytes),
+    /// A client's connection is closed.
+    Close(u64),
+    /// A link is dropped.
+    Drop(u64),
+}
+
+fn push_number(text: &mut Vec<u8>, n: u64) -> Result<(), AllocError>
+    ensures { OnOk result (text.new.items ≡ text.old.items ++ decimal n) }
+{
+    let mut digits = Buffer::new();
+    text.extend_from_slice(digits.format(n).as_bytes())
+}
+
+fn push_block(text: &mut Vec<u8>, bytes: &[u8]) -> Result<(), AllocError>
+    ensures { OnOk result (text.new.items ≡ text.old.items ++ block_text bytes.now) }
+{
+    push_number(text, bytes.len() as u64)?;
+    text.extend_from_slice(b"\n")?;
+    text.extend_from_slice(bytes)?;
+    text.extend_from_slice(b"\n")
+}
+
+fn push_effect(text: &mut Vec<u8>, effect: &Effect) -> Result<(), AllocError>
+    ensures { OnOk result (text.new.items ≡ text.old.items ++ effect_text effect.now) }
+{
+    match effect {
+        Effect::Client(n, bytes) => {
+            text.extend_from_slice(b"client ")?;
+            push_number(text, *n)?;
+            text.extend_from_slice(b" ")?;
+            push_block(text, bytes.as_slice())
+        }
+        Effect::Forward(l, address, bytes) => {
+            text.extend_from_slice(b"forward ")?;
+            push_number(text, *l)?;
+            text.extend_from_slice(b" ")?;
+            text.extend_from_slice(address.as_slice())?;
+            text.extend_from_slice(b" ")?;
+            push_block(text, bytes.as_slice())
+        }
+        Effect::Close(n) => {
+            text.extend_from_slice(b"close ")?;
+            push_number(text, *n)?;
+            text.extend_from_slice(b"\n")
+        }
+        Effect::Drop(l) => {
+            text.extend_from_slice(b"drop ")?;
+            push_number(text, *l)?;
+            text.extend_from_slice(b"\n")
+        }
+    }
+}
+
+/// The text of effects, in order. Its only error is want of memory.
+pub fn effects_text(alloc: Global, effects: &[Effect]) -> Result<Vec<u8>, AllocError>
+    ensures { IfOk result (λ text. text.items ≡ effects_text effects.now) }
+{
+    let mut text = Vec::new(alloc);
+    for effect in effects {
+        push_effect(&mut text, effect)?;
+    }
+    Ok(text)
+}

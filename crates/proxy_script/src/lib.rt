@@ -1,0 +1,24 @@
+//! Scripts and effects as bytes: what a proxy is told happens, and what it does.
+//!
+//! A script is lines ended by LF, some with a block of bytes behind them; `read_item` finds the item at its
+//! front. What an item is spelled as is in `specs/Script.antt`, and that what is found is spelled there, and
+//! what is spelled is found, is a law. The text of effects is in `specs/Effects.antt`. Nothing here knows
+//! connections or links.
+#![tactic(auto)]
+
+mod digits;
+mod effect_list;
+mod failures;
+mod fronts;
+mod headers;
+mod items;
+mod laws;
+#[cfg(test)]
+mod tests;
+mod words;
+
+pub use effect_list::{Effect, effects_text};
+pub use failures::Failure;
+pub use fronts::{Front, read_item};
+pub use items::Item;
+pub use laws::items_are_found_as_they_are_spelled;
