@@ -1,0 +1,2 @@
+pub mod RequestWatching
+pub mod ResponseWatching

@@ -1,0 +1,40 @@
+-- What is known of the next answer of a reader that is asked ahead.
+use Rattle.std.specs.Prelude.{◌≡◌, ℕ, Bool, true, false}
+use Rattle.hx_framing.specs.declared.answer.Next.{Next}
+use Rattle.hx_framing.specs.declared.answer.Next.TheVariants as next
+
+pub data Look (M : Type 0) : Type 0 where
+  Unknown Quiet : Look M
+  Due : (answer : Next M) → Look M
+
+-- the next answer is this
+abbrev pub Shows : {M : Type 0} → Look M → Next M → Type 0
+Shows Unknown a = ⊥
+Shows Quiet a = a ≡ next.More
+Shows (Due b) a = a ≡ b
+
+abbrev pub look_by : {M : Type 0} → Next M → Look M
+look_by next.More = Quiet
+look_by next.NeedsContinue = Due next.NeedsContinue
+look_by (next.Message m) = Due (next.Message m)
+look_by (next.Refused f) = Due (next.Refused f)
+look_by next.End = Due next.End
+
+abbrev pub is_due : {M : Type 0} → Look M → Bool
+is_due Unknown = false
+is_due Quiet = false
+is_due (Due next.More) = false
+is_due (Due next.NeedsContinue) = true
+is_due (Due (next.Message m)) = true
+is_due (Due (next.Refused f)) = true
+is_due (Due next.End) = true
+
+-- a message or a continue that is known counts as one that is still to come
+abbrev pub known : {M : Type 0} → Look M → ℕ
+known Unknown = 0
+known Quiet = 0
+known (Due next.More) = 0
+known (Due next.NeedsContinue) = 1
+known (Due (next.Message m)) = 1
+known (Due (next.Refused f)) = 0
+known (Due next.End) = 0
