@@ -1,9 +1,9 @@
 -- A reader of requests that is asked ahead: what is known of the next answer.
-use Rattle.std.proofs.Common.{◌≡◌, ℕ, Bool, true, false, List, refl, sym, ap, subst, ◌∙◌}
+use Rattle.std.proofs.Common.{◌≡◌, ℕ, false, List, refl, sym, subst, ◌∙◌}
 use Rattle.hx_framing.specs.declared.requests.Request.{Request}
 use Rattle.hx_framing.specs.declared.answer.Next.{Next}
 use Rattle.hx_framing.specs.declared.answer.Next.TheVariants as next
-use Rattle.hx_framing.specs.Progress.{Progress, fed, finished, moved, IsDue}
+use Rattle.hx_framing.specs.Progress.{Progress, fed, finished, moved}
 use Rattle.hx_framing.specs.RequestState.{State, StandsFor}
 use Rattle.hx_framing.specs.RequestStream.{Answers}
 use Rattle.hx_framing.proofs.RequestStreams.{due_fed, due_finished}

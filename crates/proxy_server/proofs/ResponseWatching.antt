@@ -1,9 +1,9 @@
 -- A reader of an origin's answer that is asked ahead: what is known of the next answer.
-use Rattle.std.proofs.Common.{◌≡◌, ℕ, Bool, true, false, List, refl, sym, ap, subst, ◌∙◌}
+use Rattle.std.proofs.Common.{◌≡◌, ℕ, false, List, refl, sym, subst, ◌∙◌}
 use Rattle.hx_framing.specs.declared.responses.Response.{Response}
 use Rattle.hx_framing.specs.declared.answer.Next.{Next}
 use Rattle.hx_framing.specs.declared.answer.Next.TheVariants as next
-use Rattle.hx_framing.specs.Progress.{Progress, fed, finished, moved, IsDue}
+use Rattle.hx_framing.specs.Progress.{Progress, fed, finished, moved}
 use Rattle.hx_framing.specs.ResponseState.{State, StandsFor}
 use Rattle.hx_framing.specs.ResponseStream.{Answers}
 use Rattle.hx_framing.proofs.ResponseStreams.{due_fed, due_finished}

@@ -1,7 +1,5 @@
 -- A reader of an origin's answer that is asked ahead, and which streams it stands for.
-use Rattle.std.specs.Prelude.{◌≡◌}
 use Rattle.hx_framing.specs.declared.responses.Response.{Response}
-use Rattle.hx_framing.specs.declared.answer.Next.{Next}
 use Rattle.hx_framing.specs.declared.answer.Next.TheVariants as next
 use Rattle.hx_framing.specs.Progress.{Progress, moved, IsDue}
 use Rattle.hx_framing.specs.ResponseState.{State, StandsFor}

@@ -1,13 +1,21 @@
-//! The proxy over connections and links.
+//! The proxy over connections and links: what is taken, what is due, and what is done.
 //!
+//! `specs/Story.antt` says what an engine has lived through, `specs/Due.antt` which act is due first.
 //! A watch is a reader that is asked ahead: what it answers is kept until it is used. `specs/RequestWatch.antt` and
-//! `specs/ResponseWatch.antt` say for which streams it stands.
+//! `specs/ResponseWatch.antt` say for which streams it stands. Nothing here opens a socket.
 #![tactic(auto)]
 
+mod ends;
+mod finds;
+mod happening;
+mod laws;
 mod request_watch;
 mod response_watch;
+mod takes;
 #[cfg(test)]
 mod tests;
 
+pub use crate::happening::{EngineFault, Happening, Work};
+pub use crate::laws::due_once;
 pub use crate::request_watch::RequestWatch;
 pub use crate::response_watch::ResponseWatch;
