@@ -43,6 +43,6 @@ is_fresh_of lifetime age = nat_lt age lifetime.seconds
 abbrev pub staleness_of : Lifetime → ℕ → ℕ
 staleness_of lifetime age = age - lifetime.seconds
 
--- the time to live that is left, negative once it is past (RFC 9211, section 2.3)
+-- the time to live that is left, negative once it is past (RFC 9211, section 2.4)
 abbrev pub ttl_of : Lifetime → ℕ → ℤ
 ttl_of lifetime age = pos lifetime.seconds -ℤ pos age

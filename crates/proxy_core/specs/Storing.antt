@@ -1,5 +1,5 @@
--- Whether an answer is stored. For now this is narrower than RFC 9111, section 3, allows: the storing rules in
--- full take the place of `is_storable` here.
+-- Whether an answer is stored. For now this is narrower than RFC 9111, section 3, allows, since the reader lets no
+-- request through that has Authorization or no-store: the storing rules in full take the place of `is_storable` here.
 --
 -- is_storable: the answer may be stored     made: the stored response that it makes
 use Rattle.std.specs.Prelude.{ℕ, ◌==◌, nat_lt, nat_le, ◌&&◌, ◌||◌, not, List, [], ◌∷◌, length, take, drop, slice_get, codes, bytes_eq, Bool, true, false, Option, Some, None}

@@ -1,4 +1,4 @@
-//! The proxy over connections and links: what is taken, what is due, and what is done.
+//! The proxy over connections and links: what is taken, and what is due. Nothing acts on it yet.
 //!
 //! `specs/Story.antt` says what an engine has lived through, `specs/Due.antt` which act is due first.
 //! A watch is a reader that is asked ahead: what it answers is kept until it is used. `specs/RequestWatch.antt` and
