@@ -8,6 +8,8 @@ mod against;
 mod chosen;
 mod decision;
 mod rule;
+#[cfg(test)]
+mod tests;
 
 pub use crate::decision::{Decision, decide};
 pub use crate::rule::{ErrorRule, ReuseRule};
