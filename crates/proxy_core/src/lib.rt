@@ -23,6 +23,8 @@ mod proxy;
 mod reply_text;
 mod serial_numbers;
 mod storing;
+#[cfg(test)]
+mod tests;
 
 pub use crate::event::Event;
 pub use crate::exchange::Exchange;
