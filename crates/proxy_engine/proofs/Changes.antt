@@ -1,0 +1,33 @@
+-- A change of one connection or link, on both sides.
+use Rattle.std.proofs.Common.{◌≡◌, ℕ, ◌+◌, ◌<◌, ◌≤◌, ◌^◌, List, length, get_or, set, refl, sym, subst}
+use Rattle.std.proofs.Math.ListN.{length-set}
+use Rattle.proxy_core.specs.State.{State as CoreState}
+use Rattle.proxy_engine.specs.Story.{Story, ConnStory, LinkStory, no_connection, no_link, connection_at, link_at, with_connection, with_link, with_core}
+use Rattle.proxy_engine.specs.State.{ConnStands, LinkStands, Stands, state}
+use Rattle.proxy_engine.specs.declared.ends.Connection.{Connection}
+use Rattle.proxy_engine.specs.declared.ends.Link.{Link}
+use Rattle.proxy_engine.proofs.Parts.{both_here, both_set}
+
+-- where x stands at i, a y that f tells of
+pub changed_connection : (f : ConnStory → ConnStory) (cs : List Connection) (ks : List Link) (core : CoreState) (first : ℕ) (s : Story) (i : ℕ) (x y : Connection) → i < length cs → x ≡ get_or cs i x
+    → ((c : ConnStory) → ConnStands x c → ConnStands y (f c)) → Stands (state cs ks core first) s → Stands (state (set cs i y) ks core first) (with_connection s i f)
+changed_connection f cs ks core first s i x y l e keep h = record {
+  connections = both_set ConnStands cs s.connections i y (f (connection_at s i)) h.connections (keep (connection_at s i) (both_here ConnStands cs s.connections i x no_connection l e h.connections));
+  links = h.links;
+  core = h.core;
+  first = h.first;
+  numbers = h.numbers;
+}
+
+pub changed_link : (f : LinkStory → LinkStory) (cs : List Connection) (ks : List Link) (core : CoreState) (first : ℕ) (s : Story) (j : ℕ) (x y : Link) → j < length ks → x ≡ get_or ks j x
+    → ((k : LinkStory) → LinkStands x k → LinkStands y (f k)) → Stands (state cs ks core first) s → Stands (state cs (set ks j y) core first) (with_link s j f)
+changed_link f cs ks core first s j x y l e keep h = record {
+  connections = h.connections;
+  links = both_set LinkStands ks s.links j y (f (link_at s j)) h.links (keep (link_at s j) (both_here LinkStands ks s.links j x no_link l e h.links));
+  core = h.core;
+  first = h.first;
+  numbers = subst (λ n. s.first + n ≤ 2 ^ 64) (sym (length-set s.links j (f (link_at s j)))) h.numbers;
+}
+
+pub changed_core : (cs : List Connection) (ks : List Link) (core : CoreState) (first : ℕ) (new : CoreState) (s : Story) → Stands (state cs ks core first) s → Stands (state cs ks new first) (with_core s new)
+changed_core cs ks core first new s h = record { connections = h.connections; links = h.links; core = refl; first = h.first; numbers = h.numbers }

@@ -1,0 +1,88 @@
+-- What a look shows is what stands.
+use Rattle.std.proofs.Common.{◌≡◌, ℕ, Bool, true, false, ◌||◌, refl, sym, ap, subst, ◌∙◌, cond, Option, None, Some, is_some}
+use Rattle.hx_framing.specs.declared.requests.Request.{Request}
+use Rattle.hx_framing.specs.declared.responses.Response.{Response}
+use Rattle.hx_framing.specs.declared.answer.Next.{Next}
+use Rattle.hx_framing.specs.declared.answer.Next.TheVariants as next
+use Rattle.proxy_engine.specs.Look.{Look, Unknown, Quiet, Due, Shows, is_due}
+use Rattle.proxy_engine.proofs.RequestWatching.{answers_shown as request_shown}
+use Rattle.proxy_engine.proofs.ResponseWatching.{answers_shown as response_shown}
+use Rattle.proxy_engine.specs.Story.{LinkStory, ConnStory}
+use Rattle.proxy_engine.specs.Due.{Stood, FinishBy, Wanted, WishBy, finish_of, wish_of, is_busy}
+use Rattle.proxy_engine.specs.State.{LinkStands, ConnStands, finish_seen, finish_at, wish_seen, wish_at}
+use Rattle.proxy_engine.specs.declared.ends.Connection.{Connection}
+use Rattle.proxy_engine.specs.declared.ends.Link.{Link}
+use Rattle.hx_status.specs.declared.cause.FailKind.{FailKind}
+
+-- whether something is shown
+pub finish_variant : (l : Look Response) (k : Option FailKind) → is_due l || is_some k ≡ is_some (finish_seen l k)
+finish_variant Unknown None = refl
+finish_variant Unknown (Some k) = refl
+finish_variant Quiet None = refl
+finish_variant Quiet (Some k) = refl
+finish_variant (Due next.More) None = refl
+finish_variant (Due next.More) (Some k) = refl
+finish_variant (Due next.NeedsContinue) k = refl
+finish_variant (Due (next.Refused f)) k = refl
+finish_variant (Due next.End) k = refl
+finish_variant (Due (next.Message m)) k = refl
+
+pub wish_variant : (l : Look Request) → is_due l ≡ is_some (wish_seen l)
+wish_variant Unknown = refl
+wish_variant Quiet = refl
+wish_variant (Due next.More) = refl
+wish_variant (Due next.NeedsContinue) = refl
+wish_variant (Due (next.Refused f)) = refl
+wish_variant (Due next.End) = refl
+wish_variant (Due (next.Message m)) = refl
+
+pub finish_by : (l : Look Response) (k : Option FailKind) (a : Next Response) → Shows l a → finish_seen l k ≡ finish_of a k
+finish_by Unknown k a s = absurd s
+finish_by Quiet k a s = ap (λ (a : Next Response). finish_of a k) (sym s)
+finish_by (Due b) k a s = ap (λ (a : Next Response). finish_of a k) (sym s)
+
+pub wish_by : (l : Look Request) (a : Next Request) → Shows l a → wish_seen l ≡ wish_of a
+wish_by Unknown a s = absurd s
+wish_by Quiet a s = ap (λ (a : Next Request). wish_of a) (sym s)
+wish_by (Due b) a s = ap (λ (a : Next Request). wish_of a) (sym s)
+
+-- a link that was looked at
+pub stood : (k : Link) (s : LinkStory) (a : Next Response) → k.dropped ≡ false → LinkStands k s → Shows k.watch.look a → Stood s (finish_at k)
+stood k s a open_still h shows =
+    subst (λ (b : Bool). FinishBy b s (finish_at k)) (sym open_still ∙ h.dropped) (
+      a,
+      response_shown k.watch s.progress a h.watch shows,
+      ap (λ (b : Bool). cond b None (finish_seen k.watch.look k.failed)) open_still ∙ (finish_by k.watch.look k.failed a shows ∙ ap (finish_of a) h.failed),
+    )
+
+-- a dropped one
+pub stood_dropped : (k : Link) (s : LinkStory) → k.dropped ≡ true → LinkStands k s → Stood s (finish_at k)
+stood_dropped k s gone h =
+    subst (λ (b : Bool). FinishBy b s (finish_at k)) (sym gone ∙ h.dropped) (ap (λ (b : Bool). cond b None (finish_seen k.watch.look k.failed)) gone)
+
+busy_same : (c : Connection) (s : ConnStory) → ConnStands c s → is_busy c.gone c.closed c.link ≡ is_busy s.gone s.closed s.link
+busy_same c s h = ap (λ (b : Bool). is_busy b c.closed c.link) h.gone ∙ (ap (λ (b : Bool). is_busy s.gone b c.link) h.closed ∙ ap (λ (o : Option ℕ). is_busy s.gone s.closed o) h.link)
+
+pub wanted : (c : Connection) (s : ConnStory) (a : Next Request) → is_busy c.gone c.closed c.link ≡ false → ConnStands c s → Shows c.watch.look a → Wanted s (wish_at c)
+wanted c s a idle h shows =
+    subst (λ (b : Bool). WishBy b s (wish_at c)) (sym idle ∙ busy_same c s h) (
+      a,
+      request_shown c.watch s.progress a h.watch shows,
+      ap (λ (b : Bool). cond b None (wish_seen c.watch.look)) idle ∙ wish_by c.watch.look a shows,
+    )
+
+pub wanted_busy : (c : Connection) (s : ConnStory) → is_busy c.gone c.closed c.link ≡ true → ConnStands c s → Wanted s (wish_at c)
+wanted_busy c s busy h =
+    subst (λ (b : Bool). WishBy b s (wish_at c)) (sym busy ∙ busy_same c s h) (ap (λ (b : Bool). cond b None (wish_seen c.watch.look)) busy)
+
+-- neither gone nor closed, and no exchange is open
+pub idle : (gone closed : Bool) (link : Option ℕ) → gone ≡ false → closed ≡ false → is_some link ≡ false → is_busy gone closed link ≡ false
+idle gone closed link here open_still none = ap (λ (b : Bool). is_busy b closed link) here ∙ (ap (λ (b : Bool). is_busy false b link) open_still ∙ none)
+
+pub none_from : {A : Type 0} (o : Option A) → false ≡ is_some o → o ≡ None
+none_from None h = refl
+none_from (Some a) h = cc
+
+-- a connection that is gone, or not
+pub lost : (c : Connection) (s : ConnStory) (o : Option ℕ) → ConnStands c s → o ≡ cond c.gone c.link None → o ≡ cond s.gone s.link None
+lost c s o h e = e ∙ (ap (λ (b : Bool). cond b c.link None) h.gone ∙ ap (λ (o : Option ℕ). cond s.gone o None) h.link)

@@ -1,0 +1,13 @@
+use Rattle.proxy_engine.proofs.Taking.{link_free, link_refused, link_taken}
+use Rattle.std.proofs.Common.{true}
+use Rattle.proxy_engine.specs.Story.{failed_by}
+use Rattle.proxy_engine.proofs.takes.break_link.Goals as goal
+
+pub returns-in_default-clause-fault : goal.returns-in_default-clause-fault
+returns-in_default-clause-fault c = λ s connections core h. link_refused connections c.args.links.now.items c.deref.result.now core c.args.first s c.args.l c.deref.ensures.value c.in_default.ensures h
+
+pub returns-clause-ok : goal.returns-clause-ok
+returns-clause-ok c = λ s connections core h. record {
+  free = link_free connections c.args.links.now.items c.deref.result.now core c.args.first s c.args.l true c.deref.ensures.value c.in-Some.ensures.0 h;
+  stands = link_taken (failed_by c.args.kind) connections c.args.links.now.items c.deref.result.now core c.args.first s c.args.l c.in-Some.j c.index_mut.result.now c.fail_link.new.link c.deref.ensures.value c.in-Some.ensures.1 c.in-Some.ensures.2 c.index_mut.ensures.value c.fail_link.ensures h;
+}

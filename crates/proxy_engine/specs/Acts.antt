@@ -1,0 +1,156 @@
+-- What each act does: its effects, and the story behind it.
+--
+-- Came: an outcome of the core, on a connection     effects_on, after_on: its effects there, and the story behind it
+-- Does: an act was done                             MayForward: an act that may need a link
+use Rattle.std.specs.Prelude.{◌≡◌, ℕ, ◌+◌, ◌<◌, ◌^◌, List, [], ◌∷◌, ◌++◌, length, Bool, true, false, ◌||◌, Option, None, Some, if◌then◌else◌, slice_set, codes, bytes_eq, Result, Ok, Err, unwrap_or}
+use Rattle.hx_framing.specs.declared.requests.Request.{Request}
+use Rattle.hx_framing.specs.declared.fault.FrameFault.{FrameFault}
+use Rattle.hx_framing.specs.declared.fault.FrameFault.TheVariants as frame
+use Rattle.hx_framing.specs.declared.answer.Next.{Next}
+use Rattle.hx_framing.specs.declared.answer.Next.TheVariants as next
+use Rattle.hx_framing.specs.Progress.{moved}
+use Rattle.hx_hop.specs.declared.asked_for.Asked.{Asked}
+use Rattle.hx_hop.specs.Asking.{IsAsked}
+use Rattle.hx_target.specs.declared.faults.TargetFault.{TargetFault}
+use Rattle.hx_allow.specs.Lines.{Table}
+use Rattle.hx_allow.specs.Matching.{origin_of}
+use Rattle.hx_status.specs.declared.cause.Cause.{Cause}
+use Rattle.hx_status.specs.declared.cause.Cause.TheVariants as cause
+use Rattle.proxy_core.specs.Moments.{IsDateOf}
+use Rattle.proxy_core.specs.Replies.{refused_text, is_head}
+use Rattle.proxy_core.specs.State.{State as CoreState, Steps}
+use Rattle.proxy_core.specs.declared.outcome.Outcome.{Outcome}
+use Rattle.proxy_core.specs.declared.outcome.Outcome.TheVariants as outcomes
+use Rattle.proxy_core.specs.declared.event.Event.{Event}
+use Rattle.proxy_core.specs.declared.event.Event.TheVariants as events
+use Rattle.proxy_script.specs.declared.effect_list.Effect.{Effect}
+use Rattle.proxy_script.specs.declared.effect_list.Effect.TheVariants as effects
+use Rattle.proxy_engine.specs.Story.{Story, ConnStory, LinkStory, opened, connection_at, link_at, with_connection, with_link, with_core}
+use Rattle.proxy_engine.specs.Due.{Finish, Gives, Breaks, Act, Abandons, Finishes, Serves}
+
+-- an answer to the client, a request to the origin at an address, or nothing
+pub data Came : Type 0 where
+  Replies : (bytes : List ℕ) (close : Bool) → Came
+  Forwards : (address bytes : List ℕ) → Came
+  Nothing : Came
+
+-- the address of the origin of a line
+abbrev pub address_of : Table → ℕ → List ℕ
+address_of table line = unwrap_or (origin_of table.lines line) []
+
+abbrev pub came : Table → Outcome → Came
+came table (outcomes.Reply r) = Replies r.bytes r.close
+came table (outcomes.Forward line bytes) = Forwards (address_of table line) bytes
+came table outcomes.Ended = Nothing
+
+abbrev pub closing : Bool → ConnStory → ConnStory
+closing close c = record c { closed = c.closed || close }
+
+abbrev pub linked : Option ℕ → ConnStory → ConnStory
+linked link c = record c { link = link }
+
+abbrev pub passing : Next Request → ConnStory → ConnStory
+passing a c = record c { progress = moved c.progress a }
+
+abbrev pub dropping : LinkStory → LinkStory
+dropping k = record k { dropped = true }
+
+-- the link at j is dropped, and the connection at i has none
+abbrev pub freed : Story → ℕ → ℕ → Story
+freed s j i = with_connection (with_link s j dropping) i (linked None)
+
+-- a link is opened for the connection at i; it answers a HEAD or not
+abbrev pub with_opened : Story → ℕ → Bool → Story
+with_opened s i to_head = record {
+  connections = slice_set s.connections i (linked (Some (length s.links)) (connection_at s i));
+  links = s.links ++ opened s.core.table.max_body to_head i ∷ [];
+  core = s.core;
+  first = s.first;
+}
+
+-- for the connection at i; the next link has this number
+abbrev pub effects_on : ℕ → ℕ → Came → List Effect
+effects_on i number (Replies bytes close) = effects.Client (i + 1) bytes ∷ (if close then effects.Close (i + 1) ∷ [] else [])
+effects_on i number (Forwards address bytes) = effects.Forward number address bytes ∷ []
+effects_on i number Nothing = []
+
+abbrev pub after_on : ℕ → Bool → Came → Story → Story
+after_on i to_head (Replies bytes close) s = with_connection s i (closing close)
+after_on i to_head (Forwards address bytes) s = with_opened s i to_head
+after_on i to_head Nothing s = s
+
+-- the number of the next link
+abbrev pub next_number : Story → ℕ
+next_number s = s.first + length s.links
+
+-- The core was stepped by this event, on the connection at i; before that the story was t, with s's core and links.
+-- Links that it opens answer a HEAD or not; the effects `before` come first.
+pub record StepsOn (s t : Story) (i : ℕ) (to_head : Bool) (event : Event) (before told : List Effect) (after : Story) : Type 0 where
+  pub outcome : Outcome
+  pub core : CoreState
+  pub steps : Steps s.core event outcome core
+  pub told_is : told ≡ before ++ effects_on i (next_number s) (came s.core.table outcome)
+  pub after_is : after ≡ after_on i to_head (came s.core.table outcome) (with_core t core)
+
+-- 100 Continue (RFC 9110, section 15.2.1)
+abbrev pub continue_text : List ℕ
+continue_text = codes "HTTP/1.1 100 Continue\r\n\r\n"
+
+-- the proxy answers by itself, and closes
+pub record Refuses (s : Story) (now i : ℕ) (why : Cause) (head : Bool) (told : List Effect) (after : Story) : Type 0 where
+  pub date : List ℕ
+  pub stamp : IsDateOf now date
+  pub told_is : told ≡ effects.Client (i + 1) (refused_text date why true head) ∷ effects.Close (i + 1) ∷ []
+  pub after_is : after ≡ with_connection s i (closing true)
+
+abbrev pub Closes : Story → ℕ → List Effect → Story → Type 0
+Closes s i told after = (told ≡ effects.Close (i + 1) ∷ []) × (after ≡ with_connection s i (closing true))
+
+-- a request arrives at the core, or names no resource
+abbrev pub Arrives : Story → ℕ → ℕ → Request → Result Asked TargetFault → List Effect → Story → Type 0
+Arrives s now i r (Ok asked) told after =
+    (next_number s < 2 ^ 64) × StepsOn s (with_connection s i (passing (next.Message r))) i (is_head asked) (events.Arrive now (i + 1) asked) [] told after
+Arrives s now i r (Err fault) told after = Refuses s now i (cause.Target fault) (bytes_eq r.method (codes "HEAD")) told after
+
+-- what a client's stream asks for is done
+abbrev pub Served : Story → ℕ → ℕ → Next Request → List Effect → Story → Type 0
+Served s now i next.More told after = ⊥
+Served s now i next.NeedsContinue told after =
+    (told ≡ effects.Client (i + 1) continue_text ∷ []) × (after ≡ with_connection s i (passing next.NeedsContinue))
+Served s now i (next.Message r) told after =
+    (judged : Result Asked TargetFault) × IsAsked r judged × Arrives s now i r judged told after
+Served s now i (next.Refused frame.Truncated) told after = Closes s i told after
+Served s now i (next.Refused frame.Head) told after = Refuses s now i (cause.Frame frame.Head) false told after
+Served s now i (next.Refused frame.Version) told after = Refuses s now i (cause.Frame frame.Version) false told after
+Served s now i (next.Refused frame.BothLengths) told after = Refuses s now i (cause.Frame frame.BothLengths) false told after
+Served s now i (next.Refused frame.Length) told after = Refuses s now i (cause.Frame frame.Length) false told after
+Served s now i (next.Refused frame.Coding) told after = Refuses s now i (cause.Frame frame.Coding) false told after
+Served s now i (next.Refused frame.Chunk) told after = Refuses s now i (cause.Frame frame.Chunk) false told after
+Served s now i (next.Refused frame.TooLarge) told after = Refuses s now i (cause.Frame frame.TooLarge) false told after
+Served s now i (next.Refused frame.Expect) told after = Refuses s now i (cause.Frame frame.Expect) false told after
+Served s now i (next.Refused frame.Status) told after = Refuses s now i (cause.Frame frame.Status) false told after
+Served s now i next.End told after = Closes s i told after
+
+-- the exchange on the link at j, of the connection at i, is finished
+abbrev pub Finished : Story → ℕ → ℕ → ℕ → Finish → List Effect → Story → Type 0
+Finished s now j i (Gives r) told after =
+    (next_number s < 2 ^ 64) × StepsOn s (freed s j i) i (link_at s j).progress.to_head (events.Answer now (i + 1) r) (effects.Drop (s.first + j) ∷ []) told after
+Finished s now j i (Breaks kind) told after =
+    StepsOn s (freed s j i) i (link_at s j).progress.to_head (events.Fail now (i + 1) kind) (effects.Drop (s.first + j) ∷ []) told after
+
+-- an act was done, with these effects
+abbrev pub Does : Story → ℕ → Act → List Effect → Story → Type 0
+Does s now (Abandons i l) told after = StepsOn s (freed s l i) i false (events.Abandon (i + 1)) (effects.Drop (s.first + l) ∷ []) told after
+Does s now (Finishes j finish) told after = Finished s now j (link_at s j).connection finish told after
+Does s now (Serves i wish) told after = Served s now i wish told after
+
+-- an arrival or an answer, which may go forward
+abbrev pub MayForward : Act → Type 0
+MayForward (Abandons i l) = ⊥
+MayForward (Finishes j (Gives r)) = Unit {0}
+MayForward (Finishes j (Breaks kind)) = ⊥
+MayForward (Serves i (next.Message r)) = (asked : Asked) × IsAsked r (Ok asked)
+MayForward (Serves i next.More) = ⊥
+MayForward (Serves i next.NeedsContinue) = ⊥
+MayForward (Serves i (next.Refused fault)) = ⊥
+MayForward (Serves i next.End) = ⊥

@@ -1,0 +1,155 @@
+-- What an engine keeps, and which stories it stands for.
+--
+-- State: what contracts see of an engine     Stands: the stories      Takes, TakeFault: a happening
+-- finish_at, wish_at: what a look has found  FoundLinks, FoundConnections: the first place at which it found something
+-- load_of: a bound on the acts still to come
+-- Did, Failed, Lessens: what a call of work did, or why it did nothing
+use Rattle.std.specs.Prelude.{◌≡◌, ℕ, ◌+◌, ◌*◌, ◌<◌, ◌≤◌, ◌^◌, List, [], ◌∷◌, length, sum_by, ◌&&◌, Option, None, Some, is_some, slice_index_or, if◌then◌else◌}
+use Rattle.std.specs.Option.{option_map}
+use Rattle.hx_framing.specs.declared.requests.Request.{Request}
+use Rattle.hx_framing.specs.declared.responses.Response.{Response}
+use Rattle.hx_framing.specs.declared.answer.Next.{Next}
+use Rattle.hx_status.specs.declared.cause.FailKind.{FailKind}
+use Rattle.proxy_core.specs.State.{State as CoreState}
+use Rattle.proxy_engine.specs.Happenings.{Said}
+use Rattle.proxy_engine.specs.Look.{Look, Unknown, Quiet, Due}
+use Rattle.proxy_engine.specs.RequestWatch.{Stands as RequestStands, load}
+use Rattle.proxy_engine.specs.ResponseWatch.{Stands as ResponseStands}
+use Rattle.proxy_engine.specs.Story.{Story, ConnStory, LinkStory, no_connection, no_link, fault_of, heard}
+use Rattle.proxy_engine.specs.Due.{Finish, Breaks, finish_of, wish_of, is_busy, IsFirst, Stood, Wanted, Act, IsDueFirst}
+use Rattle.proxy_engine.specs.declared.ends.Connection.{Connection}
+use Rattle.proxy_engine.specs.declared.ends.Link.{Link}
+use Rattle.proxy_engine.specs.declared.happening.EngineFault.{EngineFault}
+use Rattle.proxy_engine.specs.declared.happening.EngineFault.TheVariants.{WrongNumber, NotAccepted, OutOfMemory, Spent}
+use Rattle.proxy_engine.specs.declared.happening.Work.{Work}
+use Rattle.proxy_engine.specs.declared.happening.Work.TheVariants as work
+use Rattle.proxy_engine.specs.Acts.{Does, MayForward, next_number}
+
+pub record State : Type 0 where
+  pub connections : List Connection
+  pub links : List Link
+  pub core : CoreState
+  pub first : ℕ
+
+-- part by part
+abbrev pub Both : {A B : Type 0} → (A → B → Type 0) → List A → List B → Type 0
+Both R [] [] = Unit {0}
+Both R [] (y ∷ ys) = ⊥
+Both R (x ∷ xs) [] = ⊥
+Both R (x ∷ xs) (y ∷ ys) = R x y × Both R xs ys
+
+pub record ConnStands (c : Connection) (s : ConnStory) : Type 0 where
+  pub watch : RequestStands c.watch s.progress
+  pub ended : c.ended ≡ s.progress.ended
+  pub gone : c.gone ≡ s.gone
+  pub closed : c.closed ≡ s.closed
+  pub link : c.link ≡ s.link
+
+pub record LinkStands (k : Link) (s : LinkStory) : Type 0 where
+  pub watch : ResponseStands k.watch s.progress
+  pub ended : k.ended ≡ s.progress.ended
+  pub failed : k.failed ≡ s.failed
+  pub dropped : k.dropped ≡ s.dropped
+  pub connection : k.connection ≡ s.connection
+
+pub record Stands (e : State) (s : Story) : Type 0 where
+  pub connections : Both ConnStands e.connections s.connections
+  pub links : Both LinkStands e.links s.links
+  pub core : e.core ≡ s.core
+  pub first : e.first ≡ s.first
+  pub numbers : s.first + length s.links ≤ 2 ^ 64
+
+abbrev pub state : List Connection → List Link → CoreState → ℕ → State
+state connections links core first = record { connections = connections; links = links; core = core; first = first }
+
+-- the happening was taken
+pub record Takes (s : Story) (h : Said) (new : State) : Type 0 where
+  pub free : fault_of s h ≡ None
+  pub stands : Stands new (heard s h)
+
+-- the refusal that stands, or want of memory where none does
+abbrev pub IsRefusal : Option EngineFault → EngineFault → Type 0
+IsRefusal None e = e ≡ OutOfMemory
+IsRefusal (Some f) e = e ≡ f
+
+abbrev pub TakeFault : Story → Said → EngineFault → Type 0
+TakeFault s h e = IsRefusal (fault_of s h) e
+
+-- ---- what was looked at
+
+abbrev pub finish_seen : Look Response → Option FailKind → Option Finish
+finish_seen Unknown kind = option_map Breaks kind
+finish_seen Quiet kind = option_map Breaks kind
+finish_seen (Due a) kind = finish_of a kind
+
+abbrev pub finish_at : Link → Option Finish
+finish_at k = if k.dropped then None else finish_seen k.watch.look k.failed
+
+abbrev pub wish_seen : Look Request → Option (Next Request)
+wish_seen Unknown = None
+wish_seen Quiet = None
+wish_seen (Due a) = wish_of a
+
+abbrev pub wish_at : Connection → Option (Next Request)
+wish_at c = if is_busy c.gone c.closed c.link then None else wish_seen c.watch.look
+
+-- something is shown at that place, and it is the first of what stands
+pub record FoundLink (ks : List Link) (j : ℕ) : Type 0 where
+  pub within : j < length ks
+  pub finish : Finish
+  pub shown : (d : Link) → finish_at (slice_index_or ks j d) ≡ Some finish
+  pub first : (ss : List LinkStory) → Both LinkStands ks ss → IsFirst Stood no_link ss (Some (j, finish))
+
+abbrev pub FoundLinks : List Link → Option ℕ → Type 0
+FoundLinks ks None = (ss : List LinkStory) → Both LinkStands ks ss → IsFirst Stood no_link ss None
+FoundLinks ks (Some j) = FoundLink ks j
+
+pub record FoundConnection (cs : List Connection) (i : ℕ) : Type 0 where
+  pub within : i < length cs
+  pub wish : Next Request
+  pub shown : (d : Connection) → wish_at (slice_index_or cs i d) ≡ Some wish
+  pub first : (ss : List ConnStory) → Both ConnStands cs ss → IsFirst Wanted no_connection ss (Some (i, wish))
+
+abbrev pub FoundConnections : List Connection → Option ℕ → Type 0
+FoundConnections cs None = (ss : List ConnStory) → Both ConnStands cs ss → IsFirst Wanted no_connection ss None
+FoundConnections cs (Some i) = FoundConnection cs i
+
+-- ---- how much is still to come
+
+-- a message or a continue counts three, a connection that isn't closed one, a gone one with an open exchange one
+abbrev pub connection_load : Connection → ℕ
+connection_load c = 3 * load c.watch + (if c.closed then 0 else 1) + (if c.gone && is_some c.link then 1 else 0)
+
+-- a link that isn't dropped counts one
+abbrev pub link_load : Link → ℕ
+link_load k = if k.dropped then 0 else 1
+
+-- no more acts than this are due, one after another, while nothing is taken
+abbrev pub load_of : List Connection → List Link → ℕ
+load_of connections links = sum_by connection_load connections + sum_by link_load links
+
+abbrev pub load_at : State → ℕ
+load_at e = load_of e.connections e.links
+
+-- ---- what a call of work does
+
+-- an engine that nothing has happened to
+abbrev pub begun : CoreState → ℕ → Story
+begun core first = record { connections = []; links = []; core = core; first = first }
+
+-- the first act that was due was done at this moment, or none was due
+abbrev pub Did : Story → ℕ → Work → State → Type 0
+Did s now work.Idle new = IsDueFirst s None × Stands new s
+Did s now (work.Did effects) new = (act : Act) × (after : Story) × IsDueFirst s (Some act) × Does s now act effects.items after × Stands new after
+
+-- no act was done: for want of memory, or since the act that is due may need a link and no number is left
+abbrev pub Failed : Story → EngineFault → Type 0
+Failed s WrongNumber = ⊥
+Failed s NotAccepted = ⊥
+Failed s OutOfMemory = Unit {0}
+Failed s Spent = (act : Act) × IsDueFirst s (Some act) × MayForward act × (2 ^ 64 ≤ next_number s)
+
+-- each act leaves less to do
+abbrev pub Lessens : State → Work → State → Type 0
+Lessens old work.Idle new = Unit {0}
+Lessens old (work.Did effects) new = load_at new < load_at old

@@ -1,0 +1,94 @@
+//! The first place at which something is due. A look keeps what it finds, so nothing is read twice.
+ghost use Rattle.std.specs.Prelude.{◌≡◌, ℕ, ◌<◌, ◌≤◌, List, length, sum_by, true, false, is_some, IfOk, IfSome, OnOk, Option, Some, None, if◌then◌else◌};
+ghost use Rattle.proxy_engine.specs.Story.{ConnStory, LinkStory, no_connection};
+ghost use Rattle.proxy_engine.specs.Due.{IsFirst, Lost, Stood, Wanted};
+ghost use Rattle.proxy_engine.specs.State.{Both, ConnStands, LinkStands, finish_at, wish_at, FoundLinks, FoundConnections, connection_load, link_load};
+
+use crate::ends::{Connection, Link};
+use std::alloc::{AllocError, Global};
+
+/// The link of a connection that is gone.
+fn lost_link(connection: &Connection) -> Option<usize>
+    ensures { result ≡ (if connection.now.gone then connection.now.link else None) }
+{
+    if connection.gone {
+        connection.link
+    } else {
+        None
+    }
+}
+
+/// The first connection that is gone with an open exchange, and its link.
+pub(crate) fn find_lost(connections: &[Connection]) -> Option<(usize, usize)>
+    ensures first { (ss : List ConnStory) → Both ConnStands connections.now ss → IsFirst Lost no_connection ss result }
+    ensures within { IfSome result (λ p. p.0 < length connections.now) }
+{
+    for (i, connection) in connections.iter().enumerate() {
+        if let Some(link) = lost_link(connection) {
+            return Some((i, link));
+        }
+    }
+    None
+}
+
+/// Whether something stands on the link.
+fn is_finished(link: &mut Link, alloc: Global) -> Result<bool, AllocError>
+    ensures stands { (s : LinkStory) → LinkStands link.old s → LinkStands link.new s }
+    ensures value { IfOk result (λ b. b ≡ is_some (finish_at link.new)) }
+    ensures load { link_load link.new ≡ link_load link.old }
+    ensures meaning { OnOk result ((s : LinkStory) → LinkStands link.new s → Stood s (finish_at link.new)) }
+{
+    if link.dropped {
+        return Ok(false);
+    }
+    link.watch.look(alloc)?;
+    Ok(link.watch.due().is_some() || link.failed.is_some())
+}
+
+/// Whether something is due on the connection.
+fn wants(connection: &mut Connection, alloc: Global) -> Result<bool, AllocError>
+    ensures stands { (s : ConnStory) → ConnStands connection.old s → ConnStands connection.new s }
+    ensures value { IfOk result (λ b. b ≡ is_some (wish_at connection.new)) }
+    ensures load { connection_load connection.new ≤ connection_load connection.old }
+    ensures meaning { OnOk result ((s : ConnStory) → ConnStands connection.new s → Wanted s (wish_at connection.new)) }
+{
+    if connection.gone || connection.closed || connection.link.is_some() {
+        return Ok(false);
+    }
+    connection.watch.look(alloc)?;
+    Ok(connection.watch.due().is_some())
+}
+
+/// The first link whose answer is complete, refused or failed.
+pub(crate) fn find_finished(
+    links: &mut Vec<Link>,
+    alloc: Global,
+) -> Result<Option<usize>, AllocError>
+    ensures stands { (ss : List LinkStory) → Both LinkStands links.old.items ss → Both LinkStands links.new.items ss }
+    ensures found { IfOk result (λ found. FoundLinks links.new.items found) }
+    ensures load { sum_by link_load links.new.items ≡ sum_by link_load links.old.items }
+{
+    for i in 0..links.len() {
+        if is_finished(&mut links[i], alloc)? {
+            return Ok(Some(i));
+        }
+    }
+    Ok(None)
+}
+
+/// The first connection on which something is due.
+pub(crate) fn find_due(
+    connections: &mut Vec<Connection>,
+    alloc: Global,
+) -> Result<Option<usize>, AllocError>
+    ensures stands { (ss : List ConnStory) → Both ConnStands connections.old.items ss → Both ConnStands connections.new.items ss }
+    ensures found { IfOk result (λ found. FoundConnections connections.new.items found) }
+    ensures load { sum_by connection_load connections.new.items ≤ sum_by connection_load connections.old.items }
+{
+    for i in 0..connections.len() {
+        if wants(&mut connections[i], alloc)? {
+            return Ok(Some(i));
+        }
+    }
+    Ok(None)
+}

@@ -1,0 +1,235 @@
+//! Taking what happened. Each refusal changes nothing.
+ghost use Rattle.std.specs.Prelude.{◌≡◌, ℕ, ◌+◌, ◌-◌, ◌<◌, ◌≤◌, ◌&&◌, ◌||◌, nat_lt, nat_le, ◌==◌, ◌++◌, ◌∷◌, [], vec_len, vec_capacity, List, length, true, false, is_some, IfOk, IfErr, OnOk, OnErr, Option, Some, None, MatchOption, slice_index_or};
+ghost use Rattle.proxy_core.specs.State.{State as CoreState};
+ghost use Rattle.proxy_engine.specs.Happenings.{Accepts, Sends, Hears, Ends, Leaves, Shuts, Fails};
+ghost use Rattle.proxy_engine.specs.Story.{Story, ConnStory, LinkStory, sent, ended, left, heard_by, shut, failed_by};
+ghost use Rattle.proxy_engine.specs.State.{Stands, ConnStands, LinkStands, state, Takes, TakeFault};
+
+use crate::ends::{Connection, Link};
+use crate::happening::EngineFault;
+use crate::request_watch::RequestWatch;
+use hx_status::FailKind;
+use std::alloc::{AllocError, Global};
+
+/// Where the connection of this number stands.
+fn connection_place(connections: &[Connection], n: u64) -> Option<usize>
+    ensures { MatchOption result (nat_lt 0 n && nat_le n (length connections.now) ≡ false)
+        (λ i. (nat_lt 0 n && nat_le n (length connections.now) ≡ true) × (i ≡ n - 1) × (i < length connections.now)) }
+{
+    if 0 < n && n <= connections.len() as u64 {
+        Some((n - 1) as usize)
+    } else {
+        None
+    }
+}
+
+/// Where the link of this number stands.
+fn link_place(links: &[Link], first: u64, l: u64) -> Option<usize>
+    ensures { MatchOption result (nat_le first l && nat_lt (l - first) (length links.now) ≡ false)
+        (λ j. (nat_le first l && nat_lt (l - first) (length links.now) ≡ true) × (j ≡ l - first) × (j < length links.now)) }
+{
+    if first <= l && l - first < links.len() as u64 {
+        Some((l - first) as usize)
+    } else {
+        None
+    }
+}
+
+fn send(connection: &mut Connection, bytes: &[u8]) -> Result<(), AllocError>
+    ensures stands { OnOk result ((s : ConnStory) → ConnStands connection.old s → ConnStands connection.new (sent bytes.now s)) }
+    ensures err { OnErr result (connection.new ≡ connection.old) }
+{
+    if connection.gone || connection.closed || connection.ended {
+        return Ok(());
+    }
+    connection.watch.feed(bytes)
+}
+
+fn hear(link: &mut Link, bytes: &[u8]) -> Result<(), AllocError>
+    ensures stands { OnOk result ((s : LinkStory) → LinkStands link.old s → LinkStands link.new (heard_by bytes.now s)) }
+    ensures err { OnErr result (link.new ≡ link.old) }
+{
+    if link.dropped || link.failed.is_some() || link.ended {
+        return Ok(());
+    }
+    link.watch.feed(bytes)
+}
+
+fn end(connection: &mut Connection)
+    ensures { (s : ConnStory) → ConnStands connection.old s → ConnStands connection.new (ended s) }
+{
+    if !connection.gone && !connection.closed {
+        connection.watch.finish();
+        connection.ended = true;
+    }
+}
+
+fn lose(connection: &mut Connection)
+    ensures { (s : ConnStory) → ConnStands connection.old s → ConnStands connection.new (left s) }
+{
+    if !connection.closed {
+        connection.gone = true;
+    }
+}
+
+fn close_link(link: &mut Link)
+    ensures { (s : LinkStory) → LinkStands link.old s → LinkStands link.new (shut s) }
+{
+    if !link.dropped && link.failed.is_none() {
+        link.watch.finish();
+        link.ended = true;
+    }
+}
+
+fn fail_link(link: &mut Link, kind: FailKind)
+    ensures { (s : LinkStory) → LinkStands link.old s → LinkStands link.new (failed_by kind s) }
+{
+    if !link.dropped && link.failed.is_none() {
+        link.failed = Some(kind);
+    }
+}
+
+/// Puts a connection at the end. There is room, so no memory is taken.
+fn put_connection(connections: &mut Vec<Connection>, connection: Connection)
+    requires { vec_len connections.old < vec_capacity connections.old }
+    ensures { connections.new.items ≡ connections.old.items ++ connection ∷ [] }
+{
+    let _ = connections.push(connection);
+}
+
+/// Whether that is the next number.
+fn is_next(connections: &[Connection], n: u64) -> bool
+    ensures { result ≡ (n == length connections.now + 1) }
+{
+    n != 0 && n - 1 == connections.len() as u64
+}
+
+pub(crate) fn accept(
+    connections: &mut Vec<Connection>,
+    alloc: Global,
+    max_body: u64,
+    n: u64,
+) -> Result<(), EngineFault>
+    ensures ok { OnOk result ((s : Story) → (links : List Link) → (core : CoreState) → (first : ℕ) → core.table.max_body ≡ max_body → Stands (state connections.old.items links core first) s
+        → Takes s (Accepts n) (state connections.new.items links core first)) }
+    ensures fault { IfErr result (λ e. (s : Story) → (links : List Link) → (core : CoreState) → (first : ℕ) → Stands (state connections.old.items links core first) s → TakeFault s (Accepts n) e) }
+    ensures err { OnErr result (connections.new.items ≡ connections.old.items) }
+{
+    if is_next(connections, n) {
+        match connections.reserve(1) {
+            Ok(()) => {
+                let watch = RequestWatch::new(alloc, max_body);
+                put_connection(
+                    connections,
+                    Connection {
+                        watch,
+                        ended: false,
+                        gone: false,
+                        closed: false,
+                        link: None,
+                    },
+                );
+                Ok(())
+            }
+            Err(_) => Err(EngineFault::OutOfMemory),
+        }
+    } else {
+        Err(EngineFault::WrongNumber)
+    }
+}
+
+pub(crate) fn client(
+    connections: &mut Vec<Connection>,
+    n: u64,
+    bytes: &[u8],
+) -> Result<(), EngineFault>
+    ensures ok { OnOk result ((s : Story) → (links : List Link) → (core : CoreState) → (first : ℕ) → Stands (state connections.old.items links core first) s
+        → Takes s (Sends n bytes.now) (state connections.new.items links core first)) }
+    ensures fault { IfErr result (λ e. (s : Story) → (links : List Link) → (core : CoreState) → (first : ℕ) → Stands (state connections.old.items links core first) s → TakeFault s (Sends n bytes.now) e) }
+    ensures err { OnErr result (connections.new.items ≡ connections.old.items) }
+{
+    let Some(i) = connection_place(connections, n) else {
+        return Err(EngineFault::NotAccepted);
+    };
+    match send(&mut connections[i], bytes) {
+        Ok(()) => Ok(()),
+        Err(_) => Err(EngineFault::OutOfMemory),
+    }
+}
+
+pub(crate) fn finish_client(connections: &mut Vec<Connection>, n: u64) -> Result<(), EngineFault>
+    ensures ok { OnOk result ((s : Story) → (links : List Link) → (core : CoreState) → (first : ℕ) → Stands (state connections.old.items links core first) s
+        → Takes s (Ends n) (state connections.new.items links core first)) }
+    ensures fault { IfErr result (λ e. (s : Story) → (links : List Link) → (core : CoreState) → (first : ℕ) → Stands (state connections.old.items links core first) s → TakeFault s (Ends n) e) }
+    ensures err { OnErr result (connections.new.items ≡ connections.old.items) }
+{
+    let Some(i) = connection_place(connections, n) else {
+        return Err(EngineFault::NotAccepted);
+    };
+    end(&mut connections[i]);
+    Ok(())
+}
+
+pub(crate) fn lose_client(connections: &mut Vec<Connection>, n: u64) -> Result<(), EngineFault>
+    ensures ok { OnOk result ((s : Story) → (links : List Link) → (core : CoreState) → (first : ℕ) → Stands (state connections.old.items links core first) s
+        → Takes s (Leaves n) (state connections.new.items links core first)) }
+    ensures fault { IfErr result (λ e. (s : Story) → (links : List Link) → (core : CoreState) → (first : ℕ) → Stands (state connections.old.items links core first) s → TakeFault s (Leaves n) e) }
+    ensures err { OnErr result (connections.new.items ≡ connections.old.items) }
+{
+    let Some(i) = connection_place(connections, n) else {
+        return Err(EngineFault::NotAccepted);
+    };
+    lose(&mut connections[i]);
+    Ok(())
+}
+
+pub(crate) fn answer(
+    links: &mut Vec<Link>,
+    first: u64,
+    l: u64,
+    bytes: &[u8],
+) -> Result<(), EngineFault>
+    ensures ok { OnOk result ((s : Story) → (connections : List Connection) → (core : CoreState) → Stands (state connections links.old.items core first) s
+        → Takes s (Hears l bytes.now) (state connections links.new.items core first)) }
+    ensures fault { IfErr result (λ e. (s : Story) → (connections : List Connection) → (core : CoreState) → Stands (state connections links.old.items core first) s → TakeFault s (Hears l bytes.now) e) }
+    ensures err { OnErr result (links.new.items ≡ links.old.items) }
+{
+    let Some(j) = link_place(links, first, l) else {
+        return Err(EngineFault::WrongNumber);
+    };
+    match hear(&mut links[j], bytes) {
+        Ok(()) => Ok(()),
+        Err(_) => Err(EngineFault::OutOfMemory),
+    }
+}
+
+pub(crate) fn shut_link(links: &mut Vec<Link>, first: u64, l: u64) -> Result<(), EngineFault>
+    ensures ok { OnOk result ((s : Story) → (connections : List Connection) → (core : CoreState) → Stands (state connections links.old.items core first) s
+        → Takes s (Shuts l) (state connections links.new.items core first)) }
+    ensures fault { IfErr result (λ e. (s : Story) → (connections : List Connection) → (core : CoreState) → Stands (state connections links.old.items core first) s → TakeFault s (Shuts l) e) }
+    ensures err { OnErr result (links.new.items ≡ links.old.items) }
+{
+    let Some(j) = link_place(links, first, l) else {
+        return Err(EngineFault::WrongNumber);
+    };
+    close_link(&mut links[j]);
+    Ok(())
+}
+
+pub(crate) fn break_link(
+    links: &mut Vec<Link>,
+    first: u64,
+    l: u64,
+    kind: FailKind,
+) -> Result<(), EngineFault>
+    ensures ok { OnOk result ((s : Story) → (connections : List Connection) → (core : CoreState) → Stands (state connections links.old.items core first) s
+        → Takes s (Fails l kind) (state connections links.new.items core first)) }
+    ensures fault { IfErr result (λ e. (s : Story) → (connections : List Connection) → (core : CoreState) → Stands (state connections links.old.items core first) s → TakeFault s (Fails l kind) e) }
+    ensures err { OnErr result (links.new.items ≡ links.old.items) }
+{
+    let Some(j) = link_place(links, first, l) else {
+        return Err(EngineFault::WrongNumber);
+    };
+    fail_link(&mut links[j], kind);
+    Ok(())
+}

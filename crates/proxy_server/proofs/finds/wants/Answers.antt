@@ -1,8 +1,0 @@
-use Rattle.std.proofs.Common.{◌≡◌, false, is_some, rules}
-use Rattle.proxy_server.proofs.Shown.{wanted, idle}
-use Rattle.proxy_server.proofs.finds.wants.Goals as goal
-
-pub returns-clause-meaning : goal.returns-clause-meaning
-returns-clause-meaning c = λ s h.
-    let none : is_some c.args.connection.now.link ≡ false = search rules in
-    wanted _ s c.in_ok-look.ensures.looked.0 (idle c.args.connection.now.gone c.args.connection.now.closed c.args.connection.now.link c.if-connection.false c.if-connection-2.false none) h c.in_ok-look.ensures.looked.1

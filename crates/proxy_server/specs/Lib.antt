@@ -1,7 +1,0 @@
-pub mod Look
-pub mod RequestWatch
-pub mod ResponseWatch
-pub mod Happenings
-pub mod Story
-pub mod Due
-pub mod State
