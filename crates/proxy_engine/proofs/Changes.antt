@@ -1,12 +1,15 @@
 -- A change of one connection or link, on both sides.
-use Rattle.std.proofs.Common.{◌≡◌, ℕ, ◌+◌, ◌<◌, ◌≤◌, ◌^◌, List, length, get_or, set, refl, sym, subst}
+use Rattle.std.proofs.Common.{◌≡◌, ℕ, ◌+◌, ◌<◌, ◌≤◌, ◌^◌, List, [], ◌∷◌, ◌++◌, length, get_or, set, refl, sym, ap, ◌∙◌, subst, arith, Bool, false, None, Some, length-append}
 use Rattle.std.proofs.Math.ListN.{length-set}
 use Rattle.proxy_core.specs.State.{State as CoreState}
-use Rattle.proxy_engine.specs.Story.{Story, ConnStory, LinkStory, no_connection, no_link, connection_at, link_at, with_connection, with_link, with_core}
+use Rattle.hx_framing.specs.Progress.{start}
+use Rattle.proxy_engine.specs.Acts.{linked, with_opened}
+use Rattle.proxy_engine.specs.ResponseWatch.{Watched, Stands as WatchStands}
+use Rattle.proxy_engine.specs.Story.{Story, ConnStory, LinkStory, opened, no_connection, no_link, connection_at, link_at, with_connection, with_link, with_core}
 use Rattle.proxy_engine.specs.State.{ConnStands, LinkStands, Stands, state}
 use Rattle.proxy_engine.specs.declared.ends.Connection.{Connection}
 use Rattle.proxy_engine.specs.declared.ends.Link.{Link}
-use Rattle.proxy_engine.proofs.Parts.{both_here, both_set}
+use Rattle.proxy_engine.proofs.Parts.{both_length, both_here, both_set, both_push}
 
 -- where x stands at i, a y that f tells of
 pub changed_connection : (f : ConnStory → ConnStory) (cs : List Connection) (ks : List Link) (core : CoreState) (first : ℕ) (s : Story) (i : ℕ) (x y : Connection) → i < length cs → x ≡ get_or cs i x
@@ -31,3 +34,20 @@ changed_link f cs ks core first s j x y l e keep h = record {
 
 pub changed_core : (cs : List Connection) (ks : List Link) (core : CoreState) (first : ℕ) (new : CoreState) (s : Story) → Stands (state cs ks core first) s → Stands (state cs ks new first) (with_core s new)
 changed_core cs ks core first new s h = record { connections = h.connections; links = h.links; core = refl; first = h.first; numbers = h.numbers }
+
+-- a link is opened for the connection at i, which becomes y
+pub opened_link : (cs : List Connection) (ks : List Link) (core : CoreState) (first max_body place : ℕ) (to_head : Bool) (s : Story) (i : ℕ) (x y : Connection) (w : Watched)
+    → i < length cs → x ≡ get_or cs i x → place ≡ length ks → ((c : ConnStory) → ConnStands x c → ConnStands y (linked (Some place) c)) → core.table.max_body ≡ max_body → WatchStands w (start max_body to_head)
+    → first + length ks < 2 ^ 64 → Stands (state cs ks core first) s
+    → Stands (state (set cs i y) (ks ++ record { watch = w; ended = false; failed = None; dropped = false; connection = i } ∷ []) core first) (with_opened s i to_head)
+opened_link cs ks core first max_body place to_head s i x y w l e at keep most fresh small h =
+    let same = both_length LinkStands ks s.links h.links in
+    let watch : WatchStands w (start s.core.table.max_body to_head) = subst (λ (n : ℕ). WatchStands w (start n to_head)) (sym most ∙ ap (λ (k : CoreState). k.table.max_body) h.core) fresh in
+    let linked_to : (c : ConnStory) → ConnStands x c → ConnStands y (linked (Some (length s.links)) c) = λ c q. subst (λ (n : ℕ). ConnStands y (linked (Some n) c)) (at ∙ same) (keep c q) in
+    record {
+      connections = both_set ConnStands cs s.connections i y (linked (Some (length s.links)) (connection_at s i)) h.connections (linked_to (connection_at s i) (both_here ConnStands cs s.connections i x no_connection l e h.connections));
+      links = both_push LinkStands ks s.links record { watch = w; ended = false; failed = None; dropped = false; connection = i } (opened s.core.table.max_body to_head i) h.links record { watch = watch; ended = refl; failed = refl; dropped = refl; connection = refl };
+      core = h.core;
+      first = h.first;
+      numbers = let first_is : first ≡ s.first = h.first in rw length-append (omega (arith, same));
+    }

@@ -21,6 +21,7 @@ use Rattle.proxy_engine.specs.declared.ends.Connection.{Connection}
 use Rattle.proxy_engine.specs.declared.ends.Link.{Link}
 use Rattle.proxy_engine.specs.declared.happening.EngineFault.{EngineFault}
 use Rattle.proxy_engine.specs.declared.happening.EngineFault.TheVariants.{WrongNumber, NotAccepted, OutOfMemory, Spent}
+use Rattle.proxy_script.specs.declared.effect_list.Effect.{Effect}
 use Rattle.proxy_engine.specs.declared.happening.Work.{Work}
 use Rattle.proxy_engine.specs.declared.happening.Work.TheVariants as work
 use Rattle.proxy_engine.specs.Acts.{Does, MayForward, next_number}
@@ -116,9 +117,13 @@ FoundConnections cs (Some i) = FoundConnection cs i
 
 -- ---- how much is still to come
 
--- a message or a continue counts three, a connection that isn't closed one, a gone one with an open exchange one
+-- a gone connection with an open exchange counts one
+abbrev pub lost_load : Connection → ℕ
+lost_load c = if is_some c.link && c.gone then 1 else 0
+
+-- a message or a continue counts three, a connection that isn't closed one
 abbrev pub connection_load : Connection → ℕ
-connection_load c = 3 * load c.watch + (if c.closed then 0 else 1) + (if c.gone && is_some c.link then 1 else 0)
+connection_load c = 3 * load c.watch + (if c.closed then 0 else 1) + lost_load c
 
 -- a link that isn't dropped counts one
 abbrev pub link_load : Link → ℕ
@@ -137,10 +142,16 @@ load_at e = load_of e.connections e.links
 abbrev pub begun : CoreState → ℕ → Story
 begun core first = record { connections = []; links = []; core = core; first = first }
 
+-- an act was done at this moment, with these effects
+pub record Done (s : Story) (now : ℕ) (act : Act) (effects : List Effect) (new : State) : Type 0 where
+  pub after : Story
+  pub does : Does s now act effects after
+  pub stands : Stands new after
+
 -- the first act that was due was done at this moment, or none was due
 abbrev pub Did : Story → ℕ → Work → State → Type 0
 Did s now work.Idle new = IsDueFirst s None × Stands new s
-Did s now (work.Did effects) new = (act : Act) × (after : Story) × IsDueFirst s (Some act) × Does s now act effects.items after × Stands new after
+Did s now (work.Did effects) new = (act : Act) × IsDueFirst s (Some act) × Done s now act effects.items new
 
 -- no act was done: for want of memory, or since the act that is due may need a link and no number is left
 abbrev pub Failed : Story → EngineFault → Type 0

@@ -9,6 +9,8 @@ mod ends;
 mod finds;
 mod happening;
 mod laws;
+mod marks;
+mod outcomes;
 mod request_watch;
 mod response_watch;
 mod takes;

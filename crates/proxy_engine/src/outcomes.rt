@@ -1,0 +1,144 @@
+//! What an outcome of the core does on the proxy's ends. Room is made first, so none of this takes memory.
+ghost use Rattle.std.specs.Prelude.{◌≡◌, ℕ, ◌+◌, ◌<◌, ◌≤◌, ◌^◌, ◌++◌, ◌∷◌, [], List, Bool, length, sum_by, true, false, IfOk, OnOk, vec_len, vec_capacity, slice_index_or};
+ghost use Rattle.proxy_core.specs.State.{State as CoreState};
+ghost use Rattle.proxy_engine.specs.Story.{Story, with_connection};
+ghost use Rattle.proxy_engine.specs.Acts.{closing, effects_on, after_on, freed, with_opened};
+ghost use Rattle.proxy_engine.specs.Acts.Came.{Replies};
+ghost use Rattle.proxy_engine.specs.State.{Stands, state, connection_load, lost_load, link_load, load_of};
+
+use crate::ends::{Connection, Link};
+use crate::marks;
+use crate::response_watch::ResponseWatch;
+use hx_fields::Bytes;
+use proxy_script::Effect;
+use std::alloc::{AllocError, Global};
+
+/// Puts an effect at the end.
+pub(crate) fn put(effects: &mut Vec<Effect>, effect: Effect)
+    requires { vec_len effects.old < vec_capacity effects.old }
+    ensures items { effects.new.items ≡ effects.old.items ++ effect ∷ [] }
+    ensures len { vec_len effects.new ≡ vec_len effects.old + 1 }
+    ensures capacity { vec_capacity effects.old ≤ vec_capacity effects.new }
+{
+    let _ = effects.push(effect);
+}
+
+fn put_link(links: &mut Vec<Link>, link: Link)
+    requires { vec_len links.old < vec_capacity links.old }
+    ensures { links.new.items ≡ links.old.items ++ link ∷ [] }
+{
+    let _ = links.push(link);
+}
+
+/// The number of the link at a place.
+pub(crate) fn number_at(first: u64, place: usize) -> u64
+    ensures { first + place < 2 ^ 64 → result ≡ first + place }
+{
+    first.wrapping_add(place as u64)
+}
+
+/// Whether no link number is left behind so many links.
+pub(crate) fn is_spent(first: u64, count: usize) -> bool
+    ensures spent { result ≡ true → 2 ^ 64 ≤ first + count }
+    ensures left { result ≡ false → first + count < 2 ^ 64 }
+{
+    count as u64 > u64::MAX - first
+}
+
+/// Room for the effects of one act.
+pub(crate) fn room(alloc: Global) -> Result<Vec<Effect>, AllocError>
+    ensures items { IfOk result (λ v. v.items ≡ []) }
+    ensures room { IfOk result (λ v. vec_len v + 3 ≤ vec_capacity v) }
+{
+    Vec::with_capacity(alloc, 3)
+}
+
+/// Room for one link more.
+pub(crate) fn room_for_link(links: &mut Vec<Link>) -> Result<(), AllocError>
+    ensures items { links.new.items ≡ links.old.items }
+    ensures ok { OnOk result (vec_len links.new < vec_capacity links.new) }
+{
+    links.reserve(1)
+}
+
+/// The proxy closes the connection at a place, or leaves it as it is.
+pub(crate) fn close_at(connections: &mut Vec<Connection>, i: usize, close: bool)
+    requires within { i < length connections.old.items }
+    ensures stands { (s : Story) → (links : List Link) → (core : CoreState) → (first : ℕ) → Stands (state connections.old.items links core first) s
+        → Stands (state connections.new.items links core first) (with_connection s i (closing close)) }
+    ensures load { sum_by connection_load connections.new.items ≤ sum_by connection_load connections.old.items }
+    ensures less { (c : Connection) → close ≡ true → (slice_index_or connections.old.items i c).closed ≡ false → sum_by connection_load connections.new.items < sum_by connection_load connections.old.items }
+{
+    marks::close(&mut connections[i], close);
+}
+
+/// Bytes go to the client, and the connection closes behind them or doesn't.
+pub(crate) fn send_reply(
+    connections: &mut Vec<Connection>,
+    effects: &mut Vec<Effect>,
+    i: usize,
+    bytes: Bytes,
+    close: bool,
+)
+    requires within { i < length connections.old.items }
+    requires room { vec_len effects.old + 2 ≤ vec_capacity effects.old }
+    ensures effects { effects.new.items ≡ effects.old.items ++ effects_on i 0 (Replies bytes close) }
+    ensures stands { (s : Story) → (links : List Link) → (core : CoreState) → (first : ℕ) → Stands (state connections.old.items links core first) s
+        → Stands (state connections.new.items links core first) (with_connection s i (closing close)) }
+    ensures load { sum_by connection_load connections.new.items ≤ sum_by connection_load connections.old.items }
+    ensures less { (c : Connection) → close ≡ true → (slice_index_or connections.old.items i c).closed ≡ false → sum_by connection_load connections.new.items < sum_by connection_load connections.old.items }
+{
+    close_at(connections, i, close);
+    put(effects, Effect::Client(i as u64 + 1, bytes));
+    if close {
+        put(effects, Effect::Close(i as u64 + 1));
+    }
+}
+
+/// A link is opened for the connection at a place. It answers a HEAD or not.
+pub(crate) fn open_link(
+    connections: &mut Vec<Connection>,
+    links: &mut Vec<Link>,
+    alloc: Global,
+    max_body: u64,
+    to_head: bool,
+    i: usize,
+)
+    requires within { i < length connections.old.items }
+    requires room { vec_len links.old < vec_capacity links.old }
+    ensures stands { (s : Story) → (core : CoreState) → (first : ℕ) → core.table.max_body ≡ max_body → first + length links.old.items < 2 ^ 64 → Stands (state connections.old.items links.old.items core first) s
+        → Stands (state connections.new.items links.new.items core first) (with_opened s i to_head) }
+    ensures load { load_of connections.new.items links.new.items ≤ load_of connections.old.items links.old.items + 2 }
+{
+    marks::link_to(&mut connections[i], links.len());
+    put_link(
+        links,
+        Link {
+            watch: ResponseWatch::new(alloc, max_body, to_head),
+            ended: false,
+            failed: None,
+            dropped: false,
+            connection: i,
+        },
+    );
+}
+
+/// The exchange of a link and a connection is over.
+pub(crate) fn free(
+    connections: &mut Vec<Connection>,
+    links: &mut Vec<Link>,
+    j: usize,
+    i: usize,
+)
+    requires link { j < length links.old.items }
+    requires connection { i < length connections.old.items }
+    ensures stands { (s : Story) → (core : CoreState) → (first : ℕ) → Stands (state connections.old.items links.old.items core first) s
+        → Stands (state connections.new.items links.new.items core first) (freed s j i) }
+    ensures load { (c : Connection) → (k : Link) → load_of connections.new.items links.new.items + lost_load (slice_index_or connections.old.items i c) + link_load (slice_index_or links.old.items j k)
+        ≡ load_of connections.old.items links.old.items }
+    ensures connections { length connections.new.items ≡ length connections.old.items }
+    ensures links { length links.new.items ≡ length links.old.items }
+{
+    marks::drop_link(&mut links[j]);
+    marks::unlink(&mut connections[i]);
+}
