@@ -6,3 +6,4 @@ pub mod Changes
 pub mod Taking
 pub mod Searching
 pub mod Once
+pub mod Wishing

@@ -6,3 +6,4 @@ pub mod Story
 pub mod Due
 pub mod Acts
 pub mod State
+pub mod Wishes

@@ -13,7 +13,9 @@ mod marks;
 mod outcomes;
 mod request_watch;
 mod response_watch;
+mod serving;
 mod takes;
+mod wishes;
 #[cfg(test)]
 mod tests;
 

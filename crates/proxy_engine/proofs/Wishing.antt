@@ -1,0 +1,99 @@
+-- What a client's stream asks for, done on both sides.
+use Rattle.std.proofs.Common.{◌≡◌, ℕ, zero, suc, ◌+◌, ◌<◌, List, [], ◌∷◌, ◌++◌, length, get_or, set, refl, sym, ap, ◌∙◌, subst, arith, Bool, true, false, Result, Ok, Err, IfOk}
+use Rattle.httpdate.specs.Date.{unix_secs, date_text}
+use Rattle.httpdate.specs.declared.date.HttpDate.{HttpDate}
+use Rattle.hx_framing.specs.declared.requests.Request.{Request}
+use Rattle.hx_framing.specs.declared.fault.FrameFault.{FrameFault}
+use Rattle.hx_framing.specs.declared.fault.FrameFault.TheVariants as frame
+use Rattle.hx_framing.specs.declared.answer.Next.{Next}
+use Rattle.hx_framing.specs.declared.answer.Next.TheVariants as next
+use Rattle.hx_status.specs.declared.cause.Cause.{Cause}
+use Rattle.hx_status.specs.declared.cause.Cause.TheVariants as cause
+use Rattle.proxy_core.specs.Moments.{IsDateOf}
+use Rattle.proxy_core.specs.Replies.{refused_text}
+use Rattle.proxy_core.specs.State.{State as CoreState}
+use Rattle.proxy_script.specs.declared.effect_list.Effect.{Effect}
+use Rattle.proxy_script.specs.declared.effect_list.Effect.TheVariants as effects
+use Rattle.proxy_engine.specs.Look.{Due}
+use Rattle.proxy_engine.specs.Story.{Story, ConnStory, with_connection}
+use Rattle.proxy_engine.specs.Due.{Serves}
+use Rattle.proxy_engine.specs.Acts.{passing, closing, continue_text, Refuses, Closes, Served}
+use Rattle.proxy_engine.specs.State.{ConnStands, Stands, state, Done}
+use Rattle.proxy_engine.specs.Wishes.{IsWish, wish_by}
+use Rattle.proxy_engine.specs.declared.wishes.Wish.{Wish}
+use Rattle.proxy_engine.specs.declared.wishes.Wish.TheVariants as wish
+use Rattle.proxy_engine.specs.declared.ends.Connection.{Connection}
+use Rattle.proxy_engine.specs.declared.ends.Link.{Link}
+use Rattle.proxy_engine.proofs.Changes.{changed_connection}
+
+-- within the list the stand-in doesn't matter
+pub same_place : {A : Type 0} (xs : List A) (i : ℕ) (x d : A) → i < length xs → x ≡ get_or xs i x → get_or xs i d ≡ x
+same_place [] i x d l e = absurd (omega arith)
+same_place (y ∷ xs) zero x d l e = sym e
+same_place (y ∷ xs) (suc i) x d l e = same_place xs i x d (omega arith) e
+
+-- the only effect
+pub told_one : (before now : List Effect) (e : Effect) → now ≡ before ++ e ∷ [] → before ≡ [] → now ≡ e ∷ []
+told_one before now e is none = is ∙ ap (λ (b : List Effect). b ++ e ∷ []) none
+
+pub stamped : {E : Type 0} (r : Result (List ℕ) E) (d : HttpDate) (now : ℕ) (why : Cause) (head : Bool) → unix_secs d ≡ now → IfOk r (λ text. text ≡ refused_text (date_text d) why true head)
+    → IfOk r (λ text. (date : List ℕ) × IsDateOf now date × (text ≡ refused_text date why true head))
+stamped (Ok t) d now why head e h = (date_text d, record { date = d; seconds = e; shown = refl }, h)
+stamped (Err e) d now why head same h = tt
+
+-- a continue is sent
+pub continued : (s : Story) (cs : List Connection) (ks : List Link) (core : CoreState) (first now i : ℕ) (x y d : Connection) (told : List Effect) → i < length cs → x ≡ get_or cs i x → (get_or cs i d).watch.look ≡ Due next.NeedsContinue
+    → ((c : ConnStory) (a : Next Request) → x.watch.look ≡ Due a → ConnStands x c → ConnStands y (passing a c)) → told ≡ effects.Client (i + 1) continue_text ∷ [] → Stands (state cs ks core first) s
+    → Done s now (Serves i next.NeedsContinue) told (state (set cs i y) ks core first)
+continued s cs ks core first now i x y d told l e due keep is h =
+    let here : x.watch.look ≡ Due next.NeedsContinue = ap (λ (c : Connection). c.watch.look) (sym (same_place cs i x d l e)) ∙ due in
+    record {
+      after = with_connection s i (passing next.NeedsContinue);
+      does = (is, refl);
+      stands = changed_connection (passing next.NeedsContinue) cs ks core first s i x y l e (λ c q. keep c next.NeedsContinue here q) h;
+    }
+
+refuses_same : (s : Story) (now i : ℕ) (a b : Cause) (c d : Bool) (told : List Effect) (after : Story) → wish.Refuse a c ≡ wish.Refuse b d → Refuses s now i a c told after → Refuses s now i b d told after
+refuses_same s now i a b c d told after e h =
+    let why : a ≡ b = cc in
+    let head : c ≡ d = cc in
+    subst (λ (x : Bool). Refuses s now i b x told after) head (subst (λ (x : Cause). Refuses s now i x c told after) why h)
+
+refused_frame : (s : Story) (now i : ℕ) (f : FrameFault) (why : Cause) (head : Bool) (told : List Effect) (after : Story) → wish.Refuse why head ≡ wish_by f → Refuses s now i why head told after → Served s now i (next.Refused f) told after
+refused_frame s now i frame.Truncated why head told after e h = cc
+refused_frame s now i frame.Head why head told after e h = refuses_same s now i why (cause.Frame frame.Head) head false told after e h
+refused_frame s now i frame.Version why head told after e h = refuses_same s now i why (cause.Frame frame.Version) head false told after e h
+refused_frame s now i frame.BothLengths why head told after e h = refuses_same s now i why (cause.Frame frame.BothLengths) head false told after e h
+refused_frame s now i frame.Length why head told after e h = refuses_same s now i why (cause.Frame frame.Length) head false told after e h
+refused_frame s now i frame.Coding why head told after e h = refuses_same s now i why (cause.Frame frame.Coding) head false told after e h
+refused_frame s now i frame.Chunk why head told after e h = refuses_same s now i why (cause.Frame frame.Chunk) head false told after e h
+refused_frame s now i frame.TooLarge why head told after e h = refuses_same s now i why (cause.Frame frame.TooLarge) head false told after e h
+refused_frame s now i frame.Expect why head told after e h = refuses_same s now i why (cause.Frame frame.Expect) head false told after e h
+refused_frame s now i frame.Status why head told after e h = refuses_same s now i why (cause.Frame frame.Status) head false told after e h
+
+pub refused_served : (s : Story) (now i : ℕ) (a : Next Request) (why : Cause) (head : Bool) (told : List Effect) (after : Story) → IsWish a (wish.Refuse why head) → Refuses s now i why head told after → Served s now i a told after
+refused_served s now i next.More why head told after w h = absurd w
+refused_served s now i next.NeedsContinue why head told after w h = cc
+refused_served s now i (next.Message r) why head told after w h =
+    (Err w.0, w.1, subst (λ (b : Bool). Refuses s now i (cause.Target w.0) b told after) w.3 (subst (λ (y : Cause). Refuses s now i y head told after) w.2 h))
+refused_served s now i (next.Refused f) why head told after w h = refused_frame s now i f why head told after w h
+refused_served s now i next.End why head told after w h = cc
+
+closed_frame : (s : Story) (now i : ℕ) (f : FrameFault) (told : List Effect) (after : Story) → wish.Close ≡ wish_by f → Closes s i told after → Served s now i (next.Refused f) told after
+closed_frame s now i frame.Truncated told after e h = h
+closed_frame s now i frame.Head told after e h = cc
+closed_frame s now i frame.Version told after e h = cc
+closed_frame s now i frame.BothLengths told after e h = cc
+closed_frame s now i frame.Length told after e h = cc
+closed_frame s now i frame.Coding told after e h = cc
+closed_frame s now i frame.Chunk told after e h = cc
+closed_frame s now i frame.TooLarge told after e h = cc
+closed_frame s now i frame.Expect told after e h = cc
+closed_frame s now i frame.Status told after e h = cc
+
+pub closed_served : (s : Story) (now i : ℕ) (a : Next Request) (told : List Effect) (after : Story) → IsWish a wish.Close → Closes s i told after → Served s now i a told after
+closed_served s now i next.More told after w h = absurd w
+closed_served s now i next.NeedsContinue told after w h = cc
+closed_served s now i (next.Message r) told after w h = absurd w
+closed_served s now i (next.Refused f) told after w h = closed_frame s now i f told after w h
+closed_served s now i next.End told after w h = h

@@ -1,0 +1,62 @@
+-- What is to be done where something is due, between the readers and the core.
+--
+-- IsWish: what a client's stream asks for, read as a request or refused
+-- verdict_address: the address that a verdict leads to     Ends: the core's step that finishes an exchange
+use Rattle.std.specs.Prelude.{◌≡◌, ℕ, List, [], false, bytes_eq, codes, Ok, Err}
+use Rattle.hx_framing.specs.declared.requests.Request.{Request}
+use Rattle.hx_framing.specs.declared.fault.FrameFault.{FrameFault}
+use Rattle.hx_framing.specs.declared.fault.FrameFault.TheVariants as frame
+use Rattle.hx_framing.specs.declared.answer.Next.{Next}
+use Rattle.hx_framing.specs.declared.answer.Next.TheVariants as next
+use Rattle.hx_hop.specs.Asking.{IsAsked}
+use Rattle.hx_target.specs.declared.faults.TargetFault.{TargetFault}
+use Rattle.hx_allow.specs.Lines.{Table}
+use Rattle.hx_allow.specs.declared.verdicts.Verdict.{Verdict}
+use Rattle.hx_allow.specs.declared.verdicts.Verdict.TheVariants as verdict
+use Rattle.hx_status.specs.declared.cause.Cause.TheVariants as cause
+use Rattle.proxy_core.specs.State.{State as CoreState, Steps}
+use Rattle.proxy_core.specs.declared.outcome.Outcome.{Outcome}
+use Rattle.proxy_core.specs.declared.event.Event.TheVariants as events
+use Rattle.proxy_engine.specs.Acts.{address_of}
+use Rattle.proxy_engine.specs.Due.{Finish, Gives, Breaks}
+use Rattle.proxy_engine.specs.declared.wishes.Wish.{Wish}
+use Rattle.proxy_engine.specs.declared.wishes.Wish.TheVariants as wish
+
+-- a message that was read: it arrives, or its target is refused
+abbrev pub IsMessageWish : Request → Wish → Type 0
+IsMessageWish r wish.Continue = ⊥
+IsMessageWish r (wish.Arrive asked) = IsAsked r (Ok asked)
+IsMessageWish r (wish.Refuse why head) =
+    (fault : TargetFault) × IsAsked r (Err fault) × (why ≡ cause.Target fault) × (head ≡ bytes_eq r.method (codes "HEAD"))
+IsMessageWish r wish.Close = ⊥
+
+-- a stream that was cut off is closed without an answer
+abbrev pub wish_by : FrameFault → Wish
+wish_by frame.Truncated = wish.Close
+wish_by frame.Head = wish.Refuse (cause.Frame frame.Head) false
+wish_by frame.Version = wish.Refuse (cause.Frame frame.Version) false
+wish_by frame.BothLengths = wish.Refuse (cause.Frame frame.BothLengths) false
+wish_by frame.Length = wish.Refuse (cause.Frame frame.Length) false
+wish_by frame.Coding = wish.Refuse (cause.Frame frame.Coding) false
+wish_by frame.Chunk = wish.Refuse (cause.Frame frame.Chunk) false
+wish_by frame.TooLarge = wish.Refuse (cause.Frame frame.TooLarge) false
+wish_by frame.Expect = wish.Refuse (cause.Frame frame.Expect) false
+wish_by frame.Status = wish.Refuse (cause.Frame frame.Status) false
+
+abbrev pub IsWish : Next Request → Wish → Type 0
+IsWish next.More w = ⊥
+IsWish next.NeedsContinue w = w ≡ wish.Continue
+IsWish (next.Message r) w = IsMessageWish r w
+IsWish (next.Refused fault) w = w ≡ wish_by fault
+IsWish next.End w = w ≡ wish.Close
+
+-- the address that a verdict leads to
+abbrev pub verdict_address : Table → Verdict → List ℕ
+verdict_address table (verdict.Allowed line) = address_of table line
+verdict_address table (verdict.DeniedBy line) = []
+verdict_address table verdict.NoLine = []
+
+-- the core's step that finishes the exchange of an id
+abbrev pub Ends : CoreState → ℕ → ℕ → Finish → Outcome → CoreState → Type 0
+Ends s now id (Gives r) outcome t = Steps s (events.Answer now id r) outcome t
+Ends s now id (Breaks kind) outcome t = Steps s (events.Fail now id kind) outcome t

@@ -1,0 +1,119 @@
+//! What a client's stream asks for is done.
+ghost use Rattle.std.specs.Prelude.{◌≡◌, ℕ, ◌+◌, ◌<◌, ◌≤◌, ◌^◌, List, length, sum_by, true, false, Some, is_some, IfOk, IfErr, OnOk, OnErr, Ok, slice_index_or};
+ghost use Rattle.hx_framing.specs.declared.requests.Request.{Request};
+ghost use Rattle.hx_framing.specs.declared.answer.Next.{Next};
+ghost use Rattle.hx_framing.specs.declared.answer.Next.TheVariants as next;
+ghost use Rattle.hx_hop.specs.Asking.{IsAsked};
+ghost use Rattle.hx_allow.specs.Matching.{verdict_of};
+ghost use Rattle.proxy_core.specs.Moments.{IsDateOf};
+ghost use Rattle.proxy_core.specs.Replies.{refused_text, is_head};
+ghost use Rattle.proxy_core.specs.State.{State as CoreState};
+ghost use Rattle.proxy_engine.specs.Look.{Due};
+ghost use Rattle.proxy_engine.specs.Story.{Story};
+ghost use Rattle.proxy_engine.specs.Due.{Serves, IsDueFirst};
+ghost use Rattle.proxy_engine.specs.State.{Stands, state, wish_at, connection_load, load_of, Done, Failed};
+ghost use Rattle.proxy_engine.specs.Wishes.{verdict_address, IsWish};
+
+use crate::ends::{Connection, Link};
+use crate::happening::EngineFault;
+use crate::marks;
+use crate::outcomes::{
+    close_at, is_spent, number_at, open_link, put, room, room_for_link, send_reply,
+};
+use crate::wishes::{Wish, wish_of};
+use httpdate::HttpDate;
+use hx_allow::{Config, Verdict};
+use hx_fields::Bytes;
+use hx_hop::Asked;
+use hx_status::Cause;
+use hx_store::Shelf;
+use proxy_core::{Core, Outcome, refused};
+use proxy_script::Effect;
+use std::alloc::{AllocError, Global};
+
+/// The client may send the content of its request.
+fn send_continue(
+    connections: &mut Vec<Connection>,
+    alloc: Global,
+    i: usize,
+) -> Result<Vec<Effect>, AllocError>
+    requires { i < length connections.old.items }
+    ensures ok { IfOk result (λ effects. (s : Story) → (links : List Link) → (core : CoreState) → (first now : ℕ) → (c : Connection) → (slice_index_or connections.old.items i c).watch.look ≡ Due next.NeedsContinue
+        → Stands (state connections.old.items links core first) s → Done s now (Serves i next.NeedsContinue) effects.items (state connections.new.items links core first)) }
+    ensures less { OnOk result ((c : Connection) → (slice_index_or connections.old.items i c).watch.look ≡ Due next.NeedsContinue → sum_by connection_load connections.new.items < sum_by connection_load connections.old.items) }
+    ensures err { OnErr result (connections.new.items ≡ connections.old.items) }
+{
+    let mut effects = room(alloc)?;
+    let bytes = Bytes::copy_of(alloc, b"HTTP/1.1 100 Continue\r\n\r\n")?;
+    marks::pass(&mut connections[i]);
+    put(&mut effects, Effect::Client(i as u64 + 1, bytes));
+    Ok(effects)
+}
+
+/// The proxy's own answer, which closes the connection.
+fn own_answer(alloc: Global, now: u64, why: Cause, head: bool) -> Result<Bytes, AllocError>
+    requires { now < 253402300800 }
+    ensures { IfOk result (λ text. (date : List ℕ) × IsDateOf now date × (text ≡ refused_text date why true head)) }
+{
+    match HttpDate::from_unix_secs(now) {
+        Ok(date) => refused(alloc, date, why, true, head),
+        Err(_) => unreachable!(),
+    }
+}
+
+/// The proxy answers by itself, and closes.
+fn refuse(
+    connections: &mut Vec<Connection>,
+    alloc: Global,
+    now: u64,
+    i: usize,
+    why: Cause,
+    head: bool,
+) -> Result<Vec<Effect>, AllocError>
+    requires within { i < length connections.old.items }
+    requires early { now < 253402300800 }
+    ensures ok { IfOk result (λ effects. (s : Story) → (links : List Link) → (core : CoreState) → (first : ℕ) → (a : Next Request) → IsWish a (Wish.Refuse why head)
+        → Stands (state connections.old.items links core first) s → Done s now (Serves i a) effects.items (state connections.new.items links core first)) }
+    ensures less { OnOk result ((c : Connection) → (slice_index_or connections.old.items i c).closed ≡ false → sum_by connection_load connections.new.items < sum_by connection_load connections.old.items) }
+    ensures err { OnErr result (connections.new.items ≡ connections.old.items) }
+{
+    let mut effects = room(alloc)?;
+    let bytes = own_answer(alloc, now, why, head)?;
+    send_reply(connections, &mut effects, i, bytes, true);
+    Ok(effects)
+}
+
+/// The connection is closed without an answer.
+fn shut(
+    connections: &mut Vec<Connection>,
+    alloc: Global,
+    i: usize,
+) -> Result<Vec<Effect>, AllocError>
+    requires { i < length connections.old.items }
+    ensures ok { IfOk result (λ effects. (s : Story) → (links : List Link) → (core : CoreState) → (first now : ℕ) → (a : Next Request) → IsWish a Wish.Close
+        → Stands (state connections.old.items links core first) s → Done s now (Serves i a) effects.items (state connections.new.items links core first)) }
+    ensures less { OnOk result ((c : Connection) → (slice_index_or connections.old.items i c).closed ≡ false → sum_by connection_load connections.new.items < sum_by connection_load connections.old.items) }
+    ensures err { OnErr result (connections.new.items ≡ connections.old.items) }
+{
+    let mut effects = room(alloc)?;
+    close_at(connections, i, true);
+    put(&mut effects, Effect::Close(i as u64 + 1));
+    Ok(effects)
+}
+
+fn is_head(asked: &Asked) -> bool
+    ensures { result ≡ is_head asked.now }
+{
+    asked.method.as_str().as_bytes() == b"HEAD".as_slice()
+}
+
+/// The address to which a request goes forward, if the table allows it.
+fn address_for(alloc: Global, config: &Config, asked: &Asked) -> Result<Bytes, AllocError>
+    ensures { IfOk result (λ address. address ≡ verdict_address config.now (verdict_of config.now.lines asked.now.method asked.now.target)) }
+{
+    match config.judge(&asked.method, &asked.target) {
+        Verdict::Allowed(line) => Bytes::copy_of(alloc, config.origin(line).as_bytes()),
+        Verdict::DeniedBy(_) => Ok(Bytes::new(alloc)),
+        Verdict::NoLine => Ok(Bytes::new(alloc)),
+    }
+}
