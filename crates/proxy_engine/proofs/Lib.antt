@@ -7,3 +7,4 @@ pub mod Taking
 pub mod Searching
 pub mod Once
 pub mod Wishing
+pub mod Stepping

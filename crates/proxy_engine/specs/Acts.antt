@@ -38,6 +38,13 @@ pub data Came : Type 0 where
 abbrev pub address_of : Table → ℕ → List ℕ
 address_of table line = unwrap_or (origin_of table.lines line) []
 
+-- an outcome, where a request goes forward to that address
+abbrev pub came_at : List ℕ → Outcome → Came
+came_at address (outcomes.Reply r) = Replies r.bytes r.close
+came_at address (outcomes.Forward line bytes) = Forwards address bytes
+came_at address outcomes.Ended = Nothing
+
+-- an outcome by this table
 abbrev pub came : Table → Outcome → Came
 came table (outcomes.Reply r) = Replies r.bytes r.close
 came table (outcomes.Forward line bytes) = Forwards (address_of table line) bytes

@@ -2,7 +2,7 @@
 ghost use Rattle.std.specs.Prelude.{◌≡◌, ℕ, ◌+◌, ◌<◌, ◌≤◌, ◌^◌, ◌++◌, ◌∷◌, [], List, Bool, length, sum_by, true, false, IfOk, OnOk, vec_len, vec_capacity, slice_index_or};
 ghost use Rattle.proxy_core.specs.State.{State as CoreState};
 ghost use Rattle.proxy_engine.specs.Story.{Story, with_connection};
-ghost use Rattle.proxy_engine.specs.Acts.{closing, effects_on, after_on, freed, with_opened};
+ghost use Rattle.proxy_engine.specs.Acts.{closing, came_at, effects_on, after_on, freed, with_opened};
 ghost use Rattle.proxy_engine.specs.Acts.Came.{Replies};
 ghost use Rattle.proxy_engine.specs.State.{Stands, state, connection_load, lost_load, link_load, load_of};
 
@@ -10,6 +10,7 @@ use crate::ends::{Connection, Link};
 use crate::marks;
 use crate::response_watch::ResponseWatch;
 use hx_fields::Bytes;
+use proxy_core::Outcome;
 use proxy_script::Effect;
 use std::alloc::{AllocError, Global};
 
@@ -31,7 +32,7 @@ fn put_link(links: &mut Vec<Link>, link: Link)
 }
 
 /// The number of the link at a place.
-pub(crate) fn number_at(first: u64, place: usize) -> u64
+fn number_at(first: u64, place: usize) -> u64
     ensures { first + place < 2 ^ 64 → result ≡ first + place }
 {
     first.wrapping_add(place as u64)
@@ -96,7 +97,7 @@ pub(crate) fn send_reply(
 }
 
 /// A link is opened for the connection at a place. It answers a HEAD or not.
-pub(crate) fn open_link(
+fn open_link(
     connections: &mut Vec<Connection>,
     links: &mut Vec<Link>,
     alloc: Global,
@@ -121,6 +122,46 @@ pub(crate) fn open_link(
             connection: i,
         },
     );
+}
+
+/// How a request goes forward, if it does: to which address, and what its link reads.
+#[derive(Drop)]
+pub(crate) struct Way {
+    pub(crate) address: Bytes,
+    /// The most bytes of the answer's content.
+    pub(crate) max_body: u64,
+    pub(crate) to_head: bool,
+}
+
+/// Does what an outcome says, for the connection at a place.
+pub(crate) fn carry_out(
+    connections: &mut Vec<Connection>,
+    links: &mut Vec<Link>,
+    effects: &mut Vec<Effect>,
+    alloc: Global,
+    first: u64,
+    i: usize,
+    way: Way,
+    outcome: Outcome,
+)
+    requires within { i < length connections.old.items }
+    requires room_for_link { vec_len links.old < vec_capacity links.old }
+    requires room { vec_len effects.old + 2 ≤ vec_capacity effects.old }
+    requires left { first + length links.old.items < 2 ^ 64 }
+    ensures effects { effects.new.items ≡ effects.old.items ++ effects_on i (first + length links.old.items) (came_at way.address outcome) }
+    ensures stands { (s : Story) → (core : CoreState) → core.table.max_body ≡ way.max_body → Stands (state connections.old.items links.old.items core first) s
+        → Stands (state connections.new.items links.new.items core first) (after_on i way.to_head (came_at way.address outcome) s) }
+    ensures load { load_of connections.new.items links.new.items ≤ load_of connections.old.items links.old.items + 2 }
+{
+    match outcome {
+        Outcome::Reply(reply) => send_reply(connections, effects, i, reply.bytes, reply.close),
+        Outcome::Forward(_, bytes) => {
+            let number = number_at(first, links.len());
+            open_link(connections, links, alloc, way.max_body, way.to_head, i);
+            put(effects, Effect::Forward(number, way.address, bytes));
+        }
+        Outcome::Ended => {}
+    }
 }
 
 /// The exchange of a link and a connection is over.

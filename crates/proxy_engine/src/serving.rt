@@ -17,9 +17,7 @@ ghost use Rattle.proxy_engine.specs.Wishes.{verdict_address, IsWish};
 use crate::ends::{Connection, Link};
 use crate::happening::EngineFault;
 use crate::marks;
-use crate::outcomes::{
-    close_at, is_spent, number_at, open_link, put, room, room_for_link, send_reply,
-};
+use crate::outcomes::{Way, carry_out, close_at, is_spent, put, room, room_for_link, send_reply};
 use crate::wishes::{Wish, wish_of};
 use httpdate::HttpDate;
 use hx_allow::{Config, Verdict};
@@ -27,7 +25,7 @@ use hx_fields::Bytes;
 use hx_hop::Asked;
 use hx_status::Cause;
 use hx_store::Shelf;
-use proxy_core::{Core, Outcome, refused};
+use proxy_core::{Core, refused};
 use proxy_script::Effect;
 use std::alloc::{AllocError, Global};
 
@@ -116,4 +114,58 @@ fn address_for(alloc: Global, config: &Config, asked: &Asked) -> Result<Bytes, A
         Verdict::DeniedBy(_) => Ok(Bytes::new(alloc)),
         Verdict::NoLine => Ok(Bytes::new(alloc)),
     }
+}
+
+/// How a request goes forward, if it does.
+fn way_for(alloc: Global, config: &Config, asked: &Asked) -> Result<Way, AllocError>
+    ensures address { IfOk result (λ way. way.address ≡ verdict_address config.now (verdict_of config.now.lines asked.now.method asked.now.target)) }
+    ensures max_body { IfOk result (λ way. way.max_body ≡ config.now.max_body) }
+    ensures to_head { IfOk result (λ way. way.to_head ≡ is_head asked.now) }
+{
+    Ok(Way {
+        address: address_for(alloc, config, asked)?,
+        max_body: config.max_body(),
+        to_head: is_head(asked),
+    })
+}
+
+/// A request arrives at the core. All that can fail comes before the core's step, or is that step.
+fn arrive<S: Shelf>(
+    connections: &mut Vec<Connection>,
+    links: &mut Vec<Link>,
+    core: &mut Core<S>,
+    alloc: Global,
+    first: u64,
+    now: u64,
+    i: usize,
+    asked: &Asked,
+) -> Result<Vec<Effect>, EngineFault>
+    requires { i < length connections.old.items }
+    ensures ok { IfOk result (λ effects. (s : Story) → (r : Request) → (c : Connection) → IsAsked r (Ok asked.now) → (slice_index_or connections.old.items i c).watch.look ≡ Due (next.Message r)
+        → Stands (state connections.old.items links.old.items core.old first) s → Done s now (Serves i (next.Message r)) effects.items (state connections.new.items links.new.items core.new first)) }
+    ensures less { OnOk result ((r : Request) → (c : Connection) → (slice_index_or connections.old.items i c).watch.look ≡ Due (next.Message r)
+        → load_of connections.new.items links.new.items < load_of connections.old.items links.old.items) }
+    ensures fault { IfErr result (λ fault. (s : Story) → (r : Request) → IsAsked r (Ok asked.now) → IsDueFirst s (Some (Serves i (next.Message r)))
+        → Stands (state connections.old.items links.old.items core.old first) s → Failed s fault) }
+    ensures err { OnErr result ((connections.new.items ≡ connections.old.items) × (links.new.items ≡ links.old.items) × (core.new ≡ core.old)) }
+{
+    let Ok(mut effects) = room(alloc) else {
+        return Err(EngineFault::OutOfMemory);
+    };
+    let Ok(()) = room_for_link(links) else {
+        return Err(EngineFault::OutOfMemory);
+    };
+    if is_spent(first, links.len()) {
+        return Err(EngineFault::Spent);
+    }
+    let Ok(way) = way_for(alloc, core.config(), asked) else {
+        return Err(EngineFault::OutOfMemory);
+    };
+    let outcome = match core.arrive(alloc, now, i as u64 + 1, asked) {
+        Ok(outcome) => outcome,
+        Err(_) => return Err(EngineFault::OutOfMemory),
+    };
+    marks::pass(&mut connections[i]);
+    carry_out(connections, links, &mut effects, alloc, first, i, way, outcome);
+    Ok(effects)
 }

@@ -1,0 +1,92 @@
+-- The core's steps, done on both sides.
+use Rattle.std.proofs.Common.{◌≡◌, ℕ, ◌+◌, ◌<◌, ◌≤◌, ◌^◌, List, [], ◌∷◌, ◌++◌, length, get_or, set, refl, sym, ap, ◌∙◌, subst, arith, Bool, Option, Some, None, Ok}
+use Rattle.hx_framing.specs.declared.requests.Request.{Request}
+use Rattle.hx_framing.specs.declared.answer.Next.{Next}
+use Rattle.hx_framing.specs.declared.answer.Next.TheVariants as next
+use Rattle.hx_hop.specs.declared.asked_for.Asked.{Asked}
+use Rattle.hx_hop.specs.Asking.{IsAsked}
+use Rattle.hx_allow.specs.Lines.{Table}
+use Rattle.hx_allow.specs.Matching.{verdict_of}
+use Rattle.hx_allow.specs.declared.verdicts.Verdict.{Verdict}
+use Rattle.hx_allow.specs.declared.verdicts.Verdict.TheVariants as verdict
+use Rattle.hx_reuse.specs.Rules.{decision_of}
+use Rattle.hx_reuse.specs.declared.decision.Decision.{Decision}
+use Rattle.hx_reuse.specs.declared.decision.Decision.TheVariants as decision
+use Rattle.hx_store.specs.Stored.{Stored}
+use Rattle.proxy_core.specs.Outcomes.{allowed, arrived}
+use Rattle.proxy_core.specs.Replies.{is_head}
+use Rattle.proxy_core.specs.State.{State as CoreState, Steps}
+use Rattle.proxy_core.specs.declared.outcome.Outcome.{Outcome}
+use Rattle.proxy_core.specs.declared.outcome.Outcome.TheVariants as outcomes
+use Rattle.proxy_core.specs.declared.event.Event.TheVariants as events
+use Rattle.proxy_script.specs.declared.effect_list.Effect.{Effect}
+use Rattle.proxy_engine.specs.Look.{Due}
+use Rattle.proxy_engine.specs.Story.{Story, ConnStory, with_connection, with_core}
+use Rattle.proxy_engine.specs.Due.{Serves}
+use Rattle.proxy_engine.specs.Acts.{Came, Forwards, address_of, came, came_at, passing, effects_on, after_on, next_number}
+use Rattle.proxy_engine.specs.State.{ConnStands, LinkStands, Stands, state, Done}
+use Rattle.proxy_engine.specs.Wishes.{verdict_address}
+use Rattle.proxy_engine.specs.declared.ends.Connection.{Connection}
+use Rattle.proxy_engine.specs.declared.ends.Link.{Link}
+use Rattle.proxy_engine.proofs.Parts.{both_length}
+use Rattle.proxy_engine.proofs.Changes.{changed_connection, changed_core}
+use Rattle.proxy_engine.proofs.Wishing.{same_place}
+
+line_of_allowed : (table : Table) (es : List Stored) (n now : ℕ) (asked : Asked) (d : Decision) (line : ℕ) (bytes : List ℕ) → allowed table es n now asked d ≡ outcomes.Forward line bytes → n ≡ line
+line_of_allowed table es n now asked (decision.Hit serial) line bytes e = cc
+line_of_allowed table es n now asked (decision.Forward rule against) line bytes e = cc
+
+-- a request goes forward to the origin of the line that the verdict names
+forward_address : (table : Table) (date : List ℕ) (es : List Stored) (now : ℕ) (asked : Asked) (v : Verdict) (line : ℕ) (bytes : List ℕ) → arrived table date es now asked v ≡ outcomes.Forward line bytes → verdict_address table v ≡ address_of table line
+forward_address table date es now asked (verdict.Allowed n) line bytes e = ap (address_of table) (line_of_allowed table es n now asked (decision_of es asked now) line bytes e)
+forward_address table date es now asked (verdict.DeniedBy n) line bytes e = cc
+forward_address table date es now asked verdict.NoLine line bytes e = cc
+
+same_way : (address : List ℕ) (table : Table) (o : Outcome) → ((line : ℕ) (bytes : List ℕ) → o ≡ outcomes.Forward line bytes → address ≡ address_of table line) → came_at address o ≡ came table o
+same_way address table (outcomes.Reply r) h = refl
+same_way address table (outcomes.Forward line bytes) h = ap (λ a. Forwards a bytes) (h line bytes refl)
+same_way address table outcomes.Ended h = refl
+
+arrival_way : (core core1 : CoreState) (now id : ℕ) (asked : Asked) (o : Outcome) (address : List ℕ) → Steps core (events.Arrive now id asked) o core1 → address ≡ verdict_address core.table (verdict_of core.table.lines asked.method asked.target) → came_at address o ≡ came core.table o
+arrival_way core core1 now id asked o address steps e =
+    same_way address core.table o (λ line bytes f. e ∙ forward_address core.table steps.date core.entries now asked (verdict_of core.table.lines asked.method asked.target) line bytes (sym steps.outcome_is ∙ f))
+
+-- a request has arrived
+pub arrived_done : (s : Story) (cs cs2 : List Connection) (ks ks1 ks2 : List Link) (core core1 : CoreState) (first now i max_body : ℕ) (r : Request) (asked : Asked) (o : Outcome) (address : List ℕ) (to_head : Bool) (x y d : Connection) (told : List Effect)
+    → i < length cs → x ≡ get_or cs i x → (get_or cs i d).watch.look ≡ Due (next.Message r) → ((c : ConnStory) (a : Next Request) → x.watch.look ≡ Due a → ConnStands x c → ConnStands y (passing a c))
+    → IsAsked r (Ok asked) → Steps core (events.Arrive now (i + 1) asked) o core1 → ks1 ≡ ks → first + length ks1 < 2 ^ 64
+    → address ≡ verdict_address core.table (verdict_of core.table.lines asked.method asked.target) → max_body ≡ core.table.max_body → to_head ≡ is_head asked
+    → told ≡ effects_on i (first + length ks1) (came_at address o)
+    → ((t : Story) (k : CoreState) → k.table.max_body ≡ max_body → Stands (state (set cs i y) ks1 k first) t → Stands (state cs2 ks2 k first) (after_on i to_head (came_at address o) t))
+    → Stands (state cs ks core first) s → Done s now (Serves i (next.Message r)) told (state cs2 ks2 core1 first)
+arrived_done s cs cs2 ks ks1 ks2 core core1 first now i max_body r asked o address to_head x y d told l e due keep is_asked steps same small way most head tells applies h =
+    let here : x.watch.look ≡ Due (next.Message r) = ap (λ (c : Connection). c.watch.look) (sym (same_place cs i x d l e)) ∙ due in
+    let passed = with_connection s i (passing (next.Message r)) in
+    let before : Stands (state (set cs i y) ks core first) passed = changed_connection (passing (next.Message r)) cs ks core first s i x y l e (λ c q. keep c (next.Message r) here q) h in
+    let stepped : Stands (state (set cs i y) ks1 core1 first) (with_core passed core1) =
+        subst (λ (ls : List Link). Stands (state (set cs i y) ls core1 first) (with_core passed core1)) (sym same) (changed_core (set cs i y) ks core first core1 passed before) in
+    let coming : came_at address o ≡ came s.core.table o = arrival_way core core1 now (i + 1) asked o address steps way ∙ ap (λ (k : CoreState). came k.table o) h.core in
+    let links = both_length LinkStands ks s.links h.links in
+    let first_is : first ≡ s.first = h.first in
+    let number : first + length ks1 ≡ next_number s = omega (arith, ap length same, links) in
+    let most_after : core1.table.max_body ≡ max_body = ap (λ (k : CoreState). k.table.max_body) steps.leaves ∙ sym most in
+    let done = applies (with_core passed core1) core1 most_after stepped in
+    record {
+      after = after_on i (is_head asked) (came s.core.table o) (with_core passed core1);
+      does = (
+        Ok asked,
+        is_asked,
+        (
+          omega (arith, number),
+          record {
+            outcome = o;
+            core = core1;
+            steps = subst (λ (k : CoreState). Steps k (events.Arrive now (i + 1) asked) o core1) h.core steps;
+            told_is = tells ∙ (ap (λ n. effects_on i n (came_at address o)) number ∙ ap (effects_on i (next_number s)) coming);
+            after_is = refl;
+          },
+        ),
+      );
+      stands = subst (λ (b : Bool). Stands (state cs2 ks2 core1 first) (after_on i b (came s.core.table o) (with_core passed core1))) head
+          (subst (λ (q : Came). Stands (state cs2 ks2 core1 first) (after_on i to_head q (with_core passed core1))) coming done);
+    }

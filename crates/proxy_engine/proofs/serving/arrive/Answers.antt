@@ -1,0 +1,31 @@
+use Rattle.std.proofs.Common.{rules, ◌≡◌, ◌+◌, ◌<◌, ◌≤◌, ◌^◌, ◌∙◌, ◌++◌, List, length, sym, ap, arith}
+use Rattle.proxy_script.specs.declared.effect_list.Effect.{Effect}
+use Rattle.hx_framing.specs.declared.answer.Next.TheVariants.{Message}
+use Rattle.hx_allow.specs.Lines.{Table}
+use Rattle.hx_allow.specs.Matching.{verdict_of}
+use Rattle.proxy_engine.specs.Acts.{effects_on, came_at}
+use Rattle.proxy_engine.specs.Wishes.{verdict_address}
+use Rattle.proxy_engine.specs.Due.{Serves}
+use Rattle.proxy_engine.specs.State.{LinkStands}
+use Rattle.proxy_engine.proofs.Parts.{both_length}
+use Rattle.proxy_engine.proofs.Stepping.{arrived_done}
+use Rattle.proxy_engine.proofs.serving.arrive.Goals as goal
+
+pub returns-then-is_spent-clause-fault : goal.returns-then-is_spent-clause-fault
+returns-then-is_spent-clause-fault g c = λ s r asked due h.
+    let count : c.len.result ≡ length c.room_for_link.new.links.items = search rules in
+    let links = both_length LinkStands c.args.links.now.items s.links h.links in
+    let first_is : c.args.first ≡ s.first = h.first in
+    let many = c.is_spent.ensures.spent c.if-is_spent.true in
+    (Serves c.args.i (Message r), due, (c.args.asked.now, asked), omega (arith, many, count, ap length c.room_for_link.ensures.items, links))
+
+pub returns-clause-ok : goal.returns-clause-ok
+returns-clause-ok g c = λ s r d asked due h.
+    let count : c.len.result ≡ length c.room_for_link.new.links.items = search rules in
+    let few = c.is_spent.ensures.left c.if-is_spent.false in
+    arrived_done s c.args.connections.now.items c.carry_out.new.connections.items c.args.links.now.items c.room_for_link.new.links.items c.carry_out.new.links.items c.args.core.now c.arrive.new.self c.args.first c.args.now c.args.i
+    c.in-Ok-way_for.way.max_body r c.args.asked.now c.in-Ok-arrive.outcome c.in-Ok-way_for.way.address c.in-Ok-way_for.way.to_head c.index_mut.result.now c.pass.new.connection d c.carry_out.new.effects.items
+    c.requires c.index_mut.ensures.value due c.pass.ensures.stands asked c.in-Ok-arrive.ensures.ok c.room_for_link.ensures.items (omega (arith, few, count))
+    (c.in-Ok-way_for.ensures.address ∙ ap (λ (t : Table). verdict_address t (verdict_of t.lines c.args.asked.now.method c.args.asked.now.target)) c.config.ensures)
+    (c.in-Ok-way_for.ensures.max_body ∙ ap (λ (t : Table). t.max_body) c.config.ensures) c.in-Ok-way_for.ensures.to_head
+    (c.carry_out.ensures.effects ∙ ap (λ (b : List Effect). b ++ effects_on c.args.i (c.args.first + length c.room_for_link.new.links.items) (came_at c.in-Ok-way_for.way.address c.in-Ok-arrive.outcome)) c.in-Ok.ensures.items) (λ t k. c.carry_out.ensures.stands t k) h
