@@ -6,7 +6,7 @@ use Rattle.hx_framing.specs.Progress.{start}
 use Rattle.proxy_engine.specs.Acts.{linked, with_opened}
 use Rattle.proxy_engine.specs.ResponseWatch.{Watched, Stands as WatchStands}
 use Rattle.proxy_engine.specs.Story.{Story, ConnStory, LinkStory, opened, no_connection, no_link, connection_at, link_at, with_connection, with_link, with_core}
-use Rattle.proxy_engine.specs.State.{ConnStands, LinkStands, Stands, state}
+use Rattle.proxy_engine.specs.State.{Both, ConnStands, LinkStands, Stands, state}
 use Rattle.proxy_engine.specs.declared.ends.Connection.{Connection}
 use Rattle.proxy_engine.specs.declared.ends.Link.{Link}
 use Rattle.proxy_engine.proofs.Parts.{both_length, both_here, both_set, both_push}
@@ -51,3 +51,10 @@ opened_link cs ks core first max_body place to_head s i x y w l e at keep most f
       first = h.first;
       numbers = let first_is : first ≡ s.first = h.first in rw length-append (omega (arith, same));
     }
+
+-- ends that were looked at
+pub looked_connections : (cs ds : List Connection) (ks : List Link) (core : CoreState) (first : ℕ) (s : Story) → Both ConnStands ds s.connections → Stands (state cs ks core first) s → Stands (state ds ks core first) s
+looked_connections cs ds ks core first s b h = record { connections = b; links = h.links; core = h.core; first = h.first; numbers = h.numbers }
+
+pub looked_links : (cs : List Connection) (ks ls : List Link) (core : CoreState) (first : ℕ) (s : Story) → Both LinkStands ls s.links → Stands (state cs ks core first) s → Stands (state cs ls core first) s
+looked_links cs ks ls core first s b h = record { connections = h.connections; links = b; core = h.core; first = h.first; numbers = h.numbers }

@@ -37,7 +37,7 @@ found_first R P f d xs i z c within shows now h ys both =
           (both_at R (set xs i z) ys j z d both (subst (λ n. j < n) (sym (length-set xs i z)) (omega arith)))),
     )
 
-some_part : {A : Type 0} (xs : List A) (j : ℕ) → j < length xs → A
+pub some_part : {A : Type 0} (xs : List A) (j : ℕ) → j < length xs → A
 some_part [] j l = absurd (omega arith)
 some_part (x ∷ xs) j l = x
 

@@ -1,5 +1,5 @@
 -- The core's steps, done on both sides.
-use Rattle.std.proofs.Common.{◌≡◌, ℕ, ◌+◌, ◌<◌, ◌≤◌, ◌^◌, List, [], ◌∷◌, ◌++◌, length, get_or, set, refl, sym, ap, ◌∙◌, subst, arith, Bool, Option, Some, None, Ok}
+use Rattle.std.proofs.Common.{◌≡◌, ℕ, ◌+◌, ◌<◌, ◌≤◌, ◌^◌, List, [], ◌∷◌, ◌++◌, length, get_or, set, refl, sym, ap, ◌∙◌, subst, arith, Bool, true, false, cond, Option, Some, None, Ok}
 use Rattle.hx_framing.specs.declared.requests.Request.{Request}
 use Rattle.hx_framing.specs.declared.answer.Next.{Next}
 use Rattle.hx_framing.specs.declared.answer.Next.TheVariants as next
@@ -13,19 +13,25 @@ use Rattle.hx_reuse.specs.Rules.{decision_of}
 use Rattle.hx_reuse.specs.declared.decision.Decision.{Decision}
 use Rattle.hx_reuse.specs.declared.decision.Decision.TheVariants as decision
 use Rattle.hx_store.specs.Stored.{Stored}
-use Rattle.proxy_core.specs.Outcomes.{allowed, arrived}
+use Rattle.proxy_core.specs.Outcomes.{allowed, arrived, outcome_of, find_exchange}
+use Rattle.proxy_core.specs.declared.exchange.Exchange.{Exchange}
+use Rattle.proxy_core.specs.declared.outcome.Reply.{Reply}
+use Rattle.proxy_core.specs.declared.event.Event.{Event}
 use Rattle.proxy_core.specs.Replies.{is_head}
 use Rattle.proxy_core.specs.State.{State as CoreState, Steps}
 use Rattle.proxy_core.specs.declared.outcome.Outcome.{Outcome}
 use Rattle.proxy_core.specs.declared.outcome.Outcome.TheVariants as outcomes
 use Rattle.proxy_core.specs.declared.event.Event.TheVariants as events
 use Rattle.proxy_script.specs.declared.effect_list.Effect.{Effect}
+use Rattle.proxy_script.specs.declared.effect_list.Effect.TheVariants as effects
 use Rattle.proxy_engine.specs.Look.{Due}
-use Rattle.proxy_engine.specs.Story.{Story, ConnStory, with_connection, with_core}
-use Rattle.proxy_engine.specs.Due.{Serves}
-use Rattle.proxy_engine.specs.Acts.{Came, Forwards, address_of, came, came_at, passing, effects_on, after_on, next_number}
-use Rattle.proxy_engine.specs.State.{ConnStands, LinkStands, Stands, state, Done}
-use Rattle.proxy_engine.specs.Wishes.{verdict_address}
+use Rattle.proxy_engine.specs.Story.{Story, ConnStory, link_at, with_connection, with_core}
+use Rattle.proxy_engine.specs.Due.{Abandons, Finish, Gives, Breaks, Finishes, Serves, IsDueFirst}
+use Rattle.proxy_engine.specs.Acts.{Came, Replies, Forwards, StepsOn, Finished, address_of, came, came_at, passing, closing, freed, effects_on, after_on, next_number}
+use Rattle.proxy_engine.specs.State.{ConnStands, LinkStands, Stands, state, finish_seen, finish_at, link_load, Done, Failed}
+use Rattle.proxy_engine.specs.Wishes.{verdict_address, MayGive, Ends, EndFault}
+use Rattle.proxy_engine.specs.declared.happening.EngineFault.{EngineFault}
+use Rattle.proxy_engine.specs.declared.happening.EngineFault.TheVariants.{WrongNumber, NotAccepted, OutOfMemory, Spent}
 use Rattle.proxy_engine.specs.declared.ends.Connection.{Connection}
 use Rattle.proxy_engine.specs.declared.ends.Link.{Link}
 use Rattle.proxy_engine.proofs.Parts.{both_length}
@@ -90,3 +96,71 @@ arrived_done s cs cs2 ks ks1 ks2 core core1 first now i max_body r asked o addre
       stands = subst (λ (b : Bool). Stands (state cs2 ks2 core1 first) (after_on i b (came s.core.table o) (with_core passed core1))) head
           (subst (λ (q : Came). Stands (state cs2 ks2 core1 first) (after_on i to_head q (with_core passed core1))) coming done);
     }
+
+abandoned_by : (table : Table) (date : List ℕ) (es : List Stored) (xs : List Exchange) (x : Option Exchange) (next : Option ℕ) (id : ℕ) → outcome_of table date es xs x next (events.Abandon id) ≡ outcomes.Ended
+abandoned_by table date es xs None next id = refl
+abandoned_by table date es xs (Some x) next id = refl
+
+-- a link whose connection is gone is dropped
+pub abandoned_done : (s : Story) (cs1 : List Connection) (ks1 : List Link) (core core1 : CoreState) (first now i l : ℕ) (o : Outcome) (told : List Effect) → Steps core (events.Abandon (i + 1)) o core1
+    → told ≡ effects.Drop (first + l) ∷ [] → first ≡ s.first → core ≡ s.core → Stands (state cs1 ks1 core first) (freed s l i) → Done s now (Abandons i l) told (state cs1 ks1 core1 first)
+abandoned_done s cs1 ks1 core core1 first now i l o told steps is first_is core_is h =
+    let ends : o ≡ outcomes.Ended = steps.outcome_is ∙ abandoned_by core.table steps.date core.entries core.exchanges (find_exchange (i + 1) core.exchanges) core.next (i + 1) in
+    record {
+      after = after_on i false (came s.core.table o) (with_core (freed s l i) core1);
+      does = record {
+        outcome = o;
+        core = core1;
+        steps = subst (λ (k : CoreState). Steps k (events.Abandon (i + 1)) o core1) core_is steps;
+        told_is = is ∙ (ap (λ n. effects.Drop (n + l) ∷ []) first_is ∙ sym (ap (λ (q : Outcome). effects.Drop (s.first + l) ∷ effects_on i (next_number s) (came s.core.table q)) ends));
+        after_is = refl;
+      };
+      stands = subst (λ (q : Outcome). Stands (state cs1 ks1 core1 first) (after_on i false (came s.core.table q) (with_core (freed s l i) core1))) (sym ends) (changed_core cs1 ks1 core first core1 (freed s l i) h);
+    }
+
+-- the steps that end an exchange with a reply
+reply_steps : (s : Story) (core core1 : CoreState) (first now i j : ℕ) (event : Event) (o : Outcome) (reply : Reply) (to_head : Bool) (told : List Effect) → Steps core event o core1 → o ≡ outcomes.Reply reply
+    → told ≡ effects.Drop (first + j) ∷ effects_on i 0 (Replies reply.bytes reply.close) → first ≡ s.first → core ≡ s.core
+    → StepsOn s (freed s j i) i to_head event (effects.Drop (s.first + j) ∷ []) told (with_connection (with_core (freed s j i) core1) i (closing reply.close))
+reply_steps s core core1 first now i j event o reply to_head told steps replies is first_is core_is = record {
+  outcome = o;
+  core = core1;
+  steps = subst (λ (k : CoreState). Steps k event o core1) core_is steps;
+  told_is = is ∙ (ap (λ n. effects.Drop (n + j) ∷ effects_on i 0 (Replies reply.bytes reply.close)) first_is ∙ sym (ap (λ (q : Outcome). effects.Drop (s.first + j) ∷ effects_on i (next_number s) (came s.core.table q)) replies));
+  after_is = sym (ap (λ (q : Outcome). after_on i to_head (came s.core.table q) (with_core (freed s j i) core1)) replies);
+}
+
+finished_by : (s : Story) (core core1 : CoreState) (first now i j : ℕ) (f : Finish) (spent : Bool) (o : Outcome) (reply : Reply) (told : List Effect) → MayGive spent f → (spent ≡ false → next_number s < 2 ^ 64)
+    → Ends core now (i + 1) f o core1 → o ≡ outcomes.Reply reply → told ≡ effects.Drop (first + j) ∷ effects_on i 0 (Replies reply.bytes reply.close) → first ≡ s.first → core ≡ s.core
+    → Finished s now j i f told (with_connection (with_core (freed s j i) core1) i (closing reply.close))
+finished_by s core core1 first now i j (Gives r) spent o reply told may left steps replies is first_is core_is =
+    (left may, reply_steps s core core1 first now i j (events.Answer now (i + 1) r) o reply (link_at s j).progress.to_head told steps replies is first_is core_is)
+finished_by s core core1 first now i j (Breaks kind) spent o reply told may left steps replies is first_is core_is =
+    reply_steps s core core1 first now i j (events.Fail now (i + 1) kind) o reply (link_at s j).progress.to_head told steps replies is first_is core_is
+
+-- an exchange was finished with a reply
+pub finished_done : (s : Story) (cs1 cs2 : List Connection) (ks1 : List Link) (core core1 : CoreState) (first now i j : ℕ) (f : Finish) (spent : Bool) (o : Outcome) (reply : Reply) (told : List Effect)
+    → MayGive spent f → (spent ≡ false → next_number s < 2 ^ 64) → Ends core now (i + 1) f o core1 → o ≡ outcomes.Reply reply → told ≡ effects.Drop (first + j) ∷ effects_on i 0 (Replies reply.bytes reply.close) → first ≡ s.first → core ≡ s.core
+    → i ≡ (link_at s j).connection → Stands (state cs1 ks1 core first) (freed s j i) → ((t : Story) (k : CoreState) → Stands (state cs1 ks1 k first) t → Stands (state cs2 ks1 k first) (with_connection t i (closing reply.close)))
+    → Done s now (Finishes j f) told (state cs2 ks1 core1 first)
+finished_done s cs1 cs2 ks1 core core1 first now i j f spent o reply told may left steps replies is first_is core_is owner gone closes = record {
+  after = with_connection (with_core (freed s j i) core1) i (closing reply.close);
+  does = subst (λ (n : ℕ). Finished s now j n f told (with_connection (with_core (freed s j i) core1) i (closing reply.close))) owner (finished_by s core core1 first now i j f spent o reply told may left steps replies is first_is core_is);
+  stands = closes (with_core (freed s j i) core1) core1 (changed_core cs1 ks1 core first core1 (freed s j i) gone);
+}
+
+-- an exchange that isn't finished, since no number is left
+pub end_failed : (s : Story) (j : ℕ) (f : Finish) (spent : Bool) (e : EngineFault) → EndFault spent f e → (spent ≡ true → 2 ^ 64 ≤ next_number s) → IsDueFirst s (Some (Finishes j f)) → Failed s e
+end_failed s j f spent WrongNumber h many due = absurd h
+end_failed s j f spent NotAccepted h many due = absurd h
+end_failed s j f spent OutOfMemory h many due = tt
+end_failed s j (Gives r) spent Spent h many due = (Finishes j (Gives r), due, tt, many h)
+end_failed s j (Breaks kind) spent Spent h many due = absurd h
+
+counts_by : (dropped : Bool) (o : Option Finish) (f : Finish) → cond dropped None o ≡ Some f → ◌≡◌ {A = ℕ} (cond dropped 0 1) 1
+counts_by true o f h = cc
+counts_by false o f h = refl
+
+-- a link on which something stands isn't dropped
+pub link_counts : (k : Link) (f : Finish) → finish_at k ≡ Some f → link_load k ≡ 1
+link_counts k f h = counts_by k.dropped (finish_seen k.watch.look k.failed) f h

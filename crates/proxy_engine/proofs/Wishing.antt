@@ -1,5 +1,5 @@
 -- What a client's stream asks for, done on both sides.
-use Rattle.std.proofs.Common.{◌≡◌, ℕ, zero, suc, ◌+◌, ◌<◌, List, [], ◌∷◌, ◌++◌, length, get_or, set, refl, sym, ap, ◌∙◌, subst, arith, Bool, true, false, Result, Ok, Err, IfOk}
+use Rattle.std.proofs.Common.{◌≡◌, ℕ, zero, suc, ◌+◌, ◌<◌, List, [], ◌∷◌, ◌++◌, length, get_or, set, refl, sym, ap, ◌∙◌, subst, arith, Bool, true, false, cond, ◌&&◌, is_some, Option, None, Some, Result, Ok, Err, IfOk, OnOk}
 use Rattle.httpdate.specs.Date.{unix_secs, date_text}
 use Rattle.httpdate.specs.declared.date.HttpDate.{HttpDate}
 use Rattle.hx_framing.specs.declared.requests.Request.{Request}
@@ -7,6 +7,8 @@ use Rattle.hx_framing.specs.declared.fault.FrameFault.{FrameFault}
 use Rattle.hx_framing.specs.declared.fault.FrameFault.TheVariants as frame
 use Rattle.hx_framing.specs.declared.answer.Next.{Next}
 use Rattle.hx_framing.specs.declared.answer.Next.TheVariants as next
+use Rattle.hx_hop.specs.declared.asked_for.Asked.{Asked}
+use Rattle.hx_hop.specs.Asking.{IsAsked}
 use Rattle.hx_status.specs.declared.cause.Cause.{Cause}
 use Rattle.hx_status.specs.declared.cause.Cause.TheVariants as cause
 use Rattle.proxy_core.specs.Moments.{IsDateOf}
@@ -16,10 +18,10 @@ use Rattle.proxy_script.specs.declared.effect_list.Effect.{Effect}
 use Rattle.proxy_script.specs.declared.effect_list.Effect.TheVariants as effects
 use Rattle.proxy_engine.specs.Look.{Due}
 use Rattle.proxy_engine.specs.Story.{Story, ConnStory, with_connection}
-use Rattle.proxy_engine.specs.Due.{Serves}
+use Rattle.proxy_engine.specs.Due.{Serves, Finish}
 use Rattle.proxy_engine.specs.Acts.{passing, closing, continue_text, Refuses, Closes, Served}
-use Rattle.proxy_engine.specs.State.{ConnStands, Stands, state, Done}
-use Rattle.proxy_engine.specs.Wishes.{IsWish, wish_by}
+use Rattle.proxy_engine.specs.State.{ConnStands, Stands, state, wish_at, finish_at, lost_load, Done}
+use Rattle.proxy_engine.specs.Wishes.{IsMessageWish, IsWish, wish_by}
 use Rattle.proxy_engine.specs.declared.wishes.Wish.{Wish}
 use Rattle.proxy_engine.specs.declared.wishes.Wish.TheVariants as wish
 use Rattle.proxy_engine.specs.declared.ends.Connection.{Connection}
@@ -97,3 +99,50 @@ closed_served s now i next.NeedsContinue told after w h = cc
 closed_served s now i (next.Message r) told after w h = absurd w
 closed_served s now i (next.Refused f) told after w h = closed_frame s now i f told after w h
 closed_served s now i next.End told after w h = h
+
+no_arrival : (f : FrameFault) (asked : Asked) {C : Type 0} → wish.Arrive asked ≡ wish_by f → C
+no_arrival frame.Truncated asked e = cc
+no_arrival frame.Head asked e = cc
+no_arrival frame.Version asked e = cc
+no_arrival frame.BothLengths asked e = cc
+no_arrival frame.Length asked e = cc
+no_arrival frame.Coding asked e = cc
+no_arrival frame.Chunk asked e = cc
+no_arrival frame.TooLarge asked e = cc
+no_arrival frame.Expect asked e = cc
+no_arrival frame.Status asked e = cc
+
+-- what arrives is a message that was read
+pub arrival_wish : (a : Next Request) (w : Wish) (asked : Asked) → w ≡ wish.Arrive asked → IsWish a w → (r : Request) × (a ≡ next.Message r) × IsAsked r (Ok asked)
+arrival_wish next.More w asked e h = absurd h
+arrival_wish next.NeedsContinue w asked e h = cc
+arrival_wish (next.Message r) w asked e h = (r, refl, subst (λ (v : Wish). IsMessageWish r v) e h)
+arrival_wish (next.Refused f) w asked e h = no_arrival f asked (sym e ∙ h)
+arrival_wish next.End w asked e h = cc
+
+some_same : {B : Type 0} {a b : B} → Some a ≡ Some b → a ≡ b
+some_same h = cc
+
+-- what is due at a place is due there, whatever stands in
+pub wish_known : (cs : List Connection) (i : ℕ) (x d : Connection) (a b : Next Request) → i < length cs → x ≡ get_or cs i x → wish_at x ≡ Some a → wish_at (get_or cs i d) ≡ Some b → b ≡ a
+wish_known cs i x d a b l e here there = some_same (sym there ∙ (ap wish_at (same_place cs i x d l e) ∙ here))
+
+pub finish_known : (ks : List Link) (j : ℕ) (x d : Link) (f g : Finish) → j < length ks → x ≡ get_or ks j x → finish_at x ≡ Some f → finish_at (get_or ks j d) ≡ Some g → g ≡ f
+finish_known ks j x d f g l e here there = some_same (sym there ∙ (ap finish_at (same_place ks j x d l e) ∙ here))
+
+pub on_ok : {A E : Type 0} (r : Result A E) (P Q : A → Type 0) → ((a : A) → P a → Q a) → IfOk r P → IfOk r Q
+on_ok (Ok a) P Q f p = f a p
+on_ok (Err e) P Q f p = tt
+
+pub does_ok : {A E : Type 0} (r : Result A E) (P Q : Type 0) → (P → Q) → OnOk r P → OnOk r Q
+does_ok (Ok a) P Q f p = f p
+does_ok (Err e) P Q f p = tt
+
+lost_by : (gone : Bool) (link : Option ℕ) (l : ℕ) → Some l ≡ cond gone link None → ◌≡◌ {A = ℕ} (cond (is_some link && gone) 1 0) 1
+lost_by true None l h = cc
+lost_by true (Some k) l h = refl
+lost_by false link l h = cc
+
+-- a gone connection with an open exchange counts one
+pub lost_counts : (cs : List Connection) (i : ℕ) (x d : Connection) (l : ℕ) → i < length cs → x ≡ get_or cs i x → Some l ≡ cond x.gone x.link None → lost_load (get_or cs i d) ≡ 1
+lost_counts cs i x d l within e h = ap lost_load (same_place cs i x d within e) ∙ lost_by x.gone x.link l h

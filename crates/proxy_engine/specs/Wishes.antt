@@ -1,8 +1,9 @@
 -- What is to be done where something is due, between the readers and the core.
 --
 -- IsWish: what a client's stream asks for, read as a request or refused
--- verdict_address: the address that a verdict leads to     Ends: the core's step that finishes an exchange
-use Rattle.std.specs.Prelude.{◌≡◌, ℕ, List, [], false, bytes_eq, codes, Ok, Err}
+-- verdict_address: the address that a verdict leads to
+-- Ends: the core's step that finishes an exchange     EndFault: why it isn't done
+use Rattle.std.specs.Prelude.{◌≡◌, ℕ, List, [], Bool, true, false, Option, None, Some, bytes_eq, codes, Ok, Err}
 use Rattle.hx_framing.specs.declared.requests.Request.{Request}
 use Rattle.hx_framing.specs.declared.fault.FrameFault.{FrameFault}
 use Rattle.hx_framing.specs.declared.fault.FrameFault.TheVariants as frame
@@ -16,9 +17,13 @@ use Rattle.hx_allow.specs.declared.verdicts.Verdict.TheVariants as verdict
 use Rattle.hx_status.specs.declared.cause.Cause.TheVariants as cause
 use Rattle.proxy_core.specs.State.{State as CoreState, Steps}
 use Rattle.proxy_core.specs.declared.outcome.Outcome.{Outcome}
+use Rattle.proxy_core.specs.declared.outcome.Outcome.TheVariants as outcomes
+use Rattle.proxy_core.specs.declared.outcome.Reply.{Reply}
 use Rattle.proxy_core.specs.declared.event.Event.TheVariants as events
 use Rattle.proxy_engine.specs.Acts.{address_of}
 use Rattle.proxy_engine.specs.Due.{Finish, Gives, Breaks}
+use Rattle.proxy_engine.specs.declared.happening.EngineFault.{EngineFault}
+use Rattle.proxy_engine.specs.declared.happening.EngineFault.TheVariants.{WrongNumber, NotAccepted, OutOfMemory, Spent}
 use Rattle.proxy_engine.specs.declared.wishes.Wish.{Wish}
 use Rattle.proxy_engine.specs.declared.wishes.Wish.TheVariants as wish
 
@@ -60,3 +65,26 @@ verdict_address table verdict.NoLine = []
 abbrev pub Ends : CoreState → ℕ → ℕ → Finish → Outcome → CoreState → Type 0
 Ends s now id (Gives r) outcome t = Steps s (events.Answer now id r) outcome t
 Ends s now id (Breaks kind) outcome t = Steps s (events.Fail now id kind) outcome t
+
+-- an answer may go forward, and then needs a link
+abbrev pub MayGive : Bool → Finish → Type 0
+MayGive spent (Gives r) = spent ≡ false
+MayGive spent (Breaks kind) = Unit {0}
+
+-- why an exchange isn't finished, where no link number is left or one is
+abbrev pub EndFault : Bool → Finish → EngineFault → Type 0
+EndFault spent finish WrongNumber = ⊥
+EndFault spent finish NotAccepted = ⊥
+EndFault spent finish OutOfMemory = Unit {0}
+EndFault spent (Gives r) Spent = spent ≡ true
+EndFault spent (Breaks kind) Spent = ⊥
+
+-- a reply, or none
+abbrev pub outcome_by : Option Reply → Outcome
+outcome_by None = outcomes.Ended
+outcome_by (Some reply) = outcomes.Reply reply
+
+abbrev pub goes_forward : Outcome → Bool
+goes_forward (outcomes.Reply reply) = false
+goes_forward (outcomes.Forward line bytes) = true
+goes_forward outcomes.Ended = false

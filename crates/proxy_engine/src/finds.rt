@@ -1,8 +1,8 @@
 //! The first place at which something is due. A look keeps what it finds, so nothing is read twice.
-ghost use Rattle.std.specs.Prelude.{◌≡◌, ℕ, ◌<◌, ◌≤◌, List, length, sum_by, true, false, is_some, IfOk, IfSome, OnOk, Option, Some, None, if◌then◌else◌};
+ghost use Rattle.std.specs.Prelude.{◌≡◌, ℕ, ◌<◌, ◌≤◌, List, length, sum_by, true, false, is_some, IfOk, IfSome, OnOk, Option, Some, None, if◌then◌else◌, slice_index_or};
 ghost use Rattle.proxy_engine.specs.Story.{ConnStory, LinkStory, no_connection};
 ghost use Rattle.proxy_engine.specs.Due.{IsFirst, Lost, Stood, Wanted};
-ghost use Rattle.proxy_engine.specs.State.{Both, ConnStands, LinkStands, finish_at, wish_at, FoundLinks, FoundConnections, connection_load, link_load};
+ghost use Rattle.proxy_engine.specs.State.{Both, ConnStands, LinkStands, finish_at, wish_at, FoundLinks, FoundConnections, connection_load, lost_load, link_load};
 
 use crate::ends::{Connection, Link};
 use std::alloc::{AllocError, Global};
@@ -22,6 +22,7 @@ fn lost_link(connection: &Connection) -> Option<usize>
 pub(crate) fn find_lost(connections: &[Connection]) -> Option<(usize, usize)>
     ensures first { (ss : List ConnStory) → Both ConnStands connections.now ss → IsFirst Lost no_connection ss result }
     ensures within { IfSome result (λ p. p.0 < length connections.now) }
+    ensures load { IfSome result (λ p. (c : Connection) → lost_load (slice_index_or connections.now p.0 c) ≡ 1) }
 {
     for (i, connection) in connections.iter().enumerate() {
         if let Some(link) = lost_link(connection) {

@@ -5,8 +5,10 @@
 //! `specs/ResponseWatch.antt` say for which streams it stands. Nothing here opens a socket.
 #![tactic(auto)]
 
+mod acts;
 mod ends;
 mod finds;
+mod finishing;
 mod happening;
 mod laws;
 mod marks;

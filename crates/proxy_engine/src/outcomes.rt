@@ -32,7 +32,7 @@ fn put_link(links: &mut Vec<Link>, link: Link)
 }
 
 /// The number of the link at a place.
-fn number_at(first: u64, place: usize) -> u64
+pub(crate) fn number_at(first: u64, place: usize) -> u64
     ensures { first + place < 2 ^ 64 → result ≡ first + place }
 {
     first.wrapping_add(place as u64)

@@ -169,3 +169,44 @@ fn arrive<S: Shelf>(
     carry_out(connections, links, &mut effects, alloc, first, i, way, outcome);
     Ok(effects)
 }
+
+/// Does what is due on the connection at a place.
+pub(crate) fn serve<S: Shelf>(
+    connections: &mut Vec<Connection>,
+    links: &mut Vec<Link>,
+    core: &mut Core<S>,
+    alloc: Global,
+    first: u64,
+    now: u64,
+    i: usize,
+) -> Result<Vec<Effect>, EngineFault>
+    requires within { i < length connections.old.items }
+    requires due { (c : Connection) → is_some (wish_at (slice_index_or connections.old.items i c)) ≡ true }
+    requires early { now < 253402300800 }
+    ensures ok { IfOk result (λ effects. (s : Story) → (a : Next Request) → (c : Connection) → wish_at (slice_index_or connections.old.items i c) ≡ Some a
+        → Stands (state connections.old.items links.old.items core.old first) s → Done s now (Serves i a) effects.items (state connections.new.items links.new.items core.new first)) }
+    ensures less { OnOk result (load_of connections.new.items links.new.items < load_of connections.old.items links.old.items) }
+    ensures fault { IfErr result (λ fault. (s : Story) → (a : Next Request) → (c : Connection) → wish_at (slice_index_or connections.old.items i c) ≡ Some a → IsDueFirst s (Some (Serves i a))
+        → Stands (state connections.old.items links.old.items core.old first) s → Failed s fault) }
+    ensures err { OnErr result ((connections.new.items ≡ connections.old.items) × (links.new.items ≡ links.old.items) × (core.new ≡ core.old)) }
+{
+    let wish = match wish_of(&connections[i], alloc) {
+        Ok(wish) => wish,
+        Err(_) => return Err(EngineFault::OutOfMemory),
+    };
+    match wish {
+        Wish::Continue => match send_continue(connections, alloc, i) {
+            Ok(effects) => Ok(effects),
+            Err(_) => Err(EngineFault::OutOfMemory),
+        },
+        Wish::Arrive(asked) => arrive(connections, links, core, alloc, first, now, i, &asked),
+        Wish::Refuse(why, head) => match refuse(connections, alloc, now, i, why, head) {
+            Ok(effects) => Ok(effects),
+            Err(_) => Err(EngineFault::OutOfMemory),
+        },
+        Wish::Close => match shut(connections, alloc, i) {
+            Ok(effects) => Ok(effects),
+            Err(_) => Err(EngineFault::OutOfMemory),
+        },
+    }
+}

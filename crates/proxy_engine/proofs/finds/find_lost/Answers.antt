@@ -4,6 +4,7 @@ use Rattle.proxy_engine.specs.Due.{Lost}
 use Rattle.proxy_engine.specs.State.{ConnStands}
 use Rattle.proxy_engine.proofs.Parts.{both_length, both_here}
 use Rattle.proxy_engine.proofs.Shown.{lost}
+use Rattle.proxy_engine.proofs.Wishing.{lost_counts}
 use borrow.Author.Count.{below_more}
 use Rattle.proxy_engine.proofs.finds.find_lost.Goals as goal
 
@@ -15,6 +16,9 @@ returns-in-Some-clause-first c = λ ss b.
       lost c.index-connections-i.result (get_or ss i no_connection) _ (both_here ConnStands c.args.connections.now ss i c.index-connections-i.result no_connection (omega arith) c.index-connections-i.is b) (sym c.in-Some.is ∙ c.lost_link.ensures),
       c.loop-i.invariant ss b,
     )
+
+pub returns-in-Some-clause-load : goal.returns-in-Some-clause-load
+returns-in-Some-clause-load c = λ d. lost_counts c.args.connections.now c.loop-i.i c.index-connections-i.result d _ (omega arith) c.index-connections-i.is (sym c.in-Some.is ∙ c.lost_link.ensures)
 
 pub loop-i-preserved : goal.loop-i-preserved
 loop-i-preserved c = λ ss b.

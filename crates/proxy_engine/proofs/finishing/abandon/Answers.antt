@@ -1,0 +1,26 @@
+use Rattle.std.proofs.Common.{rules, ◌≡◌, ◌+◌, ◌<◌, ◌≤◌, ◌^◌, ◌∙◌, ◌∷◌, [], ℕ, length, ap, arith}
+use Rattle.proxy_script.specs.declared.effect_list.Effect.TheVariants.{Drop}
+use Rattle.proxy_engine.specs.State.{LinkStands, lost_load}
+use Rattle.proxy_engine.proofs.Parts.{both_length}
+use Rattle.proxy_engine.proofs.Searching.{some_part}
+use Rattle.proxy_engine.proofs.Wishing.{told_one}
+use Rattle.proxy_engine.proofs.Stepping.{abandoned_done}
+use Rattle.proxy_engine.proofs.finishing.abandon.Goals as goal
+
+pub returns-clause-ok : goal.returns-clause-ok
+returns-clause-ok g c = λ s now h.
+    let links = both_length LinkStands c.args.links.now.items s.links h.links in
+    let first_is : c.args.first ≡ s.first = h.first in
+    let numbers : s.first + length s.links ≤ 2 ^ 64 = h.numbers in
+    let number : c.number_at.result ≡ c.args.first + c.args.l = c.number_at.ensures (omega (arith, links)) in
+    abandoned_done s c.free.new.connections.items c.free.new.links.items c.args.core.now c.abandon.new.self c.args.first now c.args.i c.args.l c.in-Ok.field-0 c.put.new.effects.items c.in-Ok.ensures.ok
+    (told_one c.in_ok-effects.effects.items c.put.new.effects.items _ c.put.ensures.items c.in_ok-effects.ensures.items ∙ ap (λ (n : ℕ). Drop n ∷ []) number) first_is h.core
+    (c.free.ensures.stands s c.args.core.now c.args.first h)
+
+pub returns-clause-less : goal.returns-clause-less
+returns-clause-less g c = λ d one.
+    let ks = c.args.links.now.items in
+    let count : c.len.result ≡ length ks = search rules in
+    let within : c.args.l < length ks = search (rules, c.if-l-len.false, count) in
+    let load = c.free.ensures.load d (some_part ks c.args.l within) in
+    omega (arith, load, one)

@@ -1,0 +1,63 @@
+use Rattle.std.proofs.Common.{rules, ◌≡◌, ◌+◌, ◌<◌, ◌≤◌, ◌^◌, ◌∙◌, ◌++◌, ◌∷◌, [], ℕ, List, true, false, Some, length, get_or, sym, ap, subst, arith}
+use Rattle.proxy_script.specs.declared.effect_list.Effect.{Effect}
+use Rattle.proxy_script.specs.declared.effect_list.Effect.TheVariants.{Drop}
+use Rattle.proxy_engine.specs.Story.{no_link}
+use Rattle.proxy_engine.specs.Due.{Finish, Finishes}
+use Rattle.proxy_engine.specs.Acts.{effects_on}
+use Rattle.proxy_engine.specs.Acts.Came.{Replies}
+use Rattle.proxy_engine.specs.State.{LinkStands, Stands, state, Done, link_load, finish_at}
+use Rattle.proxy_engine.specs.Wishes.{EndFault}
+use Rattle.proxy_engine.specs.declared.ends.Link.{Link}
+use Rattle.proxy_engine.proofs.Parts.{both_length, both_here}
+use Rattle.proxy_engine.proofs.Searching.{some_part}
+use Rattle.proxy_engine.proofs.Wishing.{finish_known, same_place, told_one}
+use Rattle.proxy_engine.proofs.Stepping.{finished_done, end_failed, link_counts}
+use Rattle.proxy_engine.proofs.finishing.finish.Goals as goal
+
+pub returns-in-Err-clause-fault : goal.returns-in-Err-clause-fault
+returns-in-Err-clause-fault g c = λ s f k shown due h.
+    let ks = c.args.links.now.items in
+    let ended = c.in-Err.ensures.fault in
+    let same : f ≡ ended.0 = finish_known ks c.args.j c.index-2.result.now k ended.0 f c.requires.within c.index-2.ensures ended.1 shown in
+    let links = both_length LinkStands ks s.links h.links in
+    let first_is : c.args.first ≡ s.first = h.first in
+    let count : c.len-2.result ≡ length ks = search rules in
+    end_failed s c.args.j f c.is_spent-spent.result c.in-Err.fault (subst (λ (x : Finish). EndFault c.is_spent-spent.result x c.in-Err.fault) (sym same) ended.2)
+    (λ t. let many = c.is_spent-spent.ensures.spent t in omega (arith, many, count, links)) due
+
+pub returns-in-Some-clause-ok : goal.returns-in-Some-clause-ok
+returns-in-Some-clause-ok g c = λ s f k shown h.
+    let cs = c.args.connections.now.items in
+    let ks = c.args.links.now.items in
+    let j = c.args.j in
+    let i = c.index.result.now.connection in
+    let ended = c.in-Ok-end.ensures.ok in
+    let same : f ≡ ended.0 = finish_known ks j c.index-2.result.now k ended.0 f c.requires.within c.index-2.ensures ended.1 shown in
+    let links = both_length LinkStands ks s.links h.links in
+    let first_is : c.args.first ≡ s.first = h.first in
+    let numbers : s.first + length s.links ≤ 2 ^ 64 = h.numbers in
+    let count : c.len-2.result ≡ length ks = search rules in
+    let number : c.number_at.result ≡ c.args.first + j = c.number_at.ensures (omega (arith, links, c.requires.within)) in
+    let owner = both_here LinkStands ks s.links j c.index.result.now no_link c.requires.within c.index.ensures h.links in
+    subst (λ (x : Finish). Done s c.args.now (Finishes j x) c.send_reply.new.effects.items (state c.send_reply.new.connections.items c.free.new.links.items c.end.new.core c.args.first)) (sym same)
+    (finished_done s c.free.new.connections.items c.send_reply.new.connections.items c.free.new.links.items c.args.core.now c.end.new.core c.args.first c.args.now i j ended.0 c.is_spent-spent.result c.in-Ok-end.outcome c.in-Some.reply
+    c.send_reply.new.effects.items ended.2 (λ t. let few = c.is_spent-spent.ensures.left t in omega (arith, few, count, links)) ended.3 c.in-Some.ensures
+    (c.send_reply.ensures.effects ∙ ap (λ (b : List Effect). b ++ effects_on i 0 (Replies c.in-Some.reply.bytes c.in-Some.reply.close))
+    (told_one c.in-Ok.effects.items c.put.new.effects.items _ c.put.ensures.items c.in-Ok.ensures.items ∙ ap (λ (n : ℕ). Drop n ∷ []) number)) first_is h.core owner.connection (c.free.ensures.stands s c.args.core.now c.args.first h)
+    (λ t core. c.send_reply.ensures.stands t c.free.new.links.items core c.args.first))
+
+pub returns-in-Some-clause-less : goal.returns-in-Some-clause-less
+returns-in-Some-clause-less g c =
+    let ks = c.args.links.now.items in
+    let x = c.index-2.result.now in
+    let ended = c.in-Ok-end.ensures.ok in
+    let counts : link_load x ≡ 1 = link_counts x ended.0 ended.1 in
+    let here : get_or ks c.args.j x ≡ x = same_place ks c.args.j x x c.requires.within c.index-2.ensures in
+    let open_still = ap link_load here ∙ counts in
+    let cs = c.args.connections.now.items in
+    let i = c.index.result.now.connection in
+    let few : c.len.result ≡ length cs = search rules in
+    let within : i < length cs = search (rules, c.if-i-len.false, few) in
+    let freed = c.free.ensures.load (some_part cs i within) x in
+    let reply = c.send_reply.ensures.load in
+    omega (arith, freed, open_still, reply)

@@ -1,0 +1,95 @@
+//! The first act that is due: an exchange is abandoned, else one is finished, else a connection is served.
+ghost use Rattle.std.specs.Prelude.{◌≡◌, ◌<◌, ◌≤◌, None, Some, IfOk, IfErr, OnErr};
+ghost use Rattle.proxy_engine.specs.Story.{Story, no_connection, no_link};
+ghost use Rattle.proxy_engine.specs.Due.{IsFirst, Lost, Stood};
+ghost use Rattle.proxy_engine.specs.State.{Stands, state, load_of, Did, Failed, Lessens};
+
+use crate::ends::{Connection, Link};
+use crate::finds::{find_due, find_finished, find_lost};
+use crate::finishing::{abandon, finish};
+use crate::happening::{EngineFault, Work};
+use crate::serving::serve;
+use hx_store::Shelf;
+use proxy_core::Core;
+use std::alloc::Global;
+
+/// Serves the first connection on which something is due, where nothing else is.
+fn serve_first<S: Shelf>(
+    connections: &mut Vec<Connection>,
+    links: &mut Vec<Link>,
+    core: &mut Core<S>,
+    alloc: Global,
+    first: u64,
+    now: u64,
+) -> Result<Work, EngineFault>
+    requires { now < 253402300800 }
+    ensures ok { IfOk result (λ work. (s : Story) → IsFirst Lost no_connection s.connections None → IsFirst Stood no_link s.links None
+        → Stands (state connections.old.items links.old.items core.old first) s → Did s now work (state connections.new.items links.new.items core.new first)) }
+    ensures less { IfOk result (λ work. Lessens (state connections.old.items links.old.items core.old first) work (state connections.new.items links.new.items core.new first)) }
+    ensures fault { IfErr result (λ fault. (s : Story) → IsFirst Lost no_connection s.connections None → IsFirst Stood no_link s.links None
+        → Stands (state connections.old.items links.old.items core.old first) s → Failed s fault) }
+    ensures unchanged { OnErr result ((s : Story) → Stands (state connections.old.items links.old.items core.old first) s → Stands (state connections.new.items links.new.items core.new first) s) }
+    ensures no_more { OnErr result (load_of connections.new.items links.new.items ≤ load_of connections.old.items links.old.items) }
+{
+    match find_due(connections, alloc) {
+        Ok(Some(i)) => match serve(connections, links, core, alloc, first, now, i) {
+            Ok(effects) => Ok(Work::Did(effects)),
+            Err(fault) => Err(fault),
+        },
+        Ok(None) => Ok(Work::Idle),
+        Err(_) => Err(EngineFault::OutOfMemory),
+    }
+}
+
+/// Finishes the first exchange whose link has an answer or a failure, where no client with an exchange is gone.
+fn finish_first<S: Shelf>(
+    connections: &mut Vec<Connection>,
+    links: &mut Vec<Link>,
+    core: &mut Core<S>,
+    alloc: Global,
+    first: u64,
+    now: u64,
+) -> Result<Work, EngineFault>
+    requires { now < 253402300800 }
+    ensures ok { IfOk result (λ work. (s : Story) → IsFirst Lost no_connection s.connections None
+        → Stands (state connections.old.items links.old.items core.old first) s → Did s now work (state connections.new.items links.new.items core.new first)) }
+    ensures less { IfOk result (λ work. Lessens (state connections.old.items links.old.items core.old first) work (state connections.new.items links.new.items core.new first)) }
+    ensures fault { IfErr result (λ fault. (s : Story) → IsFirst Lost no_connection s.connections None
+        → Stands (state connections.old.items links.old.items core.old first) s → Failed s fault) }
+    ensures unchanged { OnErr result ((s : Story) → Stands (state connections.old.items links.old.items core.old first) s → Stands (state connections.new.items links.new.items core.new first) s) }
+    ensures no_more { OnErr result (load_of connections.new.items links.new.items ≤ load_of connections.old.items links.old.items) }
+{
+    match find_finished(links, alloc) {
+        Ok(Some(j)) => match finish(connections, links, core, alloc, first, now, j) {
+            Ok(effects) => Ok(Work::Did(effects)),
+            Err(fault) => Err(fault),
+        },
+        Ok(None) => serve_first(connections, links, core, alloc, first, now),
+        Err(_) => Err(EngineFault::OutOfMemory),
+    }
+}
+
+/// Does the first act that is due, if one is.
+pub(crate) fn work<S: Shelf>(
+    connections: &mut Vec<Connection>,
+    links: &mut Vec<Link>,
+    core: &mut Core<S>,
+    alloc: Global,
+    first: u64,
+    now: u64,
+) -> Result<Work, EngineFault>
+    requires { now < 253402300800 }
+    ensures ok { IfOk result (λ work. (s : Story) → Stands (state connections.old.items links.old.items core.old first) s → Did s now work (state connections.new.items links.new.items core.new first)) }
+    ensures less { IfOk result (λ work. Lessens (state connections.old.items links.old.items core.old first) work (state connections.new.items links.new.items core.new first)) }
+    ensures fault { IfErr result (λ fault. (s : Story) → Stands (state connections.old.items links.old.items core.old first) s → Failed s fault) }
+    ensures unchanged { OnErr result ((s : Story) → Stands (state connections.old.items links.old.items core.old first) s → Stands (state connections.new.items links.new.items core.new first) s) }
+    ensures no_more { OnErr result (load_of connections.new.items links.new.items ≤ load_of connections.old.items links.old.items) }
+{
+    match find_lost(connections) {
+        Some((i, l)) => match abandon(connections, links, core, alloc, first, i, l) {
+            Ok(effects) => Ok(Work::Did(effects)),
+            Err(_) => Err(EngineFault::OutOfMemory),
+        },
+        None => finish_first(connections, links, core, alloc, first, now),
+    }
+}

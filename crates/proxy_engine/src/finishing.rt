@@ -1,0 +1,169 @@
+//! An exchange ends: its origin has answered or failed, or its client is gone.
+ghost use Rattle.std.specs.Prelude.{◌≡◌, ℕ, ◌+◌, ◌<◌, ◌≤◌, ◌^◌, List, length, true, false, Some, is_some, IfOk, IfErr, OnOk, OnErr, slice_index_or};
+ghost use Rattle.hx_framing.specs.declared.responses.Response.{Response as Told};
+ghost use Rattle.hx_framing.specs.declared.answer.Next.{Next as Answer};
+ghost use Rattle.proxy_core.specs.declared.event.Event.TheVariants.{Fail};
+ghost use Rattle.proxy_core.specs.State.{State as CoreState, Steps};
+ghost use Rattle.proxy_engine.specs.Story.{Story};
+ghost use Rattle.proxy_engine.specs.Due.{Abandons, Finish, Finishes, kind_of, IsDueFirst};
+ghost use Rattle.proxy_engine.specs.State.{Stands, state, finish_at, lost_load, load_of, Done, Failed};
+ghost use Rattle.proxy_engine.specs.Wishes.{Ends, MayGive, EndFault, outcome_by, goes_forward};
+
+use crate::ends::{Connection, Link};
+use crate::happening::EngineFault;
+use crate::outcomes::{free, is_spent, number_at, put, room, send_reply};
+use hx_framing::{FrameFault, Next};
+use hx_status::FailKind;
+use hx_store::Shelf;
+use proxy_core::{Core, Outcome, Reply};
+use proxy_script::Effect;
+use std::alloc::{AllocError, Global};
+
+/// The failure that a fault in an answer is.
+fn kind_of(fault: FrameFault) -> FailKind
+    ensures { result ≡ kind_of fault }
+{
+    match fault {
+        FrameFault::Truncated => FailKind::Closed,
+        FrameFault::TooLarge => FailKind::TooLarge,
+        _ => FailKind::BadAnswer,
+    }
+}
+
+/// The reply that ends an exchange, if it gets one. Answers and failures never go forward again.
+fn reply_of(outcome: Outcome) -> Option<Reply>
+    requires { goes_forward outcome ≡ false }
+    ensures { outcome ≡ outcome_by result }
+{
+    match outcome {
+        Outcome::Reply(reply) => Some(reply),
+        Outcome::Forward(_, _) => unreachable!(),
+        Outcome::Ended => None,
+    }
+}
+
+/// The origin failed.
+fn fail<S: Shelf>(
+    core: &mut Core<S>,
+    alloc: Global,
+    now: u64,
+    id: u64,
+    kind: FailKind,
+) -> Result<Outcome, EngineFault>
+    ensures ok { IfOk result (λ outcome. Steps core.old (Fail now id kind) outcome core.new) }
+    ensures fault { IfErr result (λ fault. fault ≡ EngineFault.OutOfMemory) }
+    ensures err { OnErr result (core.new ≡ core.old) }
+{
+    match core.fail(alloc, now, id, kind) {
+        Ok(outcome) => Ok(outcome),
+        Err(_) => Err(EngineFault::OutOfMemory),
+    }
+}
+
+/// The core's step for what stands on a link.
+fn end<S: Shelf>(
+    link: &Link,
+    core: &mut Core<S>,
+    alloc: Global,
+    now: u64,
+    id: u64,
+    spent: bool,
+) -> Result<Outcome, EngineFault>
+    requires { is_some (finish_at link.now) ≡ true }
+    ensures ok { IfOk result (λ outcome. (f : Finish) × (finish_at link.now ≡ Some f) × MayGive spent f × Ends core.old now id f outcome core.new) }
+    ensures fault { IfErr result (λ fault. (f : Finish) × (finish_at link.now ≡ Some f) × EndFault spent f fault) }
+    ensures err { OnErr result (core.new ≡ core.old) }
+{
+    match link.watch.due() {
+        Some(next) => match next {
+            Next::Message(response) => {
+                if spent {
+                    return Err(EngineFault::Spent);
+                }
+                match core.answer(alloc, now, id, response) {
+                    Ok(outcome) => Ok(outcome),
+                    Err(_) => Err(EngineFault::OutOfMemory),
+                }
+            }
+            Next::Refused(fault) => fail(core, alloc, now, id, kind_of(*fault)),
+            Next::NeedsContinue => fail(core, alloc, now, id, FailKind::BadAnswer),
+            Next::End => fail(core, alloc, now, id, FailKind::Closed),
+            Next::More => unreachable!(),
+        },
+        None => match link.failed {
+            Some(kind) => fail(core, alloc, now, id, kind),
+            None => unreachable!(),
+        },
+    }
+}
+
+/// The exchange of a connection that is gone is abandoned, and its link is dropped.
+pub(crate) fn abandon<S: Shelf>(
+    connections: &mut Vec<Connection>,
+    links: &mut Vec<Link>,
+    core: &mut Core<S>,
+    alloc: Global,
+    first: u64,
+    i: usize,
+    l: usize,
+) -> Result<Vec<Effect>, AllocError>
+    requires { i < length connections.old.items }
+    ensures ok { IfOk result (λ effects. (s : Story) → (now : ℕ) → Stands (state connections.old.items links.old.items core.old first) s
+        → Done s now (Abandons i l) effects.items (state connections.new.items links.new.items core.new first)) }
+    ensures less { OnOk result ((c : Connection) → lost_load (slice_index_or connections.old.items i c) ≡ 1 → load_of connections.new.items links.new.items < load_of connections.old.items links.old.items) }
+    ensures err { OnErr result ((connections.new.items ≡ connections.old.items) × (links.new.items ≡ links.old.items) × (core.new ≡ core.old)) }
+{
+    let mut effects = room(alloc)?;
+    if l >= links.len() {
+        return Err(AllocError);
+    }
+    match core.abandon(i as u64 + 1) {
+        Ok(_) => {}
+        Err(_) => return Err(AllocError),
+    }
+    free(connections, links, l, i);
+    put(&mut effects, Effect::Drop(number_at(first, l)));
+    Ok(effects)
+}
+
+/// The exchange of a link is finished by what stands on it, and the link is dropped.
+pub(crate) fn finish<S: Shelf>(
+    connections: &mut Vec<Connection>,
+    links: &mut Vec<Link>,
+    core: &mut Core<S>,
+    alloc: Global,
+    first: u64,
+    now: u64,
+    j: usize,
+) -> Result<Vec<Effect>, EngineFault>
+    requires within { j < length links.old.items }
+    requires due { (k : Link) → is_some (finish_at (slice_index_or links.old.items j k)) ≡ true }
+    ensures ok { IfOk result (λ effects. (s : Story) → (f : Finish) → (k : Link) → finish_at (slice_index_or links.old.items j k) ≡ Some f
+        → Stands (state connections.old.items links.old.items core.old first) s → Done s now (Finishes j f) effects.items (state connections.new.items links.new.items core.new first)) }
+    ensures less { OnOk result (load_of connections.new.items links.new.items < load_of connections.old.items links.old.items) }
+    ensures fault { IfErr result (λ fault. (s : Story) → (f : Finish) → (k : Link) → finish_at (slice_index_or links.old.items j k) ≡ Some f → IsDueFirst s (Some (Finishes j f))
+        → Stands (state connections.old.items links.old.items core.old first) s → Failed s fault) }
+    ensures err { OnErr result ((connections.new.items ≡ connections.old.items) × (links.new.items ≡ links.old.items) × (core.new ≡ core.old)) }
+{
+    let Ok(mut effects) = room(alloc) else {
+        return Err(EngineFault::OutOfMemory);
+    };
+    let i = links[j].connection;
+    if i >= connections.len() {
+        return Err(EngineFault::OutOfMemory);
+    }
+    let spent = is_spent(first, links.len());
+    let outcome = match end(&links[j], core, alloc, now, i as u64 + 1, spent) {
+        Ok(outcome) => outcome,
+        Err(fault) => return Err(fault),
+    };
+    free(connections, links, j, i);
+    put(&mut effects, Effect::Drop(number_at(first, j)));
+    match reply_of(outcome) {
+        Some(reply) => {
+            send_reply(connections, &mut effects, i, reply.bytes, reply.close);
+            Ok(effects)
+        }
+        None => Ok(effects),
+    }
+}
