@@ -1,12 +1,14 @@
-//! The proxy over connections and links: what is taken, and what is due. Nothing acts on it yet.
+//! The proxy over connections and links: it takes what happens, and does what is due, one act after another.
 //!
-//! `specs/Story.antt` says what an engine has lived through, `specs/Due.antt` which act is due first.
+//! `specs/Story.antt` says what an engine has lived through, `specs/Due.antt` which act is due first, and
+//! `specs/Acts.antt` what each act does.
 //! A watch is a reader that is asked ahead: what it answers is kept until it is used. `specs/RequestWatch.antt` and
 //! `specs/ResponseWatch.antt` say for which streams it stands. Nothing here opens a socket.
 #![tactic(auto)]
 
 mod acts;
 mod ends;
+mod engine;
 mod finds;
 mod finishing;
 mod happening;
@@ -21,6 +23,7 @@ mod wishes;
 #[cfg(test)]
 mod tests;
 
+pub use crate::engine::Engine;
 pub use crate::happening::{EngineFault, Happening, Work};
 pub use crate::laws::due_once;
 pub use crate::request_watch::RequestWatch;

@@ -1,0 +1,102 @@
+//! The engine: connections of clients, links to origins, and the core between them.
+ghost use Rattle.std.specs.Prelude.{◌≡◌, ◌<◌, ◌≤◌, [], IfOk, IfErr, OnOk, OnErr, Some};
+ghost use Rattle.proxy_engine.specs.Story.{Story};
+ghost use Rattle.proxy_engine.specs.Happenings.{said};
+ghost use Rattle.proxy_engine.specs.State.{State, Stands, Takes, TakeFault, Did, Failed, Lessens, begun, load_at};
+
+use crate::acts;
+use crate::ends::{Connection, Link};
+use crate::happening::{EngineFault, Happening, Work};
+use crate::takes;
+use hx_allow::Config;
+use hx_store::Shelf;
+use proxy_core::Core;
+use std::alloc::Global;
+use std::marker::Model;
+
+/// The proxy without sockets. It is told what happens, and asked for what is to be done.
+///
+/// Contracts see its `State`, and speak of the stories that it stands for: the streams as they came, the messages
+/// that were used of them, and what was done.
+#[derive(Drop)]
+pub struct Engine<S: Shelf> {
+    connections: Vec<Connection>,
+    links: Vec<Link>,
+    core: Core<S>,
+    first_link: u64,
+}
+
+impl<S: Shelf> Model for Engine<S> {
+    ghost use Rattle.proxy_engine.specs.State.{State};
+
+    ghost Value = { State };
+
+    ghost view = { λ e. record { connections = e.connections.items; links = e.links.items; core = e.core; first = e.first_link } };
+}
+
+impl<S: Shelf> Engine<S> {
+    /// An engine that nothing has happened to. The shelf is empty and has the configured capacity; serials of
+    /// stored responses begin at `first_serial`, 1 or more, numbers of links at `first_link`.
+    pub fn new(
+        alloc: Global,
+        config: Config,
+        shelf: S,
+        first_serial: u64,
+        first_link: u64,
+    ) -> Self
+        requires { S.entries shelf ≡ [] }
+        ensures { Stands result (begun (record { table = config; limit = S.limit shelf; entries = []; exchanges = []; next = Some first_serial }) first_link) }
+    {
+        Engine {
+            connections: Vec::new(alloc),
+            links: Vec::new(alloc),
+            core: Core::new(alloc, config, shelf, first_serial),
+            first_link,
+        }
+    }
+
+    /// Takes what happened. An `Err` changes nothing, and says want of memory only where no other refusal stands.
+    pub fn take(&mut self, alloc: Global, happening: Happening<'_>) -> Result<(), EngineFault>
+        ensures ok { OnOk result ((s : Story) → Stands self.old s → Takes s (said happening.entry) self.new) }
+        ensures fault { IfErr result (λ fault. (s : Story) → Stands self.old s → TakeFault s (said happening.entry) fault) }
+        ensures unchanged { OnErr result (self.new ≡ self.old) }
+    {
+        match happening {
+            Happening::Accept(n) => {
+                let max_body = self.core.config().max_body();
+                takes::accept(&mut self.connections, alloc, max_body, n)
+            }
+            Happening::Client(n, bytes) => takes::client(&mut self.connections, n, bytes),
+            Happening::Link(l, bytes) => takes::answer(&mut self.links, self.first_link, l, bytes),
+            Happening::End(n) => takes::finish_client(&mut self.connections, n),
+            Happening::Gone(n) => takes::lose_client(&mut self.connections, n),
+            Happening::Shut(l) => takes::shut_link(&mut self.links, self.first_link, l),
+            Happening::Fail(l, kind) => takes::break_link(
+                &mut self.links,
+                self.first_link,
+                l,
+                kind,
+            ),
+        }
+    }
+
+    /// Does the first act that is due, and at most one step of the core. `now` is in Unix seconds, up to the end of
+    /// the year 9999. After an `Err` the engine stands for the stories that it stood for.
+    pub fn work(&mut self, alloc: Global, now: u64) -> Result<Work, EngineFault>
+        requires { now < 253402300800 }
+        ensures ok { IfOk result (λ work. (s : Story) → Stands self.old s → Did s now work self.new) }
+        ensures less { IfOk result (λ work. Lessens self.old work self.new) }
+        ensures fault { IfErr result (λ fault. (s : Story) → Stands self.old s → Failed s fault) }
+        ensures unchanged { OnErr result ((s : Story) → Stands self.old s → Stands self.new s) }
+        ensures no_more { OnErr result (load_at self.new ≤ load_at self.old) }
+    {
+        acts::work(
+            &mut self.connections,
+            &mut self.links,
+            &mut self.core,
+            alloc,
+            self.first_link,
+            now,
+        )
+    }
+}
