@@ -1,5 +1,5 @@
 -- What happens and what is done, as contracts see it: without references.
-use Rattle.std.specs.Prelude.{ℕ, List}
+use Rattle.std.specs.Prelude.{ℕ, List, Bool, true, false}
 use Rattle.hx_status.specs.declared.cause.FailKind.{FailKind}
 use Rattle.proxy_engine.specs.declared.happening.Happening.{Happening}
 use Rattle.proxy_engine.specs.declared.happening.Happening.TheVariants as happenings
@@ -21,3 +21,13 @@ said (happenings.End n) = Ends n
 said (happenings.Gone n) = Leaves n
 said (happenings.Shut l) = Shuts l
 said (happenings.Fail l kind) = Fails l kind
+
+-- a connection or bytes are kept
+abbrev pub takes_memory : Said → Bool
+takes_memory (Accepts n) = true
+takes_memory (Sends n bytes) = true
+takes_memory (Hears l bytes) = true
+takes_memory (Ends n) = false
+takes_memory (Leaves n) = false
+takes_memory (Shuts l) = false
+takes_memory (Fails l kind) = false

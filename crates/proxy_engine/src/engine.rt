@@ -1,7 +1,7 @@
 //! The engine: connections of clients, links to origins, and the core between them.
-ghost use Rattle.std.specs.Prelude.{◌≡◌, ◌<◌, ◌≤◌, [], IfOk, IfErr, OnOk, OnErr, Some};
+ghost use Rattle.std.specs.Prelude.{◌≡◌, ◌<◌, ◌≤◌, [], IfOk, IfErr, OnOk, OnErr, Some, Err, true};
 ghost use Rattle.proxy_engine.specs.Story.{Story};
-ghost use Rattle.proxy_engine.specs.Happenings.{said};
+ghost use Rattle.proxy_engine.specs.Happenings.{said, takes_memory};
 ghost use Rattle.proxy_engine.specs.State.{State, Stands, Takes, TakeFault, Did, Failed, Lessens, begun, load_at};
 
 use crate::acts;
@@ -59,6 +59,8 @@ impl<S: Shelf> Engine<S> {
     pub fn take(&mut self, alloc: Global, happening: Happening<'_>) -> Result<(), EngineFault>
         ensures ok { OnOk result ((s : Story) → Stands self.old s → Takes s (said happening.entry) self.new) }
         ensures fault { IfErr result (λ fault. (s : Story) → Stands self.old s → TakeFault s (said happening.entry) fault) }
+        // Only connections and bytes take memory.
+        ensures memory { result ≡ Err EngineFault.OutOfMemory → takes_memory (said happening.entry) ≡ true }
         ensures unchanged { OnErr result (self.new ≡ self.old) }
     {
         match happening {

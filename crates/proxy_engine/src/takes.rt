@@ -161,6 +161,7 @@ pub(crate) fn finish_client(connections: &mut Vec<Connection>, n: u64) -> Result
     ensures ok { OnOk result ((s : Story) → (links : List Link) → (core : CoreState) → (first : ℕ) → Stands (state connections.old.items links core first) s
         → Takes s (Ends n) (state connections.new.items links core first)) }
     ensures fault { IfErr result (λ e. (s : Story) → (links : List Link) → (core : CoreState) → (first : ℕ) → Stands (state connections.old.items links core first) s → TakeFault s (Ends n) e) }
+    ensures memory { IfErr result (λ e. e ≡ EngineFault.NotAccepted) }
     ensures err { OnErr result (connections.new.items ≡ connections.old.items) }
 {
     let Some(i) = connection_place(connections, n) else {
@@ -174,6 +175,7 @@ pub(crate) fn lose_client(connections: &mut Vec<Connection>, n: u64) -> Result<(
     ensures ok { OnOk result ((s : Story) → (links : List Link) → (core : CoreState) → (first : ℕ) → Stands (state connections.old.items links core first) s
         → Takes s (Leaves n) (state connections.new.items links core first)) }
     ensures fault { IfErr result (λ e. (s : Story) → (links : List Link) → (core : CoreState) → (first : ℕ) → Stands (state connections.old.items links core first) s → TakeFault s (Leaves n) e) }
+    ensures memory { IfErr result (λ e. e ≡ EngineFault.NotAccepted) }
     ensures err { OnErr result (connections.new.items ≡ connections.old.items) }
 {
     let Some(i) = connection_place(connections, n) else {
@@ -207,6 +209,7 @@ pub(crate) fn shut_link(links: &mut Vec<Link>, first: u64, l: u64) -> Result<(),
     ensures ok { OnOk result ((s : Story) → (connections : List Connection) → (core : CoreState) → Stands (state connections links.old.items core first) s
         → Takes s (Shuts l) (state connections links.new.items core first)) }
     ensures fault { IfErr result (λ e. (s : Story) → (connections : List Connection) → (core : CoreState) → Stands (state connections links.old.items core first) s → TakeFault s (Shuts l) e) }
+    ensures memory { IfErr result (λ e. e ≡ EngineFault.WrongNumber) }
     ensures err { OnErr result (links.new.items ≡ links.old.items) }
 {
     let Some(j) = link_place(links, first, l) else {
@@ -225,6 +228,7 @@ pub(crate) fn break_link(
     ensures ok { OnOk result ((s : Story) → (connections : List Connection) → (core : CoreState) → Stands (state connections links.old.items core first) s
         → Takes s (Fails l kind) (state connections links.new.items core first)) }
     ensures fault { IfErr result (λ e. (s : Story) → (connections : List Connection) → (core : CoreState) → Stands (state connections links.old.items core first) s → TakeFault s (Fails l kind) e) }
+    ensures memory { IfErr result (λ e. e ≡ EngineFault.WrongNumber) }
     ensures err { OnErr result (links.new.items ≡ links.old.items) }
 {
     let Some(j) = link_place(links, first, l) else {
