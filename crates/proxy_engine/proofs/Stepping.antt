@@ -70,7 +70,7 @@ arrived_done s cs cs2 ks ks1 ks2 core core1 first now i max_body r asked o addre
     let passed = with_connection s i (passing (next.Message r)) in
     let before : Stands (state (set cs i y) ks core first) passed = changed_connection (passing (next.Message r)) cs ks core first s i x y l e (λ c q. keep c (next.Message r) here q) h in
     let stepped : Stands (state (set cs i y) ks1 core1 first) (with_core passed core1) =
-        subst (λ (ls : List Link). Stands (state (set cs i y) ls core1 first) (with_core passed core1)) (sym same) (changed_core (set cs i y) ks core first core1 passed before) in
+    subst (λ (ls : List Link). Stands (state (set cs i y) ls core1 first) (with_core passed core1)) (sym same) (changed_core (set cs i y) ks core first core1 passed before) in
     let coming : came_at address o ≡ came s.core.table o = arrival_way core core1 now (i + 1) asked o address steps way ∙ ap (λ (k : CoreState). came k.table o) h.core in
     let links = both_length LinkStands ks s.links h.links in
     let first_is : first ≡ s.first = h.first in

@@ -4,10 +4,9 @@ ghost use Rattle.proxy_engine.specs.Story.{Story};
 ghost use Rattle.proxy_engine.specs.Happenings.{said, takes_memory};
 ghost use Rattle.proxy_engine.specs.State.{State, Stands, Takes, TakeFault, Did, Failed, Lessens, begun, load_at};
 
-use crate::acts;
 use crate::ends::{Connection, Link};
 use crate::happening::{EngineFault, Happening, Work};
-use crate::takes;
+use crate::{acts, takes};
 use hx_allow::Config;
 use hx_store::Shelf;
 use proxy_core::Core;
@@ -37,13 +36,7 @@ impl<S: Shelf> Model for Engine<S> {
 impl<S: Shelf> Engine<S> {
     /// An engine that nothing has happened to. The shelf is empty and has the configured capacity; serials of
     /// stored responses begin at `first_serial`, 1 or more, numbers of links at `first_link`.
-    pub fn new(
-        alloc: Global,
-        config: Config,
-        shelf: S,
-        first_serial: u64,
-        first_link: u64,
-    ) -> Self
+    pub fn new(alloc: Global, config: Config, shelf: S, first_serial: u64, first_link: u64) -> Self
         requires { S.entries shelf ≡ [] }
         ensures { Stands result (begun (record { table = config; limit = S.limit shelf; entries = []; exchanges = []; next = Some first_serial }) first_link) }
     {

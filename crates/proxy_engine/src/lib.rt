@@ -19,9 +19,9 @@ mod request_watch;
 mod response_watch;
 mod serving;
 mod takes;
-mod wishes;
 #[cfg(test)]
 mod tests;
+mod wishes;
 
 pub use crate::engine::Engine;
 pub use crate::happening::{EngineFault, Happening, Work};

@@ -165,12 +165,7 @@ pub(crate) fn carry_out(
 }
 
 /// The exchange of a link and a connection is over.
-pub(crate) fn free(
-    connections: &mut Vec<Connection>,
-    links: &mut Vec<Link>,
-    j: usize,
-    i: usize,
-)
+pub(crate) fn free(connections: &mut Vec<Connection>, links: &mut Vec<Link>, j: usize, i: usize)
     requires link { j < length links.old.items }
     requires connection { i < length connections.old.items }
     ensures stands { (s : Story) → (core : CoreState) → (first : ℕ) → Stands (state connections.old.items links.old.items core first) s

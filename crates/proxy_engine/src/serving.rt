@@ -166,7 +166,16 @@ fn arrive<S: Shelf>(
         Err(_) => return Err(EngineFault::OutOfMemory),
     };
     marks::pass(&mut connections[i]);
-    carry_out(connections, links, &mut effects, alloc, first, i, way, outcome);
+    carry_out(
+        connections,
+        links,
+        &mut effects,
+        alloc,
+        first,
+        i,
+        way,
+        outcome,
+    );
     Ok(effects)
 }
 
