@@ -1,4 +1,5 @@
 //! Whole engines with ample memory: what a clause can refuse for want of memory alone is found here.
+ghost use Rattle.std.specs.Prelude.{◌<◌};
 
 use crate::{Engine, EngineFault, Happening, Work};
 use hx_allow::Config;
