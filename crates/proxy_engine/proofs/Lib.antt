@@ -8,3 +8,4 @@ pub mod Searching
 pub mod Once
 pub mod Wishing
 pub mod Stepping
+pub mod Wires

@@ -1,8 +1,9 @@
 -- A search for the first place at which something stands.
-use Rattle.std.proofs.Common.{◌≡◌, ℕ, ◌+◌, ◌<◌, ◌≤◌, List, [], ◌∷◌, length, get_or, set, refl, sym, ap, ◌∙◌, subst, arith, true, Option, None, Some, is_some, sum_by}
+use Rattle.std.proofs.Common.{◌≡◌, ℕ, ◌+◌, ◌<◌, ◌≤◌, List, [], ◌∷◌, length, get_or, set, refl, sym, ap, ◌∙◌, subst, arith, true, Option, None, Some, is_some, sum_by, map}
 use Rattle.std.proofs.lemmas.List.Sums.{sum_by-set}
 use Rattle.std.proofs.lemmas.List.{get_or-set_same, get_or-set_other}
 use Rattle.std.proofs.Math.ListN.{length-set}
+use Rattle.std.proofs.Math.Seq.{map-set_same}
 use borrow.Author.Count.{below_more}
 use Rattle.proxy_engine.specs.Due.{IsFirst}
 use Rattle.proxy_engine.specs.State.{Both}
@@ -61,3 +62,7 @@ sum_most f xs i x z within here less =
     let sum = sum_by-set f xs i z x within in
     let old : f x ≡ f (get_or xs i x) = ap f here in
     omega (arith, sum, old, less)
+
+-- what is read of each part, where one changed that reads the same
+pub map_kept : {A B : Type 0} (f : A → B) (xs : List A) (i : ℕ) (x z : A) → x ≡ get_or xs i x → f z ≡ f x → map f (set xs i z) ≡ map f xs
+map_kept f xs i x z here same = map-set_same f xs i z x (same ∙ ap f here)

@@ -7,3 +7,4 @@ pub mod Due
 pub mod Acts
 pub mod State
 pub mod Wishes
+pub mod Wiring

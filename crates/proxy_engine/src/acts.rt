@@ -2,6 +2,7 @@
 ghost use Rattle.std.specs.Prelude.{◌≡◌, ◌<◌, ◌≤◌, None, Some, IfOk, IfErr, OnErr};
 ghost use Rattle.proxy_engine.specs.Story.{Story, no_connection, no_link};
 ghost use Rattle.proxy_engine.specs.Due.{IsFirst, Lost, Stood};
+ghost use Rattle.proxy_engine.specs.Wiring.{IsWired};
 ghost use Rattle.proxy_engine.specs.State.{Stands, state, load_of, Did, Failed, Lessens};
 
 use crate::ends::{Connection, Link};
@@ -22,7 +23,9 @@ fn serve_first<S: Shelf>(
     first: u64,
     now: u64,
 ) -> Result<Work, EngineFault>
-    requires { now < 253402300800 }
+    requires early { now < 253402300800 }
+    requires wired { IsWired (state connections.old.items links.old.items core.old first) }
+    ensures wired { IsWired (state connections.new.items links.new.items core.new first) }
     ensures ok { IfOk result (λ work. (s : Story) → IsFirst Lost no_connection s.connections None → IsFirst Stood no_link s.links None
         → Stands (state connections.old.items links.old.items core.old first) s → Did s now work (state connections.new.items links.new.items core.new first)) }
     ensures less { IfOk result (λ work. Lessens (state connections.old.items links.old.items core.old first) work (state connections.new.items links.new.items core.new first)) }
@@ -50,7 +53,9 @@ fn finish_first<S: Shelf>(
     first: u64,
     now: u64,
 ) -> Result<Work, EngineFault>
-    requires { now < 253402300800 }
+    requires early { now < 253402300800 }
+    requires wired { IsWired (state connections.old.items links.old.items core.old first) }
+    ensures wired { IsWired (state connections.new.items links.new.items core.new first) }
     ensures ok { IfOk result (λ work. (s : Story) → IsFirst Lost no_connection s.connections None
         → Stands (state connections.old.items links.old.items core.old first) s → Did s now work (state connections.new.items links.new.items core.new first)) }
     ensures less { IfOk result (λ work. Lessens (state connections.old.items links.old.items core.old first) work (state connections.new.items links.new.items core.new first)) }
@@ -78,7 +83,9 @@ pub(crate) fn work<S: Shelf>(
     first: u64,
     now: u64,
 ) -> Result<Work, EngineFault>
-    requires { now < 253402300800 }
+    requires early { now < 253402300800 }
+    requires wired { IsWired (state connections.old.items links.old.items core.old first) }
+    ensures wired { IsWired (state connections.new.items links.new.items core.new first) }
     ensures ok { IfOk result (λ work. (s : Story) → Stands (state connections.old.items links.old.items core.old first) s → Did s now work (state connections.new.items links.new.items core.new first)) }
     ensures less { IfOk result (λ work. Lessens (state connections.old.items links.old.items core.old first) work (state connections.new.items links.new.items core.new first)) }
     ensures fault { IfErr result (λ fault. (s : Story) → Stands (state connections.old.items links.old.items core.old first) s → Failed s fault) }

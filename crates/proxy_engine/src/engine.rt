@@ -27,10 +27,13 @@ pub struct Engine<S: Shelf> {
 
 impl<S: Shelf> Model for Engine<S> {
     ghost use Rattle.proxy_engine.specs.State.{State};
+    ghost use Rattle.proxy_engine.specs.Wiring.{IsWired};
 
     ghost Value = { State };
 
     ghost view = { λ e. record { connections = e.connections.items; links = e.links.items; core = e.core; first = e.first_link } };
+
+    ghost invariant = { λ e. IsWired (record { connections = e.connections.items; links = e.links.items; core = e.core; first = e.first_link }) };
 }
 
 impl<S: Shelf> Engine<S> {

@@ -2,6 +2,7 @@
 ghost use Rattle.std.specs.Prelude.{◌≡◌, ℕ, ◌<◌, ◌≤◌, List, length, sum_by, true, false, is_some, IfOk, IfSome, OnOk, Option, Some, None, if◌then◌else◌, slice_index_or};
 ghost use Rattle.proxy_engine.specs.Story.{ConnStory, LinkStory, no_connection};
 ghost use Rattle.proxy_engine.specs.Due.{IsFirst, Lost, Stood, Wanted};
+ghost use Rattle.proxy_engine.specs.Wiring.{at, owner_of, links_of, owners_of};
 ghost use Rattle.proxy_engine.specs.State.{Both, ConnStands, LinkStands, finish_at, wish_at, FoundLinks, FoundConnections, connection_load, lost_load, link_load};
 
 use crate::ends::{Connection, Link};
@@ -22,6 +23,7 @@ fn lost_link(connection: &Connection) -> Option<usize>
 pub(crate) fn find_lost(connections: &[Connection]) -> Option<(usize, usize)>
     ensures first { (ss : List ConnStory) → Both ConnStands connections.now ss → IsFirst Lost no_connection ss result }
     ensures within { IfSome result (λ p. p.0 < length connections.now) }
+    ensures linked { IfSome result (λ p. at (links_of connections.now) p.0 ≡ Some p.1) }
     ensures load { IfSome result (λ p. (c : Connection) → lost_load (slice_index_or connections.now p.0 c) ≡ 1) }
 {
     for (i, connection) in connections.iter().enumerate() {
@@ -36,6 +38,7 @@ pub(crate) fn find_lost(connections: &[Connection]) -> Option<(usize, usize)>
 fn is_finished(link: &mut Link, alloc: Global) -> Result<bool, AllocError>
     ensures stands { (s : LinkStory) → LinkStands link.old s → LinkStands link.new s }
     ensures value { IfOk result (λ b. b ≡ is_some (finish_at link.new)) }
+    ensures owner { owner_of link.new ≡ owner_of link.old }
     ensures load { link_load link.new ≡ link_load link.old }
     ensures meaning { OnOk result ((s : LinkStory) → LinkStands link.new s → Stood s (finish_at link.new)) }
 {
@@ -50,6 +53,7 @@ fn is_finished(link: &mut Link, alloc: Global) -> Result<bool, AllocError>
 fn wants(connection: &mut Connection, alloc: Global) -> Result<bool, AllocError>
     ensures stands { (s : ConnStory) → ConnStands connection.old s → ConnStands connection.new s }
     ensures value { IfOk result (λ b. b ≡ is_some (wish_at connection.new)) }
+    ensures link { connection.new.link ≡ connection.old.link }
     ensures load { connection_load connection.new ≤ connection_load connection.old }
     ensures meaning { OnOk result ((s : ConnStory) → ConnStands connection.new s → Wanted s (wish_at connection.new)) }
 {
@@ -67,6 +71,7 @@ pub(crate) fn find_finished(
 ) -> Result<Option<usize>, AllocError>
     ensures stands { (ss : List LinkStory) → Both LinkStands links.old.items ss → Both LinkStands links.new.items ss }
     ensures found { IfOk result (λ found. FoundLinks links.new.items found) }
+    ensures owners { owners_of links.new.items ≡ owners_of links.old.items }
     ensures load { sum_by link_load links.new.items ≡ sum_by link_load links.old.items }
 {
     for i in 0..links.len() {
@@ -84,6 +89,7 @@ pub(crate) fn find_due(
 ) -> Result<Option<usize>, AllocError>
     ensures stands { (ss : List ConnStory) → Both ConnStands connections.old.items ss → Both ConnStands connections.new.items ss }
     ensures found { IfOk result (λ found. FoundConnections connections.new.items found) }
+    ensures links { links_of connections.new.items ≡ links_of connections.old.items }
     ensures load { sum_by connection_load connections.new.items ≤ sum_by connection_load connections.old.items }
 {
     for i in 0..connections.len() {

@@ -7,11 +7,13 @@ ghost use Rattle.proxy_core.specs.State.{State as CoreState, Steps};
 ghost use Rattle.proxy_engine.specs.Story.{Story};
 ghost use Rattle.proxy_engine.specs.Due.{Abandons, Finish, Finishes, kind_of, IsDueFirst};
 ghost use Rattle.proxy_engine.specs.State.{Stands, state, finish_at, lost_load, load_of, Done, Failed};
+ghost use Rattle.proxy_core.specs.Outcomes.{find_exchange};
+ghost use Rattle.proxy_engine.specs.Wiring.{IsWired, at, links_of};
 ghost use Rattle.proxy_engine.specs.Wishes.{Ends, MayGive, EndFault, outcome_by, goes_forward};
 
 use crate::ends::{Connection, Link};
 use crate::happening::EngineFault;
-use crate::outcomes::{free, is_spent, number_at, put, room, send_reply};
+use crate::outcomes::{free, is_spent, lacks_memory, number_at, put, room, send_reply};
 use hx_framing::{FrameFault, Next};
 use hx_status::FailKind;
 use hx_store::Shelf;
@@ -50,13 +52,15 @@ fn fail<S: Shelf>(
     id: u64,
     kind: FailKind,
 ) -> Result<Outcome, EngineFault>
+    requires open { is_some (find_exchange id core.old.exchanges) ≡ true }
+    requires early { now < 253402300800 }
     ensures ok { IfOk result (λ outcome. Steps core.old (Fail now id kind) outcome core.new) }
     ensures fault { IfErr result (λ fault. fault ≡ EngineFault.OutOfMemory) }
     ensures err { OnErr result (core.new ≡ core.old) }
 {
     match core.fail(alloc, now, id, kind) {
         Ok(outcome) => Ok(outcome),
-        Err(_) => Err(EngineFault::OutOfMemory),
+        Err(fault) => Err(lacks_memory(fault)),
     }
 }
 
@@ -69,7 +73,9 @@ fn end<S: Shelf>(
     id: u64,
     spent: bool,
 ) -> Result<Outcome, EngineFault>
-    requires { is_some (finish_at link.now) ≡ true }
+    requires due { is_some (finish_at link.now) ≡ true }
+    requires open { is_some (find_exchange id core.old.exchanges) ≡ true }
+    requires early { now < 253402300800 }
     ensures ok { IfOk result (λ outcome. (f : Finish) × (finish_at link.now ≡ Some f) × MayGive spent f × Ends core.old now id f outcome core.new) }
     ensures fault { IfErr result (λ fault. (f : Finish) × (finish_at link.now ≡ Some f) × EndFault spent f fault) }
     ensures err { OnErr result (core.new ≡ core.old) }
@@ -82,7 +88,7 @@ fn end<S: Shelf>(
                 }
                 match core.answer(alloc, now, id, response) {
                     Ok(outcome) => Ok(outcome),
-                    Err(_) => Err(EngineFault::OutOfMemory),
+                    Err(fault) => Err(lacks_memory(fault)),
                 }
             }
             Next::Refused(fault) => fail(core, alloc, now, id, kind_of(*fault)),
@@ -107,19 +113,18 @@ pub(crate) fn abandon<S: Shelf>(
     i: usize,
     l: usize,
 ) -> Result<Vec<Effect>, AllocError>
-    requires { i < length connections.old.items }
+    requires linked { at (links_of connections.old.items) i ≡ Some l }
+    requires wired { IsWired (state connections.old.items links.old.items core.old first) }
+    ensures wired { IsWired (state connections.new.items links.new.items core.new first) }
     ensures ok { IfOk result (λ effects. (s : Story) → (now : ℕ) → Stands (state connections.old.items links.old.items core.old first) s
         → Done s now (Abandons i l) effects.items (state connections.new.items links.new.items core.new first)) }
     ensures less { OnOk result ((c : Connection) → lost_load (slice_index_or connections.old.items i c) ≡ 1 → load_of connections.new.items links.new.items < load_of connections.old.items links.old.items) }
     ensures err { OnErr result ((connections.new.items ≡ connections.old.items) × (links.new.items ≡ links.old.items) × (core.new ≡ core.old)) }
 {
     let mut effects = room(alloc)?;
-    if l >= links.len() {
-        return Err(AllocError);
-    }
     match core.abandon(i as u64 + 1) {
         Ok(_) => {}
-        Err(_) => return Err(AllocError),
+        Err(_) => unreachable!(),
     }
     free(connections, links, l, i);
     put(&mut effects, Effect::Drop(number_at(first, l)));
@@ -138,6 +143,9 @@ pub(crate) fn finish<S: Shelf>(
 ) -> Result<Vec<Effect>, EngineFault>
     requires within { j < length links.old.items }
     requires due { (k : Link) → is_some (finish_at (slice_index_or links.old.items j k)) ≡ true }
+    requires wired { IsWired (state connections.old.items links.old.items core.old first) }
+    requires early { now < 253402300800 }
+    ensures wired { IsWired (state connections.new.items links.new.items core.new first) }
     ensures ok { IfOk result (λ effects. (s : Story) → (f : Finish) → (k : Link) → finish_at (slice_index_or links.old.items j k) ≡ Some f
         → Stands (state connections.old.items links.old.items core.old first) s → Done s now (Finishes j f) effects.items (state connections.new.items links.new.items core.new first)) }
     ensures less { OnOk result (load_of connections.new.items links.new.items < load_of connections.old.items links.old.items) }
@@ -149,9 +157,6 @@ pub(crate) fn finish<S: Shelf>(
         return Err(EngineFault::OutOfMemory);
     };
     let i = links[j].connection;
-    if i >= connections.len() {
-        return Err(EngineFault::OutOfMemory);
-    }
     let spent = is_spent(first, links.len());
     let outcome = match end(&links[j], core, alloc, now, i as u64 + 1, spent) {
         Ok(outcome) => outcome,

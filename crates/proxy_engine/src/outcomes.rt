@@ -1,16 +1,22 @@
 //! What an outcome of the core does on the proxy's ends. Room is made first, so none of this takes memory.
-ghost use Rattle.std.specs.Prelude.{◌≡◌, ℕ, ◌+◌, ◌<◌, ◌≤◌, ◌^◌, ◌++◌, ◌∷◌, [], List, Bool, length, sum_by, true, false, IfOk, OnOk, vec_len, vec_capacity, slice_index_or};
-ghost use Rattle.proxy_core.specs.State.{State as CoreState};
+ghost use Rattle.std.specs.Prelude.{◌≡◌, ℕ, ◌+◌, ◌<◌, ◌≤◌, ◌^◌, ◌++◌, ◌∷◌, [], List, Bool, length, sum_by, true, false, IfOk, OnOk, None, Some, vec_len, vec_capacity, slice_index_or, slice_set};
+ghost use Rattle.hx_hop.specs.declared.asked_for.Asked.{Asked};
+ghost use Rattle.hx_store.specs.Stored.{Stored};
+ghost use Rattle.proxy_core.specs.declared.event.Event.TheVariants.{Arrive};
+ghost use Rattle.proxy_core.specs.declared.exchange.Exchange.{Exchange};
+ghost use Rattle.proxy_core.specs.State.{State as CoreState, open_after};
 ghost use Rattle.proxy_engine.specs.Story.{Story, with_connection};
 ghost use Rattle.proxy_engine.specs.Acts.{closing, came_at, effects_on, after_on, freed, with_opened};
 ghost use Rattle.proxy_engine.specs.Acts.Came.{Replies};
+ghost use Rattle.proxy_engine.specs.Wiring.{Wired, at, links_of, owners_of};
 ghost use Rattle.proxy_engine.specs.State.{Stands, state, connection_load, lost_load, link_load, load_of};
 
 use crate::ends::{Connection, Link};
+use crate::happening::EngineFault;
 use crate::marks;
 use crate::response_watch::ResponseWatch;
 use hx_fields::Bytes;
-use proxy_core::Outcome;
+use proxy_core::{CoreFault, Outcome};
 use proxy_script::Effect;
 use std::alloc::{AllocError, Global};
 
@@ -62,11 +68,25 @@ pub(crate) fn room_for_link(links: &mut Vec<Link>) -> Result<(), AllocError>
     links.reserve(1)
 }
 
+/// A step of the core that is refused found no memory: the engine asks for no step that another fault stands against.
+pub(crate) fn lacks_memory(fault: CoreFault) -> EngineFault
+    requires { fault ≡ CoreFault.OutOfMemory }
+    ensures { result ≡ EngineFault.OutOfMemory }
+{
+    match fault {
+        CoreFault::OutOfMemory => EngineFault::OutOfMemory,
+        CoreFault::IdTaken => unreachable!(),
+        CoreFault::UnknownId => unreachable!(),
+        CoreFault::MomentTooLate => unreachable!(),
+    }
+}
+
 /// The proxy closes the connection at a place, or leaves it as it is.
 pub(crate) fn close_at(connections: &mut Vec<Connection>, i: usize, close: bool)
     requires within { i < length connections.old.items }
     ensures stands { (s : Story) → (links : List Link) → (core : CoreState) → (first : ℕ) → Stands (state connections.old.items links core first) s
         → Stands (state connections.new.items links core first) (with_connection s i (closing close)) }
+    ensures links { links_of connections.new.items ≡ links_of connections.old.items }
     ensures load { sum_by connection_load connections.new.items ≤ sum_by connection_load connections.old.items }
     ensures less { (c : Connection) → close ≡ true → (slice_index_or connections.old.items i c).closed ≡ false → sum_by connection_load connections.new.items < sum_by connection_load connections.old.items }
 {
@@ -86,6 +106,7 @@ pub(crate) fn send_reply(
     ensures effects { effects.new.items ≡ effects.old.items ++ effects_on i 0 (Replies bytes close) }
     ensures stands { (s : Story) → (links : List Link) → (core : CoreState) → (first : ℕ) → Stands (state connections.old.items links core first) s
         → Stands (state connections.new.items links core first) (with_connection s i (closing close)) }
+    ensures links { links_of connections.new.items ≡ links_of connections.old.items }
     ensures load { sum_by connection_load connections.new.items ≤ sum_by connection_load connections.old.items }
     ensures less { (c : Connection) → close ≡ true → (slice_index_or connections.old.items i c).closed ≡ false → sum_by connection_load connections.new.items < sum_by connection_load connections.old.items }
 {
@@ -109,6 +130,8 @@ fn open_link(
     requires room { vec_len links.old < vec_capacity links.old }
     ensures stands { (s : Story) → (core : CoreState) → (first : ℕ) → core.table.max_body ≡ max_body → first + length links.old.items < 2 ^ 64 → Stands (state connections.old.items links.old.items core first) s
         → Stands (state connections.new.items links.new.items core first) (with_opened s i to_head) }
+    ensures links { links_of connections.new.items ≡ slice_set (links_of connections.old.items) i (Some (length links.old.items)) }
+    ensures owners { owners_of links.new.items ≡ owners_of links.old.items ++ Some i ∷ [] }
     ensures load { load_of connections.new.items links.new.items ≤ load_of connections.old.items links.old.items + 2 }
 {
     marks::link_to(&mut connections[i], links.len());
@@ -151,6 +174,8 @@ pub(crate) fn carry_out(
     ensures effects { effects.new.items ≡ effects.old.items ++ effects_on i (first + length links.old.items) (came_at way.address outcome) }
     ensures stands { (s : Story) → (core : CoreState) → core.table.max_body ≡ way.max_body → Stands (state connections.old.items links.old.items core first) s
         → Stands (state connections.new.items links.new.items core first) (after_on i way.to_head (came_at way.address outcome) s) }
+    ensures wired { (held : List Stored) → (exchanges : List Exchange) → (now : ℕ) → (asked : Asked) → at (links_of connections.old.items) i ≡ None → Wired (links_of connections.old.items) (owners_of links.old.items) exchanges
+        → Wired (links_of connections.new.items) (owners_of links.new.items) (open_after held exchanges (Arrive now (i + 1) asked) outcome) }
     ensures load { load_of connections.new.items links.new.items ≤ load_of connections.old.items links.old.items + 2 }
 {
     match outcome {
@@ -170,6 +195,8 @@ pub(crate) fn free(connections: &mut Vec<Connection>, links: &mut Vec<Link>, j: 
     requires connection { i < length connections.old.items }
     ensures stands { (s : Story) → (core : CoreState) → (first : ℕ) → Stands (state connections.old.items links.old.items core first) s
         → Stands (state connections.new.items links.new.items core first) (freed s j i) }
+    ensures wires { links_of connections.new.items ≡ slice_set (links_of connections.old.items) i None }
+    ensures owners { owners_of links.new.items ≡ slice_set (owners_of links.old.items) j None }
     ensures load { (c : Connection) → (k : Link) → load_of connections.new.items links.new.items + lost_load (slice_index_or connections.old.items i c) + link_load (slice_index_or links.old.items j k)
         ≡ load_of connections.old.items links.old.items }
     ensures connections { length connections.new.items ≡ length connections.old.items }

@@ -1,5 +1,5 @@
 //! What a client's stream asks for is done.
-ghost use Rattle.std.specs.Prelude.{◌≡◌, ℕ, ◌+◌, ◌<◌, ◌≤◌, ◌^◌, List, length, sum_by, true, false, Some, is_some, IfOk, IfErr, OnOk, OnErr, Ok, slice_index_or};
+ghost use Rattle.std.specs.Prelude.{◌≡◌, ℕ, ◌+◌, ◌<◌, ◌≤◌, ◌^◌, List, length, sum_by, true, false, None, Some, is_some, IfOk, IfErr, OnOk, OnErr, Ok, slice_index_or};
 ghost use Rattle.hx_framing.specs.declared.requests.Request.{Request};
 ghost use Rattle.hx_framing.specs.declared.answer.Next.{Next};
 ghost use Rattle.hx_framing.specs.declared.answer.Next.TheVariants as next;
@@ -12,12 +12,15 @@ ghost use Rattle.proxy_engine.specs.Look.{Due};
 ghost use Rattle.proxy_engine.specs.Story.{Story};
 ghost use Rattle.proxy_engine.specs.Due.{Serves, IsDueFirst};
 ghost use Rattle.proxy_engine.specs.State.{Stands, state, wish_at, connection_load, load_of, Done, Failed};
+ghost use Rattle.proxy_engine.specs.Wiring.{IsWired, links_of};
 ghost use Rattle.proxy_engine.specs.Wishes.{verdict_address, IsWish};
 
 use crate::ends::{Connection, Link};
 use crate::happening::EngineFault;
 use crate::marks;
-use crate::outcomes::{Way, carry_out, close_at, is_spent, put, room, room_for_link, send_reply};
+use crate::outcomes::{
+    Way, carry_out, close_at, is_spent, lacks_memory, put, room, room_for_link, send_reply,
+};
 use crate::wishes::{Wish, wish_of};
 use httpdate::HttpDate;
 use hx_allow::{Config, Verdict};
@@ -39,6 +42,7 @@ fn send_continue(
     ensures ok { IfOk result (λ effects. (s : Story) → (links : List Link) → (core : CoreState) → (first now : ℕ) → (c : Connection) → (slice_index_or connections.old.items i c).watch.look ≡ Due next.NeedsContinue
         → Stands (state connections.old.items links core first) s → Done s now (Serves i next.NeedsContinue) effects.items (state connections.new.items links core first)) }
     ensures less { OnOk result ((c : Connection) → (slice_index_or connections.old.items i c).watch.look ≡ Due next.NeedsContinue → sum_by connection_load connections.new.items < sum_by connection_load connections.old.items) }
+    ensures links { links_of connections.new.items ≡ links_of connections.old.items }
     ensures err { OnErr result (connections.new.items ≡ connections.old.items) }
 {
     let mut effects = room(alloc)?;
@@ -73,6 +77,7 @@ fn refuse(
     ensures ok { IfOk result (λ effects. (s : Story) → (links : List Link) → (core : CoreState) → (first : ℕ) → (a : Next Request) → IsWish a (Wish.Refuse why head)
         → Stands (state connections.old.items links core first) s → Done s now (Serves i a) effects.items (state connections.new.items links core first)) }
     ensures less { OnOk result ((c : Connection) → (slice_index_or connections.old.items i c).closed ≡ false → sum_by connection_load connections.new.items < sum_by connection_load connections.old.items) }
+    ensures links { links_of connections.new.items ≡ links_of connections.old.items }
     ensures err { OnErr result (connections.new.items ≡ connections.old.items) }
 {
     let mut effects = room(alloc)?;
@@ -91,6 +96,7 @@ fn shut(
     ensures ok { IfOk result (λ effects. (s : Story) → (links : List Link) → (core : CoreState) → (first now : ℕ) → (a : Next Request) → IsWish a Wish.Close
         → Stands (state connections.old.items links core first) s → Done s now (Serves i a) effects.items (state connections.new.items links core first)) }
     ensures less { OnOk result ((c : Connection) → (slice_index_or connections.old.items i c).closed ≡ false → sum_by connection_load connections.new.items < sum_by connection_load connections.old.items) }
+    ensures links { links_of connections.new.items ≡ links_of connections.old.items }
     ensures err { OnErr result (connections.new.items ≡ connections.old.items) }
 {
     let mut effects = room(alloc)?;
@@ -140,7 +146,11 @@ fn arrive<S: Shelf>(
     i: usize,
     asked: &Asked,
 ) -> Result<Vec<Effect>, EngineFault>
-    requires { i < length connections.old.items }
+    requires within { i < length connections.old.items }
+    requires free { (c : Connection) → (slice_index_or connections.old.items i c).link ≡ None }
+    requires wired { IsWired (state connections.old.items links.old.items core.old first) }
+    requires early { now < 253402300800 }
+    ensures wired { IsWired (state connections.new.items links.new.items core.new first) }
     ensures ok { IfOk result (λ effects. (s : Story) → (r : Request) → (c : Connection) → IsAsked r (Ok asked.now) → (slice_index_or connections.old.items i c).watch.look ≡ Due (next.Message r)
         → Stands (state connections.old.items links.old.items core.old first) s → Done s now (Serves i (next.Message r)) effects.items (state connections.new.items links.new.items core.new first)) }
     ensures less { OnOk result ((r : Request) → (c : Connection) → (slice_index_or connections.old.items i c).watch.look ≡ Due (next.Message r)
@@ -163,7 +173,7 @@ fn arrive<S: Shelf>(
     };
     let outcome = match core.arrive(alloc, now, i as u64 + 1, asked) {
         Ok(outcome) => outcome,
-        Err(_) => return Err(EngineFault::OutOfMemory),
+        Err(fault) => return Err(lacks_memory(fault)),
     };
     marks::pass(&mut connections[i]);
     carry_out(
@@ -191,7 +201,9 @@ pub(crate) fn serve<S: Shelf>(
 ) -> Result<Vec<Effect>, EngineFault>
     requires within { i < length connections.old.items }
     requires due { (c : Connection) → is_some (wish_at (slice_index_or connections.old.items i c)) ≡ true }
+    requires wired { IsWired (state connections.old.items links.old.items core.old first) }
     requires early { now < 253402300800 }
+    ensures wired { IsWired (state connections.new.items links.new.items core.new first) }
     ensures ok { IfOk result (λ effects. (s : Story) → (a : Next Request) → (c : Connection) → wish_at (slice_index_or connections.old.items i c) ≡ Some a
         → Stands (state connections.old.items links.old.items core.old first) s → Done s now (Serves i a) effects.items (state connections.new.items links.new.items core.new first)) }
     ensures less { OnOk result (load_of connections.new.items links.new.items < load_of connections.old.items links.old.items) }

@@ -3,6 +3,7 @@ ghost use Rattle.std.specs.Prelude.{◌≡◌, ℕ, ◌+◌, ◌-◌, ◌<◌, �
 ghost use Rattle.proxy_core.specs.State.{State as CoreState};
 ghost use Rattle.proxy_engine.specs.Happenings.{Accepts, Sends, Hears, Ends, Leaves, Shuts, Fails};
 ghost use Rattle.proxy_engine.specs.Story.{Story, ConnStory, LinkStory, sent, ended, left, heard_by, shut, failed_by};
+ghost use Rattle.proxy_engine.specs.Wiring.{owner_of, links_of, owners_of};
 ghost use Rattle.proxy_engine.specs.State.{Stands, ConnStands, LinkStands, state, Takes, TakeFault};
 
 use crate::ends::{Connection, Link};
@@ -38,6 +39,7 @@ fn link_place(links: &[Link], first: u64, l: u64) -> Option<usize>
 fn send(connection: &mut Connection, bytes: &[u8]) -> Result<(), AllocError>
     ensures stands { OnOk result ((s : ConnStory) → ConnStands connection.old s → ConnStands connection.new (sent bytes.now s)) }
     ensures err { OnErr result (connection.new ≡ connection.old) }
+    ensures link { connection.new.link ≡ connection.old.link }
 {
     if connection.gone || connection.closed || connection.ended {
         return Ok(());
@@ -48,6 +50,7 @@ fn send(connection: &mut Connection, bytes: &[u8]) -> Result<(), AllocError>
 fn hear(link: &mut Link, bytes: &[u8]) -> Result<(), AllocError>
     ensures stands { OnOk result ((s : LinkStory) → LinkStands link.old s → LinkStands link.new (heard_by bytes.now s)) }
     ensures err { OnErr result (link.new ≡ link.old) }
+    ensures owner { owner_of link.new ≡ owner_of link.old }
 {
     if link.dropped || link.failed.is_some() || link.ended {
         return Ok(());
@@ -56,7 +59,8 @@ fn hear(link: &mut Link, bytes: &[u8]) -> Result<(), AllocError>
 }
 
 fn end(connection: &mut Connection)
-    ensures { (s : ConnStory) → ConnStands connection.old s → ConnStands connection.new (ended s) }
+    ensures stands { (s : ConnStory) → ConnStands connection.old s → ConnStands connection.new (ended s) }
+    ensures link { connection.new.link ≡ connection.old.link }
 {
     if !connection.gone && !connection.closed {
         connection.watch.finish();
@@ -65,7 +69,8 @@ fn end(connection: &mut Connection)
 }
 
 fn lose(connection: &mut Connection)
-    ensures { (s : ConnStory) → ConnStands connection.old s → ConnStands connection.new (left s) }
+    ensures stands { (s : ConnStory) → ConnStands connection.old s → ConnStands connection.new (left s) }
+    ensures link { connection.new.link ≡ connection.old.link }
 {
     if !connection.closed {
         connection.gone = true;
@@ -73,7 +78,8 @@ fn lose(connection: &mut Connection)
 }
 
 fn close_link(link: &mut Link)
-    ensures { (s : LinkStory) → LinkStands link.old s → LinkStands link.new (shut s) }
+    ensures stands { (s : LinkStory) → LinkStands link.old s → LinkStands link.new (shut s) }
+    ensures owner { owner_of link.new ≡ owner_of link.old }
 {
     if !link.dropped && link.failed.is_none() {
         link.watch.finish();
@@ -82,7 +88,8 @@ fn close_link(link: &mut Link)
 }
 
 fn fail_link(link: &mut Link, kind: FailKind)
-    ensures { (s : LinkStory) → LinkStands link.old s → LinkStands link.new (failed_by kind s) }
+    ensures stands { (s : LinkStory) → LinkStands link.old s → LinkStands link.new (failed_by kind s) }
+    ensures owner { owner_of link.new ≡ owner_of link.old }
 {
     if !link.dropped && link.failed.is_none() {
         link.failed = Some(kind);
@@ -113,6 +120,7 @@ pub(crate) fn accept(
     ensures ok { OnOk result ((s : Story) → (links : List Link) → (core : CoreState) → (first : ℕ) → core.table.max_body ≡ max_body → Stands (state connections.old.items links core first) s
         → Takes s (Accepts n) (state connections.new.items links core first)) }
     ensures fault { IfErr result (λ e. (s : Story) → (links : List Link) → (core : CoreState) → (first : ℕ) → Stands (state connections.old.items links core first) s → TakeFault s (Accepts n) e) }
+    ensures links { OnOk result (links_of connections.new.items ≡ links_of connections.old.items ++ None ∷ []) }
     ensures err { OnErr result (connections.new.items ≡ connections.old.items) }
 {
     if is_next(connections, n) {
@@ -146,6 +154,7 @@ pub(crate) fn client(
     ensures ok { OnOk result ((s : Story) → (links : List Link) → (core : CoreState) → (first : ℕ) → Stands (state connections.old.items links core first) s
         → Takes s (Sends n bytes.now) (state connections.new.items links core first)) }
     ensures fault { IfErr result (λ e. (s : Story) → (links : List Link) → (core : CoreState) → (first : ℕ) → Stands (state connections.old.items links core first) s → TakeFault s (Sends n bytes.now) e) }
+    ensures links { links_of connections.new.items ≡ links_of connections.old.items }
     ensures err { OnErr result (connections.new.items ≡ connections.old.items) }
 {
     let Some(i) = connection_place(connections, n) else {
@@ -162,6 +171,7 @@ pub(crate) fn finish_client(connections: &mut Vec<Connection>, n: u64) -> Result
         → Takes s (Ends n) (state connections.new.items links core first)) }
     ensures fault { IfErr result (λ e. (s : Story) → (links : List Link) → (core : CoreState) → (first : ℕ) → Stands (state connections.old.items links core first) s → TakeFault s (Ends n) e) }
     ensures memory { IfErr result (λ e. e ≡ EngineFault.NotAccepted) }
+    ensures links { links_of connections.new.items ≡ links_of connections.old.items }
     ensures err { OnErr result (connections.new.items ≡ connections.old.items) }
 {
     let Some(i) = connection_place(connections, n) else {
@@ -176,6 +186,7 @@ pub(crate) fn lose_client(connections: &mut Vec<Connection>, n: u64) -> Result<(
         → Takes s (Leaves n) (state connections.new.items links core first)) }
     ensures fault { IfErr result (λ e. (s : Story) → (links : List Link) → (core : CoreState) → (first : ℕ) → Stands (state connections.old.items links core first) s → TakeFault s (Leaves n) e) }
     ensures memory { IfErr result (λ e. e ≡ EngineFault.NotAccepted) }
+    ensures links { links_of connections.new.items ≡ links_of connections.old.items }
     ensures err { OnErr result (connections.new.items ≡ connections.old.items) }
 {
     let Some(i) = connection_place(connections, n) else {
@@ -194,6 +205,7 @@ pub(crate) fn answer(
     ensures ok { OnOk result ((s : Story) → (connections : List Connection) → (core : CoreState) → Stands (state connections links.old.items core first) s
         → Takes s (Hears l bytes.now) (state connections links.new.items core first)) }
     ensures fault { IfErr result (λ e. (s : Story) → (connections : List Connection) → (core : CoreState) → Stands (state connections links.old.items core first) s → TakeFault s (Hears l bytes.now) e) }
+    ensures owners { owners_of links.new.items ≡ owners_of links.old.items }
     ensures err { OnErr result (links.new.items ≡ links.old.items) }
 {
     let Some(j) = link_place(links, first, l) else {
@@ -210,6 +222,7 @@ pub(crate) fn shut_link(links: &mut Vec<Link>, first: u64, l: u64) -> Result<(),
         → Takes s (Shuts l) (state connections links.new.items core first)) }
     ensures fault { IfErr result (λ e. (s : Story) → (connections : List Connection) → (core : CoreState) → Stands (state connections links.old.items core first) s → TakeFault s (Shuts l) e) }
     ensures memory { IfErr result (λ e. e ≡ EngineFault.WrongNumber) }
+    ensures owners { owners_of links.new.items ≡ owners_of links.old.items }
     ensures err { OnErr result (links.new.items ≡ links.old.items) }
 {
     let Some(j) = link_place(links, first, l) else {
@@ -229,6 +242,7 @@ pub(crate) fn break_link(
         → Takes s (Fails l kind) (state connections links.new.items core first)) }
     ensures fault { IfErr result (λ e. (s : Story) → (connections : List Connection) → (core : CoreState) → Stands (state connections links.old.items core first) s → TakeFault s (Fails l kind) e) }
     ensures memory { IfErr result (λ e. e ≡ EngineFault.WrongNumber) }
+    ensures owners { owners_of links.new.items ≡ owners_of links.old.items }
     ensures err { OnErr result (links.new.items ≡ links.old.items) }
 {
     let Some(j) = link_place(links, first, l) else {

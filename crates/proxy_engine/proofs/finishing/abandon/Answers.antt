@@ -1,9 +1,11 @@
+use Rattle.proxy_core.specs.State.{State as CoreState}
 use Rattle.std.proofs.Common.{rules, ◌≡◌, ◌+◌, ◌<◌, ◌≤◌, ◌^◌, ◌∙◌, ◌∷◌, [], ℕ, length, ap, arith}
 use Rattle.proxy_script.specs.declared.effect_list.Effect.TheVariants.{Drop}
 use Rattle.proxy_engine.specs.State.{LinkStands, lost_load}
 use Rattle.proxy_engine.proofs.Parts.{both_length}
 use Rattle.proxy_engine.proofs.Searching.{some_part}
 use Rattle.proxy_engine.proofs.Wishing.{told_one}
+use Rattle.proxy_engine.proofs.Wires.{within_links, wired_ended}
 use Rattle.proxy_engine.proofs.Stepping.{abandoned_done}
 use Rattle.proxy_engine.proofs.finishing.abandon.Goals as goal
 
@@ -12,7 +14,8 @@ returns-clause-ok g c = λ s now h.
     let links = both_length LinkStands c.args.links.now.items s.links h.links in
     let first_is : c.args.first ≡ s.first = h.first in
     let numbers : s.first + length s.links ≤ 2 ^ 64 = h.numbers in
-    let number : c.number_at.result ≡ c.args.first + c.args.l = c.number_at.ensures (omega (arith, links)) in
+    let within = within_links c.args.connections.now.items c.args.links.now.items c.args.core.now.exchanges c.args.i c.args.l c.requires.linked c.requires.wired in
+    let number : c.number_at.result ≡ c.args.first + c.args.l = c.number_at.ensures (omega (arith, links, within)) in
     abandoned_done s c.free.new.connections.items c.free.new.links.items c.args.core.now c.abandon.new.self c.args.first now c.args.i c.args.l c.in-Ok.field-0 c.put.new.effects.items c.in-Ok.ensures.ok
     (told_one c.in_ok-effects.effects.items c.put.new.effects.items _ c.put.ensures.items c.in_ok-effects.ensures.items ∙ ap (λ (n : ℕ). Drop n ∷ []) number) first_is h.core
     (c.free.ensures.stands s c.args.core.now c.args.first h)
@@ -20,7 +23,14 @@ returns-clause-ok g c = λ s now h.
 pub returns-clause-less : goal.returns-clause-less
 returns-clause-less g c = λ d one.
     let ks = c.args.links.now.items in
-    let count : c.len.result ≡ length ks = search rules in
-    let within : c.args.l < length ks = search (rules, c.if-l-len.false, count) in
+    let within = within_links c.args.connections.now.items ks c.args.core.now.exchanges c.args.i c.args.l c.requires.linked c.requires.wired in
     let load = c.free.ensures.load d (some_part ks c.args.l within) in
     omega (arith, load, one)
+
+pub free-requires-clause-link : goal.free-requires-clause-link
+free-requires-clause-link g c = within_links c.args.connections.now.items c.args.links.now.items c.args.core.now.exchanges c.args.i c.args.l c.requires.linked c.requires.wired
+
+pub returns-clause-wired : goal.returns-clause-wired
+returns-clause-wired g c =
+    wired_ended c.args.connections.now.items c.free.new.connections.items c.args.links.now.items c.free.new.links.items c.args.core.now.exchanges c.abandon.new.self.exchanges c.args.i c.args.l c.requires.linked c.free.ensures.wires c.free.ensures.owners
+    (ap (λ (k : CoreState). k.exchanges) c.in-Ok.ensures.ok.leaves) c.requires.wired

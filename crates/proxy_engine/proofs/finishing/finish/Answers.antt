@@ -11,6 +11,7 @@ use Rattle.proxy_engine.specs.declared.ends.Link.{Link}
 use Rattle.proxy_engine.proofs.Parts.{both_length, both_here}
 use Rattle.proxy_engine.proofs.Searching.{some_part}
 use Rattle.proxy_engine.proofs.Wishing.{finish_known, same_place, told_one}
+use Rattle.proxy_engine.proofs.Wires.{finished_link, within_connections, due_link, is_open, wired_ended, ended_exchanges}
 use Rattle.proxy_engine.proofs.Stepping.{finished_done, end_failed, link_counts}
 use Rattle.proxy_engine.proofs.finishing.finish.Goals as goal
 
@@ -21,7 +22,7 @@ returns-in-Err-clause-fault g c = λ s f k shown due h.
     let same : f ≡ ended.0 = finish_known ks c.args.j c.index-2.result.now k ended.0 f c.requires.within c.index-2.ensures ended.1 shown in
     let links = both_length LinkStands ks s.links h.links in
     let first_is : c.args.first ≡ s.first = h.first in
-    let count : c.len-2.result ≡ length ks = search rules in
+    let count : c.len.result ≡ length ks = search rules in
     end_failed s c.args.j f c.is_spent-spent.result c.in-Err.fault (subst (λ (x : Finish). EndFault c.is_spent-spent.result x c.in-Err.fault) (sym same) ended.2)
     (λ t. let many = c.is_spent-spent.ensures.spent t in omega (arith, many, count, links)) due
 
@@ -36,7 +37,7 @@ returns-in-Some-clause-ok g c = λ s f k shown h.
     let links = both_length LinkStands ks s.links h.links in
     let first_is : c.args.first ≡ s.first = h.first in
     let numbers : s.first + length s.links ≤ 2 ^ 64 = h.numbers in
-    let count : c.len-2.result ≡ length ks = search rules in
+    let count : c.len.result ≡ length ks = search rules in
     let number : c.number_at.result ≡ c.args.first + j = c.number_at.ensures (omega (arith, links, c.requires.within)) in
     let owner = both_here LinkStands ks s.links j c.index.result.now no_link c.requires.within c.index.ensures h.links in
     subst (λ (x : Finish). Done s c.args.now (Finishes j x) c.send_reply.new.effects.items (state c.send_reply.new.connections.items c.free.new.links.items c.end.new.core c.args.first)) (sym same)
@@ -56,8 +57,38 @@ returns-in-Some-clause-less g c =
     let open_still = ap link_load here ∙ counts in
     let cs = c.args.connections.now.items in
     let i = c.index.result.now.connection in
-    let few : c.len.result ≡ length cs = search rules in
-    let within : i < length cs = search (rules, c.if-i-len.false, few) in
+    let link = finished_link cs ks c.args.core.now.exchanges c.args.j c.index.result.now x ended.0 c.requires.within c.index.ensures c.index-2.ensures ended.1 c.requires.wired in
+    let within = within_connections cs i c.args.j link in
     let freed = c.free.ensures.load (some_part cs i within) x in
     let reply = c.send_reply.ensures.load in
     omega (arith, freed, open_still, reply)
+
+pub overflow_add-i : goal.overflow_add-i
+overflow_add-i g c =
+    let x = c.index.result.now in
+    let link = due_link c.args.connections.now.items c.args.links.now.items c.args.core.now.exchanges c.args.j x c.requires.within c.index.ensures (c.requires.due x) c.requires.wired in
+    let within = within_connections c.args.connections.now.items x.connection c.args.j link in
+    search (rules, within)
+
+pub end-requires-clause-open : goal.end-requires-clause-open
+end-requires-clause-open g c =
+    let x = c.index.result.now in
+    let link = due_link c.args.connections.now.items c.args.links.now.items c.args.core.now.exchanges c.args.j x c.requires.within c.index.ensures (c.requires.due x) c.requires.wired in
+    is_open c.args.connections.now.items c.args.links.now.items c.args.core.now.exchanges x.connection c.args.j link c.requires.wired
+
+pub send_reply-requires-clause-within : goal.send_reply-requires-clause-within
+send_reply-requires-clause-within g c =
+    let x = c.index.result.now in
+    let link = due_link c.args.connections.now.items c.args.links.now.items c.args.core.now.exchanges c.args.j x c.requires.within c.index.ensures (c.requires.due x) c.requires.wired in
+    subst (λ (n : ℕ). x.connection < n) (sym c.free.ensures.connections) (within_connections c.args.connections.now.items x.connection c.args.j link)
+
+pub returns-in-Some-clause-wired : goal.returns-in-Some-clause-wired
+returns-in-Some-clause-wired g c =
+    let cs = c.args.connections.now.items in
+    let ks = c.args.links.now.items in
+    let core = c.args.core.now in
+    let x = c.index.result.now in
+    let ended = c.in-Ok-end.ensures.ok in
+    let link = due_link cs ks core.exchanges c.args.j x c.requires.within c.index.ensures (c.requires.due x) c.requires.wired in
+    wired_ended cs c.send_reply.new.connections.items ks c.free.new.links.items core.exchanges c.end.new.core.exchanges x.connection c.args.j link (c.send_reply.ensures.links ∙ c.free.ensures.wires) c.free.ensures.owners
+    (ended_exchanges core c.end.new.core c.args.now (x.connection + 1) ended.0 c.in-Ok-end.outcome ended.3) c.requires.wired

@@ -1,4 +1,4 @@
-use Rattle.std.proofs.Common.{rules, ◌≡◌, ◌+◌, ◌<◌, ◌≤◌, ◌^◌, ◌∙◌, ◌++◌, List, length, sym, ap, arith}
+use Rattle.std.proofs.Common.{rules, ◌≡◌, ◌+◌, ◌<◌, ◌≤◌, ◌^◌, ◌∙◌, ◌++◌, Option, ℕ, List, length, get_or, set, sym, ap, subst, arith}
 use Rattle.proxy_script.specs.declared.effect_list.Effect.{Effect}
 use Rattle.hx_framing.specs.declared.answer.Next.TheVariants.{Message}
 use Rattle.hx_allow.specs.Lines.{Table}
@@ -8,6 +8,11 @@ use Rattle.proxy_engine.specs.Wishes.{verdict_address}
 use Rattle.proxy_engine.specs.Due.{Serves}
 use Rattle.proxy_engine.specs.State.{LinkStands}
 use Rattle.proxy_engine.proofs.Parts.{both_length}
+use Rattle.proxy_core.specs.State.{State as CoreState}
+use Rattle.proxy_core.specs.declared.exchange.Exchange.{Exchange}
+use Rattle.proxy_engine.specs.Wiring.{Wired, at, link_of, links_of, owners_of}
+use Rattle.proxy_engine.proofs.Searching.{some_part, map_kept}
+use Rattle.proxy_engine.proofs.Wires.{is_free, same_default, wired_same, arrival_refused}
 use Rattle.proxy_engine.proofs.Stepping.{arrived_done}
 use Rattle.proxy_engine.proofs.serving.arrive.Goals as goal
 
@@ -25,7 +30,27 @@ returns-clause-ok g c = λ s r d asked due h.
     let few = c.is_spent.ensures.left c.if-is_spent.false in
     arrived_done s c.args.connections.now.items c.carry_out.new.connections.items c.args.links.now.items c.room_for_link.new.links.items c.carry_out.new.links.items c.args.core.now c.arrive.new.self c.args.first c.args.now c.args.i
     c.in-Ok-way_for.way.max_body r c.args.asked.now c.in-Ok-arrive.outcome c.in-Ok-way_for.way.address c.in-Ok-way_for.way.to_head c.index_mut.result.now c.pass.new.connection d c.carry_out.new.effects.items
-    c.requires c.index_mut.ensures.value due c.pass.ensures.stands asked c.in-Ok-arrive.ensures.ok c.room_for_link.ensures.items (omega (arith, few, count))
+    c.requires.within c.index_mut.ensures.value due c.pass.ensures.stands asked c.in-Ok-arrive.ensures.ok c.room_for_link.ensures.items (omega (arith, few, count))
     (c.in-Ok-way_for.ensures.address ∙ ap (λ (t : Table). verdict_address t (verdict_of t.lines c.args.asked.now.method c.args.asked.now.target)) c.config.ensures)
     (c.in-Ok-way_for.ensures.max_body ∙ ap (λ (t : Table). t.max_body) c.config.ensures) c.in-Ok-way_for.ensures.to_head
     (c.carry_out.ensures.effects ∙ ap (λ (b : List Effect). b ++ effects_on c.args.i (c.args.first + length c.room_for_link.new.links.items) (came_at c.in-Ok-way_for.way.address c.in-Ok-arrive.outcome)) c.in-Ok.ensures.items) (λ t k. c.carry_out.ensures.stands t k) h
+
+pub lacks_memory-requires : goal.lacks_memory-requires
+lacks_memory-requires g c =
+    let cs = c.args.connections.now.items in
+    let i = c.args.i in
+    let x = some_part cs i c.requires.within in
+    let free = is_free cs c.args.links.now.items c.args.core.now.exchanges i (get_or cs i x) c.requires.within (same_default cs i x c.requires.within) (c.requires.free x) c.requires.wired in
+    arrival_refused c.args.core.now.exchanges c.args.now (i + 1) c.args.asked.now c.in-Err.fault free.1 c.requires.early c.in-Err.ensures.err
+
+pub returns-clause-wired : goal.returns-clause-wired
+returns-clause-wired g c =
+    let cs = c.args.connections.now.items in
+    let i = c.args.i in
+    let core = c.args.core.now in
+    let x = some_part cs i c.requires.within in
+    let free = is_free cs c.args.links.now.items core.exchanges i (get_or cs i x) c.requires.within (same_default cs i x c.requires.within) (c.requires.free x) c.requires.wired in
+    let passed : links_of (set cs i c.pass.new.connection) ≡ links_of cs = map_kept link_of cs i c.index_mut.result.now c.pass.new.connection c.index_mut.ensures.value c.pass.ensures.link in
+    let owners : owners_of c.room_for_link.new.links.items ≡ owners_of c.args.links.now.items = ap owners_of c.room_for_link.ensures.items in
+    subst (λ (xs : List Exchange). Wired (links_of c.carry_out.new.connections.items) (owners_of c.carry_out.new.links.items) xs) (sym (ap (λ (k : CoreState). k.exchanges) c.in-Ok-arrive.ensures.ok.leaves))
+    (c.carry_out.ensures.wired core.entries core.exchanges c.args.now c.args.asked.now (ap (λ (ls : List (Option ℕ)). at ls i) passed ∙ free.0) (wired_same _ _ _ _ core.exchanges passed owners c.requires.wired))

@@ -1,3 +1,5 @@
+use Rattle.proxy_engine.specs.Wiring.{owner_of}
+use Rattle.proxy_engine.proofs.Searching.{map_kept}
 use Rattle.proxy_engine.proofs.Taking.{link_free, link_refused, link_full, link_taken}
 use Rattle.std.proofs.Common.{true}
 use Rattle.proxy_engine.specs.Story.{heard_by}
@@ -14,3 +16,6 @@ returns-in-Ok-clause-ok c = λ s connections core h. record {
 
 pub returns-in-Err-clause-fault : goal.returns-in-Err-clause-fault
 returns-in-Err-clause-fault c = λ s connections core h. link_full connections c.args.links.now.items c.deref.result.now core c.args.first s c.args.l c.deref.ensures.value c.in-Some.ensures.0 h
+
+pub returns-in-Ok-clause-owners : goal.returns-in-Ok-clause-owners
+returns-in-Ok-clause-owners c = map_kept owner_of c.args.links.now.items c.in-Some.j c.index_mut.result.now c.hear.new.link c.index_mut.ensures.value c.hear.ensures.owner

@@ -1,3 +1,5 @@
+use Rattle.proxy_engine.specs.Wiring.{link_of}
+use Rattle.proxy_engine.proofs.Searching.{map_kept}
 use Rattle.proxy_engine.proofs.Taking.{connection_free, connection_refused, connection_full, connection_taken}
 use Rattle.std.proofs.Common.{true}
 use Rattle.proxy_engine.specs.Story.{sent}
@@ -14,3 +16,6 @@ returns-in-Ok-clause-ok c = λ s links core first h. record {
 
 pub returns-in-Err-clause-fault : goal.returns-in-Err-clause-fault
 returns-in-Err-clause-fault c = λ s links core first h. connection_full c.args.connections.now.items c.deref.result.now links core first s c.args.n c.deref.ensures.value c.in-Some.ensures.0 h
+
+pub returns-in-Ok-clause-links : goal.returns-in-Ok-clause-links
+returns-in-Ok-clause-links c = map_kept link_of c.args.connections.now.items c.in-Some.i c.index_mut.result.now c.send.new.connection c.index_mut.ensures.value c.send.ensures.link

@@ -3,6 +3,8 @@ use Rattle.hx_allow.specs.Lines.{Table}
 use Rattle.proxy_engine.specs.Happenings.{said}
 use Rattle.proxy_engine.specs.State.{State, Stands, Takes, state}
 use Rattle.proxy_engine.specs.declared.happening.Happening.{Happening}
+use Rattle.proxy_engine.specs.Wiring.{owners_of}
+use Rattle.proxy_engine.proofs.Wires.{wired_accepted}
 use Rattle.proxy_engine.proofs.Taking.{on_ok}
 use Rattle.proxy_engine.proofs.engine.Engine.take.Goals as goal
 
@@ -40,3 +42,6 @@ pub returns-in-Fail-clause-ok : goal.returns-in-Fail-clause-ok
 returns-in-Fail-clause-ok g c = on_ok c.break_link.result _ _
     (λ k s h. subst (λ (x : Happening). Takes s (said x) (state c.self.inside.connections.items c.break_link.new.links.items c.self.inside.core c.self.inside.first_link)) (sym c.in-Fail.is) (k s c.self.inside.connections.items c.self.inside.core (subst (λ (e : State). Stands e s) (sym c.self.view_is) h)))
     c.break_link.ensures.ok
+
+pub invariant_of-self : goal.invariant_of-self
+invariant_of-self g c = wired_accepted c.accept.result c.self.inside.connections.items c.accept.new.connections.items (owners_of c.self.inside.links.items) c.self.inside.core.exchanges c.accept.ensures.links c.accept.ensures.err c.self.invariant

@@ -1,0 +1,277 @@
+-- What keeps connections, links and open exchanges together.
+use Rattle.std.proofs.Common.{◌≡◌, ◌≢◌, ◌⊎◌, inl, inr, ℕ, zero, suc, ◌+◌, ◌<◌, ◌≤◌, ◌==◌, List, [], ◌∷◌, ◌++◌, length, get_or, set, refl, sym, ap, ◌∙◌, subst, arith, Bool, true, false, not, cond, Option, None, Some, is_some, map, Result, Ok, Err, OnOk, OnErr}
+use Rattle.std.proofs.lemmas.Bool.{cases_lt, eqb-true, eq-eqb, lt-ltb}
+use Rattle.std.proofs.lemmas.Bool.Decides.{eqb_tells}
+use Rattle.std.proofs.lemmas.List.{get_or-set_same, get_or-set_other, length_push}
+use Rattle.std.proofs.Math.ListN.{get_or-append, length-map}
+use Rattle.std.proofs.Math.Seq.{get_or-append_seam, get_or-append_right}
+use Rattle.proxy_core.specs.Moments.{too_late}
+use Rattle.proxy_core.specs.Outcomes.{find_exchange, fault_of, fault_by}
+use Rattle.proxy_core.specs.declared.fault.CoreFault.{CoreFault}
+use Rattle.proxy_core.specs.declared.fault.CoreFault.TheVariants.{MomentTooLate, OutOfMemory}
+use Rattle.hx_hop.specs.declared.asked_for.Asked.{Asked}
+use Rattle.hx_store.specs.Stored.{Stored}
+use Rattle.proxy_core.specs.State.{State as CoreState, closed, opened, open_after}
+use Rattle.proxy_core.specs.declared.outcome.Outcome.{Outcome}
+use Rattle.proxy_core.specs.declared.event.Event.TheVariants.{Arrive}
+use Rattle.proxy_core.specs.declared.outcome.Outcome.TheVariants.{Forward}
+use Rattle.proxy_core.specs.declared.exchange.Exchange.{Exchange}
+use Rattle.proxy_engine.specs.Wiring.{Wired, at, link_of, owner_of, links_of, owners_of}
+use Rattle.proxy_engine.specs.Due.{Finish, Gives, Breaks}
+use Rattle.proxy_engine.specs.State.{finish_seen, finish_at}
+use Rattle.proxy_engine.specs.Wishes.{Ends}
+use Rattle.proxy_engine.proofs.Wishing.{same_place}
+use Rattle.proxy_engine.proofs.Searching.{some_from}
+use Rattle.proxy_engine.specs.declared.ends.Connection.{Connection}
+use Rattle.proxy_engine.specs.declared.ends.Link.{Link}
+
+some_same : {B : Type 0} {a b : B} → Some a ≡ Some b → a ≡ b
+some_same h = cc
+
+-- beyond the list nothing stands
+beyond : (xs : List (Option ℕ)) (i : ℕ) → length xs ≤ i → at xs i ≡ None
+beyond [] i l = refl
+beyond (x ∷ xs) zero l = absurd (omega (arith, l))
+beyond (x ∷ xs) (suc i) l = beyond xs i (omega (arith, l))
+
+-- what stands, stands within
+pub within : (xs : List (Option ℕ)) (i j : ℕ) → at xs i ≡ Some j → i < length xs
+within xs i j e = by_order (cases_lt i (length xs))
+  where
+    by_order : (i < length xs) ⊎ (length xs ≤ i) → i < length xs
+    by_order (inl l) = l
+    by_order (inr l) = let none = beyond xs i l in cc
+
+same_or_not : (i j : ℕ) → (i ≡ j) ⊎ (i ≢ j)
+same_or_not i j = by_order (cases_lt i j) (cases_lt j i)
+  where
+    by_order : (i < j) ⊎ (j ≤ i) → (j < i) ⊎ (i ≤ j) → (i ≡ j) ⊎ (i ≢ j)
+    by_order (inl l) o = inr (λ e. absurd (omega (arith, l, e)))
+    by_order (inr l) (inl m) = inr (λ e. absurd (omega (arith, m, e)))
+    by_order (inr l) (inr m) = inl (omega (arith, l, m))
+
+-- one more place where nothing stands
+pub at_more : (xs : List (Option ℕ)) (i : ℕ) → at (xs ++ None ∷ []) i ≡ at xs i
+at_more [] zero = refl
+at_more [] (suc i) = refl
+at_more (x ∷ xs) zero = refl
+at_more (x ∷ xs) (suc i) = at_more xs i
+
+-- a connection more
+pub wired_more : (links owners : List (Option ℕ)) (xs : List Exchange) → Wired links owners xs → Wired (links ++ None ∷ []) owners xs
+wired_more links owners xs h = record {
+  owned = λ i j e. h.owned i j (sym (at_more links i) ∙ e);
+  linked = λ i j e. at_more links i ∙ h.linked i j e;
+  opened = λ i. h.opened i ∙ sym (ap is_some (at_more links i));
+}
+
+other_number : (a b : ℕ) → a ≢ b → (a == b) ≡ false
+other_number a b n = by_cases (eqb_tells a b)
+  where
+    by_cases : (((a == b) ≡ true) × (a ≡ b)) ⊎ (((a == b) ≡ false) × (a ≢ b)) → (a == b) ≡ false
+    by_cases (inl p) = absurd (n p.1)
+    by_cases (inr p) = p.0
+
+gone_by : (b : Bool) (id : ℕ) (x : Exchange) (xs : List Exchange) → (x.id == id) ≡ b → find_exchange id xs ≡ None → find_exchange id (cond (not b) (x ∷ xs) xs) ≡ None
+gone_by true id x xs e h = h
+gone_by false id x xs e h = ap (λ (b : Bool). cond b (Some x) (find_exchange id xs)) e ∙ h
+
+-- the exchange that ends isn't open any more
+find_closed : (id : ℕ) (xs : List Exchange) → find_exchange id (closed id xs) ≡ None
+find_closed id [] = refl
+find_closed id (x ∷ xs) = gone_by (x.id == id) id x (closed id xs) refl (find_closed id xs)
+
+kept_by : (b : Bool) (id other : ℕ) (x : Exchange) (xs ys : List Exchange) → (x.id == id) ≡ b → other ≢ id → find_exchange other xs ≡ find_exchange other ys → find_exchange other (cond (not b) (x ∷ xs) xs) ≡ find_exchange other (x ∷ ys)
+kept_by true id other x xs ys e n h =
+    let same : x.id ≡ id = eqb-true x.id id e in
+    h ∙ sym (ap (λ (b : Bool). cond b (Some x) (find_exchange other ys)) (other_number x.id other (λ q. n (sym q ∙ same))))
+kept_by false id other x xs ys e n h = ap (λ (o : Option Exchange). cond (x.id == other) (Some x) o) h
+
+-- the others are
+find_kept : (id other : ℕ) (xs : List Exchange) → other ≢ id → find_exchange other (closed id xs) ≡ find_exchange other xs
+find_kept id other [] n = refl
+find_kept id other (x ∷ xs) n = kept_by (x.id == id) id other x (closed id xs) xs refl n (find_kept id other xs n)
+
+is_some_by : (b : Bool) (x : Exchange) (o p : Option Exchange) → is_some o ≡ is_some p → is_some (cond b (Some x) o) ≡ is_some (cond b (Some x) p)
+is_some_by true x o p h = refl
+is_some_by false x o p h = h
+
+-- a new one is, and the others are as before
+find_pushed : (id : ℕ) (xs : List Exchange) (x : Exchange) → x.id ≡ id → is_some (find_exchange id (xs ++ x ∷ [])) ≡ true
+find_pushed id [] x e = ap (λ (b : Bool). is_some (cond b (Some x) None)) (eq-eqb x.id id e)
+find_pushed id (y ∷ xs) x e = pushed_by (y.id == id) y (find_exchange id (xs ++ x ∷ [])) (find_pushed id xs x e)
+  where
+    pushed_by : (b : Bool) (y : Exchange) (o : Option Exchange) → is_some o ≡ true → is_some (cond b (Some y) o) ≡ true
+    pushed_by true y o h = refl
+    pushed_by false y o h = h
+
+find_before : (id : ℕ) (xs : List Exchange) (x : Exchange) → x.id ≢ id → is_some (find_exchange id (xs ++ x ∷ [])) ≡ is_some (find_exchange id xs)
+find_before id [] x n = ap (λ (b : Bool). is_some (cond b (Some x) None)) (other_number x.id id n)
+find_before id (y ∷ xs) x n = is_some_by (y.id == id) y (find_exchange id (xs ++ x ∷ [])) (find_exchange id xs) (find_before id xs x n)
+
+-- ---- an exchange ends
+
+pub wired_freed : (links owners : List (Option ℕ)) (xs : List Exchange) (i j : ℕ) → at links i ≡ Some j → Wired links owners xs → Wired (set links i None) (set owners j None) (closed (i + 1) xs)
+wired_freed links owners xs i j here h = record {
+  owned = λ k l e. owned_by k l e (same_or_not k i);
+  linked = λ k l e. linked_by k l e (same_or_not l j);
+  opened = λ k. opened_by k (same_or_not k i);
+}
+  where
+    there : at owners j ≡ Some i
+    there = h.owned i j here
+    owned_by : (k l : ℕ) → at (set links i None) k ≡ Some l → (k ≡ i) ⊎ (k ≢ i) → at (set owners j None) l ≡ Some k
+    owned_by k l e (inl same) =
+        let none : at (set links i None) i ≡ None = get_or-set_same links i None None (within links i j here) in
+        let none_there : at (set links i None) k ≡ None = ap (at (set links i None)) same ∙ none in
+        cc
+    owned_by k l e (inr other) =
+        let was : at links k ≡ Some l = sym (get_or-set_other links i k None None other) ∙ e in
+        let owner : at owners l ≡ Some k = h.owned k l was in
+        let apart : l ≢ j = λ q. other (some_same (sym owner ∙ (ap (at owners) q ∙ there))) in
+        get_or-set_other owners j l None None apart ∙ owner
+    linked_by : (k l : ℕ) → at (set owners j None) l ≡ Some k → (l ≡ j) ⊎ (l ≢ j) → at (set links i None) k ≡ Some l
+    linked_by k l e (inl same) =
+        let none : at (set owners j None) j ≡ None = get_or-set_same owners j None None (within owners j i there) in
+        let none_there : at (set owners j None) l ≡ None = ap (at (set owners j None)) same ∙ none in
+        cc
+    linked_by k l e (inr other) =
+        let was : at owners l ≡ Some k = sym (get_or-set_other owners j l None None other) ∙ e in
+        let link : at links k ≡ Some l = h.linked k l was in
+        let apart : k ≢ i = λ q. other (some_same (sym link ∙ (ap (at links) q ∙ here))) in
+        get_or-set_other links i k None None apart ∙ link
+    opened_by : (k : ℕ) → (k ≡ i) ⊎ (k ≢ i) → is_some (find_exchange (k + 1) (closed (i + 1) xs)) ≡ is_some (at (set links i None) k)
+    opened_by k (inl same) =
+        subst (λ n. is_some (find_exchange (n + 1) (closed (i + 1) xs)) ≡ is_some (at (set links i None) n)) (sym same)
+        (ap is_some (find_closed (i + 1) xs) ∙ sym (ap is_some (get_or-set_same links i None None (within links i j here))))
+    opened_by k (inr other) =
+        ap is_some (find_kept (i + 1) (k + 1) xs (λ q. other (omega (arith, q)))) ∙ (h.opened k ∙ sym (ap is_some (get_or-set_other links i k None None other)))
+
+-- ---- one opens
+
+pub wired_opened : (links owners : List (Option ℕ)) (xs : List Exchange) (x : Exchange) (i : ℕ) → i < length links → at links i ≡ None → x.id ≡ i + 1 → Wired links owners xs
+    → Wired (set links i (Some (length owners))) (owners ++ Some i ∷ []) (xs ++ x ∷ [])
+wired_opened links owners xs x i here free id h = record {
+  owned = λ k l e. owned_by k l e (same_or_not k i);
+  linked = λ k l e. linked_by k l e (cases_lt l (length owners));
+  opened = λ k. opened_by k (same_or_not k i);
+}
+  where
+    next : at (set links i (Some (length owners))) i ≡ Some (length owners)
+    next = get_or-set_same links i (Some (length owners)) None here
+    owned_by : (k l : ℕ) → at (set links i (Some (length owners))) k ≡ Some l → (k ≡ i) ⊎ (k ≢ i) → at (owners ++ Some i ∷ []) l ≡ Some k
+    owned_by k l e (inl same) =
+        let place : length owners ≡ l = some_same (sym next ∙ (ap (at (set links i (Some (length owners)))) (sym same) ∙ e)) in
+        ap (at (owners ++ Some i ∷ [])) (sym place) ∙ (get_or-append_seam owners (Some i) [] None ∙ ap Some (sym same))
+    owned_by k l e (inr other) =
+        let owner : at owners l ≡ Some k = h.owned k l (sym (get_or-set_other links i k (Some (length owners)) None other) ∙ e) in
+        get_or-append owners (Some i ∷ []) None l (within owners l k owner) ∙ owner
+    linked_by : (k l : ℕ) → at (owners ++ Some i ∷ []) l ≡ Some k → (l < length owners) ⊎ (length owners ≤ l) → at (set links i (Some (length owners))) k ≡ Some l
+    linked_by k l e (inl before) =
+        let link : at links k ≡ Some l = h.linked k l (sym (get_or-append owners (Some i ∷ []) None l before) ∙ e) in
+        let apart : k ≢ i = λ q. let none : at links k ≡ None = ap (at links) q ∙ free in cc in
+        get_or-set_other links i k (Some (length owners)) None apart ∙ link
+    linked_by k l e (inr behind) =
+        let last : l < length (owners ++ Some i ∷ []) = within (owners ++ Some i ∷ []) l k e in
+        let place : l ≡ length owners = omega (arith, last, behind, length_push owners (Some i)) in
+        let same : i ≡ k = some_same (sym (get_or-append_seam owners (Some i) [] None) ∙ (ap (at (owners ++ Some i ∷ [])) (sym place) ∙ e)) in
+        ap (at (set links i (Some (length owners)))) (sym same) ∙ (next ∙ ap Some (sym place))
+    opened_by : (k : ℕ) → (k ≡ i) ⊎ (k ≢ i) → is_some (find_exchange (k + 1) (xs ++ x ∷ [])) ≡ is_some (at (set links i (Some (length owners))) k)
+    opened_by k (inl same) =
+        subst (λ n. is_some (find_exchange (n + 1) (xs ++ x ∷ [])) ≡ is_some (at (set links i (Some (length owners))) n)) (sym same)
+        (find_pushed (i + 1) xs x id ∙ sym (ap is_some next))
+    opened_by k (inr other) =
+        find_before (k + 1) xs x (λ q. other (omega (arith, q, id))) ∙ (h.opened k ∙ sym (ap is_some (get_or-set_other links i k (Some (length owners)) None other)))
+
+-- a request goes forward, or not
+pub wired_stepped : (cs cs1 : List Connection) (ks ks1 : List Link) (held : List Stored) (xs : List Exchange) (now i line : ℕ) (asked : Asked) (bytes : List ℕ) → i < length cs → links_of cs1 ≡ set (links_of cs) i (Some (length ks)) → owners_of ks1 ≡ owners_of ks ++ Some i ∷ []
+    → at (links_of cs) i ≡ None → Wired (links_of cs) (owners_of ks) xs → Wired (links_of cs1) (owners_of ks1) (open_after held xs (Arrive now (i + 1) asked) (Forward line bytes))
+wired_stepped cs cs1 ks ks1 held xs now i line asked bytes here links owners free h =
+    let size : length (owners_of ks) ≡ length ks = length-map ks owner_of in
+    let wires : length (links_of cs) ≡ length cs = length-map cs link_of in
+    let opens = wired_opened (links_of cs) (owners_of ks) xs (opened held now (i + 1) asked) i (omega (arith, here, wires)) free refl h in
+    subst (λ (ls : List (Option ℕ)). Wired ls (owners_of ks1) (xs ++ opened held now (i + 1) asked ∷ [])) (sym (links ∙ ap (λ n. set (links_of cs) i (Some n)) (sym size)))
+    (subst (λ (os : List (Option ℕ)). Wired (set (links_of cs) i (Some (length (owners_of ks)))) os (xs ++ opened held now (i + 1) asked ∷ [])) (sym owners) opens)
+
+-- ---- on both sides
+
+-- what is read of the part at a place
+pub mapped_at : {A : Type 0} (f : A → Option ℕ) (xs : List A) (i : ℕ) (x : A) → i < length xs → x ≡ get_or xs i x → at (map f xs) i ≡ f x
+mapped_at f [] i x l e = absurd (omega (arith, l))
+mapped_at f (y ∷ xs) zero x l e = ap f (sym e)
+mapped_at f (y ∷ xs) (suc i) x l e = mapped_at f xs i x (omega (arith, l)) e
+
+owner_by : (dropped : Bool) (o : Option Finish) (f : Finish) (n : ℕ) → cond dropped None o ≡ Some f → ◌≡◌ {A = Option ℕ} (cond dropped None (Some n)) (Some n)
+owner_by true o f n h = cc
+owner_by false o f n h = refl
+
+-- a link on which something stands is open, and its connection has it
+pub finished_link : (cs : List Connection) (ks : List Link) (xs : List Exchange) (j : ℕ) (x y : Link) (f : Finish) → j < length ks → x ≡ get_or ks j x → y ≡ get_or ks j y → finish_at y ≡ Some f → Wired (links_of cs) (owners_of ks) xs
+    → at (links_of cs) x.connection ≡ Some j
+finished_link cs ks xs j x y f l e d h w =
+    let same : x ≡ y = sym (same_place ks j x y l e) ∙ sym d in
+    let owner : owner_of y ≡ Some y.connection = owner_by y.dropped (finish_seen y.watch.look y.failed) f y.connection h in
+    w.linked x.connection j (mapped_at owner_of ks j x l e ∙ (ap owner_of same ∙ (owner ∙ ap (λ (k : Link). Some k.connection) (sym same))))
+
+-- the place of a connection that has a link, and that of its link
+pub within_connections : (cs : List Connection) (i j : ℕ) → at (links_of cs) i ≡ Some j → i < length cs
+within_connections cs i j h = subst (λ n. i < n) (length-map cs link_of) (within (links_of cs) i j h)
+
+pub within_links : (cs : List Connection) (ks : List Link) (xs : List Exchange) (i j : ℕ) → at (links_of cs) i ≡ Some j → Wired (links_of cs) (owners_of ks) xs → j < length ks
+within_links cs ks xs i j h w = subst (λ n. j < n) (length-map ks owner_of) (within (owners_of ks) j i (w.owned i j h))
+
+-- its exchange is open
+pub is_open : (cs : List Connection) (ks : List Link) (xs : List Exchange) (i j : ℕ) → at (links_of cs) i ≡ Some j → Wired (links_of cs) (owners_of ks) xs → is_some (find_exchange (i + 1) xs) ≡ true
+is_open cs ks xs i j h w = w.opened i ∙ ap is_some h
+
+-- that of a connection without a link isn't
+pub is_free : (cs : List Connection) (ks : List Link) (xs : List Exchange) (i : ℕ) (x : Connection) → i < length cs → x ≡ get_or cs i x → x.link ≡ None → Wired (links_of cs) (owners_of ks) xs → (at (links_of cs) i ≡ None) × (is_some (find_exchange (i + 1) xs) ≡ false)
+is_free cs ks xs i x l e free w =
+    let none : at (links_of cs) i ≡ None = mapped_at link_of cs i x l e ∙ free in
+    (none, w.opened i ∙ ap is_some none)
+
+-- an exchange has ended, on all sides
+pub wired_ended : (cs cs1 : List Connection) (ks ks1 : List Link) (xs xs1 : List Exchange) (i j : ℕ) → at (links_of cs) i ≡ Some j → links_of cs1 ≡ set (links_of cs) i None → owners_of ks1 ≡ set (owners_of ks) j None → xs1 ≡ closed (i + 1) xs
+    → Wired (links_of cs) (owners_of ks) xs → Wired (links_of cs1) (owners_of ks1) xs1
+wired_ended cs cs1 ks ks1 xs xs1 i j h links owners exchanges w =
+    subst (λ (ls : List (Option ℕ)). Wired ls (owners_of ks1) xs1) (sym links)
+    (subst (λ (os : List (Option ℕ)). Wired (set (links_of cs) i None) os xs1) (sym owners)
+    (subst (λ (es : List Exchange). Wired (set (links_of cs) i None) (set (owners_of ks) j None) es) (sym exchanges) (wired_freed (links_of cs) (owners_of ks) xs i j h w)))
+
+pub ended_exchanges : (core core1 : CoreState) (now id : ℕ) (f : Finish) (o : Outcome) → Ends core now id f o core1 → core1.exchanges ≡ closed id core.exchanges
+ended_exchanges core core1 now id (Gives r) o h = ap (λ (k : CoreState). k.exchanges) h.leaves
+ended_exchanges core core1 now id (Breaks kind) o h = ap (λ (k : CoreState). k.exchanges) h.leaves
+
+-- links and connections that read the same
+pub wired_same : (ls ls1 os os1 : List (Option ℕ)) (xs : List Exchange) → ls1 ≡ ls → os1 ≡ os → Wired ls os xs → Wired ls1 os1 xs
+wired_same ls ls1 os os1 xs l o w = subst (λ (ls : List (Option ℕ)). Wired ls os1 xs) (sym l) (subst (λ (os : List (Option ℕ)). Wired ls os xs) (sym o) w)
+
+-- the connection of a link on which something stands has it
+pub due_link : (cs : List Connection) (ks : List Link) (xs : List Exchange) (j : ℕ) (x : Link) → j < length ks → x ≡ get_or ks j x → is_some (finish_at (get_or ks j x)) ≡ true → Wired (links_of cs) (owners_of ks) xs → at (links_of cs) x.connection ≡ Some j
+due_link cs ks xs j x l e h w =
+    let known = some_from (finish_at (get_or ks j x)) (sym h) in
+    finished_link cs ks xs j x x known.0 l e e (ap finish_at e ∙ known.1) w
+
+-- a connection was accepted, or wasn't
+pub wired_accepted : {E : Type 0} (r : Result (Unit {0}) E) (cs cs1 : List Connection) (os : List (Option ℕ)) (xs : List Exchange) → OnOk r (links_of cs1 ≡ links_of cs ++ None ∷ []) → OnErr r (cs1 ≡ cs) → Wired (links_of cs) os xs → Wired (links_of cs1) os xs
+wired_accepted (Ok u) cs cs1 os xs more same w = subst (λ (ls : List (Option ℕ)). Wired ls os xs) (sym more) (wired_more (links_of cs) os xs w)
+wired_accepted (Err e) cs cs1 os xs more same w = subst (λ (ds : List Connection). Wired (links_of ds) os xs) (sym same) w
+
+-- within the list the stand-in doesn't matter
+pub same_default : {A : Type 0} (xs : List A) (i : ℕ) (x : A) → i < length xs → get_or xs i x ≡ get_or xs i (get_or xs i x)
+same_default [] i x l = absurd (omega (arith, l))
+same_default (y ∷ xs) zero x l = refl
+same_default (y ∷ xs) (suc i) x l = same_default xs i x (omega (arith, l))
+
+early_by : (now : ℕ) → now < 253402300800 → too_late now ≡ None
+early_by now l = ap (λ (b : Bool). cond b None (Some MomentTooLate)) (lt-ltb now 253402300800 l)
+
+-- an arrival at a free id, in time, is refused for want of memory alone
+pub arrival_refused : (xs : List Exchange) (now id : ℕ) (asked : Asked) (fault : CoreFault) → is_some (find_exchange id xs) ≡ false → now < 253402300800
+    → (fault_by xs (Arrive now id asked) ≡ Some fault) ⊎ ((fault_by xs (Arrive now id asked) ≡ None) × (fault ≡ OutOfMemory)) → fault ≡ OutOfMemory
+arrival_refused xs now id asked fault free early (inl stands) = refused_by (find_exchange id xs) free stands
+  where
+    refused_by : (o : Option Exchange) → is_some o ≡ false → fault_of o (Arrive now id asked) ≡ Some fault → fault ≡ OutOfMemory
+    refused_by (Some x) f h = cc
+    refused_by None f h = let none = early_by now early in cc
+arrival_refused xs now id asked fault free early (inr memory) = memory.1

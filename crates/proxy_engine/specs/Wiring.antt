@@ -1,0 +1,37 @@
+-- Which connection has which link, and which exchanges of the core are open: the three agree.
+--
+-- Wired: connections, links and open exchanges belong together     IsWired: those of an engine do
+use Rattle.std.specs.Prelude.{◌≡◌, ℕ, ◌+◌, List, map, Option, None, Some, is_some, if◌then◌else◌, slice_index_or}
+use Rattle.proxy_core.specs.Outcomes.{find_exchange}
+use Rattle.proxy_core.specs.declared.exchange.Exchange.{Exchange}
+use Rattle.proxy_engine.specs.State.{State}
+use Rattle.proxy_engine.specs.declared.ends.Connection.{Connection}
+use Rattle.proxy_engine.specs.declared.ends.Link.{Link}
+
+-- the place of the link that a connection has
+abbrev pub link_of : Connection → Option ℕ
+link_of c = c.link
+
+-- the place of the connection that an open link belongs to
+abbrev pub owner_of : Link → Option ℕ
+owner_of k = if k.dropped then None else Some k.connection
+
+-- what stands at a place, or nothing beyond the list
+abbrev pub at : List (Option ℕ) → ℕ → Option ℕ
+at xs i = slice_index_or xs i None
+
+-- An open link and its connection name each other, and the exchange of a connection's number is open exactly where the
+-- connection has a link.
+pub record Wired (links owners : List (Option ℕ)) (exchanges : List Exchange) : Type 0 where
+  pub owned : (i j : ℕ) → at links i ≡ Some j → at owners j ≡ Some i
+  pub linked : (i j : ℕ) → at owners j ≡ Some i → at links i ≡ Some j
+  pub opened : (i : ℕ) → is_some (find_exchange (i + 1) exchanges) ≡ is_some (at links i)
+
+abbrev pub links_of : List Connection → List (Option ℕ)
+links_of connections = map link_of connections
+
+abbrev pub owners_of : List Link → List (Option ℕ)
+owners_of links = map owner_of links
+
+abbrev pub IsWired : State → Type 0
+IsWired e = Wired (links_of e.connections) (owners_of e.links) e.core.exchanges
