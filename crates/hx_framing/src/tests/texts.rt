@@ -3,28 +3,48 @@
 use crate::{Request, write_request, write_response};
 use http::Method;
 use hx_fields::{Bytes, Fields};
+use std::alloc::{AllocError, Global};
+use std::process::Abort;
 use std::test::Fail;
+
+const REQUEST: &[u8] =
+    b"POST /a HTTP/1.1\r\nHost: h\r\nX: \r\nContent-Length: 5\r\nConnection: close\r\n\r\nhello";
+
+const RESPONSE: &[u8] =
+    b"HTTP/1.1 403 \r\nHost: h\r\nX: \r\nContent-Length: 16\r\nConnection: close\r\n\r\n";
+
+fn fields(alloc: Global) -> Result<Fields, AllocError> {
+    let mut fields = Fields::new(alloc);
+    fields.push(b"Host", b"h")?;
+    fields.push(b"X", b"")?;
+    Ok(fields)
+}
+
+fn request(alloc: Global) -> Result<Request, AllocError> {
+    Ok(Request {
+        method: Method::POST,
+        target: Bytes::copy_of(alloc, b"/a")?,
+        minor: 1,
+        fields: fields(alloc)?,
+        content: Some(Bytes::copy_of(alloc, b"hello")?),
+    })
+}
+
+fn writes_the_request(rt: &impl Abort, alloc: Global) -> Result<(), AllocError> {
+    let text = write_request(alloc, &request(alloc)?)?;
+    assert_eq!(rt; text.as_slice(), REQUEST);
+    Ok(())
+}
+
+fn writes_the_response(rt: &impl Abort, alloc: Global) -> Result<(), AllocError> {
+    let text = write_response(alloc, 403, &fields(alloc)?, Some(16), true, b"")?;
+    assert_eq!(rt; text.as_slice(), RESPONSE);
+    Ok(())
+}
 
 #[test]
 fn memory_is_found(rt: HostRuntime) -> Result<(), Fail> {
-    let mut fields = Fields::new(rt.alloc());
-    fields.push(b"Host", b"h")?;
-    fields.push(b"X", b"")?;
-    let request = Request {
-        method: Method::POST,
-        target: Bytes::copy_of(rt.alloc(), b"/a")?,
-        minor: 1,
-        fields,
-        content: Some(Bytes::copy_of(rt.alloc(), b"hello")?),
-    };
-    assert_eq!(&rt;
-        write_request(rt.alloc(), &request)?.as_slice(),
-        b"POST /a HTTP/1.1\r\nHost: h\r\nX: \r\nContent-Length: 5\r\nConnection: close\r\n\r\nhello".as_slice()
-    );
-    let response = write_response(rt.alloc(), 403, &request.fields, Some(16), true, b"")?;
-    assert_eq!(&rt;
-        response.as_slice(),
-        b"HTTP/1.1 403 \r\nHost: h\r\nX: \r\nContent-Length: 16\r\nConnection: close\r\n\r\n".as_slice()
-    );
+    writes_the_request(&rt, rt.alloc())?;
+    writes_the_response(&rt, rt.alloc())?;
     Ok(())
 }
