@@ -5,10 +5,40 @@ use hx_directives::Directives;
 use hx_fields::{Bytes, Fields};
 use hx_target::Key;
 use hx_vary::{Nominated, Nomination};
-use std::alloc::Global;
+use std::alloc::{AllocError, Global};
+use std::process::Abort;
 use std::test::Fail;
 
-fn key(alloc: Global, path: &str) -> Result<Key, Fail> {
+/// The shelf's calls as the tests take them.
+fn shelf_of(alloc: Global, capacity: usize) -> ListShelf {
+    ListShelf::new(alloc, capacity)
+}
+
+fn promote(shelf: &mut ListShelf, serial: u64) -> bool {
+    shelf.promote(serial)
+}
+
+fn remove(shelf: &mut ListShelf, serial: u64) -> Option<Entry> {
+    shelf.remove(serial)
+}
+
+fn find(alloc: Global, shelf: &ListShelf, key: &Key) -> Result<Serials, AllocError> {
+    shelf.find(alloc, key)
+}
+
+fn invalidate(shelf: &mut ListShelf, key: &Key) -> usize {
+    shelf.invalidate(key)
+}
+
+fn insert(serials: &mut Serials, serial: u64) -> Result<(), AllocError> {
+    serials.insert(serial)
+}
+
+fn copied(alloc: Global, entry: &Entry) -> Result<Entry, AllocError> {
+    entry.copy(alloc)
+}
+
+fn key(alloc: Global, path: &str) -> Result<Key, AllocError> {
     Ok(Key {
         host: Bytes::copy_of(alloc, b"h")?,
         port: 80,
@@ -16,22 +46,39 @@ fn key(alloc: Global, path: &str) -> Result<Key, Fail> {
     })
 }
 
-fn entry(alloc: Global, serial: u64, path: &str) -> Result<Entry, Fail> {
+fn fields(alloc: Global) -> Result<Fields, AllocError> {
     let mut fields = Fields::new(alloc);
     fields.push(b"Cache-Control", b"max-age=60")?;
-    let Nomination::Names(nominated) = Nominated::of(alloc, &fields, &fields)? else {
-        return Err("names".into());
-    };
+    Ok(fields)
+}
+
+fn nominated(alloc: Global, fields: &Fields) -> Result<Nominated, Fail> {
+    match Nominated::of(alloc, fields, fields)? {
+        Nomination::Names(nominated) => Ok(nominated),
+        _ => Err("names".into()),
+    }
+}
+
+fn times(fields: &Fields) -> Times {
+    Times::of(fields, 0, 0)
+}
+
+fn entry(alloc: Global, serial: u64, path: &str) -> Result<Entry, Fail> {
+    let key = key(alloc, path)?;
+    let content = Bytes::copy_of(alloc, path.as_bytes())?;
+    let fields = fields(alloc)?;
+    let nominated = nominated(alloc, &fields)?;
+    let times = times(&fields);
     let directives = Directives::of(alloc, &fields)?;
     Ok(Entry {
         serial,
-        key: key(alloc, path)?,
+        key,
         nominated,
         status: 200,
-        times: Times::of(&fields, 0, 0),
+        times,
         fields,
         directives,
-        content: Bytes::copy_of(alloc, path.as_bytes())?,
+        content,
     })
 }
 
@@ -63,6 +110,19 @@ fn freshen(shelf: &mut ListShelf, entry: Entry) -> Result<u64, Fail> {
     Ok(shelf.freshen(entry).serial)
 }
 
+/// Puts an entry in place of one of another serial, and notes the serial that is handed back.
+fn put_one(
+    alloc: Global,
+    shelf: &mut ListShelf,
+    evicted: &mut Serials,
+    (serial, path, replaced): (u64, &str, u64),
+) -> Result<(), Fail> {
+    match put(shelf, entry(alloc, serial, path)?, &[replaced])? {
+        Some(out) => Ok(insert(evicted, out)?),
+        None => Ok(()),
+    }
+}
+
 /// Puts entries of these serials and paths, each in place of one serial, and says which were handed back.
 fn put_each(
     alloc: Global,
@@ -70,10 +130,8 @@ fn put_each(
     puts: &[(u64, &str, u64)],
 ) -> Result<Serials, Fail> {
     let mut evicted = Serials::new(alloc);
-    for (serial, path, replaced) in puts {
-        if let Some(out) = put(shelf, entry(alloc, *serial, path)?, &[*replaced])? {
-            evicted.insert(out)?;
-        }
+    for one in puts {
+        put_one(alloc, shelf, &mut evicted, *one)?;
     }
     Ok(evicted)
 }
@@ -81,7 +139,7 @@ fn put_each(
 #[test]
 fn shelf_calls(rt: HostRuntime) -> Result<(), Fail> {
     let alloc = rt.alloc();
-    let mut shelf = ListShelf::new(alloc, 2);
+    let mut shelf = shelf_of(alloc, 2);
     let evicted = put_each(
         alloc,
         &mut shelf,
@@ -90,8 +148,8 @@ fn shelf_calls(rt: HostRuntime) -> Result<(), Fail> {
     assert!(rt; evicted.is_empty());
     let evicted = put_each(alloc, &mut shelf, &[(4, "/d", 0)])?;
     assert_eq!(rt; evicted.last(), Some(1));
-    assert!(rt; shelf.promote(3));
-    assert!(rt; shelf.remove(9).is_none());
+    assert!(rt; promote(&mut shelf, 3));
+    assert!(rt; remove(&mut shelf, 9).is_none());
     let evicted = put_each(alloc, &mut shelf, &[(5, "/e", 0)])?;
     assert_eq!(rt; evicted.last(), Some(4));
     Ok(())
@@ -99,29 +157,45 @@ fn shelf_calls(rt: HostRuntime) -> Result<(), Fail> {
 
 #[test]
 fn copied_entry_is_equal(rt: HostRuntime) -> Result<(), Fail> {
-    let copied = entry(rt.alloc(), 3, "/c")?.copy(rt.alloc())?;
+    let copied = copied(rt.alloc(), &entry(rt.alloc(), 3, "/c")?)?;
     assert_eq!(rt; copied.serial, 3);
     assert!(rt; copied.content.as_slice() == b"/c".as_slice());
     assert_eq!(rt; copied.fields.len(), 1);
     Ok(())
 }
 
+/// The serials of a key's entries.
+fn are_found(
+    rt: &impl Abort,
+    alloc: Global,
+    shelf: &ListShelf,
+    key: &Key,
+    serials: &[u64],
+) -> Result<(), AllocError> {
+    let found = find(alloc, shelf, key)?;
+    assert!(rt; found.as_slice() == serials);
+    Ok(())
+}
+
+fn are_held(rt: &impl Abort, shelf: &ListShelf, number: usize, capacity: usize) {
+    assert_eq!(rt; shelf.len(), number);
+    assert_eq!(rt; shelf.capacity(), capacity);
+}
+
 #[test]
 fn entries_are_found_by_key(rt: HostRuntime) -> Result<(), Fail> {
     let alloc = rt.alloc();
-    let mut shelf = ListShelf::new(alloc, 3);
+    let mut shelf = shelf_of(alloc, 3);
     put_each(
         alloc,
         &mut shelf,
         &[(1, "/a", 0), (2, "/b", 0), (3, "/a", 0)],
     )?;
     let a = key(alloc, "/a")?;
-    let found = shelf.find(alloc, &a)?;
-    assert!(rt; found.as_slice() == [1, 3].as_slice());
+    are_found(&rt, alloc, &shelf, &a, &[1, 3])?;
     assert_eq!(rt; freshen(&mut shelf, entry(alloc, 1, "/a")?)?, 1);
-    assert_eq!(rt; shelf.invalidate(&a), 2);
-    assert_eq!(rt; shelf.len(), 1);
-    assert_eq!(rt; shelf.capacity(), 3);
+    assert_eq!(rt; invalidate(&mut shelf, &a), 2);
+    are_held(&rt, &shelf, 1, 3);
     Ok(())
 }
 
@@ -130,7 +204,7 @@ fn serials_ascend(rt: HostRuntime) -> Result<(), Fail> {
     let mut serials = Serials::new(rt.alloc());
     assert!(rt; serials.is_empty());
     for serial in [4, 9, 1] {
-        serials.insert(serial)?;
+        insert(&mut serials, serial)?;
     }
     assert_eq!(rt; serials.len(), 3);
     assert!(rt; serials.as_slice() == [1, 4, 9].as_slice());
