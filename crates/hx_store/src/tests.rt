@@ -38,11 +38,17 @@ fn copied(alloc: Global, entry: &Entry) -> Result<Entry, AllocError> {
     entry.copy(alloc)
 }
 
+fn bytes(alloc: Global, text: &str) -> Result<Bytes, AllocError> {
+    Bytes::copy_of(alloc, text.as_bytes())
+}
+
 fn key(alloc: Global, path: &str) -> Result<Key, AllocError> {
+    let host = bytes(alloc, "h")?;
+    let path_query = bytes(alloc, path)?;
     Ok(Key {
-        host: Bytes::copy_of(alloc, b"h")?,
+        host,
         port: 80,
-        path_query: Bytes::copy_of(alloc, path.as_bytes())?,
+        path_query,
     })
 }
 
@@ -65,7 +71,7 @@ fn times(fields: &Fields) -> Times {
 
 fn entry(alloc: Global, serial: u64, path: &str) -> Result<Entry, Fail> {
     let key = key(alloc, path)?;
-    let content = Bytes::copy_of(alloc, path.as_bytes())?;
+    let content = bytes(alloc, path)?;
     let fields = fields(alloc)?;
     let nominated = nominated(alloc, &fields)?;
     let times = times(&fields);
@@ -136,31 +142,48 @@ fn put_each(
     Ok(evicted)
 }
 
-#[test]
-fn shelf_calls(rt: HostRuntime) -> Result<(), Fail> {
-    let alloc = rt.alloc();
-    let mut shelf = shelf_of(alloc, 2);
-    let evicted = put_each(
-        alloc,
-        &mut shelf,
-        &[(1, "/a", 0), (2, "/b", 0), (3, "/c", 2)],
-    )?;
-    assert!(rt; evicted.is_empty());
-    let evicted = put_each(alloc, &mut shelf, &[(4, "/d", 0)])?;
-    assert_eq!(rt; evicted.last(), Some(1));
-    assert!(rt; promote(&mut shelf, 3));
-    assert!(rt; remove(&mut shelf, 9).is_none());
-    let evicted = put_each(alloc, &mut shelf, &[(5, "/e", 0)])?;
-    assert_eq!(rt; evicted.last(), Some(4));
+/// Putting these entries hands back one of this serial, or none.
+fn hands_back(
+    rt: &impl Abort,
+    alloc: Global,
+    shelf: &mut ListShelf,
+    puts: &[(u64, &str, u64)],
+    serial: Option<u64>,
+) -> Result<(), Fail> {
+    let evicted = put_each(alloc, shelf, puts)?;
+    assert_eq!(rt; evicted.last(), serial);
+    assert!(rt; evicted.is_empty() == serial.is_none());
     Ok(())
 }
 
 #[test]
+fn shelf_calls(rt: HostRuntime) -> Result<(), Fail> {
+    let alloc = rt.alloc();
+    let mut shelf = shelf_of(alloc, 2);
+    let first = [(1, "/a", 0), (2, "/b", 0), (3, "/c", 2)];
+    hands_back(&rt, alloc, &mut shelf, &first, None)?;
+    hands_back(&rt, alloc, &mut shelf, &[(4, "/d", 0)], Some(1))?;
+    assert!(rt; promote(&mut shelf, 3));
+    assert!(rt; remove(&mut shelf, 9).is_none());
+    hands_back(&rt, alloc, &mut shelf, &[(5, "/e", 0)], Some(4))
+}
+
+fn is_third(rt: &impl Abort, entry: &Entry) {
+    assert_eq!(rt; entry.serial, 3);
+    assert!(rt; entry.content.as_slice() == b"/c".as_slice());
+    assert_eq!(rt; entry.fields.len(), 1);
+}
+
+/// A copy of an entry.
+fn copied_entry(alloc: Global, serial: u64, path: &str) -> Result<Entry, Fail> {
+    let entry = entry(alloc, serial, path)?;
+    Ok(copied(alloc, &entry)?)
+}
+
+#[test]
 fn copied_entry_is_equal(rt: HostRuntime) -> Result<(), Fail> {
-    let copied = copied(rt.alloc(), &entry(rt.alloc(), 3, "/c")?)?;
-    assert_eq!(rt; copied.serial, 3);
-    assert!(rt; copied.content.as_slice() == b"/c".as_slice());
-    assert_eq!(rt; copied.fields.len(), 1);
+    let copied = copied_entry(rt.alloc(), 3, "/c")?;
+    is_third(&rt, &copied);
     Ok(())
 }
 
@@ -182,32 +205,51 @@ fn are_held(rt: &impl Abort, shelf: &ListShelf, number: usize, capacity: usize) 
     assert_eq!(rt; shelf.capacity(), capacity);
 }
 
+/// Freshening an entry of this serial and path hands back its old form.
+fn is_freshened(
+    rt: &impl Abort,
+    alloc: Global,
+    shelf: &mut ListShelf,
+    serial: u64,
+    path: &str,
+) -> Result<(), Fail> {
+    let entry = entry(alloc, serial, path)?;
+    assert_eq!(rt; freshen(shelf, entry)?, serial);
+    Ok(())
+}
+
 #[test]
 fn entries_are_found_by_key(rt: HostRuntime) -> Result<(), Fail> {
-    let alloc = rt.alloc();
-    let mut shelf = shelf_of(alloc, 3);
-    put_each(
-        alloc,
-        &mut shelf,
-        &[(1, "/a", 0), (2, "/b", 0), (3, "/a", 0)],
-    )?;
-    let a = key(alloc, "/a")?;
-    are_found(&rt, alloc, &shelf, &a, &[1, 3])?;
-    assert_eq!(rt; freshen(&mut shelf, entry(alloc, 1, "/a")?)?, 1);
+    let mut shelf = shelf_of(rt.alloc(), 3);
+    let puts = [(1, "/a", 0), (2, "/b", 0), (3, "/a", 0)];
+    hands_back(&rt, rt.alloc(), &mut shelf, &puts, None)?;
+    let a = key(rt.alloc(), "/a")?;
+    are_found(&rt, rt.alloc(), &shelf, &a, &[1, 3])?;
+    is_freshened(&rt, rt.alloc(), &mut shelf, 1, "/a")?;
     assert_eq!(rt; invalidate(&mut shelf, &a), 2);
     are_held(&rt, &shelf, 1, 3);
     Ok(())
 }
 
+fn are_serials(rt: &impl Abort, serials: &Serials, wanted: &[u64]) {
+    assert_eq!(rt; serials.len(), wanted.len());
+    assert!(rt; serials.as_slice() == wanted);
+    assert_eq!(rt; serials.last(), wanted.last().copied());
+    assert!(rt; serials.is_empty() == wanted.is_empty());
+}
+
+fn copied_serials(alloc: Global, serials: &Serials) -> Result<Serials, AllocError> {
+    serials.copy(alloc)
+}
+
 #[test]
 fn serials_ascend(rt: HostRuntime) -> Result<(), Fail> {
     let mut serials = Serials::new(rt.alloc());
-    assert!(rt; serials.is_empty());
+    are_serials(&rt, &serials, &[]);
     for serial in [4, 9, 1] {
         insert(&mut serials, serial)?;
     }
-    assert_eq!(rt; serials.len(), 3);
-    assert!(rt; serials.as_slice() == [1, 4, 9].as_slice());
-    assert_eq!(rt; serials.copy(rt.alloc())?.last(), Some(9));
+    are_serials(&rt, &serials, &[1, 4, 9]);
+    are_serials(&rt, &copied_serials(rt.alloc(), &serials)?, &[1, 4, 9]);
     Ok(())
 }
