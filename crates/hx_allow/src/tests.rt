@@ -173,26 +173,48 @@ fn a_table_is_read(rt: HostRuntime) -> Result<(), Fail> {
     Ok(())
 }
 
-/// The origin of the line that allows a GET of this target.
-fn goes_to(rt: &impl Abort, config: &Config, target: &Target, origin: &str) -> Result<(), Fail> {
-    match config.judge(&Method::GET, target) {
+/// A GET of this path is allowed, and goes to this origin.
+fn goes_to(
+    rt: &impl Abort,
+    alloc: Global,
+    config: &Config,
+    path: &[u8],
+    origin: &str,
+) -> Result<(), Fail> {
+    let target = with_path(alloc, path)?;
+    match config.judge(&Method::GET, &target) {
         Verdict::Allowed(line) => assert!(rt; config.origin(line) == origin),
         _ => return Err(Fail::from("an allowed line")),
     }
     Ok(())
 }
 
-fn is_judged(rt: &impl Abort, config: &Config, method: &Method, target: &Target, verdict: Verdict) {
-    assert_eq!(rt; judge(config, method, target), verdict);
+/// What the table says of a request for this path.
+fn is_judged(
+    rt: &impl Abort,
+    alloc: Global,
+    config: &Config,
+    method: &Method,
+    path: &[u8],
+    verdict: Verdict,
+) -> Result<(), Fail> {
+    let target = with_path(alloc, path)?;
+    assert_eq!(rt; judge(config, method, &target), verdict);
+    Ok(())
 }
 
 #[test]
 fn a_table_is_asked(rt: HostRuntime) -> Result<(), Fail> {
     let config = config(rt.alloc(), TABLE)?;
-    let target = with_path(rt.alloc(), b"/a")?;
-    goes_to(&rt, &config, &target, "127.0.0.1:8081")?;
-    is_judged(&rt, &config, &Method::PUT, &target, Verdict::NoLine);
-    Ok(())
+    goes_to(&rt, rt.alloc(), &config, b"/a", "127.0.0.1:8081")?;
+    is_judged(
+        &rt,
+        rt.alloc(),
+        &config,
+        &Method::PUT,
+        b"/a",
+        Verdict::NoLine,
+    )
 }
 
 /// A table of one line that denies any method below a path, at a host.
@@ -204,21 +226,28 @@ fn denying(alloc: Global, host: &str) -> Result<Config, Fail> {
     config(alloc, &text)
 }
 
-#[test]
-fn lines_match_by_method_and_path(rt: HostRuntime) -> Result<(), Fail> {
-    let config = denying(rt.alloc(), "host = \"*\"")?;
-    let denied = with_path(rt.alloc(), b"/admin/x")?;
-    is_judged(&rt, &config, &Method::PUT, &denied, Verdict::DeniedBy(1));
-    is_judged(&rt, &config, &Method::OPTIONS, &denied, Verdict::NoLine);
-    let other = with_path(rt.alloc(), b"/admins")?;
-    is_judged(&rt, &config, &Method::GET, &other, Verdict::NoLine);
-    Ok(())
+/// What a table that denies `/admin` at a host says of a request.
+fn denies(
+    rt: &impl Abort,
+    alloc: Global,
+    host: &str,
+    method: &Method,
+    path: &[u8],
+    verdict: Verdict,
+) -> Result<(), Fail> {
+    let config = denying(alloc, host)?;
+    is_judged(rt, alloc, &config, method, path, verdict)
 }
 
+const ANY: &str = "host = \"*\"";
+
 #[test]
-fn lines_match_by_host(rt: HostRuntime) -> Result<(), Fail> {
-    let config = denying(rt.alloc(), "host = \"x\"")?;
-    let denied = with_path(rt.alloc(), b"/admin/x")?;
-    is_judged(&rt, &config, &Method::GET, &denied, Verdict::NoLine);
-    Ok(())
+fn lines_match_by_host_method_and_path(rt: HostRuntime) -> Result<(), Fail> {
+    let alloc = rt.alloc();
+    let denied = Verdict::DeniedBy(1);
+    denies(&rt, alloc, ANY, &Method::PUT, b"/admin/x", denied)?;
+    let no = Verdict::NoLine;
+    denies(&rt, alloc, ANY, &Method::OPTIONS, b"/admin/x", no)?;
+    denies(&rt, alloc, ANY, &Method::GET, b"/admins", no)?;
+    denies(&rt, alloc, "host = \"x\"", &Method::GET, b"/admin/x", no)
 }

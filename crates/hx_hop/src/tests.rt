@@ -87,6 +87,15 @@ fn conditional(alloc: Global) -> Result<Asked, Fail> {
     Ok(copied(alloc, &asked)?)
 }
 
+fn sent(
+    alloc: Global,
+    asked: &Asked,
+    conditions: Option<&Conditions>,
+) -> Result<Bytes, AllocError> {
+    let request = forwarded(alloc, asked, conditions)?;
+    write_request(alloc, &request)
+}
+
 /// What goes to the origin is this text.
 fn is_sent(
     rt: &impl Abort,
@@ -94,8 +103,8 @@ fn is_sent(
     asked: &Asked,
     conditions: Option<&Conditions>,
     wanted: &[u8],
-) -> Result<(), AllocError> {
-    let text = write_request(alloc, &forwarded(alloc, asked, conditions)?)?;
+) -> Result<(), Fail> {
+    let text = sent(alloc, asked, conditions)?;
     assert!(rt; text.as_slice() == wanted);
     Ok(())
 }
@@ -113,9 +122,13 @@ fn a_request_is_asked_without_what_is_taken_out(rt: HostRuntime) -> Result<(), F
 fn a_request_goes_on_with_the_proxys_conditions(rt: HostRuntime) -> Result<(), Fail> {
     let asked = conditional(rt.alloc())?;
     let conditions = conditions(rt.alloc())?;
-    is_sent(&rt, rt.alloc(), &asked, Some(&conditions), CONDITIONAL)?;
-    is_sent(&rt, rt.alloc(), &asked, None, PLAIN)?;
-    Ok(())
+    is_sent(&rt, rt.alloc(), &asked, Some(&conditions), CONDITIONAL)
+}
+
+#[test]
+fn a_request_goes_on_with_its_own_conditions(rt: HostRuntime) -> Result<(), Fail> {
+    let asked = conditional(rt.alloc())?;
+    is_sent(&rt, rt.alloc(), &asked, None, PLAIN)
 }
 
 /// Whether a request with this line asks for a range, and whether it has a precondition.
@@ -131,12 +144,17 @@ fn what_goes_past_the_cache_is_told(rt: HostRuntime) -> Result<(), Fail> {
     Ok(())
 }
 
+/// The fault for which a request for a path isn't asked.
+fn fault_of(alloc: Global, target: &[u8]) -> Result<Option<TargetFault>, AllocError> {
+    let request = request_with(alloc, target, &[])?;
+    Ok(asked(alloc, &request).err())
+}
+
 #[test]
 fn a_target_fault_is_handed_on(rt: HostRuntime) -> Result<(), Fail> {
-    let request = request_with(rt.alloc(), b"/a/..", &[])?;
-    match asked(rt.alloc(), &request) {
-        Err(fault) => assert_eq!(rt; fault, TargetFault::DotSegment),
-        Ok(_) => return Err(Fail::from("a fault")),
-    }
+    assert_eq!(rt;
+        fault_of(rt.alloc(), b"/a/..")?,
+        Some(TargetFault::DotSegment)
+    );
     Ok(())
 }
