@@ -5,7 +5,6 @@ use hx_fields::{Bytes, Fields};
 use hx_framing::{Request, write_request};
 use hx_target::TargetFault;
 use std::alloc::{AllocError, Global};
-use std::process::Abort;
 use std::test::Fail;
 
 /// With the proxy's conditions in place of the client's.
@@ -96,17 +95,9 @@ fn sent(
     write_request(alloc, &request)
 }
 
-/// What goes to the origin is this text.
-fn is_sent(
-    rt: &impl Abort,
-    alloc: Global,
-    asked: &Asked,
-    conditions: Option<&Conditions>,
-    wanted: &[u8],
-) -> Result<(), Fail> {
-    let text = sent(alloc, asked, conditions)?;
-    assert!(rt; text.as_slice() == wanted);
-    Ok(())
+fn sent_with_conditions(alloc: Global, asked: &Asked) -> Result<Bytes, AllocError> {
+    let conditions = conditions(alloc)?;
+    sent(alloc, asked, Some(&conditions))
 }
 
 #[test]
@@ -121,14 +112,17 @@ fn a_request_is_asked_without_what_is_taken_out(rt: HostRuntime) -> Result<(), F
 #[test]
 fn a_request_goes_on_with_the_proxys_conditions(rt: HostRuntime) -> Result<(), Fail> {
     let asked = conditional(rt.alloc())?;
-    let conditions = conditions(rt.alloc())?;
-    is_sent(&rt, rt.alloc(), &asked, Some(&conditions), CONDITIONAL)
+    let text = sent_with_conditions(rt.alloc(), &asked)?;
+    assert!(rt; text.as_slice() == CONDITIONAL);
+    Ok(())
 }
 
 #[test]
 fn a_request_goes_on_with_its_own_conditions(rt: HostRuntime) -> Result<(), Fail> {
     let asked = conditional(rt.alloc())?;
-    is_sent(&rt, rt.alloc(), &asked, None, PLAIN)
+    let text = sent(rt.alloc(), &asked, None)?;
+    assert!(rt; text.as_slice() == PLAIN);
+    Ok(())
 }
 
 /// Whether a request with this line asks for a range, and whether it has a precondition.
