@@ -90,7 +90,7 @@ fn a_table_without_lines_is_told(rt: HostRuntime) -> Result<(), Fail> {
 }
 
 /// A part of the table, what stands in its place, and the fault with its line.
-const FAULTS: [(&str, &str, (u8, u16)); 25] = [
+static FAULTS: [(&str, &str, (u8, u16)); 25] = [
     ("version = 1", "version = 2", (4, 0)),
     ("version = 1", "version = \"1\"", (4, 0)),
     ("capacity = 2", "capacity", (1, 0)),
@@ -120,14 +120,14 @@ const FAULTS: [(&str, &str, (u8, u16)); 25] = [
 
 #[test]
 fn the_first_fault_of_a_table_is_named(rt: HostRuntime) -> Result<(), Fail> {
-    for (old, new, fault) in FAULTS {
-        assert_eq!(rt; fault_with(rt.alloc(), old, new)?, fault, "at {new}");
+    for (old, new, fault) in &FAULTS {
+        assert_eq!(rt; fault_with(rt.alloc(), *old, *new)?, *fault, "at {new}");
     }
     Ok(())
 }
 
 /// A part of the table, and what may stand in its place.
-const NEAR_FAULTS: [(&str, &str); 9] = [
+static NEAR_FAULTS: [(&str, &str); 9] = [
     ("name = \"edge\"", "name = \"e0-\""),
     ("capacity = 2", "capacity = 65536"),
     ("max_body = 1000", "max_body = 0"),
@@ -141,8 +141,8 @@ const NEAR_FAULTS: [(&str, &str); 9] = [
 
 #[test]
 fn near_faults_are_read(rt: HostRuntime) -> Result<(), Fail> {
-    for (old, new) in NEAR_FAULTS {
-        assert_eq!(rt; fault_with(rt.alloc(), old, new)?, (0, 0), "at {new}");
+    for (old, new) in &NEAR_FAULTS {
+        assert_eq!(rt; fault_with(rt.alloc(), *old, *new)?, (0, 0), "at {new}");
     }
     Ok(())
 }
