@@ -166,7 +166,7 @@ fn code_after(alloc: Global, stream: &[u8], ended: bool) -> Result<u8, AllocErro
 }
 
 /// Streams, whether they have ended, and what is answered first.
-const STREAMS: [(&[u8], bool, u8); 18] = [
+static STREAMS: [(&[u8], bool, u8); 18] = [
     (b"", false, 0),
     (b"", true, 2),
     (b"\r\n\n", true, 2),
@@ -190,10 +190,10 @@ const STREAMS: [(&[u8], bool, u8); 18] = [
 
 #[test]
 fn hostile_streams(rt: HostRuntime) -> Result<(), Fail> {
-    for (stream, ended, code) in STREAMS {
+    for (stream, ended, code) in &STREAMS {
         assert_eq!(&rt;
-            code_after(rt.alloc(), stream, ended)?,
-            code,
+            code_after(rt.alloc(), *stream, *ended)?,
+            *code,
             "at {stream:?}"
         );
     }

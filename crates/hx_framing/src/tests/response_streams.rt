@@ -141,7 +141,7 @@ fn code_after(alloc: Global, stream: &[u8], ended: bool) -> Result<u8, AllocErro
 }
 
 /// Streams, whether they have ended, and what is answered first.
-const STREAMS: [(&[u8], bool, u8); 4] = [
+static STREAMS: [(&[u8], bool, u8); 4] = [
     (b"", false, 0),
     (b"", true, 19),
     (b"HTTP/1.1 200 OK\r\n", true, 19),
@@ -150,17 +150,20 @@ const STREAMS: [(&[u8], bool, u8); 4] = [
 
 #[test]
 fn ends_before_the_message(rt: HostRuntime) -> Result<(), Fail> {
-    for (stream, ended, code) in STREAMS {
+    for (stream, ended, code) in &STREAMS {
         assert_eq!(&rt;
-            code_after(rt.alloc(), stream, ended)?,
-            code,
+            code_after(rt.alloc(), *stream, *ended)?,
+            *code,
             "at {stream:?}"
         );
     }
-    // All but the last byte.
-    for (ended, code) in [(false, 0), (true, 19)] {
-        assert_eq!(&rt; code_after(rt.alloc(), &OK[..115], ended)?, code);
-    }
+    Ok(())
+}
+
+#[test]
+fn all_but_the_last_byte(rt: HostRuntime) -> Result<(), Fail> {
+    assert_eq!(&rt; code_after(rt.alloc(), &OK[..115], false)?, 0);
+    assert_eq!(&rt; code_after(rt.alloc(), &OK[..115], true)?, 19);
     Ok(())
 }
 
@@ -182,7 +185,7 @@ fn code_of_lines(
 const DATE: &[u8] = b"Date: Thu, 01 Jan 1970 00:01:41 GMT\r\n";
 
 /// Lines behind a status line of 200 and a date, and what is answered first.
-const LINES: [(&[u8], u8); 8] = [
+static LINES: [(&[u8], u8); 8] = [
     (b"Content-Length: 3", 0),
     (b"Content-Length: 1001", 17),
     (b"Content-Length: 99999999999999999999999", 17),
@@ -195,7 +198,7 @@ const LINES: [(&[u8], u8); 8] = [
 ];
 
 /// Status lines in front of a date, a line behind it, and what is answered first.
-const STATUS_LINES: [(&[u8], &[u8], u8); 9] = [
+static STATUS_LINES: [(&[u8], &[u8], u8); 9] = [
     (b"HTTP/1.1 200", b"Content-Length: 2", 1),
     (b"HTTP/1.1 599 x", b"Content-Length: 0", 1),
     (b"HTTP/1.1 600 x", b"Content-Length: 2", 20),
@@ -209,7 +212,7 @@ const STATUS_LINES: [(&[u8], &[u8], u8); 9] = [
 ];
 
 /// Status lines, a date line or none, a line behind it, and what is answered first.
-const DATES: [(&[u8], &[u8], &[u8], u8); 3] = [
+static DATES: [(&[u8], &[u8], &[u8], u8); 3] = [
     (
         b"HTTP/1.1 200 ",
         b"Date: Thursday, 01-Jan-70 00:01:41 GMT\r\n",
@@ -227,10 +230,10 @@ const DATES: [(&[u8], &[u8], &[u8], u8); 3] = [
 
 #[test]
 fn hostile_lines(rt: HostRuntime) -> Result<(), Fail> {
-    for (lines, code) in LINES {
+    for (lines, code) in &LINES {
         assert_eq!(&rt;
-            code_of_lines(rt.alloc(), b"HTTP/1.1 200 OK", DATE, lines)?,
-            code,
+            code_of_lines(rt.alloc(), b"HTTP/1.1 200 OK", DATE, *lines)?,
+            *code,
             "at {lines:?}"
         );
     }
@@ -239,10 +242,10 @@ fn hostile_lines(rt: HostRuntime) -> Result<(), Fail> {
 
 #[test]
 fn hostile_status_lines(rt: HostRuntime) -> Result<(), Fail> {
-    for (status_line, line, code) in STATUS_LINES {
+    for (status_line, line, code) in &STATUS_LINES {
         assert_eq!(&rt;
-            code_of_lines(rt.alloc(), status_line, DATE, line)?,
-            code,
+            code_of_lines(rt.alloc(), *status_line, DATE, *line)?,
+            *code,
             "at {status_line:?} {line:?}"
         );
     }
@@ -251,10 +254,10 @@ fn hostile_status_lines(rt: HostRuntime) -> Result<(), Fail> {
 
 #[test]
 fn dates_of_each_form(rt: HostRuntime) -> Result<(), Fail> {
-    for (status_line, date, line, code) in DATES {
+    for (status_line, date, line, code) in &DATES {
         assert_eq!(&rt;
-            code_of_lines(rt.alloc(), status_line, date, line)?,
-            code,
+            code_of_lines(rt.alloc(), *status_line, *date, *line)?,
+            *code,
             "at {status_line:?} {date:?}"
         );
     }
