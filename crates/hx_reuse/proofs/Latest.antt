@@ -1,15 +1,14 @@
 -- The latest entry is the same however the entries are listed.
-use Rattle.std.proofs.Common.{◌≡◌, ℕ, ◌<◌, ◌⊎◌, inl, inr, Bool, true, false, cond, List, [], ◌∷◌, refl, sym, ◌∙◌, ap, arith}
-use Rattle.std.specs.Prelude.{◌&&◌, ◌||◌, ◌==◌, nat_lt, nat_eq, filter, find, fold, Option, Some, None}
+use Rattle.std.proofs.Common.{◌≡◌, ℕ, ◌⊎◌, inl, inr, Bool, true, false, cond, List, [], ◌∷◌, refl, sym, ◌∙◌, ap, arith}
+use Rattle.std.specs.Prelude.{nat_eq, filter, find, fold, Option, Some, None}
 use Rattle.std.specs.List.{filter_map, cons_option}
-use Rattle.std.proofs.lemmas.Grind.{common_steps}
 use Rattle.std.proofs.lemmas.Bool.Decides.{nat_tests}
 use Rattle.hx_vary.specs.Vary.{vary_matches}
 use Rattle.hx_hop.specs.declared.asked_for.Asked.{Asked}
 use Rattle.hx_store.specs.Stored.{Stored}
 use Rattle.hx_target.specs.Keys.{same_key}
 use Rattle.hx_store.specs.Shelf.{find_entry}
-use Rattle.hx_reuse.specs.Chosen.{of_key, matching, comes_later, later, latest, chosen_of}
+use Rattle.hx_reuse.specs.Chosen.{of_key, comes_later, later, latest, chosen_of}
 use Rattle.hx_reuse.proofs.Members.{IsMember, HasDistinctSerials, AreSerialsOf}
 
 -- an order on entries by two numbers each
@@ -22,11 +21,11 @@ later_one_way e f h = grind (arith, nat_tests)
 not_later_itself : (e : Stored) → comes_later e e ≡ false
 not_later_itself e = grind (arith, nat_tests)
 
-same_serial : (e f : Stored) → comes_later e f ≡ false → comes_later f e ≡ false → e.serial ≡ f.serial
+pub same_serial : (e f : Stored) → comes_later e f ≡ false → comes_later f e ≡ false → e.serial ≡ f.serial
 same_serial e f h k = grind (arith, nat_tests)
 
 -- what the latest of some entries after a best so far is
-record IsLatestAfter (best : Option Stored) (es : List Stored) (e : Stored) : Type 0 where
+pub record IsLatestAfter (best : Option Stored) (es : List Stored) (e : Stored) : Type 0 where
   pub taken : (best ≡ Some e) ⊎ IsMember e es
   pub above_best : (f : Stored) → best ≡ Some f → comes_later f e ≡ false
   pub above : (f : Stored) → IsMember f es → comes_later f e ≡ false
@@ -67,12 +66,12 @@ after_one None x e xs r =
     none_is_some f k = cc
 after_one (Some b) x e xs r = after_some b x e xs (comes_later x b) refl r
 
-fold_latest : (es : List Stored) (best : Option Stored) (e : Stored) → fold later best es ≡ Some e → IsLatestAfter best es e
+pub fold_latest : (es : List Stored) (best : Option Stored) (e : Stored) → fold later best es ≡ Some e → IsLatestAfter best es e
 fold_latest [] best e h =
     record { taken = inl h; above_best = λ f k. not_later_at e e f (same_inside e f (sym h ∙ k)) (not_later_itself e); above = λ f m. absurd m }
 fold_latest (x ∷ xs) best e h = after_one best x e xs (fold_latest xs (later best x) e h)
 
-fold_some : (es : List Stored) (b : Stored) → (e : Stored) × (fold later (Some b) es ≡ Some e)
+pub fold_some : (es : List Stored) (b : Stored) → (e : Stored) × (fold later (Some b) es ≡ Some e)
 fold_some [] b = (b, refl)
 fold_some (x ∷ xs) b =
     elim (comes_later x b) as (λ t. (e : Stored) × (fold later (cond t (Some x) (Some b)) xs ≡ Some e)) [ true ↦ fold_some xs x | false ↦ fold_some xs b ]
@@ -106,7 +105,7 @@ member_cond x e ys true (inr n) = inr n
 member_cond x e ys false n = inr n
 
 -- members of a filtered list
-filter_member : {X : Type 0} (p : X → Bool) (xs : List X) (e : X) → IsMember e (filter p xs) → IsMember e xs × (p e ≡ true)
+pub filter_member : {X : Type 0} (p : X → Bool) (xs : List X) (e : X) → IsMember e (filter p xs) → IsMember e xs × (p e ≡ true)
 filter_member p [] e m = absurd m
 filter_member {X} p (x ∷ xs) e m = joined (member_cond x e (filter p xs) (p x) m) (filter_member p xs e)
   where
@@ -122,7 +121,7 @@ cond_member_rest : {X : Type 0} (x e : X) (ys : List X) (t : Bool) → IsMember 
 cond_member_rest x e ys true n = inr n
 cond_member_rest x e ys false n = n
 
-member_filter : {X : Type 0} (p : X → Bool) (xs : List X) (e : X) → p e ≡ true → IsMember e xs → IsMember e (filter p xs)
+pub member_filter : {X : Type 0} (p : X → Bool) (xs : List X) (e : X) → p e ≡ true → IsMember e xs → IsMember e (filter p xs)
 member_filter p [] e h m = absurd m
 member_filter p (x ∷ xs) e h (inl k) = cond_member_front x e (filter p xs) (p x) (rw k h) k
 member_filter p (x ∷ xs) e h (inr n) = cond_member_rest x e (filter p xs) (p x) (member_filter p xs e h n)

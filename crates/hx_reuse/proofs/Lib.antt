@@ -1,3 +1,6 @@
 pub mod Members
 pub mod Latest
 pub mod RuleLemmas
+pub mod LeastRule
+pub mod Choice
+pub mod MeaningLemmas

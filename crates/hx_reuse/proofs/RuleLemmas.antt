@@ -1,17 +1,15 @@
 -- Which rule is the least, from what is known of the request and of the chosen entry.
-use Rattle.std.proofs.Common.{◌≡◌, ℕ, ◌<◌, ◌⊎◌, inl, inr, Bool, true, false, cond, List, [], ◌∷◌, ◌++◌, length, refl, sym, ◌∙◌, ap, arith}
-use Rattle.std.specs.Prelude.{◌==◌, find, filter, Option, Some, None, option_map, is_none}
+use Rattle.std.proofs.Common.{◌≡◌, ℕ, inl, Bool, true, false, cond, List, [], ◌∷◌, ◌++◌, length, refl, ◌∙◌, ap, arith}
+use Rattle.std.specs.Prelude.{◌==◌, find, Option, Some, None, option_map, is_none}
 use Rattle.std.specs.List.{AllByRecursion}
 use Rattle.std.proofs.lemmas.Grind.{common_steps}
-use Rattle.hx_vary.specs.Vary.{vary_matches}
 use Rattle.hx_hop.specs.declared.asked_for.Asked.{Asked}
 use Rattle.hx_store.specs.Stored.{Stored}
-use Rattle.hx_reuse.specs.declared.decision.Decision.{Decision}
 use Rattle.hx_reuse.specs.declared.decision.Decision.TheVariants.{Hit, Forward}
 use Rattle.hx_reuse.specs.declared.rule.ReuseRule.{ReuseRule}
 use Rattle.hx_reuse.specs.declared.rule.ReuseRule.TheVariants.{UriMiss, VaryMiss, ResponseNoCache, RequestNoCache, AboveMaxAge, BelowMinFresh, MustRevalidate, NoLifetime, StaleNoCache, NoMaxStale, PastMaxStale, StaleMaxAge, StaleMinFresh}
-use Rattle.hx_reuse.specs.Chosen.{of_key, matching, latest, chosen_of}
-use Rattle.hx_reuse.specs.Rules.{against, standing, stands, is_some_and, request_rules, entry_rules, reuse_rules, reuse_rule_of, names_entry, decided, decision_of}
+use Rattle.hx_reuse.specs.Chosen.{of_key, chosen_of}
+use Rattle.hx_reuse.specs.Rules.{against, standing, stands, is_some_and, request_rules, entry_rules, reuse_rule_of, names_entry, decided, decision_of}
 use Rattle.hx_reuse.proofs.Members.{IsMember, AreSerialsOf}
 
 -- the first of a list that has it, and the first of the rest

@@ -3,7 +3,7 @@
 -- of_key: the held responses of the request's key     matching: those of them whose nominated values it has
 -- comes_later: by Date                                 latest: the latest of some
 -- chosen_of: the one that would be sent
-use Rattle.std.specs.Prelude.{ℕ, ◌==◌, nat_lt, if◌then◌else◌, Bool, ◌&&◌, ◌||◌, List, filter, Option, Some, None, fold}
+use Rattle.std.specs.Prelude.{◌==◌, nat_lt, if◌then◌else◌, Bool, ◌&&◌, ◌||◌, List, filter, Option, Some, None, fold}
 use Rattle.hx_target.specs.Keys.{same_key}
 use Rattle.hx_vary.specs.Vary.{vary_matches}
 use Rattle.hx_hop.specs.declared.asked_for.Asked.{Asked}

@@ -1,3 +1,4 @@
 pub mod Words
 pub mod Chosen
 pub mod Rules
+pub mod Meaning

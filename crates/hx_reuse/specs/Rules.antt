@@ -9,7 +9,7 @@ use Rattle.hx_directives.specs.Answers.{has, first_valid, max_stale}
 use Rattle.hx_directives.specs.declared.occurrences.Occurrence.{Occurrence}
 use Rattle.hx_directives.specs.declared.names.Directive.TheVariants as directive
 use Rattle.hx_directives.specs.declared.answers.MaxStale.{MaxStale}
-use Rattle.hx_directives.specs.declared.answers.MaxStale.TheVariants.{Absent, Any, UpTo}
+use Rattle.hx_directives.specs.declared.answers.MaxStale.TheVariants.{Absent, UpTo}
 use Rattle.hx_age.specs.declared.lifetimes.Lifetime.{Lifetime}
 use Rattle.hx_age.specs.Lifetime.{lifetime_of}
 use Rattle.hx_age.specs.Age.{age_of, is_fresh_of, staleness_of}

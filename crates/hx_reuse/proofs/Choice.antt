@@ -1,0 +1,82 @@
+-- The chosen response is the latest that could answer, and there is one where one could.
+use Rattle.std.proofs.Common.{◌≡◌, ◌⊎◌, inl, inr, List, [], ◌∷◌, refl, sym, ◌∙◌, ap, subst, arith}
+use Rattle.std.specs.Prelude.{Option, Some, None}
+use Rattle.std.specs.List.{Contains}
+use Rattle.std.proofs.lemmas.List.Elements.{Contains-append_left, Contains-append_right, Contains-append_cases, Contains-push, Contains-push_cases}
+use Rattle.hx_target.specs.Keys.{same_key}
+use Rattle.hx_vary.specs.Vary.{vary_matches}
+use Rattle.hx_hop.specs.declared.asked_for.Asked.{Asked}
+use Rattle.hx_store.specs.Stored.{Stored}
+use Rattle.hx_store.specs.Serials.{Distinct}
+use Rattle.hx_store.specs.Shelf.{serials}
+use Rattle.hx_reuse.specs.Chosen.{of_key, matching, latest, chosen_of}
+use Rattle.hx_reuse.specs.Meaning.{IsCandidate, IsChosen}
+use Rattle.hx_reuse.proofs.Members.{IsMember, distinct_entries}
+use Rattle.hx_reuse.proofs.Latest.{fold_latest, fold_some, same_serial, filter_member, member_filter}
+
+-- the members are what the list contains
+contains_member : (xs : List Stored) (e : Stored) → IsMember e xs → Contains xs e
+contains_member [] e m = absurd m
+contains_member (x ∷ xs) e (inl same) = subst (λ (y : Stored). Contains (x ∷ xs) y) same (Contains-append_left (x ∷ []) xs x (Contains-push [] x))
+contains_member (x ∷ xs) e (inr m) = Contains-append_right (x ∷ []) xs e (contains_member xs e m)
+
+nothing_in_none : (e : Stored) → Contains [] e → ⊥
+nothing_in_none e c = let below = c.1 in absurd (omega (arith, below))
+
+member_contained : (xs : List Stored) (e : Stored) → Contains xs e → IsMember e xs
+member_contained [] e c = absurd (nothing_in_none e c)
+member_contained (x ∷ xs) e c = split (Contains-append_cases (x ∷ []) xs e c) (member_contained xs e)
+  where
+    at_one : Contains [] e ⊎ (x ≡ e) → IsMember e (x ∷ xs)
+    at_one (inl none) = absurd (nothing_in_none e none)
+    at_one (inr same) = inl same
+
+    split : Contains (x ∷ []) e ⊎ Contains xs e → (Contains xs e → IsMember e xs) → IsMember e (x ∷ xs)
+    split (inl one) rest = at_one (Contains-push_cases [] x e one)
+    split (inr more) rest = inr (rest more)
+
+module _ (held : List Stored) (asked : Asked) where
+  -- the responses that match are the candidates
+  candidate : (e : Stored) → IsMember e (matching held asked) → IsCandidate held asked e
+  candidate e m =
+      let by_values = filter_member (λ e. vary_matches e.nominated asked.fields) (of_key held asked) e m in
+      let by_key = filter_member (λ e. same_key e.key asked.target.key) held e by_values.0 in
+      record { is_held = contains_member held e by_key.0; has_the_key = by_key.1; has_the_values = by_values.1 }
+
+  matches : (e : Stored) → IsCandidate held asked e → IsMember e (matching held asked)
+  matches e c =
+      member_filter (λ e. vary_matches e.nominated asked.fields) (of_key held asked) e c.has_the_values
+      (member_filter (λ e. same_key e.key asked.target.key) held e c.has_the_key (member_contained held e c.is_held))
+
+  taken_member : (e : Stored) (es : List Stored) → (None ≡ Some e) ⊎ IsMember e es → IsMember e es
+  taken_member e es (inl h) = absurd (never e h)
+    where
+      never : (f : Stored) → ◌≡◌ {A = Option Stored} None (Some f) → ⊥
+      never f k = cc
+  taken_member e es (inr m) = m
+
+  pub chosen_is_latest : (e : Stored) → chosen_of held asked ≡ Some e → IsChosen held asked e
+  chosen_is_latest e h =
+      let r = fold_latest (matching held asked) None e h in
+      record { is_candidate = candidate e (taken_member e (matching held asked) r.taken); none_later = λ other c. r.above other (matches other c) }
+
+  none_of : (es : List Stored) (e : Stored) → latest es ≡ None → IsMember e es → ⊥
+  none_of [] e h m = m
+  none_of (x ∷ xs) e h m = let some = fold_some xs x in never some.0 (sym h ∙ some.1)
+    where
+      never : (f : Stored) → ◌≡◌ {A = Option Stored} None (Some f) → ⊥
+      never f k = cc
+
+  pub none_is_candidate : (e : Stored) → chosen_of held asked ≡ None → IsCandidate held asked e → ⊥
+  none_is_candidate e h c = none_of (matching held asked) e h (matches e c)
+
+  pub latest_is_the_chosen : (e : Stored) → Distinct (serials held) → IsChosen held asked e → chosen_of held asked ≡ Some e
+  latest_is_the_chosen e distinct is = at (chosen_of held asked) refl
+    where
+      at : (o : Option Stored) → chosen_of held asked ≡ o → chosen_of held asked ≡ Some e
+      at None h = absurd (none_is_candidate e h is.is_candidate)
+      at (Some f) h =
+          let other = chosen_is_latest f h in
+          let same : f ≡ e = distinct_entries held distinct f e (member_contained held f other.is_candidate.is_held) (member_contained held e is.is_candidate.is_held)
+          (same_serial f e (is.none_later f other.is_candidate) (other.none_later e is.is_candidate)) in
+          h ∙ ap Some same

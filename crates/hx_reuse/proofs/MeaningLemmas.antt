@@ -1,0 +1,112 @@
+-- What a decision says: a response that may be sent, or the least rule that stands.
+use Rattle.std.proofs.Common.{◌≡◌, ℕ, ◌<◌, ◌≤◌, ◌⊎◌, inl, inr, Bool, true, false, cond, List, refl, sym, ◌∙◌, ap, arith}
+use Rattle.std.specs.Prelude.{nat_lt, is_none, Option, Some, None, option_map}
+use Rattle.std.proofs.lemmas.Bool.Decides.{nat_tests}
+use Rattle.hx_hop.specs.declared.asked_for.Asked.{Asked}
+use Rattle.hx_store.specs.Stored.{Stored}
+use Rattle.hx_reuse.specs.declared.decision.Decision.TheVariants.{Hit, Forward}
+use Rattle.hx_reuse.specs.declared.rule.ReuseRule.{ReuseRule}
+use Rattle.hx_reuse.specs.declared.rule.ReuseRule.TheVariants.{Method, Content, Range, Precondition, UriMiss, VaryMiss}
+use Rattle.hx_reuse.specs.Chosen.{chosen_of}
+use Rattle.hx_reuse.specs.Words.{number_of}
+use Rattle.hx_reuse.specs.Rules.{stands, against, standing, is_some_and, names_entry, reuse_rule_of, decided, decision_of}
+use Rattle.hx_reuse.specs.Meaning.{IsChosen, MayBeSent, IsLeast, NamesTheResponse}
+use Rattle.hx_reuse.proofs.LeastRule.{rule_is_least, least_is_rule, no_rule_stands, no_rule_found}
+use Rattle.hx_reuse.proofs.Choice.{chosen_is_latest}
+
+same_hit : (m n : ℕ) → Hit m ≡ Hit n → m ≡ n
+same_hit m n h = cc
+
+never_hit : (rule : ReuseRule) (named : Option ℕ) (n : ℕ) → Forward rule named ≡ Hit n → ⊥
+never_hit rule named n h = cc
+
+never_forward : (rule : ReuseRule) (named : Option ℕ) (n : ℕ) → Hit n ≡ Forward rule named → ⊥
+never_forward rule named n h = cc
+
+same_rule : (r q : ReuseRule) (m n : Option ℕ) → Forward r m ≡ Forward q n → r ≡ q
+same_rule r q m n h = cc
+
+same_named : (r q : ReuseRule) (m n : Option ℕ) → Forward r m ≡ Forward q n → m ≡ n
+same_named r q m n h = cc
+
+serial_of : Option Stored → Option ℕ
+serial_of o = option_map (λ e. e.serial) o
+
+-- a hit: no rule, and a chosen response, since else one of the rules would stand
+hit_of : (o : Option ReuseRule) (c : Option Stored) (n : ℕ) → decided o (serial_of c) ≡ Hit n → (o ≡ None → is_none c ≡ false) → (o ≡ None) × ((e : Stored) × (c ≡ Some e) × (e.serial ≡ n))
+unfolding serial_of
+hit_of (Some rule) c n h some = absurd (never_hit rule (cond (names_entry rule) (serial_of c) None) n h)
+hit_of None None n h some = absurd (never (some refl))
+  where
+    never : true ≡ false → ⊥
+    never k = cc
+hit_of None (Some e) n h some = (refl, (e, refl, same_hit e.serial n h))
+
+-- a test that some value passes has one
+some_and : (test : Stored → Bool) (o : Option Stored) → is_some_and test o ≡ true → (e : Stored) × (o ≡ Some e)
+some_and test None h = absurd (never h)
+  where
+    never : false ≡ true → ⊥
+    never k = cc
+some_and test (Some e) h = (e, refl)
+
+-- a rule on the chosen response stands only where there is one
+entry_there : (held : List Stored) (asked : Asked) (now : ℕ) (rule : ReuseRule) → stands rule held asked now ≡ true → 6 < number_of rule → (e : Stored) × (chosen_of held asked ≡ Some e)
+entry_there held asked now Method h l = absurd (omega (arith, l))
+entry_there held asked now Content h l = absurd (omega (arith, l))
+entry_there held asked now Range h l = absurd (omega (arith, l))
+entry_there held asked now Precondition h l = absurd (omega (arith, l))
+entry_there held asked now UriMiss h l = absurd (omega (arith, l))
+entry_there held asked now VaryMiss h l = absurd (omega (arith, l))
+entry_there held asked now rule h l = some_and (λ e. against rule (standing e asked now)) (chosen_of held asked) h
+
+-- a forward: the rule, and what is named with it
+forward_of : (o : Option ReuseRule) (s : Option ℕ) (rule : ReuseRule) (named : Option ℕ) → decided o s ≡ Forward rule named → (o ≡ Some rule) × (named ≡ cond (names_entry rule) s None)
+forward_of None None rule named h = absurd (never_forward rule named 0 h)
+forward_of None (Some n) rule named h = absurd (never_forward rule named n h)
+forward_of (Some r) s rule named h =
+    let same : r ≡ rule = same_rule r rule (cond (names_entry r) s None) named h in
+    (ap Some same, sym (same_named r rule (cond (names_entry r) s None) named h) ∙ ap (λ (q : ReuseRule). cond (names_entry q) s None) same)
+
+named_by : (rule : ReuseRule) (s named : Option ℕ) (b : Bool) → nat_lt 6 (number_of rule) ≡ b → named ≡ cond b s None → ((number_of rule ≤ 6) × (named ≡ None)) ⊎ ((6 < number_of rule) × (named ≡ s))
+named_by rule s named true h k = inr (grind (arith, nat_tests), k)
+named_by rule s named false h k = inl (grind (arith, nat_tests), k)
+
+module _ (held : List Stored) (asked : Asked) (now : ℕ) where
+  pub may_be_sent : (serial : ℕ) → decision_of held asked now ≡ Hit serial → MayBeSent held asked now serial
+  unfolding decision_of serial_of
+  may_be_sent serial h =
+      let r = hit_of (reuse_rule_of held asked now) (chosen_of held asked) serial h (λ none. no_rule_stands held asked now none VaryMiss) in
+      record { response = r.1.0; chosen_is = r.1.1; serial_is = r.1.2; no_rule = no_rule_stands held asked now r.0 }
+
+  pub is_sent : (serial : ℕ) → MayBeSent held asked now serial → decision_of held asked now ≡ Hit serial
+  unfolding decision_of
+  is_sent serial may =
+      let none : reuse_rule_of held asked now ≡ None = no_rule_found held asked now may.no_rule in
+      let some : option_map (λ e. e.serial) (chosen_of held asked) ≡ Some serial = ap (option_map (λ e. e.serial)) may.chosen_is ∙ ap Some may.serial_is in
+      rw (none, some) refl
+
+  pub is_held : (serial : ℕ) → decision_of held asked now ≡ Hit serial → (response : Stored) × IsChosen held asked response × (response.serial ≡ serial)
+  is_held serial h =
+      let may = may_be_sent serial h in
+      (may.response, chosen_is_latest held asked may.response may.chosen_is, may.serial_is)
+
+  names_the_response : (rule : ReuseRule) (named : Option ℕ) → stands rule held asked now ≡ true
+      → ((number_of rule ≤ 6) × (named ≡ None)) ⊎ ((6 < number_of rule) × (named ≡ option_map (λ e. e.serial) (chosen_of held asked))) → NamesTheResponse held asked rule named
+  names_the_response rule named h (inl low) = inl low
+  names_the_response rule named h (inr high) =
+      let there = entry_there held asked now rule h high.0 in
+      inr (high.0, (there.0, there.1, high.1 ∙ ap (option_map (λ e. e.serial)) there.1))
+
+  pub names_the_least : (rule : ReuseRule) (named : Option ℕ) → decision_of held asked now ≡ Forward rule named → IsLeast held asked now rule × NamesTheResponse held asked rule named
+  unfolding decision_of
+  names_the_least rule named h =
+      let r = forward_of (reuse_rule_of held asked now) (option_map (λ e. e.serial) (chosen_of held asked)) rule named h in
+      let least = rule_is_least held asked now rule r.0 in
+      (least, names_the_response rule named least.it_stands (named_by rule (option_map (λ e. e.serial) (chosen_of held asked)) named (names_entry rule) refl r.1))
+
+  pub forwards : (rule : ReuseRule) → IsLeast held asked now rule → (named : Option ℕ) × (decision_of held asked now ≡ Forward rule named)
+  unfolding decision_of
+  forwards rule least =
+      let some : reuse_rule_of held asked now ≡ Some rule = least_is_rule held asked now rule least in
+      (cond (names_entry rule) (option_map (λ e. e.serial) (chosen_of held asked)) None, rw some refl)

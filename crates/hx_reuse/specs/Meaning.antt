@@ -1,0 +1,85 @@
+-- What the reuse rules come to, without their table: which response is chosen, which may be sent, which rule is named
+-- (RFC 9111, section 4).
+--
+-- IsChosen: the held response that answers if any does      MayBeSent: it, where no rule stands
+-- IsLeast: a rule that stands, and none before it           NamesTheResponse: which response a rule is named with
+-- the statements that the laws of `src/laws.rt` prove of `chosen_of` and `decision_of`
+use Rattle.std.specs.Prelude.{◌≡◌, ℕ, ◌<◌, ◌≤◌, ◌⊎◌, true, false, List, Option, Some, None}
+use Rattle.std.specs.List.{Contains}
+use Rattle.hx_target.specs.Keys.{same_key}
+use Rattle.hx_vary.specs.Vary.{vary_matches}
+use Rattle.hx_hop.specs.declared.asked_for.Asked.{Asked}
+use Rattle.hx_store.specs.Stored.{Stored}
+use Rattle.hx_store.specs.Serials.{Distinct}
+use Rattle.hx_store.specs.Shelf.{serials}
+use Rattle.hx_reuse.specs.Chosen.{comes_later, chosen_of}
+use Rattle.hx_reuse.specs.Words.{number_of}
+use Rattle.hx_reuse.specs.Rules.{stands, decision_of}
+use Rattle.hx_reuse.specs.declared.rule.ReuseRule.{ReuseRule}
+use Rattle.hx_reuse.specs.declared.decision.Decision.TheVariants.{Hit, Forward}
+
+-- the response could answer the request: it is held, for the request's key, and was asked for with the same nominated
+-- values (RFC 9111, sections 4 and 4.1)
+pub record IsCandidate (held : List Stored) (asked : Asked) (response : Stored) : Type 0 where
+  pub is_held : Contains held response
+  pub has_the_key : same_key response.key asked.target.key ≡ true
+  pub has_the_values : vary_matches response.nominated asked.fields ≡ true
+
+-- of all that could answer none comes later (RFC 9111, section 4, last paragraph)
+pub record IsChosen (held : List Stored) (asked : Asked) (response : Stored) : Type 0 where
+  pub is_candidate : IsCandidate held asked response
+  pub none_later : (other : Stored) → IsCandidate held asked other → comes_later other response ≡ false
+
+-- the chosen response may be sent: no rule stands against that
+pub record MayBeSent (held : List Stored) (asked : Asked) (now serial : ℕ) : Type 0 where
+  pub response : Stored
+  pub chosen_is : chosen_of held asked ≡ Some response
+  pub serial_is : response.serial ≡ serial
+  pub no_rule : (rule : ReuseRule) → stands rule held asked now ≡ false
+
+-- the rule stands, and none of a smaller number does
+pub record IsLeast (held : List Stored) (asked : Asked) (now : ℕ) (rule : ReuseRule) : Type 0 where
+  pub it_stands : stands rule held asked now ≡ true
+  pub none_before : (other : ReuseRule) → number_of other < number_of rule → stands other held asked now ≡ false
+
+-- the first six rules are named alone, the others with the response that they stand against
+abbrev pub NamesTheResponse : List Stored → Asked → ReuseRule → Option ℕ → Type 0
+NamesTheResponse held asked rule named =
+    ((number_of rule ≤ 6) × (named ≡ None))
+    ⊎ ((6 < number_of rule) × ((response : Stored) × (chosen_of held asked ≡ Some response) × (named ≡ Some response.serial)))
+
+-- ---- the statements
+
+abbrev pub ChoosesTheLatest : Type 0
+ChoosesTheLatest = (held : List Stored) (asked : Asked) (response : Stored) →
+    chosen_of held asked ≡ Some response → IsChosen held asked response
+
+abbrev pub ChoosesWhereOneCan : Type 0
+ChoosesWhereOneCan = (held : List Stored) (asked : Asked) (response : Stored) →
+    chosen_of held asked ≡ None → IsCandidate held asked response → ⊥
+
+-- where each serial names one response, the latest is one
+abbrev pub ChoosesNoOther : Type 0
+ChoosesNoOther = (held : List Stored) (asked : Asked) (response : Stored) →
+    Distinct (serials held) → IsChosen held asked response → chosen_of held asked ≡ Some response
+
+abbrev pub SendsWhatMayBeSent : Type 0
+SendsWhatMayBeSent = (held : List Stored) (asked : Asked) (now serial : ℕ) →
+    MayBeSent held asked now serial → decision_of held asked now ≡ Hit serial
+
+abbrev pub SendsNothingElse : Type 0
+SendsNothingElse = (held : List Stored) (asked : Asked) (now serial : ℕ) →
+    decision_of held asked now ≡ Hit serial → MayBeSent held asked now serial
+
+-- what is sent is held, for this request
+abbrev pub SendsWhatIsHeld : Type 0
+SendsWhatIsHeld = (held : List Stored) (asked : Asked) (now serial : ℕ) →
+    decision_of held asked now ≡ Hit serial → (response : Stored) × IsChosen held asked response × (response.serial ≡ serial)
+
+abbrev pub NamesTheLeast : Type 0
+NamesTheLeast = (held : List Stored) (asked : Asked) (now : ℕ) (rule : ReuseRule) (named : Option ℕ) →
+    decision_of held asked now ≡ Forward rule named → IsLeast held asked now rule × NamesTheResponse held asked rule named
+
+abbrev pub ForwardsWhereOneStands : Type 0
+ForwardsWhereOneStands = (held : List Stored) (asked : Asked) (now : ℕ) (rule : ReuseRule) →
+    IsLeast held asked now rule → (named : Option ℕ) × (decision_of held asked now ≡ Forward rule named)

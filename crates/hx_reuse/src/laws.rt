@@ -1,0 +1,27 @@
+//! What the definitions that `decide` is held to say of every list of held responses, request and moment.
+ghost use Rattle.hx_reuse.specs.Meaning.{ChoosesTheLatest, ChoosesWhereOneCan, ChoosesNoOther, SendsWhatMayBeSent, SendsNothingElse, SendsWhatIsHeld, NamesTheLeast, ForwardsWhereOneStands};
+
+/// The chosen response is held, has the request's key and nominated values, and none that has comes later. None is
+/// chosen only where none has them.
+pub fn the_latest_that_matches_is_chosen()
+    ensures latest { ChoosesTheLatest }
+    ensures some { ChoosesWhereOneCan }
+    ensures no_other { ChoosesNoOther }
+{}
+
+/// The chosen response is sent exactly where no rule stands.
+pub fn sent_where_no_rule_stands()
+    ensures every { SendsWhatMayBeSent }
+    ensures only { SendsNothingElse }
+{}
+
+/// The serial of a hit is that of a held response, the one that is chosen for the request.
+pub fn a_hit_is_held()
+    ensures { SendsWhatIsHeld }
+{}
+
+/// A request goes forward exactly where a rule stands, by the least that does; and a rule on a response names it.
+pub fn forward_names_the_least_rule()
+    ensures least { NamesTheLeast }
+    ensures every { ForwardsWhereOneStands }
+{}
