@@ -23,7 +23,7 @@ contains_member (x ∷ xs) e (inr m) = Contains-append_right (x ∷ []) xs e (co
 nothing_in_none : (e : Stored) → Contains [] e → ⊥
 nothing_in_none e c = let below = c.1 in absurd (omega (arith, below))
 
-member_contained : (xs : List Stored) (e : Stored) → Contains xs e → IsMember e xs
+pub member_contained : (xs : List Stored) (e : Stored) → Contains xs e → IsMember e xs
 member_contained [] e c = absurd (nothing_in_none e c)
 member_contained (x ∷ xs) e c = split (Contains-append_cases (x ∷ []) xs e c) (member_contained xs e)
   where

@@ -4,3 +4,4 @@ pub mod RuleLemmas
 pub mod LeastRule
 pub mod Choice
 pub mod MeaningLemmas
+pub mod ReusableLemmas

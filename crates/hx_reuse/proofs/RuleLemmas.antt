@@ -56,7 +56,7 @@ none_there : (xs : List Stored) → ((e : Stored) → IsMember e xs → ⊥) →
 none_there [] h = refl
 none_there (x ∷ xs) h = absurd (h x (inl refl))
 
-some_there : (xs : List Stored) (e : Stored) → IsMember e xs → (length xs == 0) ≡ false
+pub some_there : (xs : List Stored) (e : Stored) → IsMember e xs → (length xs == 0) ≡ false
 some_there [] e m = absurd m
 some_there (x ∷ xs) e m = grind (arith, common_steps)
 

@@ -1,5 +1,6 @@
 //! What the definitions that `decide` is held to say of every list of held responses, request and moment.
 ghost use Rattle.hx_reuse.specs.Meaning.{ChoosesTheLatest, ChoosesWhereOneCan, ChoosesNoOther, SendsWhatMayBeSent, SendsNothingElse, SendsWhatIsHeld, NamesTheLeast, ForwardsWhereOneStands};
+ghost use Rattle.hx_reuse.specs.Reusable.{ReusesWhatMayBeReused, ReusesNothingElse};
 
 /// The chosen response is held, has the request's key and nominated values, and none that has comes later. None is
 /// chosen only where none has them.
@@ -24,4 +25,10 @@ pub fn a_hit_is_held()
 pub fn forward_names_the_least_rule()
     ensures least { NamesTheLeast }
     ensures every { ForwardsWhereOneStands }
+{}
+
+/// A response is sent exactly where RFC 9111, section 4 lets one be reused that isn't validated first.
+pub fn sent_where_it_may_be_reused()
+    ensures every { ReusesWhatMayBeReused }
+    ensures only { ReusesNothingElse }
 {}

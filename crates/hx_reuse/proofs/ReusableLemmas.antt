@@ -1,0 +1,269 @@
+-- No rule stands exactly where the standard's list holds of the chosen response.
+use Rattle.std.proofs.Common.{◌≡◌, ℕ, ◌+◌, ◌-◌, ◌<◌, ◌≤◌, ◌⊎◌, inl, inr, Bool, true, false, List, refl, sym, ◌∙◌, ap, arith}
+use Rattle.std.specs.Prelude.{◌&&◌, ◌||◌, not, nat_lt, codes, bytes_eq, is_none, is_some, Option, Some, None}
+use Rattle.std.proofs.lemmas.Bool.Decides.{nat_tests}
+use Rattle.std.proofs.lemmas.Slice.Eq.{bytes_eq-Decides}
+use Rattle.hx_directives.specs.Answers.{has, first_valid, max_stale}
+use Rattle.hx_directives.specs.declared.names.Directive.TheVariants as directive
+use Rattle.hx_directives.specs.declared.answers.MaxStale.{MaxStale}
+use Rattle.hx_directives.specs.declared.answers.MaxStale.TheVariants.{Absent, Any, UpTo}
+use Rattle.hx_target.specs.Keys.{same_key}
+use Rattle.hx_hop.specs.declared.asked_for.Asked.{Asked}
+use Rattle.hx_store.specs.Stored.{Stored}
+use Rattle.hx_store.specs.Serials.{Distinct}
+use Rattle.hx_store.specs.Shelf.{serials}
+use Rattle.hx_reuse.specs.declared.decision.Decision.TheVariants.{Hit}
+use Rattle.hx_reuse.specs.declared.rule.ReuseRule.{ReuseRule}
+use Rattle.hx_reuse.specs.declared.rule.ReuseRule.TheVariants.{Method, Content, Range, Precondition, UriMiss, VaryMiss, ResponseNoCache, RequestNoCache, AboveMaxAge, BelowMinFresh, MustRevalidate, NoLifetime, StaleNoCache, NoMaxStale, PastMaxStale, StaleMaxAge, StaleMinFresh}
+use Rattle.hx_reuse.specs.Chosen.{of_key, chosen_of}
+use Rattle.hx_reuse.specs.Rules.{Standing, stands, against, standing, fresh, must_revalidate, above_max_age, below_min_fresh, accepts_stale, past_limit, is_some_and, decision_of}
+use Rattle.hx_reuse.specs.Reusable.{IsWithinMaxAge, IsFreshForMinFresh, IsSentFresh, IsSentStale, TakesStaleness, MayBeReused}
+use Rattle.hx_reuse.proofs.Latest.{member_filter}
+use Rattle.hx_reuse.proofs.RuleLemmas.{some_there}
+use Rattle.hx_reuse.proofs.Choice.{chosen_is_latest, latest_is_the_chosen, member_contained}
+use Rattle.hx_reuse.proofs.MeaningLemmas.{may_be_sent, is_sent}
+
+-- ---- tests joined
+
+never : true ≡ false → ⊥
+never h = cc
+
+second_false : (a b : Bool) → a ≡ true → a && b ≡ false → b ≡ false
+second_false true b h k = k
+second_false false b h k = absurd (never (sym h))
+
+both_false : (a b : Bool) → a ≡ false → a && b ≡ false
+both_false true b h = absurd (never h)
+both_false false b h = refl
+
+last_false : (a b : Bool) → b ≡ false → a && b ≡ false
+last_false true b h = h
+last_false false b h = refl
+
+under_not : (a b : Bool) → a ≡ false → not a && b ≡ false → b ≡ false
+under_not true b h k = absurd (never h)
+under_not false b h k = k
+
+not_first : (a b : Bool) → a ≡ true → not a && b ≡ false
+not_first true b h = refl
+not_first false b h = absurd (never (sym h))
+
+not_false : (a : Bool) → not a ≡ false → a ≡ true
+not_false true h = refl
+not_false false h = absurd (never h)
+
+left_false : (a b : Bool) → a || b ≡ false → a ≡ false
+left_false true b h = absurd (never h)
+left_false false b h = refl
+
+right_false : (a b : Bool) → a || b ≡ false → b ≡ false
+right_false true b h = absurd (never h)
+right_false false b h = h
+
+neither : (a b : Bool) → a ≡ false → b ≡ false → a || b ≡ false
+neither true b h k = absurd (never h)
+neither false b h k = k
+
+-- ---- a test of a value that may be absent
+
+test_false : (test : ℕ → Bool) (o : Option ℕ) (n : ℕ) → is_some_and test o ≡ false → o ≡ Some n → test n ≡ false
+test_false test None n h k = absurd cc
+test_false test (Some m) n h k = let same : m ≡ n = cc in sym (ap test same) ∙ h
+
+none_tests : (test : ℕ → Bool) (o : Option ℕ) → ((n : ℕ) → o ≡ Some n → test n ≡ false) → is_some_and test o ≡ false
+none_tests test None all = refl
+none_tests test (Some n) all = all n refl
+
+no_value : (o : Option ℕ) → is_some o ≡ false → o ≡ None
+no_value None h = refl
+no_value (Some n) h = absurd (never h)
+
+not_below : (m n : ℕ) → nat_lt m n ≡ false → n ≤ m
+not_below m n h = grind (arith, nat_tests)
+
+is_not_below : (m n : ℕ) → n ≤ m → nat_lt m n ≡ false
+is_not_below m n h = grind (arith, nat_tests)
+
+below : (m n : ℕ) → nat_lt m n ≡ true → m < n
+below m n h = grind (arith, nat_tests)
+
+is_below : (m n : ℕ) → m < n → nat_lt m n ≡ true
+is_below m n h = grind (arith, nat_tests)
+
+-- ---- the request's method and its max-stale
+
+method_allows : (m : List ℕ) → not (bytes_eq m (codes "GET") || bytes_eq m (codes "HEAD")) ≡ false → (m ≡ codes "GET") ⊎ (m ≡ codes "HEAD")
+method_allows m h = one_of (bytes_eq m (codes "GET")) (bytes_eq m (codes "HEAD")) (bytes_eq-Decides m (codes "GET")).0 (bytes_eq-Decides m (codes "HEAD")).0 (not_false (bytes_eq m (codes "GET") || bytes_eq m (codes "HEAD")) h)
+  where
+    one_of : (a b : Bool) → (a ≡ true → m ≡ codes "GET") → (b ≡ true → m ≡ codes "HEAD") → a || b ≡ true → (m ≡ codes "GET") ⊎ (m ≡ codes "HEAD")
+    one_of true b get head k = inl (get refl)
+    one_of false b get head k = inr (head k)
+
+method_is_allowed : (m : List ℕ) → (m ≡ codes "GET") ⊎ (m ≡ codes "HEAD") → not (bytes_eq m (codes "GET") || bytes_eq m (codes "HEAD")) ≡ false
+method_is_allowed m (inl get) = rw get refl
+method_is_allowed m (inr head) = rw head refl
+
+takes : (limit : MaxStale) (n : ℕ) → not (accepts_stale limit) ≡ false → past_limit n limit ≡ false → TakesStaleness limit n
+takes Absent n h k = absurd (never h)
+takes Any n h k = tt
+takes (UpTo most) n h k = not_below most n k
+
+accepts_what_it_takes : (limit : MaxStale) (n : ℕ) → TakesStaleness limit n → accepts_stale limit ≡ true
+accepts_what_it_takes Absent n h = absurd h
+accepts_what_it_takes Any n h = refl
+accepts_what_it_takes (UpTo most) n h = refl
+
+not_past_what_it_takes : (limit : MaxStale) (n : ℕ) → TakesStaleness limit n → past_limit n limit ≡ false
+not_past_what_it_takes Absent n h = absurd h
+not_past_what_it_takes Any n h = refl
+not_past_what_it_takes (UpTo most) n h = is_not_below most n h
+
+not_true : (a : Bool) → a ≡ true → not a ≡ false
+not_true true h = refl
+not_true false h = sym h
+
+module _ (e : Stored) (asked : Asked) (now : ℕ) where
+  abbrev here : Standing
+  here = standing e asked now
+
+  -- ---- what is so where no rule on the chosen response stands
+
+  within_max_age : above_max_age here ≡ false → IsWithinMaxAge e asked now
+  within_max_age h most is = not_below most here.age (test_false (λ m. nat_lt m here.age) (first_valid here.request directive.MaxAge) most h is)
+
+  fresh_for_min_fresh : below_min_fresh here ≡ false → IsFreshForMinFresh e asked now
+  fresh_for_min_fresh h least is =
+      not_below here.lifetime.seconds (here.age + least) (test_false (λ m. nat_lt here.lifetime.seconds (here.age + m)) (first_valid here.request directive.MinFresh) least h is)
+
+  module _ (none : (rule : ReuseRule) → against rule here ≡ false) where
+    sent_fresh : fresh here ≡ true → IsSentFresh e asked now
+    sent_fresh f =
+        record {
+          is_fresh = below here.age here.lifetime.seconds f;
+          not_to_be_validated = second_false (fresh here) (has here.request directive.NoCache) f (none RequestNoCache);
+          within_max_age = within_max_age (second_false (fresh here) (above_max_age here) f (none AboveMaxAge));
+          fresh_for_min_fresh = fresh_for_min_fresh (second_false (fresh here) (below_min_fresh here) f (none BelowMinFresh));
+        }
+
+    sent_stale : fresh here ≡ false → IsSentStale e asked now
+    sent_stale f =
+        let must = has here.response directive.MustRevalidate in
+        let proxy = has here.response directive.ProxyRevalidate in
+        let shared = has here.response directive.SMaxage in
+        let limit = max_stale here.request in
+        let staleness = here.age - here.lifetime.seconds in
+        let revalidate = under_not (fresh here) (must_revalidate here) f (none MustRevalidate) in
+        let neither_two = left_false (must || proxy) shared revalidate in
+        record {
+          is_stale = not_below here.age here.lifetime.seconds f;
+          no_must_revalidate = left_false must proxy neither_two;
+          no_proxy_revalidate = right_false must proxy neither_two;
+          no_s_maxage = right_false (must || proxy) shared revalidate;
+          states_its_lifetime = not_false here.lifetime.explicit (under_not (fresh here) (not here.lifetime.explicit) f (none NoLifetime));
+          not_to_be_validated = under_not (fresh here) (has here.request directive.NoCache) f (none StaleNoCache);
+          within_max_stale = takes limit staleness (under_not (fresh here) (not (accepts_stale limit)) f (none NoMaxStale)) (under_not (fresh here) (past_limit staleness limit) f (none PastMaxStale));
+          within_max_age = within_max_age (under_not (fresh here) (above_max_age here) f (none StaleMaxAge));
+          no_min_fresh = no_value (first_valid here.request directive.MinFresh) (under_not (fresh here) (is_some (first_valid here.request directive.MinFresh)) f (none StaleMinFresh));
+        }
+
+    sent_somehow : (t : Bool) → fresh here ≡ t → IsSentFresh e asked now ⊎ IsSentStale e asked now
+    sent_somehow true f = inl (sent_fresh f)
+    sent_somehow false f = inr (sent_stale f)
+
+  -- ---- and no such rule stands where it is so
+
+  not_above : IsWithinMaxAge e asked now → above_max_age here ≡ false
+  not_above within =
+      none_tests (λ m. nat_lt m here.age) (first_valid here.request directive.MaxAge) (λ most h. is_not_below most here.age (within most h))
+
+  not_short : IsFreshForMinFresh e asked now → below_min_fresh here ≡ false
+  not_short long =
+      none_tests (λ m. nat_lt here.lifetime.seconds (here.age + m)) (first_valid here.request directive.MinFresh)
+      (λ least h. is_not_below here.lifetime.seconds (here.age + least) (long least h))
+
+  none_where_fresh : has here.response directive.NoCache ≡ false → IsSentFresh e asked now → fresh here ≡ true → (rule : ReuseRule) → against rule here ≡ false
+  none_where_fresh free sent f ResponseNoCache = free
+  none_where_fresh free sent f RequestNoCache = last_false (fresh here) (has here.request directive.NoCache) sent.not_to_be_validated
+  none_where_fresh free sent f AboveMaxAge = last_false (fresh here) (above_max_age here) (not_above sent.within_max_age)
+  none_where_fresh free sent f BelowMinFresh = last_false (fresh here) (below_min_fresh here) (not_short sent.fresh_for_min_fresh)
+  none_where_fresh free sent f MustRevalidate = not_first (fresh here) (must_revalidate here) f
+  none_where_fresh free sent f NoLifetime = not_first (fresh here) (not here.lifetime.explicit) f
+  none_where_fresh free sent f StaleNoCache = not_first (fresh here) (has here.request directive.NoCache) f
+  none_where_fresh free sent f NoMaxStale = not_first (fresh here) (not (accepts_stale (max_stale here.request))) f
+  none_where_fresh free sent f PastMaxStale = not_first (fresh here) (past_limit (here.age - here.lifetime.seconds) (max_stale here.request)) f
+  none_where_fresh free sent f StaleMaxAge = not_first (fresh here) (above_max_age here) f
+  none_where_fresh free sent f StaleMinFresh = not_first (fresh here) (is_some (first_valid here.request directive.MinFresh)) f
+  none_where_fresh free sent f rule = refl
+
+  none_where_stale : has here.response directive.NoCache ≡ false → IsSentStale e asked now → fresh here ≡ false → (rule : ReuseRule) → against rule here ≡ false
+  none_where_stale free sent f ResponseNoCache = free
+  none_where_stale free sent f RequestNoCache = both_false (fresh here) (has here.request directive.NoCache) f
+  none_where_stale free sent f AboveMaxAge = both_false (fresh here) (above_max_age here) f
+  none_where_stale free sent f BelowMinFresh = both_false (fresh here) (below_min_fresh here) f
+  none_where_stale free sent f MustRevalidate =
+      let must = has here.response directive.MustRevalidate in
+      let proxy = has here.response directive.ProxyRevalidate in
+      let shared = has here.response directive.SMaxage in
+      last_false (not (fresh here)) (must_revalidate here)
+      (neither (must || proxy) shared (neither must proxy sent.no_must_revalidate sent.no_proxy_revalidate) sent.no_s_maxage)
+  none_where_stale free sent f NoLifetime = last_false (not (fresh here)) (not here.lifetime.explicit) (not_true here.lifetime.explicit sent.states_its_lifetime)
+  none_where_stale free sent f StaleNoCache = last_false (not (fresh here)) (has here.request directive.NoCache) sent.not_to_be_validated
+  none_where_stale free sent f NoMaxStale =
+      let limit = max_stale here.request in
+      last_false (not (fresh here)) (not (accepts_stale limit)) (not_true (accepts_stale limit) (accepts_what_it_takes limit (here.age - here.lifetime.seconds) sent.within_max_stale))
+  none_where_stale free sent f PastMaxStale =
+      let limit = max_stale here.request in
+      let staleness = here.age - here.lifetime.seconds in
+      last_false (not (fresh here)) (past_limit staleness limit) (not_past_what_it_takes limit staleness sent.within_max_stale)
+  none_where_stale free sent f StaleMaxAge = last_false (not (fresh here)) (above_max_age here) (not_above sent.within_max_age)
+  none_where_stale free sent f StaleMinFresh = last_false (not (fresh here)) (is_some (first_valid here.request directive.MinFresh)) (ap is_some sent.no_min_fresh)
+  none_where_stale free sent f rule = refl
+
+  none_against : has here.response directive.NoCache ≡ false → IsSentFresh e asked now ⊎ IsSentStale e asked now → (rule : ReuseRule) → against rule here ≡ false
+  none_against free (inl sent) rule = none_where_fresh free sent (is_below here.age here.lifetime.seconds sent.is_fresh) rule
+  none_against free (inr sent) rule = none_where_stale free sent (is_not_below here.age here.lifetime.seconds sent.is_stale) rule
+
+module _ (held : List Stored) (asked : Asked) (now : ℕ) where
+  -- ---- from no rule to the list
+
+  none_on : (e : Stored) → chosen_of held asked ≡ Some e → ((rule : ReuseRule) → stands rule held asked now ≡ false) → (rule : ReuseRule) → against rule (standing e asked now) ≡ false
+  none_on e is none Method = refl
+  none_on e is none Content = refl
+  none_on e is none Range = refl
+  none_on e is none Precondition = refl
+  none_on e is none UriMiss = refl
+  none_on e is none VaryMiss = refl
+  none_on e is none rule = sym (ap (is_some_and (λ x. against rule (standing x asked now))) is) ∙ none rule
+
+  pub reused_is_allowed : (serial : ℕ) → decision_of held asked now ≡ Hit serial → (response : Stored) × MayBeReused held asked now response × (response.serial ≡ serial)
+  reused_is_allowed serial h =
+      let may = may_be_sent held asked now serial h in
+      let none = none_on may.response may.chosen_is may.no_rule in (
+        may.response,
+        record {
+          is_chosen = chosen_is_latest held asked may.response may.chosen_is;
+          request_allows = record { method_allows = method_allows asked.method (may.no_rule Method); no_content = may.no_rule Content; no_range = may.no_rule Range; no_precondition = may.no_rule Precondition };
+          no_no_cache = none ResponseNoCache;
+          fresh_or_stale = sent_somehow may.response asked now none (fresh (standing may.response asked now)) refl;
+        },
+        may.serial_is,
+      )
+
+  -- ---- and back
+
+  none_stands : (e : Stored) → chosen_of held asked ≡ Some e → MayBeReused held asked now e → (rule : ReuseRule) → stands rule held asked now ≡ false
+  none_stands e is may Method = method_is_allowed asked.method may.request_allows.method_allows
+  none_stands e is may Content = may.request_allows.no_content
+  none_stands e is may Range = may.request_allows.no_range
+  none_stands e is may Precondition = may.request_allows.no_precondition
+  none_stands e is may UriMiss =
+      let candidate = may.is_chosen.is_candidate in
+      some_there (of_key held asked) e (member_filter (λ x. same_key x.key asked.target.key) held e candidate.has_the_key (member_contained held e candidate.is_held))
+  none_stands e is may VaryMiss = ap is_none is
+  none_stands e is may rule =
+      ap (is_some_and (λ x. against rule (standing x asked now))) is ∙ none_against e asked now may.no_no_cache may.fresh_or_stale rule
+
+  pub allowed_is_reused : (response : Stored) → Distinct (serials held) → MayBeReused held asked now response → decision_of held asked now ≡ Hit response.serial
+  allowed_is_reused response distinct may =
+      let is = latest_is_the_chosen held asked response distinct may.is_chosen in
+      is_sent held asked now response.serial (record { response = response; chosen_is = is; serial_is = refl; no_rule = none_stands response is may })
