@@ -5,3 +5,4 @@ pub mod LeastRule
 pub mod Choice
 pub mod MeaningLemmas
 pub mod ReusableLemmas
+pub mod WordLemmas

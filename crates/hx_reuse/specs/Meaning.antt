@@ -13,9 +13,10 @@ use Rattle.hx_store.specs.Stored.{Stored}
 use Rattle.hx_store.specs.Serials.{Distinct}
 use Rattle.hx_store.specs.Shelf.{serials}
 use Rattle.hx_reuse.specs.Chosen.{comes_later, chosen_of}
-use Rattle.hx_reuse.specs.Words.{number_of}
+use Rattle.hx_reuse.specs.Words.{number_of, reason_of, detail_of, error_word_of}
 use Rattle.hx_reuse.specs.Rules.{stands, decision_of}
 use Rattle.hx_reuse.specs.declared.rule.ReuseRule.{ReuseRule}
+use Rattle.hx_reuse.specs.declared.rule.ErrorRule.{ErrorRule}
 use Rattle.hx_reuse.specs.declared.decision.Decision.TheVariants.{Hit, Forward}
 
 -- the response could answer the request: it is held, for the request's key, and was asked for with the same nominated
@@ -83,3 +84,10 @@ NamesTheLeast = (held : List Stored) (asked : Asked) (now : ℕ) (rule : ReuseRu
 abbrev pub ForwardsWhereOneStands : Type 0
 ForwardsWhereOneStands = (held : List Stored) (asked : Asked) (now : ℕ) (rule : ReuseRule) →
     IsLeast held asked now rule → (named : Option ℕ) × (decision_of held asked now ≡ Forward rule named)
+
+-- a reader of Cache-Status knows the rule (RFC 9211, sections 2.2 and 2.8)
+abbrev pub WordsTellRulesApart : Type 0
+WordsTellRulesApart = (rule other : ReuseRule) → reason_of rule ≡ reason_of other → detail_of rule ≡ detail_of other → rule ≡ other
+
+abbrev pub WordsTellErrorRulesApart : Type 0
+WordsTellErrorRulesApart = (rule other : ErrorRule) → error_word_of rule ≡ error_word_of other → rule ≡ other

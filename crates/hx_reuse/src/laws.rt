@@ -1,5 +1,5 @@
 //! What the definitions that `decide` is held to say of every list of held responses, request and moment.
-ghost use Rattle.hx_reuse.specs.Meaning.{ChoosesTheLatest, ChoosesWhereOneCan, ChoosesNoOther, SendsWhatMayBeSent, SendsNothingElse, SendsWhatIsHeld, NamesTheLeast, ForwardsWhereOneStands};
+ghost use Rattle.hx_reuse.specs.Meaning.{ChoosesTheLatest, ChoosesWhereOneCan, ChoosesNoOther, SendsWhatMayBeSent, SendsNothingElse, SendsWhatIsHeld, NamesTheLeast, ForwardsWhereOneStands, WordsTellRulesApart, WordsTellErrorRulesApart};
 ghost use Rattle.hx_reuse.specs.Reusable.{ReusesWhatMayBeReused, ReusesNothingElse};
 
 /// The chosen response is held, has the request's key and nominated values, and none that has comes later. None is
@@ -31,4 +31,10 @@ pub fn forward_names_the_least_rule()
 pub fn sent_where_it_may_be_reused()
     ensures every { ReusesWhatMayBeReused }
     ensures only { ReusesNothingElse }
+{}
+
+/// No two reuse rules have the same reason and detail, and no two rules after an error the same word.
+pub fn words_tell_the_rule()
+    ensures reuse { WordsTellRulesApart }
+    ensures error { WordsTellErrorRulesApart }
 {}

@@ -15,6 +15,6 @@ mod tests;
 pub use crate::decision::{Decision, decide};
 pub use crate::laws::{
     a_hit_is_held, forward_names_the_least_rule, sent_where_it_may_be_reused,
-    sent_where_no_rule_stands, the_latest_that_matches_is_chosen,
+    sent_where_no_rule_stands, the_latest_that_matches_is_chosen, words_tell_the_rule,
 };
 pub use crate::rule::{ErrorRule, ReuseRule};
