@@ -1,6 +1,6 @@
 -- The chosen response is the latest that could answer, and there is one where one could.
 use Rattle.std.proofs.Common.{◌≡◌, ◌⊎◌, inl, inr, List, [], ◌∷◌, refl, sym, ◌∙◌, ap, subst, arith}
-use Rattle.std.specs.Prelude.{Option, Some, None}
+use Rattle.std.specs.Prelude.{nat_eq, Option, Some, None}
 use Rattle.std.specs.List.{Contains}
 use Rattle.std.proofs.lemmas.List.Elements.{Contains-append_left, Contains-append_right, Contains-append_cases, Contains-push, Contains-push_cases}
 use Rattle.hx_target.specs.Keys.{same_key}
@@ -8,11 +8,11 @@ use Rattle.hx_vary.specs.Vary.{vary_matches}
 use Rattle.hx_hop.specs.declared.asked_for.Asked.{Asked}
 use Rattle.hx_store.specs.Stored.{Stored}
 use Rattle.hx_store.specs.Serials.{Distinct}
-use Rattle.hx_store.specs.Shelf.{serials}
+use Rattle.hx_store.specs.Shelf.{serials, find_entry}
 use Rattle.hx_reuse.specs.Chosen.{of_key, matching, latest, chosen_of}
 use Rattle.hx_reuse.specs.Meaning.{IsCandidate, IsChosen}
 use Rattle.hx_reuse.proofs.Members.{IsMember, distinct_entries}
-use Rattle.hx_reuse.proofs.Latest.{fold_latest, fold_some, same_serial, filter_member, member_filter}
+use Rattle.hx_reuse.proofs.Latest.{fold_latest, fold_some, same_serial, filter_member, member_filter, find_member, member_find, find_entry-find, nat_eq_true, nat_eq_same}
 
 -- the members are what the list contains
 contains_member : (xs : List Stored) (e : Stored) → IsMember e xs → Contains xs e
@@ -34,6 +34,14 @@ member_contained (x ∷ xs) e c = split (Contains-append_cases (x ∷ []) xs e c
     split : Contains (x ∷ []) e ⊎ Contains xs e → (Contains xs e → IsMember e xs) → IsMember e (x ∷ xs)
     split (inl one) rest = at_one (Contains-push_cases [] x e one)
     split (inr more) rest = inr (rest more)
+
+-- the serial of a member finds it
+pub found_by_serial : (held : List Stored) → Distinct (serials held) → (e : Stored) → Contains held e → find_entry e.serial held ≡ Some e
+found_by_serial held distinct e c =
+    let in_held = member_contained held e c in
+    let r = member_find (λ x. nat_eq x.serial e.serial) held e in_held (nat_eq_same e.serial) in
+    let f = find_member (λ x. nat_eq x.serial e.serial) held r.0 r.1 in
+    find_entry-find e.serial held ∙ (r.1 ∙ ap Some (distinct_entries held distinct r.0 e f.0 in_held (nat_eq_true r.0.serial e.serial f.1)))
 
 module _ (held : List Stored) (asked : Asked) where
   -- the responses that match are the candidates
@@ -59,6 +67,9 @@ module _ (held : List Stored) (asked : Asked) where
   chosen_is_latest e h =
       let r = fold_latest (matching held asked) None e h in
       record { is_candidate = candidate e (taken_member e (matching held asked) r.taken); none_later = λ other c. r.above other (matches other c) }
+
+  pub chosen_is_held : (e : Stored) → chosen_of held asked ≡ Some e → Contains held e
+  chosen_is_held e h = let is = chosen_is_latest e h in is.is_candidate.is_held
 
   none_of : (es : List Stored) (e : Stored) → latest es ≡ None → IsMember e es → ⊥
   none_of [] e h m = m

@@ -127,7 +127,7 @@ member_filter p (x ∷ xs) e h (inl k) = cond_member_front x e (filter p xs) (p 
 member_filter p (x ∷ xs) e h (inr n) = cond_member_rest x e (filter p xs) (p x) (member_filter p xs e h n)
 
 -- the first that passes is a member that passes, and there is one if a member passes
-find_member : {X : Type 0} (p : X → Bool) (xs : List X) (e : X) → find p xs ≡ Some e → IsMember e xs × (p e ≡ true)
+pub find_member : {X : Type 0} (p : X → Bool) (xs : List X) (e : X) → find p xs ≡ Some e → IsMember e xs × (p e ≡ true)
 find_member p [] e h = absurd cc
 find_member {X} p (x ∷ xs) e h = chosen_by (p x) refl h (find_member p xs e)
   where
@@ -135,7 +135,7 @@ find_member {X} p (x ∷ xs) e h = chosen_by (p x) refl h (find_member p xs e)
     chosen_by true k h rest = let same : x ≡ e = cc in (inl same, rw (← same) k)
     chosen_by false k h rest = (inr (rest h).0, (rest h).1)
 
-member_find : {X : Type 0} (p : X → Bool) (xs : List X) (e : X) → IsMember e xs → p e ≡ true → (f : X) × (find p xs ≡ Some f)
+pub member_find : {X : Type 0} (p : X → Bool) (xs : List X) (e : X) → IsMember e xs → p e ≡ true → (f : X) × (find p xs ≡ Some f)
 member_find p [] e m h = absurd m
 member_find {X} p (x ∷ xs) e (inl k) h =
     let passes : p x ≡ true = rw k h in
@@ -163,14 +163,14 @@ member_found h (r ∷ ss) s e (inr n) k = after (h r) (member_found h ss s e n k
     after None m = m
     after (Some x) m = inr m
 
-find_entry-find : (s : ℕ) (held : List Stored) → find_entry s held ≡ find (λ e. nat_eq e.serial s) held
+pub find_entry-find : (s : ℕ) (held : List Stored) → find_entry s held ≡ find (λ e. nat_eq e.serial s) held
 find_entry-find s [] = refl
 find_entry-find s (e ∷ es) = ap (λ o. cond (nat_eq e.serial s) (Some e) o) (find_entry-find s es)
 
-nat_eq_true : (m n : ℕ) → nat_eq m n ≡ true → m ≡ n
+pub nat_eq_true : (m n : ℕ) → nat_eq m n ≡ true → m ≡ n
 nat_eq_true m n h = grind (arith, nat_tests)
 
-nat_eq_same : (m : ℕ) → nat_eq m m ≡ true
+pub nat_eq_same : (m : ℕ) → nat_eq m m ≡ true
 nat_eq_same m = grind (arith, nat_tests)
 
 module _ (held : List Stored) (asked : Asked) (serials : List ℕ) (distinct : HasDistinctSerials held) (are : AreSerialsOf held asked serials) where

@@ -4,6 +4,8 @@ use Rattle.std.specs.Prelude.{nat_lt, is_none, Option, Some, None, option_map}
 use Rattle.std.proofs.lemmas.Bool.Decides.{nat_tests}
 use Rattle.hx_hop.specs.declared.asked_for.Asked.{Asked}
 use Rattle.hx_store.specs.Stored.{Stored}
+use Rattle.hx_store.specs.Serials.{Distinct}
+use Rattle.hx_store.specs.Shelf.{serials, find_entry}
 use Rattle.hx_reuse.specs.declared.decision.Decision.TheVariants.{Hit, Forward}
 use Rattle.hx_reuse.specs.declared.rule.ReuseRule.{ReuseRule}
 use Rattle.hx_reuse.specs.declared.rule.ReuseRule.TheVariants.{Method, Content, Range, Precondition, UriMiss, VaryMiss}
@@ -12,7 +14,7 @@ use Rattle.hx_reuse.specs.Words.{number_of}
 use Rattle.hx_reuse.specs.Rules.{stands, against, standing, is_some_and, names_entry, reuse_rule_of, decided, decision_of}
 use Rattle.hx_reuse.specs.Meaning.{IsChosen, MayBeSent, IsLeast, NamesTheResponse}
 use Rattle.hx_reuse.proofs.LeastRule.{rule_is_least, least_is_rule, no_rule_stands, no_rule_found}
-use Rattle.hx_reuse.proofs.Choice.{chosen_is_latest}
+use Rattle.hx_reuse.proofs.Choice.{chosen_is_latest, chosen_is_held, found_by_serial}
 
 same_hit : (m n : ℕ) → Hit m ≡ Hit n → m ≡ n
 same_hit m n h = cc
@@ -90,6 +92,11 @@ module _ (held : List Stored) (asked : Asked) (now : ℕ) where
   is_held serial h =
       let may = may_be_sent serial h in
       (may.response, chosen_is_latest held asked may.response may.chosen_is, may.serial_is)
+
+  pub is_found : (serial : ℕ) → Distinct (serials held) → decision_of held asked now ≡ Hit serial → find_entry serial held ≡ chosen_of held asked
+  is_found serial distinct h =
+      let may = may_be_sent serial h in
+      ap (λ (s : ℕ). find_entry s held) (sym may.serial_is) ∙ found_by_serial held distinct may.response (chosen_is_held held asked may.response may.chosen_is) ∙ sym may.chosen_is
 
   names_the_response : (rule : ReuseRule) (named : Option ℕ) → stands rule held asked now ≡ true
       → ((number_of rule ≤ 6) × (named ≡ None)) ⊎ ((6 < number_of rule) × (named ≡ option_map (λ e. e.serial) (chosen_of held asked))) → NamesTheResponse held asked rule named

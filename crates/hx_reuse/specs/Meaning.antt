@@ -1,9 +1,9 @@
 -- What the reuse rules come to, without their table: which response is chosen, which may be sent, which rule is named
 -- (RFC 9111, section 4).
 --
--- IsChosen: the held response that answers if any does      MayBeSent: it, where no rule stands
--- IsLeast: a rule that stands, and none before it           NamesTheResponse: which response a rule is named with
--- the statements that the laws of `src/laws.rt` prove of `chosen_of` and `decision_of`
+-- IsCandidate, IsChosen: a held response that matches, the latest of these     MayBeSent: it, where no rule stands
+-- IsLeast: a rule that stands, and none before it     NamesTheResponse: the response that a rule is named with
+-- Below them are the statements that the laws of `src/laws.rt` prove.
 use Rattle.std.specs.Prelude.{◌≡◌, ℕ, ◌<◌, ◌≤◌, ◌⊎◌, true, false, List, Option, Some, None}
 use Rattle.std.specs.List.{Contains}
 use Rattle.hx_target.specs.Keys.{same_key}
@@ -11,7 +11,7 @@ use Rattle.hx_vary.specs.Vary.{vary_matches}
 use Rattle.hx_hop.specs.declared.asked_for.Asked.{Asked}
 use Rattle.hx_store.specs.Stored.{Stored}
 use Rattle.hx_store.specs.Serials.{Distinct}
-use Rattle.hx_store.specs.Shelf.{serials}
+use Rattle.hx_store.specs.Shelf.{serials, find_entry}
 use Rattle.hx_reuse.specs.Chosen.{comes_later, chosen_of}
 use Rattle.hx_reuse.specs.Words.{number_of, reason_of, detail_of, error_word_of}
 use Rattle.hx_reuse.specs.Rules.{stands, decision_of}
@@ -31,7 +31,7 @@ pub record IsChosen (held : List Stored) (asked : Asked) (response : Stored) : T
   pub is_candidate : IsCandidate held asked response
   pub none_later : (other : Stored) → IsCandidate held asked other → comes_later other response ≡ false
 
--- the chosen response may be sent: no rule stands against that
+-- the chosen response has this serial, and no rule stands
 pub record MayBeSent (held : List Stored) (asked : Asked) (now serial : ℕ) : Type 0 where
   pub response : Stored
   pub chosen_is : chosen_of held asked ≡ Some response
@@ -76,6 +76,11 @@ SendsNothingElse = (held : List Stored) (asked : Asked) (now serial : ℕ) →
 abbrev pub SendsWhatIsHeld : Type 0
 SendsWhatIsHeld = (held : List Stored) (asked : Asked) (now serial : ℕ) →
     decision_of held asked now ≡ Hit serial → (response : Stored) × IsChosen held asked response × (response.serial ≡ serial)
+
+-- where each serial names one response, that of a hit finds the chosen one in the store
+abbrev pub FindsWhatIsSent : Type 0
+FindsWhatIsSent = (held : List Stored) (asked : Asked) (now serial : ℕ) →
+    Distinct (serials held) → decision_of held asked now ≡ Hit serial → find_entry serial held ≡ chosen_of held asked
 
 abbrev pub NamesTheLeast : Type 0
 NamesTheLeast = (held : List Stored) (asked : Asked) (now : ℕ) (rule : ReuseRule) (named : Option ℕ) →

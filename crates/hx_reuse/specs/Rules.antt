@@ -115,6 +115,7 @@ reuse_rule_of held asked now = find (λ rule. stands rule held asked now) reuse_
 abbrev pub names_entry : ReuseRule → Bool
 names_entry rule = nat_lt 6 (number_of rule)
 
+-- where no rule stands a response is chosen, so the last case never comes (law `a_hit_is_held`)
 abbrev pub decided : Option ReuseRule → Option ℕ → Decision
 decided (Some rule) serial = Forward rule (if names_entry rule then serial else None)
 decided None (Some serial) = Hit serial

@@ -1,5 +1,5 @@
 //! What the definitions that `decide` is held to say of every list of held responses, request and moment.
-ghost use Rattle.hx_reuse.specs.Meaning.{ChoosesTheLatest, ChoosesWhereOneCan, ChoosesNoOther, SendsWhatMayBeSent, SendsNothingElse, SendsWhatIsHeld, NamesTheLeast, ForwardsWhereOneStands, WordsTellRulesApart, WordsTellErrorRulesApart};
+ghost use Rattle.hx_reuse.specs.Meaning.{ChoosesTheLatest, ChoosesWhereOneCan, ChoosesNoOther, SendsWhatMayBeSent, SendsNothingElse, SendsWhatIsHeld, FindsWhatIsSent, NamesTheLeast, ForwardsWhereOneStands, WordsTellRulesApart, WordsTellErrorRulesApart};
 ghost use Rattle.hx_reuse.specs.Reusable.{ReusesWhatMayBeReused, ReusesNothingElse};
 
 /// The chosen response is held, has the request's key and nominated values, and none that has comes later. None is
@@ -16,9 +16,10 @@ pub fn sent_where_no_rule_stands()
     ensures only { SendsNothingElse }
 {}
 
-/// The serial of a hit is that of a held response, the one that is chosen for the request.
+/// The serial of a hit is that of a held response, the one that is chosen for the request; the store finds it by that.
 pub fn a_hit_is_held()
-    ensures { SendsWhatIsHeld }
+    ensures held { SendsWhatIsHeld }
+    ensures found { FindsWhatIsSent }
 {}
 
 /// A request goes forward exactly where a rule stands, by the least that does; and a rule on a response names it.

@@ -1,6 +1,7 @@
 //! Whether a stored response may answer a request, and which rule is the first against it (RFC 9111, section 4).
 //!
-//! The rules and their order stand in `specs/Rules.antt`, their words in `specs/Words.antt`.
+//! The rules and their order stand in `specs/Rules.antt`, their words in `specs/Words.antt`. What they come to, in the
+//! standard's own list, is `specs/Reusable.antt`; `laws` proves it.
 //! Nothing here reads a clock or changes a store.
 #![tactic(auto)]
 
