@@ -1,0 +1,4 @@
+pub mod Known
+pub mod Stepping
+pub mod Fronts
+pub mod Playing

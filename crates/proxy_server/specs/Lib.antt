@@ -1,0 +1,5 @@
+pub mod Bytes
+pub mod Played
+pub mod Replay
+pub mod Steps
+pub mod FaultLines

@@ -1,0 +1,18 @@
+//! The program's logic: a script is replayed through the engine.
+//!
+//! What a play of a script is stands in `specs/Played.antt`, and what a replay gives in `specs/Replay.antt`. The
+//! reader is read to its end first; then the items are played one by one, and the effects of each happening are
+//! written whole. A fault's line on standard error is in `specs/FaultLines.antt`.
+#![tactic(auto)]
+
+mod bytes;
+mod fault_lines;
+mod faults;
+mod play;
+pub mod program;
+mod steps;
+#[cfg(test)]
+mod tests;
+
+pub use crate::faults::ReplayFault;
+pub use crate::play::replay;

@@ -1,0 +1,128 @@
+//! One step of a replay: what an item tells the engine, and what is then done and written.
+ghost use Rattle.std.specs.Prelude.{◌≡◌, ◌<◌, IfOk, IfErr, OnOk, Some, option_map};
+ghost use Rattle.proxy_engine.specs.Happenings.{said};
+ghost use Rattle.proxy_engine.specs.Story.{Story};
+ghost use Rattle.proxy_engine.specs.State.{Stands};
+ghost use Rattle.proxy_script.specs.Script.{said as item_said};
+ghost use Rattle.proxy_server.specs.Played.{happening_of, moment_after, kind_of, Breaks};
+ghost use Rattle.proxy_server.specs.Steps.{Settled, Told, Untold};
+
+use crate::bytes::put;
+use crate::faults::ReplayFault;
+use hx_status::FailKind;
+use hx_store::ListShelf;
+use proxy_engine::{Engine, EngineFault, Happening, Work};
+use proxy_script::{Effect, Failure, Item, effects_text};
+use std::alloc::Global;
+use std::io::Write;
+
+fn kind_of(failure: Failure) -> FailKind
+    ensures { result ≡ kind_of failure }
+{
+    match failure {
+        Failure::Refused => FailKind::Refused,
+        Failure::TimedOut => FailKind::TimedOut,
+        Failure::Closed => FailKind::Closed,
+    }
+}
+
+/// What an item says has happened.
+fn happening_of(item: Item<'_>) -> Option<Happening<'_>>
+    ensures { option_map said result ≡ happening_of (item_said item.entry) }
+{
+    match item {
+        Item::Config(_) => None,
+        Item::At(_) => None,
+        Item::Accept(n) => Some(Happening::Accept(n)),
+        Item::Client(n, bytes) => Some(Happening::Client(n, bytes)),
+        Item::Link(l, bytes) => Some(Happening::Link(l, bytes)),
+        Item::End(n) => Some(Happening::End(n)),
+        Item::Gone(n) => Some(Happening::Gone(n)),
+        Item::Shut(l) => Some(Happening::Shut(l)),
+        Item::Fail(l, failure) => Some(Happening::Fail(l, kind_of(failure))),
+    }
+}
+
+/// The moment behind an item, where this one stands before it.
+pub(crate) fn moment_after(now: u64, item: Item<'_>) -> u64
+    ensures { result ≡ moment_after now (item_said item.entry) }
+{
+    match item {
+        Item::At(moment) => moment,
+        _ => now,
+    }
+}
+
+/// Does all that is due, and gives the effects in order.
+fn settle(
+    alloc: Global,
+    engine: &mut Engine<ListShelf>,
+    now: u64,
+) -> Result<Vec<Effect>, EngineFault>
+    requires { now < 253402300800 }
+    ensures ok { IfOk result (λ effects. (s : Story) → Stands engine.old s → Settled s now effects.items engine.new) }
+    ensures fault { IfErr result (λ fault. (s : Story) → Stands engine.old s → Breaks s now fault) }
+{
+    let mut done = Vec::new(alloc);
+    'acts: loop {
+        match engine.work(alloc, now) {
+            Ok(Work::Idle) => return Ok(done),
+            Ok(Work::Did(effects)) => {
+                let mut effects = effects;
+                match done.append(&mut effects) {
+                    Ok(()) => {}
+                    Err(_) => return Err(EngineFault::OutOfMemory),
+                }
+            }
+            Err(fault) => return Err(fault),
+        }
+    }
+}
+
+/// Takes what happened, does what is then due, and writes the text of it whole.
+fn tell<W: Write>(
+    alloc: Global,
+    engine: &mut Engine<ListShelf>,
+    now: u64,
+    happening: Happening<'_>,
+    writer: &mut W,
+) -> Result<(), ReplayFault>
+    requires { now < 253402300800 }
+    ensures ok { OnOk result ((s : Story) → Stands engine.old s → Told s now (Some (said happening.entry)) engine.new (W.contents writer.old) (W.contents writer.new)) }
+    ensures fault { IfErr result (λ fault. (s : Story) → Stands engine.old s → Untold s now (Some (said happening.entry)) fault (W.contents writer.old) (W.contents writer.new)) }
+{
+    match engine.take(alloc, happening) {
+        Ok(()) => {}
+        Err(fault) => return Err(ReplayFault::of_engine(fault)),
+    }
+    let effects = match settle(alloc, engine, now) {
+        Ok(effects) => effects,
+        Err(fault) => return Err(ReplayFault::of_engine(fault)),
+    };
+    let text = match effects_text(alloc, effects.as_slice()) {
+        Ok(text) => text,
+        Err(_) => return Err(ReplayFault::OutOfMemory),
+    };
+    match put(writer, text.as_slice()) {
+        Ok(()) => Ok(()),
+        Err(_) => Err(ReplayFault::Write),
+    }
+}
+
+/// Plays an item at the moment that stands behind it.
+pub(crate) fn play_item<W: Write>(
+    alloc: Global,
+    engine: &mut Engine<ListShelf>,
+    now: u64,
+    item: Item<'_>,
+    writer: &mut W,
+) -> Result<(), ReplayFault>
+    requires { now < 253402300800 }
+    ensures ok { OnOk result ((s : Story) → Stands engine.old s → Told s now (happening_of (item_said item.entry)) engine.new (W.contents writer.old) (W.contents writer.new)) }
+    ensures fault { IfErr result (λ fault. (s : Story) → Stands engine.old s → Untold s now (happening_of (item_said item.entry)) fault (W.contents writer.old) (W.contents writer.new)) }
+{
+    match happening_of(item) {
+        Some(happening) => tell(alloc, engine, now, happening, writer),
+        None => Ok(()),
+    }
+}
