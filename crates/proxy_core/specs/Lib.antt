@@ -3,3 +3,4 @@ pub mod Replies
 pub mod Storing
 pub mod Outcomes
 pub mod State
+pub mod Traces

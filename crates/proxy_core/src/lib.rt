@@ -21,6 +21,7 @@ mod moments;
 mod outcome;
 mod proxy;
 mod reply_text;
+mod runs;
 mod serial_numbers;
 mod storing;
 #[cfg(test)]
@@ -29,6 +30,7 @@ mod tests;
 pub use crate::event::Event;
 pub use crate::exchange::Exchange;
 pub use crate::fault::CoreFault;
-pub use crate::outcome::{Outcome, Reply};
+pub use crate::outcome::{Outcome, Reply, Run};
 pub use crate::proxy::Core;
 pub use crate::reply_text::refused;
+pub use crate::runs::run;

@@ -1,5 +1,6 @@
 //! What a step gives.
 
+use crate::fault::CoreFault;
 use hx_fields::Bytes;
 use hx_store::Serials;
 
@@ -26,4 +27,11 @@ pub enum Outcome {
     Forward(u16, Bytes),
     /// The exchange was abandoned.
     Ended,
+}
+
+/// What a run gave: the outcomes of the events in order, and the fault of the first that was refused.
+#[derive(Drop)]
+pub struct Run {
+    pub outcomes: Vec<Outcome>,
+    pub stopped: Option<CoreFault>,
 }
