@@ -1,4 +1,6 @@
 //! The core with its steps, with ample memory: what clauses say can only be refused by memory is found here.
+mod runs;
+
 use crate::{Core, CoreFault, Event, Outcome, Reply};
 use http::Method;
 use hx_allow::Config;
