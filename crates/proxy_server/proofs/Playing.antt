@@ -1,5 +1,5 @@
 -- A script's items so far, one item further, and how a replay ends.
-use Rattle.std.proofs.Common.{take-add, ◌≡◌, ℕ, ◌+◌, List, [], ◌∷◌, ◌++◌, length, take, drop, refl, ap, sym, ◌∙◌, subst, Bool, true, false, Option, Result, Ok, Err, arith, append_assoc}
+use Rattle.std.proofs.Common.{take-add, ◌≡◌, ℕ, ◌+◌, List, [], ◌∷◌, ◌++◌, length, take, drop, refl, ap, sym, ◌∙◌, subst, Bool, true, false, Option, Some, Result, Ok, Err, arith, append_assoc}
 use Rattle.std.specs.Io.KnownBytes.{Appends, Consumes}
 use Rattle.std.specs.List.{flat_map, AllByRecursion}
 use Rattle.std.proofs.KnownBytes.{Appends-trans, Appends-nil}
@@ -13,7 +13,7 @@ use Rattle.proxy_script.specs.declared.effect_list.Effect.{Effect}
 use Rattle.proxy_engine.specs.State.{State, Stands}
 use Rattle.proxy_server.specs.Bytes.{WasRead, limit}
 use Rattle.proxy_server.specs.Played.{Scene, beginning, happening_of, moment_after, PlaysItem, Plays, Refuses}
-use Rattle.proxy_server.specs.Replay.{StandsAt, IsWrong, Leads, LeadsTo, EndsAt, Fails, Tells, IsReplay}
+use Rattle.proxy_server.specs.Replay.{StandsAt, IsWrong, Leads, LeadsTo, EndsAt, Fails, Tells, IsReplay, IsReplayed}
 use Rattle.proxy_server.specs.Steps.{Opens, Told, Untold, Fails as StepFails}
 use Rattle.proxy_server.specs.declared.faults.ReplayFault.{ReplayFault}
 use Rattle.proxy_server.specs.declared.faults.ReplayFault.TheVariants as faults
@@ -214,3 +214,24 @@ ends_read bytes ended old new before after r was tells = record {
   full = λ e other. was.full e;
   tells = tells;
 }
+
+-- over memory
+pub replayed_by : (script rest before text : List ℕ) → before ≡ [] → IsReplay (Some script) (Some rest) (Some before) (Some text) (Ok tt) → IsReplayed script text
+replayed_by script rest before text none replay =
+    let led = replay.tells.replays.1 in
+    let whole = replay.whole replay.tells.replays.0 in
+    let read : script ≡ replay.bytes = replay.consumes
+    ∙ (ap (λ xs. (replay.bytes ++ replay.over) ++ xs) whole.1
+    ∙ (append-nil (replay.bytes ++ replay.over) ∙ (ap (λ xs. replay.bytes ++ xs) whole.0 ∙ append-nil replay.bytes))) in
+    let front : replay.bytes ≡ led.leads.front = led.leads.bytes_are ∙ (ap (λ xs. led.leads.front ++ xs) led.holds.0 ∙ append-nil led.leads.front) in
+    record {
+      table = led.leads.table;
+      items = led.items;
+      is_script = subst (λ xs. IsScript xs led.leads.table led.items) (sym (read ∙ front)) led.leads.script;
+      config = led.leads.config;
+      reads = led.leads.reads;
+      effects = led.effects;
+      last = led.last;
+      plays = led.leads.plays;
+      told = replay.tells.appends ∙ (ap (λ xs. xs ++ replay.tells.written) none ∙ led.holds.1);
+    }

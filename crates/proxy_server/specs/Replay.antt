@@ -3,7 +3,7 @@
 -- StandsAt, IsWrong: an item stands at the front of bytes, or none
 -- Leads: the bytes are a table and items, which were played, and a rest
 -- Replays, Fails: how the replay of bytes ends, and with which text written
--- IsReplay: the same over a reader and a writer
+-- IsReplay: the same over a reader and a writer     IsReplayed: of a whole script over memory
 use Rattle.std.specs.Prelude.{◌≡◌, ◌≢◌, ℕ, ◌+◌, ◌≤◌, List, [], ◌++◌, length, take, Bool, true, false, Option, Result, Ok, Err}
 use Rattle.std.specs.Io.KnownBytes.{Consumes, Appends, IsAtEnd}
 use Rattle.hx_allow.specs.Lines.{Table}
@@ -93,3 +93,15 @@ pub record IsReplay (old new before after : Option (List ℕ)) (result : Result 
   pub whole : ended ≡ true → (over ≡ []) × IsAtEnd new
   pub full : over ≢ [] → result ≢ Err faults.OutOfMemory → length bytes ≡ limit
   pub tells : Tells bytes ended before after result
+
+-- a whole script: its table and its items, and the text of the effects of their play
+pub record IsReplayed (script text : List ℕ) : Type 0 where
+  pub table : List ℕ
+  pub items : List Item
+  pub is_script : IsScript script table items
+  pub config : Table
+  pub reads : ReadsAs table (Ok config)
+  pub effects : List Effect
+  pub last : Scene
+  pub plays : Plays (beginning config) items effects last
+  pub told : text ≡ effects_text effects

@@ -8,6 +8,7 @@
 mod bytes;
 mod fault_lines;
 mod faults;
+mod memory;
 mod play;
 pub mod program;
 mod steps;
@@ -15,4 +16,5 @@ mod steps;
 mod tests;
 
 pub use crate::faults::ReplayFault;
+pub use crate::memory::replayed;
 pub use crate::play::replay;

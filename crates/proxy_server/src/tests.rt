@@ -25,7 +25,7 @@ fn told(ended: &Result<(), ReplayFault>) -> (&'static str, u64) {
 }
 
 /// Replays a script over memory: what it answers, and what it has written.
-fn replayed(alloc: Global, script: &[u8]) -> (Result<(), ReplayFault>, Vec<u8>) {
+fn played(alloc: Global, script: &[u8]) -> (Result<(), ReplayFault>, Vec<u8>) {
     let mut reader = script;
     let mut text = Vec::new(alloc);
     let result = replay(alloc, &mut reader, &mut text);

@@ -1,14 +1,28 @@
 //! Whole scripts, and scripts at fault.
 
 use super::rows::{FIRST_EFFECTS, FIRST_RUN, TABLE};
-use super::{replayed, told};
+use super::{played, told};
+use crate::{ReplayFault, replayed};
+use hx_allow::ConfigFault;
+use proxy_engine::EngineFault;
+use std::alloc::Global;
 use std::test::Fail;
+
+/// The call over memory, as the test takes it.
+fn whole(alloc: Global, script: &[u8]) -> Result<Vec<u8>, ReplayFault> {
+    replayed(alloc, script)
+}
 
 #[test]
 fn first_run(rt: HostRuntime) {
-    let (result, text) = replayed(rt.alloc(), FIRST_RUN.as_bytes());
+    let (result, text) = played(rt.alloc(), FIRST_RUN.as_bytes());
     assert!(rt; told(&result).0 == "done");
     assert!(rt; text.as_slice() == FIRST_EFFECTS.as_bytes());
+    match whole(rt.alloc(), FIRST_RUN.as_bytes()) {
+        Ok(text) => assert!(rt; text.as_slice() == FIRST_EFFECTS.as_bytes()),
+        Err(_) => assert!(rt; false),
+    }
+    assert!(rt; matches!(whole(rt.alloc(), b"".as_slice()), Err(ReplayFault::Line(1))));
 }
 
 #[test]
@@ -33,7 +47,7 @@ fn script_faults(rt: HostRuntime) -> Result<(), Fail> {
     ];
     for (rest, wanted) in &cases {
         let script = format!(in rt.alloc(); "{TABLE}{rest}")?;
-        let (result, text) = replayed(rt.alloc(), script.as_bytes());
+        let (result, text) = played(rt.alloc(), script.as_bytes());
         let (word, number) = told(&result);
         assert!(rt; word == wanted.0, "at {rest}");
         assert_eq!(rt; number, wanted.1, "at {rest}");
@@ -54,7 +68,7 @@ fn the_table_stands_first(rt: HostRuntime) {
         ("config 0\n\nnonsense\n", ("config", 3)),
     ];
     for (script, wanted) in &cases {
-        let (result, text) = replayed(rt.alloc(), script.as_bytes());
+        let (result, text) = played(rt.alloc(), script.as_bytes());
         let (word, number) = told(&result);
         assert!(rt; word == wanted.0, "at {script}");
         assert_eq!(rt; number, wanted.1, "at {script}");
@@ -81,7 +95,7 @@ fn table_faults(rt: HostRuntime) -> Result<(), Fail> {
         // The table's fault comes first, though a later line is wrong.
         let rest = if wanted.0 == "done" { "" } else { "nonsense\n" };
         let script = format!(in rt.alloc(); "config {}\n{table}\n{rest}", table.len())?;
-        let (result, text) = replayed(rt.alloc(), script.as_bytes());
+        let (result, text) = played(rt.alloc(), script.as_bytes());
         let (word, number) = told(&result);
         assert!(rt; word == wanted.0, "at {top}{path}");
         assert_eq!(rt; number, wanted.1, "at {top}{path}");
@@ -89,7 +103,7 @@ fn table_faults(rt: HostRuntime) -> Result<(), Fail> {
     }
     let table = format!(in rt.alloc(); "{head}capacity = 2\n")?;
     let script = format!(in rt.alloc(); "config {}\n{table}\n", table.len())?;
-    assert_eq!(rt; told(&replayed(rt.alloc(), script.as_bytes()).0).1, 9);
+    assert_eq!(rt; told(&played(rt.alloc(), script.as_bytes()).0).1, 9);
     Ok(())
 }
 
@@ -103,11 +117,59 @@ fn effects_before_a_fault_are_written(rt: HostRuntime) -> Result<(), Fail> {
     ];
     for (rest, wanted) in &cases {
         let script = format!(in rt.alloc(); "{FIRST_RUN}{rest}")?;
-        let (result, text) = replayed(rt.alloc(), script.as_bytes());
+        let (result, text) = played(rt.alloc(), script.as_bytes());
         let (word, number) = told(&result);
         assert!(rt; word == wanted.0, "at {rest}");
         assert_eq!(rt; number, wanted.1, "at {rest}");
         assert!(rt; text.as_slice() == FIRST_EFFECTS.as_bytes(), "at {rest}");
+    }
+    Ok(())
+}
+
+#[test]
+fn a_fault_is_named_on_one_line(rt: HostRuntime) -> Result<(), Fail> {
+    let cases = [
+        ("", "script fault line 1", 1),
+        ("config 3\nabc\n", "config fault 1", 2),
+        (
+            "config 14\n\"c o\\tl\u{e9}\" = 1\n\n",
+            "config fault 2 key c?o?l??",
+            2,
+        ),
+        ("config 0\n\n", "config fault 3", 2),
+    ];
+    for (script, line, status) in &cases {
+        match whole(rt.alloc(), script.as_bytes()) {
+            Ok(_) => assert!(rt; false, "at {script}"),
+            Err(fault) => {
+                let text = format!(in rt.alloc(); "{fault}")?;
+                assert!(rt; text.as_str() == *line, "at {script}: {text}");
+                assert!(rt; fault.exit_status() == *status, "at {script}");
+            }
+        }
+    }
+    for (fault, line) in [
+        (ReplayFault::Engine(EngineFault::Spent), "engine fault 4"),
+        (ReplayFault::Config(ConfigFault::OutOfMemory), "no memory"),
+        (
+            ReplayFault::Config(ConfigFault::BadPath(2)),
+            "config fault 7 line 2",
+        ),
+        (ReplayFault::Read, "read fault"),
+        (ReplayFault::Write, "write fault"),
+        (ReplayFault::OutOfMemory, "no memory"),
+    ] {
+        let text = format!(in rt.alloc(); "{fault}")?;
+        assert!(rt; text.as_str() == line, "at {line}: {text}");
+        assert!(rt;
+            fault.exit_status()
+                == if matches!(fault, ReplayFault::Config(ConfigFault::BadPath(_))) {
+                    2
+                } else {
+                    1
+                },
+            "at {line}"
+        );
     }
     Ok(())
 }
