@@ -22,20 +22,20 @@ unfolding item_at
 item_nil first = refl
 
 -- an item that stands here is found
-not_found : (first : Bool) (rest : List ℕ) (h : Item) (more : List ℕ) → StandsAt first rest h more → item_at first rest ≡ Found h more
-not_found first rest h more stands = ap (item_at first) stands.0 ∙ item_again first h more stands.1 stands.2
+found_by : (first : Bool) (rest : List ℕ) (h : Item) (more : List ℕ) → StandsAt first rest h more → item_at first rest ≡ Found h more
+found_by first rest h more stands = ap (item_at first) stands.0 ∙ item_again first h more stands.1 stands.2
 
 -- where an item is wrong, none stands
 pub wrong_by : (first ended : Bool) (rest : List ℕ) → item_at first rest ≡ Wrong → IsWrong first ended rest
 wrong_by first true rest e = (
   λ none. let cut : Wrong ≡ Cut = sym e ∙ (ap (item_at first) none ∙ item_nil first) in cc,
-  λ h more stands. let found : Wrong ≡ Found h more = sym e ∙ not_found first rest h more stands in cc,
+  λ h more stands. let found : Wrong ≡ Found h more = sym e ∙ found_by first rest h more stands in cc,
 )
 wrong_by first false rest e = e
 
 -- nor where the script ends in the middle of one
 pub cut_by : (first : Bool) (rest : List ℕ) → item_at first rest ≡ Cut → (rest ≡ [] → first ≡ true) → IsWrong first true rest
-cut_by first rest e some = (some, λ h more stands. let found : Cut ≡ Found h more = sym e ∙ not_found first rest h more stands in cc)
+cut_by first rest e some = (some, λ h more stands. let found : Cut ≡ Found h more = sym e ∙ found_by first rest h more stands in cc)
 
 -- behind the table, where something is left
 pub short_by : (rest : List ℕ) (ended none : Bool) → ended ≡ true → none ≡ (length rest == 0) → none ≡ false → item_at false rest ≡ Cut → IsWrong false ended rest

@@ -13,8 +13,8 @@ use Rattle.proxy_script.specs.declared.effect_list.Effect.{Effect}
 use Rattle.proxy_engine.specs.State.{State, Stands}
 use Rattle.proxy_server.specs.Bytes.{WasRead, limit}
 use Rattle.proxy_server.specs.Played.{Scene, beginning, happening_of, moment_after, PlaysItem, Plays, Refuses}
-use Rattle.proxy_server.specs.Replay.{StandsAt, IsWrong, Leads, LeadsTo, EndsAt, Fails, Tells, IsReplay, IsReplayed}
-use Rattle.proxy_server.specs.Steps.{Opens, Told, Untold, Fails as StepFails}
+use Rattle.proxy_server.specs.Replay.{StandsAt, IsWrong, Leads, LeadsTo, EndsAt, Fails, Tells, IsReplay, IsReplayed, IsRefused}
+use Rattle.proxy_server.specs.Steps.{Opens, Told, Untold, StepFails}
 use Rattle.proxy_server.specs.declared.faults.ReplayFault.{ReplayFault}
 use Rattle.proxy_server.specs.declared.faults.ReplayFault.TheVariants as faults
 use Rattle.proxy_server.proofs.Fronts.{ends_first}
@@ -235,3 +235,14 @@ replayed_by script rest before text none replay =
       plays = led.leads.plays;
       told = replay.tells.appends ∙ (ap (λ xs. xs ++ replay.tells.written) none ∙ led.holds.1);
     }
+
+pub refused_by : (script rest before text : List ℕ) (fault : ReplayFault) → IsReplay (Some script) (Some rest) (Some before) (Some text) (Err fault) → IsRefused script fault
+refused_by script rest before text fault replay = record {
+  bytes = replay.bytes;
+  more = replay.over ++ rest;
+  split = replay.consumes ∙ append_assoc replay.bytes replay.over rest;
+  ended = replay.ended;
+  whole = λ e. ap (λ xs. xs ++ rest) (replay.whole e).0 ∙ (replay.whole e).1;
+  written = replay.tells.written;
+  fails = replay.tells.replays;
+}

@@ -19,7 +19,7 @@ use Rattle.proxy_engine.specs.declared.happening.Work.{Work}
 use Rattle.proxy_engine.specs.declared.happening.Work.TheVariants as work
 use Rattle.proxy_server.specs.declared.faults.ReplayFault.TheVariants as faults
 use Rattle.proxy_server.specs.Played.{Deed, Works, effects_of, Breaks, Refuses}
-use Rattle.proxy_server.specs.Steps.{of_engine, Worked, Settled, Told, Fails, Untold}
+use Rattle.proxy_server.specs.Steps.{of_engine, Worked, Settled, Told, StepFails, Untold}
 
 -- deeds
 
@@ -83,7 +83,7 @@ refuses_by : (s : Story) (now : ℕ) (h : Happening) (o : Option EngineFault) (f
 refuses_by s now h None fault is refusal other = absurd (other refusal)
 refuses_by s now h (Some f) fault is refusal other = inl (is ∙ ap Some (sym refusal))
 
-refused_by : (s : Story) (now : ℕ) (h : Happening) (fault : EngineFault) → TakeFault s h fault → Fails s now (Some h) [] (of_engine fault)
+refused_by : (s : Story) (now : ℕ) (h : Happening) (fault : EngineFault) → TakeFault s h fault → StepFails s now (Some h) [] (of_engine fault)
 refused_by s now h engine.WrongNumber refusal = (h, refl, refuses_by s now h (fault_of s h) engine.WrongNumber refl refusal (λ e. cc), refl)
 refused_by s now h engine.NotAccepted refusal = (h, refl, refuses_by s now h (fault_of s h) engine.NotAccepted refl refusal (λ e. cc), refl)
 refused_by s now h engine.OutOfMemory refusal = refl
@@ -92,7 +92,7 @@ refused_by s now h engine.Spent refusal = (h, refl, refuses_by s now h (fault_of
 pub untaken : (s : Story) (now : ℕ) (h : Happening) (fault : EngineFault) (old : Option (List ℕ)) → TakeFault s h fault → Untold s now (Some h) (of_engine fault) old old
 untaken s now h fault old refusal = record { written = []; appends = Appends-nil old; fails = refused_by s now h fault refusal }
 
-breaks_by : (s : Story) (now : ℕ) (h : Happening) (fault : EngineFault) → fault_of s h ≡ None → Breaks (heard s h) now fault → Fails s now (Some h) [] (of_engine fault)
+breaks_by : (s : Story) (now : ℕ) (h : Happening) (fault : EngineFault) → fault_of s h ≡ None → Breaks (heard s h) now fault → StepFails s now (Some h) [] (of_engine fault)
 breaks_by s now h engine.WrongNumber free breaks = absurd breaks.failed
 breaks_by s now h engine.NotAccepted free breaks = absurd breaks.failed
 breaks_by s now h engine.OutOfMemory free breaks = refl

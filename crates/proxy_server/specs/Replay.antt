@@ -3,7 +3,7 @@
 -- StandsAt, IsWrong: an item stands at the front of bytes, or none
 -- Leads: the bytes are a table and items, which were played, and a rest
 -- Replays, Fails: how the replay of bytes ends, and with which text written
--- IsReplay: the same over a reader and a writer     IsReplayed: of a whole script over memory
+-- IsReplay: the same over a reader and a writer     IsReplayed, IsRefused: over memory
 use Rattle.std.specs.Prelude.{◌≡◌, ◌≢◌, ℕ, ◌+◌, ◌≤◌, List, [], ◌++◌, length, take, Bool, true, false, Option, Result, Ok, Err}
 use Rattle.std.specs.Io.KnownBytes.{Consumes, Appends, IsAtEnd}
 use Rattle.hx_allow.specs.Lines.{Table}
@@ -105,3 +105,13 @@ pub record IsReplayed (script text : List ℕ) : Type 0 where
   pub last : Scene
   pub plays : Plays (beginning config) items effects last
   pub told : text ≡ effects_text effects
+
+-- why a script isn't replayed whole: the fault of it, or of the part that was read
+pub record IsRefused (script : List ℕ) (fault : ReplayFault) : Type 0 where
+  pub bytes : List ℕ
+  pub more : List ℕ
+  pub split : script ≡ bytes ++ more
+  pub ended : Bool
+  pub whole : ended ≡ true → more ≡ []
+  pub written : List ℕ
+  pub fails : Fails bytes ended written fault

@@ -60,16 +60,16 @@ pub record Told (s : Story) (now : ℕ) (h : Option Happening) (e : State) (old 
   pub appends : Appends old new (effects_text effects)
 
 -- why it wasn't, with this text written
-abbrev pub Fails : Story → ℕ → Option Happening → List ℕ → ReplayFault → Type 0
-Fails s now h written (faults.Engine fault) = (told : Happening) × (h ≡ Some told) × Refuses s now told fault × (written ≡ [])
-Fails s now h written faults.Write =
+abbrev pub StepFails : Story → ℕ → Option Happening → List ℕ → ReplayFault → Type 0
+StepFails s now h written (faults.Engine fault) = (told : Happening) × (h ≡ Some told) × Refuses s now told fault × (written ≡ [])
+StepFails s now h written faults.Write =
     (effects : List Effect) × (last : Story) × HappenedIf h s now effects last × (k : ℕ) × (written ≡ take k (effects_text effects))
-Fails s now h written faults.OutOfMemory = written ≡ []
-Fails s now h written (faults.Config fault) = ⊥
-Fails s now h written (faults.Line n) = ⊥
-Fails s now h written faults.Read = ⊥
+StepFails s now h written faults.OutOfMemory = written ≡ []
+StepFails s now h written (faults.Config fault) = ⊥
+StepFails s now h written (faults.Line n) = ⊥
+StepFails s now h written faults.Read = ⊥
 
 pub record Untold (s : Story) (now : ℕ) (h : Option Happening) (fault : ReplayFault) (old new : Option (List ℕ)) : Type 0 where
   pub written : List ℕ
   pub appends : Appends old new written
-  pub fails : Fails s now h written fault
+  pub fails : StepFails s now h written fault
