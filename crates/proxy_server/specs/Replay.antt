@@ -21,7 +21,8 @@ use Rattle.proxy_server.specs.declared.faults.ReplayFault.TheVariants as faults
 abbrev pub StandsAt : Bool → List ℕ → Item → List ℕ → Type 0
 StandsAt first bytes item more = (bytes ≡ spelled item ++ more) × Fits item × IsPlaced first item
 
--- no item stands here: where the script ends, only its end does, and not in place of the table
+-- No item stands here. Of bytes that are the whole script that is said where some are left, or the table is missing;
+-- where more may follow, of a line that has its LF or a block that is long enough.
 abbrev pub IsWrong : Bool → Bool → List ℕ → Type 0
 IsWrong first true rest = (rest ≡ [] → first ≡ true) × ((item : Item) (more : List ℕ) → ¬ (StandsAt first rest item more))
 IsWrong first false rest = item_at first rest ≡ Wrong
