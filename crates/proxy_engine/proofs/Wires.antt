@@ -120,6 +120,7 @@ wired_freed links owners xs i j here h = record {
   where
     there : at owners j ≡ Some i
     there = h.owned i j here
+
     owned_by : (k l : ℕ) → at (set links i None) k ≡ Some l → (k ≡ i) ⊎ (k ≢ i) → at (set owners j None) l ≡ Some k
     owned_by k l e (inl same) =
         let none : at (set links i None) i ≡ None = get_or-set_same links i None None (within links i j here) in
@@ -130,6 +131,7 @@ wired_freed links owners xs i j here h = record {
         let owner : at owners l ≡ Some k = h.owned k l was in
         let apart : l ≢ j = λ q. other (some_same (sym owner ∙ (ap (at owners) q ∙ there))) in
         get_or-set_other owners j l None None apart ∙ owner
+
     linked_by : (k l : ℕ) → at (set owners j None) l ≡ Some k → (l ≡ j) ⊎ (l ≢ j) → at (set links i None) k ≡ Some l
     linked_by k l e (inl same) =
         let none : at (set owners j None) j ≡ None = get_or-set_same owners j None None (within owners j i there) in
@@ -140,6 +142,7 @@ wired_freed links owners xs i j here h = record {
         let link : at links k ≡ Some l = h.linked k l was in
         let apart : k ≢ i = λ q. other (some_same (sym link ∙ (ap (at links) q ∙ here))) in
         get_or-set_other links i k None None apart ∙ link
+
     opened_by : (k : ℕ) → (k ≡ i) ⊎ (k ≢ i) → is_some (find_exchange (k + 1) (closed (i + 1) xs)) ≡ is_some (at (set links i None) k)
     opened_by k (inl same) =
         subst (λ n. is_some (find_exchange (n + 1) (closed (i + 1) xs)) ≡ is_some (at (set links i None) n)) (sym same)
@@ -159,6 +162,7 @@ wired_opened links owners xs x i here free id h = record {
   where
     next : at (set links i (Some (length owners))) i ≡ Some (length owners)
     next = get_or-set_same links i (Some (length owners)) None here
+
     owned_by : (k l : ℕ) → at (set links i (Some (length owners))) k ≡ Some l → (k ≡ i) ⊎ (k ≢ i) → at (owners ++ Some i ∷ []) l ≡ Some k
     owned_by k l e (inl same) =
         let place : length owners ≡ l = some_same (sym next ∙ (ap (at (set links i (Some (length owners)))) (sym same) ∙ e)) in
@@ -166,6 +170,7 @@ wired_opened links owners xs x i here free id h = record {
     owned_by k l e (inr other) =
         let owner : at owners l ≡ Some k = h.owned k l (sym (get_or-set_other links i k (Some (length owners)) None other) ∙ e) in
         get_or-append owners (Some i ∷ []) None l (within owners l k owner) ∙ owner
+
     linked_by : (k l : ℕ) → at (owners ++ Some i ∷ []) l ≡ Some k → (l < length owners) ⊎ (length owners ≤ l) → at (set links i (Some (length owners))) k ≡ Some l
     linked_by k l e (inl before) =
         let link : at links k ≡ Some l = h.linked k l (sym (get_or-append owners (Some i ∷ []) None l before) ∙ e) in
@@ -176,6 +181,7 @@ wired_opened links owners xs x i here free id h = record {
         let place : l ≡ length owners = omega (arith, last, behind, length_push owners (Some i)) in
         let same : i ≡ k = some_same (sym (get_or-append_seam owners (Some i) [] None) ∙ (ap (at (owners ++ Some i ∷ [])) (sym place) ∙ e)) in
         ap (at (set links i (Some (length owners)))) (sym same) ∙ (next ∙ ap Some (sym place))
+
     opened_by : (k : ℕ) → (k ≡ i) ⊎ (k ≢ i) → is_some (find_exchange (k + 1) (xs ++ x ∷ [])) ≡ is_some (at (set links i (Some (length owners))) k)
     opened_by k (inl same) =
         subst (λ n. is_some (find_exchange (n + 1) (xs ++ x ∷ [])) ≡ is_some (at (set links i (Some (length owners))) n)) (sym same)
