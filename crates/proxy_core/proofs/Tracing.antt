@@ -33,7 +33,7 @@ left-push start events outcomes e o s t h l k =
     k.leaves ∙ (ap (λ (u : State). after u e o) l ∙ sym (ap (left start) (trace_on-push [] outcomes events e o h)))
 
 -- the table stays
-same_table : (start : State) (trace : List Item) → (left start trace).table ≡ start.table
+pub same_table : (start : State) (trace : List Item) → (left start trace).table ≡ start.table
 same_table start [] = refl
 same_table start (item ∷ past) = same_table start past
 

@@ -2,3 +2,4 @@ pub mod Known
 pub mod Stepping
 pub mod Fronts
 pub mod Playing
+pub mod Running

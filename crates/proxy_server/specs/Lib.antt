@@ -3,3 +3,4 @@ pub mod Played
 pub mod Replay
 pub mod Steps
 pub mod FaultLines
+pub mod Runs

@@ -8,6 +8,7 @@
 mod bytes;
 mod fault_lines;
 mod faults;
+mod laws;
 mod memory;
 mod play;
 pub mod program;
@@ -16,5 +17,6 @@ mod steps;
 mod tests;
 
 pub use crate::faults::ReplayFault;
+pub use crate::laws::a_play_is_a_run;
 pub use crate::memory::replayed;
 pub use crate::play::replay;
