@@ -19,9 +19,9 @@ use Rattle.hx_allow.specs.declared.faults.ConfigFault.TheVariants.{NotToml, Unkn
 use Rattle.hx_allow.specs.declared.faults.NumberKey.{NumberKey}
 use Rattle.hx_allow.specs.declared.faults.NumberKey.TheVariants.{Version, Capacity, MaxBody, MaxStored}
 
--- What isn't read yet: a second line.
+-- the most lines of a table
 abbrev pub line_limit : ℕ
-line_limit = 1
+line_limit = 256
 
 -- a lower-case letter, then at most 31 lower-case letters, digits and `-`
 abbrev pub is_name_byte : ℕ → Bool
@@ -46,7 +46,7 @@ greatest MaxStored = 16777216
 abbrev pub number_at : NumberKey → Members → Option ℕ
 number_at key t = number_between (least key) (greatest key) (get_member (key_text key) t)
 
--- an array of tables, as many as are read
+-- an array of 1 to 256 tables
 abbrev pub are_lines : Items → Bool
 are_lines ds = counts_within line_limit ds && all_items (λ d. is_some (as_table d)) ds
 

@@ -54,7 +54,7 @@ pub enum ConfigFault {
     BadPath(u16),
     /// `origin` of this line is neither `"deny"` nor four numbers and a port.
     BadOrigin(u16),
-    /// `line` is no array of tables, or has too few or too many.
+    /// `line` is no array of 1 to 256 tables.
     NoLines,
     /// Memory ran out.
     OutOfMemory,

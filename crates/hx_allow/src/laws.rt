@@ -1,4 +1,4 @@
-//! What the definitions of `specs/` say together, and what they give on the table of the first example: each
+//! What the definitions of `specs/` say together, and what they give on tables of one and of two lines: each
 //! function's contract is a law, and its body is empty.
 ghost use Rattle.std.specs.Prelude.{◌≡◌, List, ℕ, Result, Ok, Err, Some, None, [], ◌∷◌, codes, option_map};
 ghost use Rattle.std.specs.List.{position_from};
@@ -23,4 +23,16 @@ pub fn the_first_line_that_matches_decides()
 #[tactic(auto, unfolding(toml::proofs::OnLiterals::toml_on_literals, crate::specs::Tables::judge_table, crate::specs::Tables::table_fault, crate::specs::Tables::table_of, crate::specs::Tables::is_name, crate::specs::LineTables::line_fault, crate::specs::LineTables::line_of, crate::specs::LineTables::is_line_host, crate::specs::LineTables::is_line_method, crate::specs::LineTables::is_line_path, crate::specs::Addresses::is_address, hx_target::specs::Hosts::short_number, hx_target::specs::Paths::has_dot_segment))]
 pub fn a_whole_table_is_read()
     ensures { option_map judge_table (parse_document (codes "version = 1\nname = \"edge\"\ncapacity = 2\nmax_body = 1000\nmax_stored = 1000\n\n[[line]]\nhost = \"*\"\nmethods = [\"GET\", \"HEAD\", \"POST\"]\npath = \"/\"\norigin = \"127.0.0.1:8081\"\n")) ≡ Some (Ok (record { name = codes "edge"; capacity = 2; max_body = 1000; max_stored = 1000; lines = record { host = None; methods = codes "GET" ∷ codes "HEAD" ∷ codes "POST" ∷ []; path = codes "/"; origin = Some (codes "127.0.0.1:8081") } ∷ [] })) }
+{}
+
+/// A table of two lines, in their order: the first denies a path, the second allows what is left.
+#[tactic(auto, unfolding(toml::proofs::OnLiterals::toml_on_literals, crate::specs::Tables::judge_table, crate::specs::Tables::table_fault, crate::specs::Tables::table_of, crate::specs::Tables::is_name, crate::specs::LineTables::line_fault, crate::specs::LineTables::line_of, crate::specs::LineTables::is_line_host, crate::specs::LineTables::is_line_method, crate::specs::LineTables::is_line_path, crate::specs::Addresses::is_address, hx_target::specs::Hosts::is_host, hx_target::specs::Hosts::short_number, hx_target::specs::Paths::has_dot_segment))]
+pub fn a_table_of_two_lines_is_read()
+    ensures { option_map judge_table (parse_document (codes "version = 1\nname = \"edge\"\ncapacity = 2\nmax_body = 1000\nmax_stored = 1000\n\n[[line]]\nhost = \"*\"\nmethods = [\"*\"]\npath = \"/admin\"\norigin = \"deny\"\n\n[[line]]\nhost = \"x\"\nmethods = [\"GET\"]\npath = \"/\"\norigin = \"127.0.0.1:8081\"\n")) ≡ Some (Ok (record { name = codes "edge"; capacity = 2; max_body = 1000; max_stored = 1000; lines = record { host = None; methods = codes "*" ∷ []; path = codes "/admin"; origin = None } ∷ record { host = Some (codes "x"); methods = codes "GET" ∷ []; path = codes "/"; origin = Some (codes "127.0.0.1:8081") } ∷ [] })) }
+{}
+
+/// A fault of the second line has its number, and the first in the order of looking is named.
+#[tactic(auto, unfolding(toml::proofs::OnLiterals::toml_on_literals, crate::specs::Tables::judge_table, crate::specs::Tables::table_fault, crate::specs::Tables::table_of, crate::specs::Tables::is_name, crate::specs::LineTables::line_fault, crate::specs::LineTables::line_of, crate::specs::LineTables::is_line_host, crate::specs::LineTables::is_line_method, crate::specs::LineTables::is_line_path, crate::specs::Addresses::is_address, hx_target::specs::Hosts::is_host, hx_target::specs::Hosts::short_number, hx_target::specs::Paths::has_dot_segment))]
+pub fn a_fault_of_the_second_line_has_its_number()
+    ensures { option_map judge_table (parse_document (codes "version = 1\nname = \"edge\"\ncapacity = 2\nmax_body = 1000\nmax_stored = 1000\n\n[[line]]\nhost = \"*\"\nmethods = [\"*\"]\npath = \"/admin\"\norigin = \"deny\"\n\n[[line]]\nhost = \"x\"\nmethods = [\"GET\"]\npath = \"/a/\"\norigin = \"allow\"\n")) ≡ Some (Err (Fault.BadPath 2)) }
 {}

@@ -20,6 +20,7 @@ mod verdicts;
 pub use config::Config;
 pub use faults::{ConfigFault, NumberKey};
 pub use laws::{
-    a_table_is_read_in_one_way, a_whole_table_is_read, the_first_line_that_matches_decides,
+    a_fault_of_the_second_line_has_its_number, a_table_is_read_in_one_way,
+    a_table_of_two_lines_is_read, a_whole_table_is_read, the_first_line_that_matches_decides,
 };
 pub use verdicts::Verdict;

@@ -16,7 +16,7 @@ use toml::value::Array;
 use toml::{Table, Value};
 
 /// The most lines of a table.
-const MAX_LINES: usize = 1;
+const MAX_LINES: usize = 256;
 
 fn is_name_byte(b: u8) -> bool
     ensures { result ≡ is_name_byte b }
@@ -75,7 +75,7 @@ fn are_lines(values: &[Value]) -> bool
     true
 }
 
-/// The array of lines, where it has tables alone and as many as are read.
+/// The array of lines, where it has 1 to 256 tables and nothing else.
 fn lines_at(table: &Table) -> Option<&Array>
     ensures found { option_map (λ a. array_view a.now) result ≡ lines_at (table_view table.now) }
     ensures few { IfSome result (λ a. length a.now.items ≤ 256) }
