@@ -1,4 +1,8 @@
 //! Tables that differ from a valid one in a place, with the fault that each must give, and verdicts.
+
+mod several_lines;
+mod table_faults;
+
 use crate::{Config, ConfigFault, Verdict};
 use http::Method;
 use hx_fields::Fields;
@@ -21,7 +25,7 @@ origin = \"127.0.0.1:8081\"
 ";
 
 /// The calls as the tests take them.
-fn read(alloc: Global, text: &str) -> Result<Config, ConfigFault> {
+pub fn read(alloc: Global, text: &str) -> Result<Config, ConfigFault> {
     Config::read(alloc, text.as_bytes())
 }
 
@@ -29,7 +33,7 @@ fn judge(config: &Config, method: &Method, target: &Target) -> Verdict {
     config.judge(method, target)
 }
 
-fn replaced(alloc: Global, text: &str, old: &str, new: &str) -> Result<String, AllocError> {
+pub fn replaced(alloc: Global, text: &str, old: &str, new: &str) -> Result<String, AllocError> {
     text.replace(alloc, old, new)
 }
 
@@ -39,7 +43,7 @@ fn table_with(alloc: Global, old: &str, new: &str) -> Result<String, AllocError>
 }
 
 /// The number of a fault, and its line.
-fn number_of(fault: &ConfigFault) -> (u8, u16) {
+pub fn number_of(fault: &ConfigFault) -> (u8, u16) {
     match fault {
         ConfigFault::BadHost(line) => (fault.number(), *line),
         ConfigFault::BadMethod(line) => (fault.number(), *line),

@@ -1,0 +1,294 @@
+//! Tables that differ from a valid one of twenty lines in a place, with the first fault of each.
+
+use crate::ConfigFault;
+use crate::tests::several_lines::{SITE, TOP};
+use crate::tests::{number_of, read, replaced};
+use std::alloc::{AllocError, Global};
+use std::test::Fail;
+
+/// The key that a fault names, where it names one.
+fn names(fault: &ConfigFault, key: &str) -> bool {
+    match fault {
+        ConfigFault::UnknownKey(bytes) => bytes.as_slice() == key.as_bytes(),
+        ConfigFault::BadNumber(number) => number.as_str() == key,
+        _ => key.is_empty(),
+    }
+}
+
+/// Whether a text has this fault: its number, its line and its key.
+fn has_fault(alloc: Global, text: &str, number: u8, line: u16, key: &str) -> bool {
+    match read(alloc, text) {
+        Ok(_) => false,
+        Err(fault) => number_of(&fault) == (number, line) && names(&fault, key),
+    }
+}
+
+/// A part of the table, what stands in its place, and the fault: its number, line and key.
+static FAULTS: [(&str, &str, u8, u16, &str); 55] = [
+    // the top
+    ("version = 1", "version = 2", 4, 0, "version"),
+    ("version = 1\n", "", 4, 0, "version"),
+    ("name = \"edge-1\"", "name = \"1-edge\"", 3, 0, ""),
+    (
+        "name = \"edge-1\"",
+        "name = \"e12345678901234567890123456789012\"",
+        3,
+        0,
+        "",
+    ),
+    (
+        "name = \"edge-1\"\ncapacity = 1000",
+        "name = \"e_1\"\ncapacity = 0",
+        3,
+        0,
+        "",
+    ),
+    ("capacity = 1000", "capacity = 65537", 4, 0, "capacity"),
+    (
+        "capacity = 1000\nmax_body = 1000000",
+        "capacity = 0\nmax_body = -1",
+        4,
+        0,
+        "capacity",
+    ),
+    (
+        "max_body = 1000000\nmax_stored = 100000",
+        "max_body = 16777217\nmax_stored = 16777217",
+        4,
+        0,
+        "max_body",
+    ),
+    (
+        "max_stored = 100000",
+        "max_stored = 0x1000001",
+        4,
+        0,
+        "max_stored",
+    ),
+    (
+        "max_stored = 100000",
+        "max_stored = 1.0",
+        4,
+        0,
+        "max_stored",
+    ),
+    ("version = 1", "versions = 1", 2, 0, "versions"),
+    (
+        "version = 1",
+        "zone = 1\ncolour = 2\nversion = 2",
+        2,
+        0,
+        "colour",
+    ),
+    (
+        "version = 1",
+        "colour = 1\nversion = 1\nColour = 2",
+        2,
+        0,
+        "Colour",
+    ),
+    (
+        "origin = \"10.0.0.9:65535\"",
+        "origin = \"nowhere\"\n\n[zone]",
+        2,
+        0,
+        "zone",
+    ),
+    ("[[line]]", "[[lines]]", 2, 0, "lines"),
+    ("[[line]]", "[line]", 1, 0, ""),
+    ("host = \"192.0.2.9\"", "host = 192.0.2.9", 1, 0, ""),
+    (
+        "host = \"192.0.2.9\"",
+        "host = \"192.0.2.9\"\nhost = \"h\"",
+        1,
+        0,
+        "",
+    ),
+    // host
+    ("host = \"192.0.2.9\"", "host = \"192.0.2.9:80\"", 5, 9, ""),
+    ("host = \"192.0.2.9\"", "host = \"192.0.2.9/24\"", 5, 9, ""),
+    ("host = \"192.0.2.9\"", "host = [\"192.0.2.9\"]", 5, 9, ""),
+    ("host = \"192.0.2.9\"\n", "", 5, 9, ""),
+    (
+        "host = \"a_b.example\"",
+        "host = \"A_b.example\"",
+        5,
+        10,
+        "",
+    ),
+    (
+        "host = \"[2001:db8::8]\"",
+        "host = \"[2001:DB8::8]\"",
+        5,
+        8,
+        "",
+    ),
+    (
+        "host = \"[2001:db8::8]\"",
+        "host = \"2001:db8::8\"",
+        5,
+        8,
+        "",
+    ),
+    (
+        "host = \"[2001:db8::8]\"",
+        "host = \"[2001:db8::g]\"",
+        5,
+        8,
+        "",
+    ),
+    ("host = \"[::1]\"", "host = \"[:]\"", 5, 7, ""),
+    ("host = \"[::1]\"", "host = \"*.example\"", 5, 7, ""),
+    // methods
+    ("[\"PROPFIND\"]", "[\"PROPFIND\", \"TRACE\"]", 6, 15, ""),
+    ("[\"PROPFIND\"]", "\"PROPFIND\"", 6, 15, ""),
+    ("[\"PROPFIND\"]", "[\"PROP FIND\"]", 6, 15, ""),
+    ("[\"PROPFIND\"]", "[\"PROPFIND\", 1]", 6, 15, ""),
+    ("[\"PROPFIND\"]", "[\"VERSION-CONTROLS\"]", 6, 15, ""),
+    (
+        "[\"PROPFIND\"]",
+        "[\"A\", \"A\", \"A\", \"A\", \"A\", \"A\", \"A\", \"A\", \"A\", \"A\", \"A\", \"A\", \"A\", \"A\", \"A\", \"A\", \"A\", \"A\", \"A\", \"A\", \"A\", \"A\", \"A\", \"A\", \"A\", \"A\", \"A\", \"A\", \"A\", \"A\", \"A\", \"A\", \"A\"]",
+        6,
+        15,
+        "",
+    ),
+    // path
+    ("path = \"/dav\"", "path = \"/dav/\"", 7, 15, ""),
+    ("path = \"/dav\"", "path = \"\"", 7, 15, ""),
+    ("path = \"/dav\"", "path = \"//\"", 7, 15, ""),
+    ("path = \"/dav\"", "path = \"/dav/./x\"", 7, 15, ""),
+    ("path = \"/dav\"", "path = \"/dav#x\"", 7, 15, ""),
+    ("path = \"/dav\"", "path = \"/d v\"", 7, 15, ""),
+    ("path = \"/dav\"", "path = \"/d%4\"", 7, 15, ""),
+    ("path = \"/dav\"", r#"path = "/d\u00E9""#, 7, 15, ""),
+    // origin
+    ("10.0.0.15:8015", "10.0.0.15", 8, 15, ""),
+    ("10.0.0.15:8015", "10.0.15:8015", 8, 15, ""),
+    ("10.0.0.15:8015", "10.0.0.15:08015", 8, 15, ""),
+    ("10.0.0.15:8015", "http://10.0.0.15:8015", 8, 15, ""),
+    ("10.0.0.15:8015", "Deny", 8, 15, ""),
+    ("255.255.255.255:8020", "255.255.255.256:8020", 8, 20, ""),
+    // order
+    (
+        "host = \"192.0.2.9\"",
+        "host = \"192.0.2.9:80\"\nport = 80",
+        2,
+        0,
+        "port",
+    ),
+    (
+        "path = \"/dav\"",
+        "path = \"/dav/\"\nzone = 1\nTimeout = 1\nretry = 2",
+        2,
+        0,
+        "Timeout",
+    ),
+    (
+        "host = \"a_b.example\"\nmethods = [\"get\"]",
+        "host = \"a b.example\"\nmethods = []",
+        5,
+        10,
+        "",
+    ),
+    (
+        "methods = [\"PROPFIND\"]\npath = \"/dav\"",
+        "methods = [\"CONNECT\"]\npath = \"dav\"",
+        6,
+        15,
+        "",
+    ),
+    (
+        "path = \"/dav\"\norigin = \"10.0.0.15:8015\"",
+        "path = \"/dav/..\"\norigin = \"\"",
+        7,
+        15,
+        "",
+    ),
+    (
+        "10.0.0.9:65535\"\n\n[[line]]\nhost = \"a_b.example\"",
+        "10.0.0.9:65536\"\n\n[[line]]\nhost = \"a b\"",
+        8,
+        9,
+        "",
+    ),
+    (
+        "10.0.0.9:65535\"\n\n[[line]]\n",
+        "10.0.0.9:\"\n\n[[line]]\nport = 1\n",
+        8,
+        9,
+        "",
+    ),
+];
+
+fn site_has_fault(alloc: Global, case: &(&str, &str, u8, u16, &str)) -> Result<bool, AllocError> {
+    let (old, new, number, line, key) = *case;
+    let text = replaced(alloc, SITE, old, new)?;
+    Ok(has_fault(alloc, text.as_str(), number, line, key))
+}
+
+#[test]
+fn the_first_fault_is_told_with_its_line_or_key(rt: HostRuntime) -> Result<(), Fail> {
+    for case in &FAULTS {
+        assert!(rt; site_has_fault(rt.alloc(), case)?, "at {}", case.1);
+    }
+    Ok(())
+}
+
+/// A part of the table, and what may stand in its place.
+static NEAR_FAULTS: [(&str, &str); 7] = [
+    (
+        "name = \"edge-1\"",
+        "name = \"e1234567890123456789012345678901\"",
+    ),
+    (
+        "[\"PROPFIND\"]",
+        "[\"A\", \"A\", \"A\", \"A\", \"A\", \"A\", \"A\", \"A\", \"A\", \"A\", \"A\", \"A\", \"A\", \"A\", \"A\", \"A\", \"A\", \"A\", \"A\", \"A\", \"A\", \"A\", \"A\", \"A\", \"A\", \"A\", \"A\", \"A\", \"A\", \"A\", \"A\", \"A\"]",
+    ),
+    ("[\"PROPFIND\"]", "[\"VERSION-CONTROL\", \"*\", \"*\"]"),
+    ("host = \"[::1]\"", "host = \"[::]\""),
+    ("path = \"/dav\"", "path = \"/dav/.x/..y\""),
+    ("10.0.0.15:8015", "0.0.0.0:1"),
+    ("version = 1", "version = 0x1 # the first"),
+];
+
+fn is_read(alloc: Global, old: &str, new: &str) -> Result<bool, AllocError> {
+    let text = replaced(alloc, SITE, old, new)?;
+    Ok(read(alloc, text.as_str()).is_ok())
+}
+
+#[test]
+fn what_is_just_allowed_is_read(rt: HostRuntime) -> Result<(), Fail> {
+    for (old, new) in &NEAR_FAULTS {
+        assert!(rt; is_read(rt.alloc(), *old, *new)?, "at {new}");
+    }
+    Ok(())
+}
+
+/// What follows the top of a table, and the fault: its number and line.
+static LINES: [(&str, u8, u16); 10] = [
+    ("", 9, 0),
+    ("line = []", 9, 0),
+    ("line = 1", 9, 0),
+    ("line = {}", 9, 0),
+    ("[line]", 9, 0),
+    ("line = [1]", 9, 0),
+    ("line = [[]]", 9, 0),
+    ("line = [{}, \"x\"]", 9, 0),
+    ("line = [{}]", 5, 1),
+    ("[[line]]", 5, 1),
+];
+
+fn tail_has_fault(alloc: Global, case: &(&str, u8, u16)) -> Result<bool, AllocError> {
+    let (tail, number, line) = *case;
+    let mut text = String::from_str(alloc, TOP)?;
+    text.push_str(tail)?;
+    Ok(has_fault(alloc, text.as_str(), number, line, ""))
+}
+
+#[test]
+fn lines_are_an_array_of_tables(rt: HostRuntime) -> Result<(), Fail> {
+    for case in &LINES {
+        assert!(rt; tail_has_fault(rt.alloc(), case)?, "at {}", case.0);
+    }
+    Ok(())
+}
