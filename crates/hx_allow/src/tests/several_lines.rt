@@ -1,6 +1,7 @@
 //! A table of twenty lines, and what it says of requests: which line decides, or none.
 
-use crate::tests::{number_of, read};
+use crate::tests::config;
+use crate::tests::table_faults::many_lines;
 use crate::{Config, Verdict};
 use http::Method;
 use hx_fields::Fields;
@@ -196,10 +197,6 @@ static ORIGINS: [(&str, &str, &str, &str); 6] = [
     ("GET", "h", "/admin", "deny"),
 ];
 
-fn site(alloc: Global) -> Result<Config, Fail> {
-    Ok(read(alloc, SITE).ok().ok_or("a table")?)
-}
-
 fn method(alloc: Global, text: &str) -> Result<Method, Fail> {
     Ok(
         Method::from_bytes(alloc, text.as_bytes())
@@ -232,110 +229,68 @@ fn address<'a>(config: &'a Config, method: &Method, target: &Target) -> &'a str 
     }
 }
 
-fn is_judged(
-    rt: &impl Abort,
+fn judged(
     alloc: Global,
     config: &Config,
-    asked: &(&str, &str, &str, Verdict),
-) -> Result<(), Fail> {
-    let (name, host, path, verdict) = *asked;
-    let method = method(alloc, name)?;
-    let target = target(alloc, host, path)?;
-    let said = config.judge(&method, &target);
-    assert_eq!(rt; said, verdict, "{name} {host} {path}");
-    Ok(())
+    case: &(&str, &str, &str, Verdict),
+) -> Result<Verdict, Fail> {
+    let method = method(alloc, case.0)?;
+    let target = target(alloc, case.1, case.2)?;
+    Ok(config.judge(&method, &target))
 }
 
-fn goes_to(
-    rt: &impl Abort,
+fn goes_there(
     alloc: Global,
     config: &Config,
-    asked: &(&str, &str, &str, &str),
+    case: &(&str, &str, &str, &str),
+) -> Result<bool, Fail> {
+    let method = method(alloc, case.0)?;
+    let target = target(alloc, case.1, case.2)?;
+    Ok(address(config, &method, &target) == case.3)
+}
+
+/// Each request is judged as its case says.
+fn are_judged(
+    rt: &impl Abort,
+    alloc: Global,
+    text: &str,
+    cases: &[(&str, &str, &str, Verdict)],
 ) -> Result<(), Fail> {
-    let (name, host, path, origin) = *asked;
-    let method = method(alloc, name)?;
-    let target = target(alloc, host, path)?;
-    assert!(rt;
-        address(config, &method, &target) == origin,
-        "{name} {host} {path}"
-    );
+    let config = config(alloc, text)?;
+    for case in cases {
+        assert_eq!(rt;
+            judged(alloc, &config, case)?,
+            case.3,
+            "at {} {}",
+            case.1,
+            case.2
+        );
+    }
     Ok(())
 }
 
 #[test]
 fn the_first_line_that_matches_decides(rt: HostRuntime) -> Result<(), Fail> {
-    let config = site(rt.alloc())?;
-    assert_eq!(rt; config.lines(), 20);
-    for asked in &REQUESTS {
-        is_judged(&rt, rt.alloc(), &config, asked)?;
-    }
-    Ok(())
+    are_judged(&rt, rt.alloc(), SITE, &REQUESTS)
 }
 
 #[test]
 fn a_request_goes_to_the_origin_of_its_line(rt: HostRuntime) -> Result<(), Fail> {
-    let config = site(rt.alloc())?;
-    for asked in &ORIGINS {
-        goes_to(&rt, rt.alloc(), &config, asked)?;
+    let config = config(rt.alloc(), SITE)?;
+    for case in &ORIGINS {
+        assert!(rt; goes_there(rt.alloc(), &config, case)?, "at {}", case.3);
     }
     Ok(())
 }
 
-/// The top of a table.
-pub static TOP: &str =
-    "version = 1\nname = \"edge\"\ncapacity = 1\nmax_body = 0\nmax_stored = 0\n\n";
-
-/// A line that matches none of the requests below.
-static OTHER: &str =
-    "[[line]]\nhost = \"other\"\nmethods = [\"*\"]\npath = \"/\"\norigin = \"deny\"\n\n";
-
-static LAST: &str =
-    "[[line]]\nhost = \"h\"\nmethods = [\"GET\"]\npath = \"/\"\norigin = \"10.0.0.1:80\"\n";
-
-static BAD_LAST: &str =
-    "[[line]]\nhost = \"h\"\nmethods = [\"GET\"]\npath = \"/\"\norigin = \"10.0.0.1\"\n";
-
-/// A table of so many other lines, and a last one.
-fn many_lines(alloc: Global, others: usize, last: &str) -> Result<String, AllocError> {
-    let mut text = String::new(alloc);
-    text.push_str(TOP)?;
-    for _ in 0..others {
-        text.push_str(OTHER)?;
-    }
-    text.push_str(last)?;
-    Ok(text)
-}
-
-/// What the text of a table is told to be at fault for: the fault's number and line, or none.
-fn told(alloc: Global, others: usize, last: &str) -> Result<(u8, u16), Fail> {
-    let text = many_lines(alloc, others, last)?;
-    Ok(match read(alloc, text.as_str()) {
-        Ok(_) => (0, 0),
-        Err(fault) => number_of(&fault),
-    })
-}
+/// What a table says whose last line is its 256th, and whose others are for the host `other`.
+static LONGEST: [(&str, &str, &str, Verdict); 2] = [
+    ("GET", "h", "/a", Verdict::Allowed(256)),
+    ("GET", "other", "/a", Verdict::DeniedBy(1)),
+];
 
 #[test]
-fn a_table_has_1_to_256_lines(rt: HostRuntime) -> Result<(), Fail> {
-    let alloc = rt.alloc();
-    assert_eq!(rt; told(alloc, 0, LAST)?, (0, 0));
-    assert_eq!(rt; told(alloc, 255, LAST)?, (0, 0));
-    assert_eq!(rt; told(alloc, 255, BAD_LAST)?, (8, 256));
-    assert_eq!(rt; told(alloc, 256, LAST)?, (9, 0));
-    assert_eq!(rt; told(alloc, 256, BAD_LAST)?, (9, 0));
-    Ok(())
-}
-
-fn longest(alloc: Global) -> Result<Config, Fail> {
-    let text = many_lines(alloc, 255, LAST)?;
-    Ok(read(alloc, text.as_str()).ok().ok_or("a table")?)
-}
-
-#[test]
-fn the_256th_line_decides(rt: HostRuntime) -> Result<(), Fail> {
-    let config = longest(rt.alloc())?;
-    let allowed = ("GET", "h", "/a", Verdict::Allowed(256));
-    is_judged(&rt, rt.alloc(), &config, &allowed)?;
-    let denied = ("GET", "other", "/a", Verdict::DeniedBy(1));
-    is_judged(&rt, rt.alloc(), &config, &denied)
+fn the_last_of_256_lines_decides(rt: HostRuntime) -> Result<(), Fail> {
+    let text = many_lines(rt.alloc(), 255, true)?;
+    are_judged(&rt, rt.alloc(), text.as_str(), &LONGEST)
 }

@@ -1,12 +1,23 @@
 //! Tables that differ from a valid one of twenty lines in a place, with the first fault of each.
 
 use crate::ConfigFault;
-use crate::tests::several_lines::{SITE, TOP};
-use crate::tests::{number_of, read, replaced};
+use crate::tests::read;
+use crate::tests::several_lines::SITE;
 use std::alloc::{AllocError, Global};
 use std::test::Fail;
 
-/// The key that a fault names, where it names one.
+/// The number of a fault and its line, which is 0 where it names none.
+fn number_of(fault: &ConfigFault) -> (u8, u16) {
+    match fault {
+        ConfigFault::BadHost(line) => (fault.number(), *line),
+        ConfigFault::BadMethod(line) => (fault.number(), *line),
+        ConfigFault::BadPath(line) => (fault.number(), *line),
+        ConfigFault::BadOrigin(line) => (fault.number(), *line),
+        _ => (fault.number(), 0),
+    }
+}
+
+/// Whether a fault names this key, which is empty where it names none.
 fn names(fault: &ConfigFault, key: &str) -> bool {
     match fault {
         ConfigFault::UnknownKey(bytes) => bytes.as_slice() == key.as_bytes(),
@@ -24,7 +35,7 @@ fn has_fault(alloc: Global, text: &str, number: u8, line: u16, key: &str) -> boo
 }
 
 /// A part of the table, what stands in its place, and the fault: its number, line and key.
-static FAULTS: [(&str, &str, u8, u16, &str); 55] = [
+static FAULTS: [(&str, &str, u8, u16, &str); 74] = [
     // the top
     ("version = 1", "version = 2", 4, 0, "version"),
     ("version = 1\n", "", 4, 0, "version"),
@@ -104,6 +115,12 @@ static FAULTS: [(&str, &str, u8, u16, &str); 55] = [
         0,
         "",
     ),
+    ("version = 1", "version = \"1\"", 4, 0, "version"),
+    ("capacity = 1000", "capacity", 1, 0, ""),
+    ("capacity = 1000", "capacity = 0", 4, 0, "capacity"),
+    ("name = \"edge-1\"", "name = \"Edge\"", 3, 0, ""),
+    ("name = \"edge-1\"", "name = \"\"", 3, 0, ""),
+    ("max_body = 1000000", "max_body = -1", 4, 0, "max_body"),
     // host
     ("host = \"192.0.2.9\"", "host = \"192.0.2.9:80\"", 5, 9, ""),
     ("host = \"192.0.2.9\"", "host = \"192.0.2.9/24\"", 5, 9, ""),
@@ -139,6 +156,7 @@ static FAULTS: [(&str, &str, u8, u16, &str); 55] = [
     ),
     ("host = \"[::1]\"", "host = \"[:]\"", 5, 7, ""),
     ("host = \"[::1]\"", "host = \"*.example\"", 5, 7, ""),
+    ("host = \"[::1]\"", "hosts = \"*\"", 2, 0, "hosts"),
     // methods
     ("[\"PROPFIND\"]", "[\"PROPFIND\", \"TRACE\"]", 6, 15, ""),
     ("[\"PROPFIND\"]", "\"PROPFIND\"", 6, 15, ""),
@@ -152,6 +170,8 @@ static FAULTS: [(&str, &str, u8, u16, &str); 55] = [
         15,
         "",
     ),
+    ("[\"PROPFIND\"]", "[\"PROPFIND\", \"OPTIONS\"]", 6, 15, ""),
+    ("[\"PROPFIND\"]", "[]", 6, 15, ""),
     // path
     ("path = \"/dav\"", "path = \"/dav/\"", 7, 15, ""),
     ("path = \"/dav\"", "path = \"\"", 7, 15, ""),
@@ -161,6 +181,10 @@ static FAULTS: [(&str, &str, u8, u16, &str); 55] = [
     ("path = \"/dav\"", "path = \"/d v\"", 7, 15, ""),
     ("path = \"/dav\"", "path = \"/d%4\"", 7, 15, ""),
     ("path = \"/dav\"", r#"path = "/d\u00E9""#, 7, 15, ""),
+    ("path = \"/dav\"", "path = \"dav\"", 7, 15, ""),
+    ("path = \"/dav\"", "path = \"/dav/../x\"", 7, 15, ""),
+    ("path = \"/dav\"", "path = \"/dav?x\"", 7, 15, ""),
+    ("path = \"/dav\"", "path = \"/d%61v\"", 7, 15, ""),
     // origin
     ("10.0.0.15:8015", "10.0.0.15", 8, 15, ""),
     ("10.0.0.15:8015", "10.0.15:8015", 8, 15, ""),
@@ -168,6 +192,18 @@ static FAULTS: [(&str, &str, u8, u16, &str); 55] = [
     ("10.0.0.15:8015", "http://10.0.0.15:8015", 8, 15, ""),
     ("10.0.0.15:8015", "Deny", 8, 15, ""),
     ("255.255.255.255:8020", "255.255.255.256:8020", 8, 20, ""),
+    ("10.0.0.15:8015", "10.0.0.256:8015", 8, 15, ""),
+    ("10.0.0.15:8015", "10.0.0.015:8015", 8, 15, ""),
+    ("10.0.0.15:8015", "10.0.0.15:65536", 8, 15, ""),
+    ("10.0.0.15:8015", "10.0.0.15:0", 8, 15, ""),
+    ("10.0.0.15:8015", "localhost:8015", 8, 15, ""),
+    (
+        "10.0.0.15:8015\"\n",
+        "10.0.0.15:0\"\norigin = 1\n",
+        1,
+        0,
+        "",
+    ),
     // order
     (
         "host = \"192.0.2.9\"",
@@ -222,7 +258,7 @@ static FAULTS: [(&str, &str, u8, u16, &str); 55] = [
 
 fn site_has_fault(alloc: Global, case: &(&str, &str, u8, u16, &str)) -> Result<bool, AllocError> {
     let (old, new, number, line, key) = *case;
-    let text = replaced(alloc, SITE, old, new)?;
+    let text = SITE.replace(alloc, old, new)?;
     Ok(has_fault(alloc, text.as_str(), number, line, key))
 }
 
@@ -235,7 +271,7 @@ fn the_first_fault_is_told_with_its_line_or_key(rt: HostRuntime) -> Result<(), F
 }
 
 /// A part of the table, and what may stand in its place.
-static NEAR_FAULTS: [(&str, &str); 7] = [
+static NEAR_FAULTS: [(&str, &str); 16] = [
     (
         "name = \"edge-1\"",
         "name = \"e1234567890123456789012345678901\"",
@@ -249,10 +285,19 @@ static NEAR_FAULTS: [(&str, &str); 7] = [
     ("path = \"/dav\"", "path = \"/dav/.x/..y\""),
     ("10.0.0.15:8015", "0.0.0.0:1"),
     ("version = 1", "version = 0x1 # the first"),
+    ("name = \"edge-1\"", "name = \"e0-\""),
+    ("capacity = 1000", "capacity = 65536"),
+    ("max_body = 1000000", "max_body = 0"),
+    ("max_body = 1000000", "max_body = 16777216"),
+    ("max_stored = 100000", "max_stored = 16777216"),
+    ("[\"PROPFIND\"]", "[\"*\"]"),
+    ("path = \"/dav\"", "path = \"/dav//b.c\""),
+    ("10.0.0.15:8015", "0.255.0.255:65535"),
+    ("10.0.0.15:8015", "deny"),
 ];
 
 fn is_read(alloc: Global, old: &str, new: &str) -> Result<bool, AllocError> {
-    let text = replaced(alloc, SITE, old, new)?;
+    let text = SITE.replace(alloc, old, new)?;
     Ok(read(alloc, text.as_str()).is_ok())
 }
 
@@ -263,6 +308,9 @@ fn what_is_just_allowed_is_read(rt: HostRuntime) -> Result<(), Fail> {
     }
     Ok(())
 }
+
+/// The top of a table.
+static TOP: &str = "version = 1\nname = \"edge\"\ncapacity = 1\nmax_body = 0\nmax_stored = 0\n\n";
 
 /// What follows the top of a table, and the fault: its number and line.
 static LINES: [(&str, u8, u16); 10] = [
@@ -289,6 +337,55 @@ fn tail_has_fault(alloc: Global, case: &(&str, u8, u16)) -> Result<bool, AllocEr
 fn lines_are_an_array_of_tables(rt: HostRuntime) -> Result<(), Fail> {
     for case in &LINES {
         assert!(rt; tail_has_fault(rt.alloc(), case)?, "at {}", case.0);
+    }
+    Ok(())
+}
+
+static OTHER: &str =
+    "[[line]]\nhost = \"other\"\nmethods = [\"*\"]\npath = \"/\"\norigin = \"deny\"\n\n";
+
+static LAST: &str =
+    "[[line]]\nhost = \"h\"\nmethods = [\"GET\"]\npath = \"/\"\norigin = \"10.0.0.1:80\"\n";
+
+static BAD_LAST: &str =
+    "[[line]]\nhost = \"h\"\nmethods = [\"GET\"]\npath = \"/\"\norigin = \"10.0.0.1\"\n";
+
+/// A table of so many lines for the host `other`, and a last one, which has an address or a bad one.
+pub fn many_lines(alloc: Global, others: usize, is_good: bool) -> Result<String, AllocError> {
+    let mut text = String::from_str(alloc, TOP)?;
+    for _ in 0..others {
+        text.push_str(OTHER)?;
+    }
+    text.push_str(if is_good { LAST } else { BAD_LAST })?;
+    Ok(text)
+}
+
+/// How many other lines, whether the last is good, and the fault: its number and line, or two zeros.
+static COUNTS: [(usize, bool, (u8, u16)); 6] = [
+    (0, true, (0, 0)),
+    (0, false, (8, 1)),
+    (255, true, (0, 0)),
+    (255, false, (8, 256)),
+    (256, true, (9, 0)),
+    (256, false, (9, 0)),
+];
+
+fn count_told(alloc: Global, others: usize, is_good: bool) -> Result<(u8, u16), AllocError> {
+    let text = many_lines(alloc, others, is_good)?;
+    Ok(match read(alloc, text.as_str()) {
+        Ok(_) => (0, 0),
+        Err(fault) => number_of(&fault),
+    })
+}
+
+#[test]
+fn a_table_has_1_to_256_lines(rt: HostRuntime) -> Result<(), Fail> {
+    for (others, is_good, fault) in &COUNTS {
+        assert_eq!(rt;
+            count_told(rt.alloc(), *others, *is_good)?,
+            *fault,
+            "at {others}"
+        );
     }
     Ok(())
 }
