@@ -1,2 +1,3 @@
+pub mod FirstFaults
 pub mod Items
 pub mod Readings

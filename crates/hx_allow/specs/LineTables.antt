@@ -3,7 +3,7 @@ use Rattle.std.specs.Prelude.{ℕ, ◌+◌, ◌-◌, ◌==◌, nat_le, Bool, tru
 use Rattle.std.specs.List.{list_any, list_all}
 use Rattle.std.specs.Char.{is_ascii_uppercase}
 use Rattle.http_uri.specs.ByteClasses.{slash, hash_sign, percent_sign, question_mark}
-use Rattle.toml.specs.Data.{Items, no_items, item, Members, as_str, as_table}
+use Rattle.toml.specs.Data.{Items, no_items, item, table, Members, as_str, as_table}
 use Rattle.hx_fields.specs.Tokens.{is_token}
 use Rattle.hx_target.specs.Hosts.{is_host}
 use Rattle.hx_target.specs.Paths.{has_dot_segment, table_path_of}
@@ -81,6 +81,11 @@ item_fault n (Some ms) = line_fault n ms
 abbrev pub lines_fault : ℕ → Items → Option ConfigFault
 lines_fault n no_items = None
 lines_fault n (item d ds) = or_later (item_fault n (as_table d)) (lines_fault (n + 1) ds)
+
+-- the items of an array of these tables
+abbrev pub tables : List Members → Items
+tables [] = no_items
+tables (ms ∷ more) = item (table ms) (tables more)
 
 abbrev pub with_line : Option Members → List PlainLine → List PlainLine
 with_line None lines = lines

@@ -1,10 +1,12 @@
 //! What the definitions of `specs/` say together, and what they give on tables of one and of two lines: each
 //! function's contract is a law, and its body is empty.
-ghost use Rattle.std.specs.Prelude.{◌≡◌, List, ℕ, Result, Ok, Err, Some, None, [], ◌∷◌, codes, option_map};
+ghost use Rattle.std.specs.Prelude.{◌≡◌, ◌+◌, ◌++◌, List, ℕ, Result, Ok, Err, Some, None, [], ◌∷◌, codes, length, option_map};
 ghost use Rattle.std.specs.List.{position_from};
+ghost use Rattle.toml.specs.Data.{Members};
 ghost use Rattle.toml.specs.Parse.{parse_document};
 ghost use Rattle.hx_target.specs.declared.targets.Target.{Target};
 ghost use Rattle.hx_allow.specs.Lines.{Line, Table};
+ghost use Rattle.hx_allow.specs.LineTables.{line_fault, lines_fault, tables};
 ghost use Rattle.hx_allow.specs.Matching.{matches_line, verdict_of, line_number};
 ghost use Rattle.hx_allow.specs.Tables.{judge_table, ReadsAs};
 ghost use Rattle.hx_allow.specs.declared.faults.ConfigFault.{ConfigFault as Fault};
@@ -17,6 +19,11 @@ pub fn a_table_is_read_in_one_way()
 /// The line that a verdict names is the first that matches; where none is named, none matches.
 pub fn the_first_line_that_matches_decides()
     ensures { (lines : List Line) (method : List ℕ) (target : Target) → line_number (verdict_of lines method target) ≡ position_from (λ line. matches_line line method target) 1 lines }
+{}
+
+/// Where the lines in front have no fault, a fault of a line is told by that line's number, whatever follows.
+pub fn the_first_line_at_fault_is_told()
+    ensures { (before : List Members) (members : Members) (after : List Members) (fault : Fault) → lines_fault 1 (tables before) ≡ None → line_fault (1 + length before) members ≡ Some fault → lines_fault 1 (tables (before ++ members ∷ after)) ≡ Some fault }
 {}
 
 /// The table of the first example.
