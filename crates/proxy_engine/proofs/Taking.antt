@@ -1,16 +1,16 @@
 -- What is taken, on both sides.
-use Rattle.std.proofs.Common.{◌≡◌, ℕ, ◌+◌, ◌-◌, ◌<◌, ◌&&◌, ◌==◌, nat_lt, nat_le, List, [], ◌∷◌, ◌++◌, length, get_or, set, refl, sym, ap, ◌∙◌, subst, arith, Bool, true, false, cond, Option, None, Some, Result, Ok, Err, OnOk}
+use Rattle.std.proofs.Common.{◌≡◌, ℕ, ◌+◌, ◌-◌, ◌<◌, ◌&&◌, ◌||◌, ◌==◌, not, nat_lt, nat_le, List, [], ◌∷◌, ◌++◌, length, get_or, set, refl, sym, ap, ◌∙◌, subst, arith, Bool, true, false, cond, Option, None, Some, is_some, Result, Ok, Err, OnOk}
 use Rattle.hx_framing.specs.Progress.{start}
 use Rattle.proxy_core.specs.State.{State as CoreState}
 use Rattle.proxy_engine.specs.Happenings.{Accepts}
 use Rattle.proxy_engine.specs.RequestWatch.{Watched, Stands as WatchStands}
-use Rattle.proxy_engine.specs.Story.{Story, ConnStory, LinkStory, accepted, with_connection, with_link, connection_fault, link_fault, heard, fault_of}
+use Rattle.proxy_engine.specs.Story.{Story, ConnStory, LinkStory, accepted, no_connection, no_link, connection_at, link_at, with_connection, with_link, connection_fault, link_fault, heard, fault_of, keeps_bytes, keeps_answer}
 use Rattle.proxy_engine.specs.State.{ConnStands, LinkStands, Stands, state, IsRefusal}
 use Rattle.proxy_engine.specs.declared.happening.EngineFault.{EngineFault}
 use Rattle.proxy_engine.specs.declared.happening.EngineFault.TheVariants.{WrongNumber, NotAccepted, OutOfMemory}
 use Rattle.proxy_engine.specs.declared.ends.Connection.{Connection}
 use Rattle.proxy_engine.specs.declared.ends.Link.{Link}
-use Rattle.proxy_engine.proofs.Parts.{both_length, both_push}
+use Rattle.proxy_engine.proofs.Parts.{both_length, both_push, both_here}
 use Rattle.proxy_engine.proofs.Changes.{changed_connection, changed_link}
 
 pub connection_free : (cs ys : List Connection) (ks : List Link) (core : CoreState) (first : ℕ) (s : Story) (n : ℕ) (b : Bool) → ys ≡ cs → nat_lt 0 n && nat_le n (length ys) ≡ b → Stands (state cs ks core first) s → connection_fault (length s.connections) n ≡ cond b None (Some NotAccepted)
@@ -45,6 +45,23 @@ pub link_taken : (f : LinkStory → LinkStory) (cs : List Connection) (ks ys : L
     → ((c : LinkStory) → LinkStands x c → LinkStands y (f c)) → Stands (state cs ks core first) s → Stands (state cs (set ks j y) core first) (with_link s (l - s.first) f)
 link_taken f cs ks ys core first s l j x y same place within e keep h =
     subst (λ k. Stands (state cs (set ks j y) core first) (with_link s k f)) (place ∙ ap (λ f. l - f) h.first) (changed_link f cs ks core first s j x y (omega (arith, ap length same)) e keep h)
+
+-- an end that found no memory for bytes is still read
+pub connection_keeps : (cs ys : List Connection) (ks : List Link) (core : CoreState) (first : ℕ) (s : Story) (n i : ℕ) (x : Connection) → ys ≡ cs → i ≡ n - 1 → i < length ys → x ≡ get_or cs i x
+    → x.gone || (x.closed || x.ended) ≡ false → Stands (state cs ks core first) s → keeps_bytes (connection_at s (n - 1)) ≡ true
+connection_keeps cs ys ks core first s n i x same place l e read h =
+    let c = connection_at s i in
+    let q : ConnStands x c = both_here ConnStands cs s.connections i x no_connection (omega (arith, l, ap length same)) e h.connections in
+    subst (λ k. keeps_bytes (connection_at s k) ≡ true) place
+    (ap (λ (b : Bool). not (b || (c.closed || c.progress.ended))) (sym q.gone) ∙ (ap (λ (b : Bool). not (x.gone || (b || c.progress.ended))) (sym q.closed) ∙ (ap (λ (b : Bool). not (x.gone || (x.closed || b))) (sym q.ended) ∙ ap not read)))
+
+pub link_keeps : (cs : List Connection) (ks ys : List Link) (core : CoreState) (first : ℕ) (s : Story) (l j : ℕ) (x : Link) → ys ≡ ks → j ≡ l - first → j < length ys → x ≡ get_or ks j x
+    → x.dropped || (is_some x.failed || x.ended) ≡ false → Stands (state cs ks core first) s → keeps_answer (link_at s (l - s.first)) ≡ true
+link_keeps cs ks ys core first s l j x same place within e read h =
+    let k = link_at s j in
+    let q : LinkStands x k = both_here LinkStands ks s.links j x no_link (omega (arith, within, ap length same)) e h.links in
+    subst (λ n. keeps_answer (link_at s n) ≡ true) (place ∙ ap (λ f. l - f) h.first)
+    (ap (λ (b : Bool). not (b || (is_some k.failed || k.progress.ended))) (sym q.dropped) ∙ (ap (λ o. not (x.dropped || (is_some o || k.progress.ended))) (sym q.failed) ∙ (ap (λ (b : Bool). not (x.dropped || (is_some x.failed || b))) (sym q.ended) ∙ ap not read)))
 
 -- a connection more
 pub accepted_more : (cs : List Connection) (ks : List Link) (core : CoreState) (first : ℕ) (s : Story) (max_body : ℕ) (w : Watched) → core.table.max_body ≡ max_body → WatchStands w (start max_body false) → Stands (state cs ks core first) s

@@ -2,7 +2,8 @@
 -- and no memory stand in it.
 --
 -- Story: connections, links and the core      heard: what a happening adds      fault_of: why one isn't taken
-use Rattle.std.specs.Prelude.{ℕ, ◌+◌, ◌-◌, List, [], ◌∷◌, ◌++◌, length, Bool, true, false, ◌&&◌, ◌||◌, ◌==◌, nat_lt, nat_le, Option, None, Some, is_some, if◌then◌else◌, slice_set, slice_index_or}
+-- keeps: whether anything of a happening is kept
+use Rattle.std.specs.Prelude.{ℕ, ◌+◌, ◌-◌, List, [], ◌∷◌, ◌++◌, length, Bool, true, false, ◌&&◌, ◌||◌, ◌==◌, not, nat_lt, nat_le, Option, None, Some, is_some, if◌then◌else◌, slice_set, slice_index_or}
 use Rattle.hx_framing.specs.declared.requests.Request.{Request}
 use Rattle.hx_framing.specs.declared.responses.Response.{Response}
 use Rattle.hx_framing.specs.Progress.{Progress, start, fed, finished}
@@ -87,6 +88,23 @@ shut k = if k.dropped || is_some k.failed then k else record k { progress = fini
 
 abbrev pub failed_by : FailKind → LinkStory → LinkStory
 failed_by kind k = if k.dropped || is_some k.failed then k else record k { failed = Some kind }
+
+-- bytes are kept of a connection that isn't closed, gone or ended, and of a link that isn't dropped, failed or shut
+abbrev pub keeps_bytes : ConnStory → Bool
+keeps_bytes c = not (c.gone || (c.closed || c.progress.ended))
+
+abbrev pub keeps_answer : LinkStory → Bool
+keeps_answer k = not (k.dropped || (is_some k.failed || k.progress.ended))
+
+-- a connection is kept, and bytes where they are; marks take no memory
+abbrev pub keeps : Story → Said → Bool
+keeps s (Accepts n) = true
+keeps s (Sends n bytes) = keeps_bytes (connection_at s (n - 1))
+keeps s (Hears l bytes) = keeps_answer (link_at s (l - s.first))
+keeps s (Ends n) = false
+keeps s (Leaves n) = false
+keeps s (Shuts l) = false
+keeps s (Fails l kind) = false
 
 abbrev pub with_connection : Story → ℕ → (ConnStory → ConnStory) → Story
 with_connection s i f = record { connections = slice_set s.connections i (f (connection_at s i)); links = s.links; core = s.core; first = s.first }

@@ -1,6 +1,6 @@
 //! The engine: connections of clients, links to origins, and the core between them.
 ghost use Rattle.std.specs.Prelude.{◌≡◌, ◌<◌, ◌≤◌, [], IfOk, IfErr, OnOk, OnErr, Some, Err, true};
-ghost use Rattle.proxy_engine.specs.Story.{Story};
+ghost use Rattle.proxy_engine.specs.Story.{Story, keeps};
 ghost use Rattle.proxy_engine.specs.Happenings.{said, takes_memory};
 ghost use Rattle.proxy_engine.specs.State.{State, Stands, Takes, TakeFault, Did, Failed, Lessens, begun, load_at};
 
@@ -55,8 +55,9 @@ impl<S: Shelf> Engine<S> {
     pub fn take(&mut self, alloc: Global, happening: Happening<'_>) -> Result<(), EngineFault>
         ensures ok { OnOk result ((s : Story) → Stands self.old s → Takes s (said happening.entry) self.new) }
         ensures fault { IfErr result (λ fault. (s : Story) → Stands self.old s → TakeFault s (said happening.entry) fault) }
-        // Only connections and bytes take memory.
+        // Only connections and bytes take memory, and bytes only of an end that is still read.
         ensures memory { result ≡ Err EngineFault.OutOfMemory → takes_memory (said happening.entry) ≡ true }
+        ensures kept { result ≡ Err EngineFault.OutOfMemory → (s : Story) → Stands self.old s → keeps s (said happening.entry) ≡ true }
         ensures unchanged { OnErr result (self.new ≡ self.old) }
     {
         match happening {

@@ -1,8 +1,8 @@
 //! Taking what happened. Each refusal changes nothing.
-ghost use Rattle.std.specs.Prelude.{◌≡◌, ℕ, ◌+◌, ◌-◌, ◌<◌, ◌≤◌, ◌&&◌, ◌||◌, nat_lt, nat_le, ◌==◌, ◌++◌, ◌∷◌, [], vec_len, vec_capacity, List, length, true, false, is_some, IfOk, IfErr, OnOk, OnErr, Option, Some, None, MatchOption, slice_index_or};
+ghost use Rattle.std.specs.Prelude.{◌≡◌, ℕ, ◌+◌, ◌-◌, ◌<◌, ◌≤◌, ◌&&◌, ◌||◌, nat_lt, nat_le, ◌==◌, ◌++◌, ◌∷◌, [], vec_len, vec_capacity, List, length, true, false, is_some, IfOk, IfErr, OnOk, OnErr, Option, Some, None, Err, MatchOption, slice_index_or};
 ghost use Rattle.proxy_core.specs.State.{State as CoreState};
 ghost use Rattle.proxy_engine.specs.Happenings.{Accepts, Sends, Hears, Ends, Leaves, Shuts, Fails};
-ghost use Rattle.proxy_engine.specs.Story.{Story, ConnStory, LinkStory, sent, ended, left, heard_by, shut, failed_by};
+ghost use Rattle.proxy_engine.specs.Story.{Story, ConnStory, LinkStory, sent, ended, left, heard_by, shut, failed_by, keeps};
 ghost use Rattle.proxy_engine.specs.Wiring.{owner_of, links_of, owners_of};
 ghost use Rattle.proxy_engine.specs.State.{Stands, ConnStands, LinkStands, state, Takes, TakeFault};
 
@@ -39,6 +39,7 @@ fn link_place(links: &[Link], first: u64, l: u64) -> Option<usize>
 fn send(connection: &mut Connection, bytes: &[u8]) -> Result<(), AllocError>
     ensures stands { OnOk result ((s : ConnStory) → ConnStands connection.old s → ConnStands connection.new (sent bytes.now s)) }
     ensures err { OnErr result (connection.new ≡ connection.old) }
+    ensures kept { OnErr result (connection.old.gone || (connection.old.closed || connection.old.ended) ≡ false) }
     ensures link { connection.new.link ≡ connection.old.link }
 {
     if connection.gone || connection.closed || connection.ended {
@@ -50,6 +51,7 @@ fn send(connection: &mut Connection, bytes: &[u8]) -> Result<(), AllocError>
 fn hear(link: &mut Link, bytes: &[u8]) -> Result<(), AllocError>
     ensures stands { OnOk result ((s : LinkStory) → LinkStands link.old s → LinkStands link.new (heard_by bytes.now s)) }
     ensures err { OnErr result (link.new ≡ link.old) }
+    ensures kept { OnErr result (link.old.dropped || (is_some link.old.failed || link.old.ended) ≡ false) }
     ensures owner { owner_of link.new ≡ owner_of link.old }
 {
     if link.dropped || link.failed.is_some() || link.ended {
@@ -154,6 +156,7 @@ pub(crate) fn client(
     ensures ok { OnOk result ((s : Story) → (links : List Link) → (core : CoreState) → (first : ℕ) → Stands (state connections.old.items links core first) s
         → Takes s (Sends n bytes.now) (state connections.new.items links core first)) }
     ensures fault { IfErr result (λ e. (s : Story) → (links : List Link) → (core : CoreState) → (first : ℕ) → Stands (state connections.old.items links core first) s → TakeFault s (Sends n bytes.now) e) }
+    ensures kept { result ≡ Err EngineFault.OutOfMemory → (s : Story) → (links : List Link) → (core : CoreState) → (first : ℕ) → Stands (state connections.old.items links core first) s → keeps s (Sends n bytes.now) ≡ true }
     ensures links { links_of connections.new.items ≡ links_of connections.old.items }
     ensures err { OnErr result (connections.new.items ≡ connections.old.items) }
 {
@@ -205,6 +208,7 @@ pub(crate) fn answer(
     ensures ok { OnOk result ((s : Story) → (connections : List Connection) → (core : CoreState) → Stands (state connections links.old.items core first) s
         → Takes s (Hears l bytes.now) (state connections links.new.items core first)) }
     ensures fault { IfErr result (λ e. (s : Story) → (connections : List Connection) → (core : CoreState) → Stands (state connections links.old.items core first) s → TakeFault s (Hears l bytes.now) e) }
+    ensures kept { result ≡ Err EngineFault.OutOfMemory → (s : Story) → (connections : List Connection) → (core : CoreState) → Stands (state connections links.old.items core first) s → keeps s (Hears l bytes.now) ≡ true }
     ensures owners { owners_of links.new.items ≡ owners_of links.old.items }
     ensures err { OnErr result (links.new.items ≡ links.old.items) }
 {

@@ -1,6 +1,6 @@
 use Rattle.proxy_engine.specs.Wiring.{owner_of}
 use Rattle.proxy_engine.proofs.Searching.{map_kept}
-use Rattle.proxy_engine.proofs.Taking.{link_free, link_refused, link_full, link_taken}
+use Rattle.proxy_engine.proofs.Taking.{link_free, link_refused, link_full, link_taken, link_keeps}
 use Rattle.std.proofs.Common.{true}
 use Rattle.proxy_engine.specs.Story.{heard_by}
 use Rattle.proxy_engine.proofs.takes.answer.Goals as goal
@@ -19,3 +19,6 @@ returns-in-Err-clause-fault c = λ s connections core h. link_full connections c
 
 pub returns-in-Ok-clause-owners : goal.returns-in-Ok-clause-owners
 returns-in-Ok-clause-owners c = map_kept owner_of c.args.links.now.items c.in-Some.j c.index_mut.result.now c.hear.new.link c.index_mut.ensures.value c.hear.ensures.owner
+
+pub returns-in-Err-clause-kept : goal.returns-in-Err-clause-kept
+returns-in-Err-clause-kept c = λ e s connections core h. link_keeps connections c.args.links.now.items c.deref.result.now core c.args.first s c.args.l c.in-Some.j c.index_mut.result.now c.deref.ensures.value c.in-Some.ensures.1 c.in-Some.ensures.2 c.index_mut.ensures.value c.in-Err.ensures.kept h

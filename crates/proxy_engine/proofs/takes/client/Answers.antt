@@ -1,6 +1,6 @@
 use Rattle.proxy_engine.specs.Wiring.{link_of}
 use Rattle.proxy_engine.proofs.Searching.{map_kept}
-use Rattle.proxy_engine.proofs.Taking.{connection_free, connection_refused, connection_full, connection_taken}
+use Rattle.proxy_engine.proofs.Taking.{connection_free, connection_refused, connection_full, connection_taken, connection_keeps}
 use Rattle.std.proofs.Common.{true}
 use Rattle.proxy_engine.specs.Story.{sent}
 use Rattle.proxy_engine.proofs.takes.client.Goals as goal
@@ -19,3 +19,6 @@ returns-in-Err-clause-fault c = λ s links core first h. connection_full c.args.
 
 pub returns-in-Ok-clause-links : goal.returns-in-Ok-clause-links
 returns-in-Ok-clause-links c = map_kept link_of c.args.connections.now.items c.in-Some.i c.index_mut.result.now c.send.new.connection c.index_mut.ensures.value c.send.ensures.link
+
+pub returns-in-Err-clause-kept : goal.returns-in-Err-clause-kept
+returns-in-Err-clause-kept c = λ e s links core first h. connection_keeps c.args.connections.now.items c.deref.result.now links core first s c.args.n c.in-Some.i c.index_mut.result.now c.deref.ensures.value c.in-Some.ensures.1 c.in-Some.ensures.2 c.index_mut.ensures.value c.in-Err.ensures.kept h

@@ -1,6 +1,7 @@
-use Rattle.std.proofs.Common.{◌≡◌, sym, subst, ap, ◌∙◌}
+use Rattle.std.proofs.Common.{◌≡◌, sym, subst, ap, ◌∙◌, true}
 use Rattle.hx_allow.specs.Lines.{Table}
 use Rattle.proxy_engine.specs.Happenings.{said}
+use Rattle.proxy_engine.specs.Story.{keeps}
 use Rattle.proxy_engine.specs.State.{State, Stands, Takes, state}
 use Rattle.proxy_engine.specs.declared.happening.Happening.{Happening}
 use Rattle.proxy_engine.specs.Wiring.{owners_of}
@@ -42,6 +43,12 @@ pub returns-in-Fail-clause-ok : goal.returns-in-Fail-clause-ok
 returns-in-Fail-clause-ok g c = on_ok c.break_link.result _ _
     (λ k s h. subst (λ (x : Happening). Takes s (said x) (state c.self.inside.connections.items c.break_link.new.links.items c.self.inside.core c.self.inside.first_link)) (sym c.in-Fail.is) (k s c.self.inside.connections.items c.self.inside.core (subst (λ (e : State). Stands e s) (sym c.self.view_is) h)))
     c.break_link.ensures.ok
+
+pub returns-in-Client-clause-kept : goal.returns-in-Client-clause-kept
+returns-in-Client-clause-kept g c = λ e s h. subst (λ (x : Happening). keeps s (said x) ≡ true) (sym c.in-Client.is) (c.client.ensures.kept e s c.self.inside.links.items c.self.inside.core c.self.inside.first_link (subst (λ (e : State). Stands e s) (sym c.self.view_is) h))
+
+pub returns-in-Link-clause-kept : goal.returns-in-Link-clause-kept
+returns-in-Link-clause-kept g c = λ e s h. subst (λ (x : Happening). keeps s (said x) ≡ true) (sym c.in-Link.is) (c.answer.ensures.kept e s c.self.inside.connections.items c.self.inside.core (subst (λ (e : State). Stands e s) (sym c.self.view_is) h))
 
 pub invariant_of-self : goal.invariant_of-self
 invariant_of-self g c = wired_accepted c.accept.result c.self.inside.connections.items c.accept.new.connections.items (owners_of c.self.inside.links.items) c.self.inside.core.exchanges c.accept.ensures.links c.accept.ensures.err c.self.invariant
