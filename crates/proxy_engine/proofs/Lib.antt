@@ -9,3 +9,4 @@ pub mod Once
 pub mod Wishing
 pub mod Stepping
 pub mod Wires
+pub mod Ordering

@@ -8,3 +8,4 @@ pub mod Acts
 pub mod State
 pub mod Wishes
 pub mod Wiring
+pub mod Orderly

@@ -25,6 +25,6 @@ mod wishes;
 
 pub use crate::engine::Engine;
 pub use crate::happening::{EngineFault, Happening, Work};
-pub use crate::laws::due_once;
+pub use crate::laws::{due_once, effects_name_open_ends};
 pub use crate::request_watch::RequestWatch;
 pub use crate::response_watch::ResponseWatch;

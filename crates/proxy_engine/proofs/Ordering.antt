@@ -1,0 +1,408 @@
+-- Stories keep their order, and effects name ends that are unshut.
+use Rattle.std.proofs.Common.{◌≡◌, ◌⊎◌, inl, inr, ℕ, zero, suc, ◌+◌, ◌-◌, ◌<◌, List, [], ◌∷◌, ◌++◌, length, get_or, set, refl, sym, ap, ◌∙◌, subst, arith, Bool, true, false, ◌||◌, cond, Option, None, Some, is_some, map, Result, Ok, Err}
+use Rattle.std.proofs.lemmas.List.{map-set, get_or-set_same}
+use Rattle.std.proofs.Math.ListN.{length-map, length-set}
+use Rattle.std.proofs.Math.Seq.{map-set_same}
+use Rattle.hx_framing.specs.declared.requests.Request.{Request}
+use Rattle.hx_framing.specs.declared.fault.FrameFault.TheVariants as frame
+use Rattle.hx_framing.specs.declared.responses.Response.{Response}
+use Rattle.hx_framing.specs.declared.answer.Next.{Next}
+use Rattle.hx_framing.specs.declared.answer.Next.TheVariants as next
+use Rattle.hx_framing.specs.Progress.{fed, finished}
+use Rattle.hx_allow.specs.Lines.{Table}
+use Rattle.hx_hop.specs.declared.asked_for.Asked.{Asked}
+use Rattle.hx_target.specs.declared.faults.TargetFault.{TargetFault}
+use Rattle.hx_reuse.specs.Rules.{decision_of}
+use Rattle.hx_reuse.specs.declared.decision.Decision.{Decision}
+use Rattle.hx_reuse.specs.declared.decision.Decision.TheVariants as decision
+use Rattle.hx_status.specs.declared.cause.Cause.{Cause}
+use Rattle.hx_status.specs.declared.cause.FailKind.{FailKind}
+use Rattle.hx_store.specs.Stored.{Stored}
+use Rattle.proxy_core.specs.declared.exchange.Exchange.{Exchange}
+use Rattle.proxy_core.specs.declared.event.Event.TheVariants as events
+use Rattle.proxy_core.specs.declared.outcome.Outcome.{Outcome}
+use Rattle.proxy_core.specs.declared.outcome.Outcome.TheVariants as outcomes
+use Rattle.proxy_core.specs.Outcomes.{find_exchange, outcome_of, failed}
+use Rattle.proxy_core.specs.Replies.{is_head}
+use Rattle.proxy_core.specs.State.{State as CoreState, Steps, closed, opened as opened_exchange}
+use Rattle.proxy_script.specs.declared.effect_list.Effect.{Effect}
+use Rattle.proxy_script.specs.declared.effect_list.Effect.TheVariants as effects
+use Rattle.proxy_engine.specs.Happenings.{Accepts, Sends, Hears, Ends, Leaves, Shuts, Fails}
+use Rattle.proxy_engine.specs.Story.{Story, ConnStory, LinkStory, no_connection, no_link, accepted, opened, connection_at, link_at, with_connection, with_core, heard}
+use Rattle.proxy_engine.specs.Due.{Abandons, Finishes, Serves, Finish, Gives, Breaks, FinishBy, WishBy, is_busy, IsDueFirst}
+use Rattle.proxy_engine.specs.Acts.{Does, Served, Finished, Arrives, Refuses, Closes, Replies, came, effects_on, after_on, freed, linked, closing, dropping, passing, next_number}
+use Rattle.proxy_engine.specs.Wiring.{Wired, at}
+use Rattle.proxy_engine.specs.Orderly.{IsOrderly, IsOpen, NamesOpen, link_told, owner_told, BeginsOrderly, TakesInOrder, ActsInOrder}
+use Rattle.proxy_engine.proofs.Wires.{within, wired_more, wired_freed, wired_opened}
+
+-- what stands at a place of either list
+links_here : (cs : List ConnStory) (i : ℕ) → at (map link_told cs) i ≡ (get_or cs i no_connection).link
+links_here [] i = refl
+links_here (c ∷ cs) zero = refl
+links_here (c ∷ cs) (suc i) = links_here cs i
+
+owners_here : (ks : List LinkStory) (j : ℕ) → at (map owner_told ks) j ≡ owner_told (get_or ks j no_link)
+owners_here [] j = refl
+owners_here (k ∷ ks) zero = refl
+owners_here (k ∷ ks) (suc j) = owners_here ks j
+
+at_set : {A : Type 0} (xs : List A) (i : ℕ) (y : A) (k : ℕ) (d : A) → (get_or (set xs i y) k d ≡ y) ⊎ (get_or (set xs i y) k d ≡ get_or xs k d)
+at_set [] i y k d = inr refl
+at_set (x ∷ xs) zero y zero d = inl refl
+at_set (x ∷ xs) zero y (suc k) d = inr refl
+at_set (x ∷ xs) (suc i) y zero d = inr refl
+at_set (x ∷ xs) (suc i) y (suc k) d = at_set xs i y k d
+
+at_pushed : {A : Type 0} (xs : List A) (y : A) (k : ℕ) (d : A) → (get_or (xs ++ y ∷ []) k d ≡ y) ⊎ (get_or (xs ++ y ∷ []) k d ≡ get_or xs k d)
+at_pushed [] y zero d = inl refl
+at_pushed [] y (suc k) d = inr refl
+at_pushed (x ∷ xs) y zero d = inr refl
+at_pushed (x ∷ xs) y (suc k) d = at_pushed xs y k d
+
+map_more : {A B : Type 0} (f : A → B) (xs : List A) (y : A) → map f (xs ++ y ∷ []) ≡ map f xs ++ f y ∷ []
+map_more f [] y = refl
+map_more f (x ∷ xs) y = ap (λ ys. f x ∷ ys) (map_more f xs y)
+
+-- a connection that is closed has no unshut exchange
+abbrev IsFree : ConnStory → Type 0
+IsFree c = c.closed ≡ true → c.link ≡ None
+
+abbrev Free : List ConnStory → Type 0
+Free cs = (i : ℕ) → IsFree (get_or cs i no_connection)
+
+free_set : (cs : List ConnStory) (i : ℕ) (y : ConnStory) → IsFree y → Free cs → Free (set cs i y)
+free_set cs i y fine h k = by_case (at_set cs i y k no_connection)
+  where
+    by_case : (get_or (set cs i y) k no_connection ≡ y) ⊎ (get_or (set cs i y) k no_connection ≡ get_or cs k no_connection) → IsFree (get_or (set cs i y) k no_connection)
+    by_case (inl e) = subst (λ (c : ConnStory). IsFree c) (sym e) fine
+    by_case (inr e) = subst (λ (c : ConnStory). IsFree c) (sym e) (h k)
+
+free_more : (cs : List ConnStory) (y : ConnStory) → IsFree y → Free cs → Free (cs ++ y ∷ [])
+free_more cs y fine h k = by_case (at_pushed cs y k no_connection)
+  where
+    by_case : (get_or (cs ++ y ∷ []) k no_connection ≡ y) ⊎ (get_or (cs ++ y ∷ []) k no_connection ≡ get_or cs k no_connection) → IsFree (get_or (cs ++ y ∷ []) k no_connection)
+    by_case (inl e) = subst (λ (c : ConnStory). IsFree c) (sym e) fine
+    by_case (inr e) = subst (λ (c : ConnStory). IsFree c) (sym e) (h k)
+
+abbrev Order : List ConnStory → List LinkStory → List Exchange → Type 0
+Order cs ks xs = Wired (map link_told cs) (map owner_told ks) xs × Free cs
+
+order_of : (s : Story) → IsOrderly s → Order s.connections s.links s.core.exchanges
+order_of s h = (h.wired, h.free)
+
+orderly : (s : Story) → Order s.connections s.links s.core.exchanges → IsOrderly s
+orderly s h = record { wired = h.0; free = h.1 }
+
+-- a connection or a link that changes and names the same
+connection_changed : (cs : List ConnStory) (ks : List LinkStory) (xs : List Exchange) (i : ℕ) (y : ConnStory) → y.link ≡ (get_or cs i no_connection).link → IsFree y → Order cs ks xs → Order (set cs i y) ks xs
+connection_changed cs ks xs i y same fine h =
+    (subst (λ (ls : List (Option ℕ)). Wired ls (map owner_told ks) xs) (sym (map-set_same link_told cs i y no_connection same)) h.0, free_set cs i y fine h.1)
+
+link_changed : (cs : List ConnStory) (ks : List LinkStory) (xs : List Exchange) (j : ℕ) (y : LinkStory) → owner_told y ≡ owner_told (get_or ks j no_link) → Order cs ks xs → Order cs (set ks j y) xs
+link_changed cs ks xs j y same h =
+    (subst (λ (os : List (Option ℕ)). Wired (map link_told cs) os xs) (sym (map-set_same owner_told ks j y no_link same)) h.0, h.1)
+
+link_by : (b : Bool) (c d : ConnStory) → d.link ≡ c.link → (cond b c d).link ≡ c.link
+link_by true c d e = refl
+link_by false c d e = e
+
+closed_by : (b : Bool) (c d : ConnStory) → d.closed ≡ c.closed → (cond b c d).closed ≡ c.closed
+closed_by true c d e = refl
+closed_by false c d e = e
+
+owner_by : (b : Bool) (k d : LinkStory) → owner_told d ≡ owner_told k → owner_told (cond b k d) ≡ owner_told k
+owner_by true k d e = refl
+owner_by false k d e = e
+
+marked : (s : Story) (i : ℕ) (b : Bool) (d : ConnStory) → d.link ≡ (connection_at s i).link → d.closed ≡ (connection_at s i).closed → IsOrderly s
+    → Order (set s.connections i (cond b (connection_at s i) d)) s.links s.core.exchanges
+marked s i b d l k h =
+    let c = connection_at s i in
+    connection_changed s.connections s.links s.core.exchanges i (cond b c d) (link_by b c d l) (λ e. link_by b c d l ∙ h.free i (sym (closed_by b c d k) ∙ e)) (order_of s h)
+
+marked_link : (s : Story) (j : ℕ) (b : Bool) (d : LinkStory) → owner_told d ≡ owner_told (link_at s j) → IsOrderly s → Order s.connections (set s.links j (cond b (link_at s j) d)) s.core.exchanges
+marked_link s j b d e h = link_changed s.connections s.links s.core.exchanges j (cond b (link_at s j) d) (owner_by b (link_at s j) d e) (order_of s h)
+
+pub begins_orderly : BeginsOrderly
+begins_orderly core first none = record {
+  wired = subst (λ (xs : List Exchange). Wired [] [] xs) (sym none) record { owned = λ i j e. cc; linked = λ i j e. cc; opened = λ i. refl };
+  free = λ i e. refl;
+}
+
+pub takes_in_order : TakesInOrder
+takes_in_order s (Accepts n) h = record {
+  wired = subst (λ (ls : List (Option ℕ)). Wired ls (map owner_told s.links) s.core.exchanges) (sym (map_more link_told s.connections (accepted s.core.table.max_body))) (wired_more (map link_told s.connections) (map owner_told s.links) s.core.exchanges h.wired);
+  free = free_more s.connections (accepted s.core.table.max_body) (λ e. refl) h.free;
+}
+takes_in_order s (Sends n bytes) h = orderly (heard s (Sends n bytes)) (let c = connection_at s (n - 1) in marked s (n - 1) (c.gone || (c.closed || c.progress.ended)) (record c { progress = fed c.progress bytes }) refl refl h)
+takes_in_order s (Ends n) h = orderly (heard s (Ends n)) (let c = connection_at s (n - 1) in marked s (n - 1) (c.gone || c.closed) (record c { progress = finished c.progress }) refl refl h)
+takes_in_order s (Leaves n) h = orderly (heard s (Leaves n)) (let c = connection_at s (n - 1) in marked s (n - 1) c.closed (record c { gone = true }) refl refl h)
+takes_in_order s (Hears l bytes) h = orderly (heard s (Hears l bytes)) (let k = link_at s (l - s.first) in marked_link s (l - s.first) (k.dropped || (is_some k.failed || k.progress.ended)) (record k { progress = fed k.progress bytes }) refl h)
+takes_in_order s (Shuts l) h = orderly (heard s (Shuts l)) (let k = link_at s (l - s.first) in marked_link s (l - s.first) (k.dropped || is_some k.failed) (record k { progress = finished k.progress }) refl h)
+takes_in_order s (Fails l kind) h = orderly (heard s (Fails l kind)) (let k = link_at s (l - s.first) in marked_link s (l - s.first) (k.dropped || is_some k.failed) (record k { failed = Some kind }) refl h)
+
+-- ---- acts
+
+freed_order : (cs : List ConnStory) (ks : List LinkStory) (xs : List Exchange) (i j : ℕ) (c : ConnStory) (k : LinkStory) → at (map link_told cs) i ≡ Some j → Order cs ks xs → Order (set cs i (linked None c)) (set ks j (dropping k)) (closed (i + 1) xs)
+freed_order cs ks xs i j c k here h = (
+  subst (λ (ls : List (Option ℕ)). Wired ls (map owner_told (set ks j (dropping k))) (closed (i + 1) xs)) (sym (map-set link_told cs i (linked None c)))
+      (subst (λ (os : List (Option ℕ)). Wired (set (map link_told cs) i None) os (closed (i + 1) xs)) (sym (map-set owner_told ks j (dropping k))) (wired_freed (map link_told cs) (map owner_told ks) xs i j here h.0)),
+  free_set cs i (linked None c) (λ e. refl) h.1,
+)
+
+closing_order : (cs : List ConnStory) (ks : List LinkStory) (xs : List Exchange) (i : ℕ) (close : Bool) → (get_or cs i no_connection).link ≡ None → Order cs ks xs → Order (set cs i (closing close (get_or cs i no_connection))) ks xs
+closing_order cs ks xs i close none h = connection_changed cs ks xs i (closing close (get_or cs i no_connection)) refl (λ e. none) h
+
+opened_order : (cs : List ConnStory) (ks : List LinkStory) (xs : List Exchange) (x : Exchange) (i max_body : ℕ) (to_head : Bool) → i < length cs → (get_or cs i no_connection).link ≡ None → (get_or cs i no_connection).closed ≡ false → x.id ≡ i + 1 → Order cs ks xs
+    → Order (set cs i (linked (Some (length ks)) (get_or cs i no_connection))) (ks ++ opened max_body to_head i ∷ []) (xs ++ x ∷ [])
+opened_order cs ks xs x i max_body to_head here none unshut id h =
+    let y = linked (Some (length ks)) (get_or cs i no_connection) in
+    let size : length (map owner_told ks) ≡ length ks = length-map ks owner_told in
+    let most : length (map link_told cs) ≡ length cs = length-map cs link_told in
+    let opens = wired_opened (map link_told cs) (map owner_told ks) xs x i (omega (arith, here, most)) (links_here cs i ∙ none) id h.0 in
+    let sized = subst (λ (n : ℕ). Wired (set (map link_told cs) i (Some n)) (map owner_told ks ++ Some i ∷ []) (xs ++ x ∷ [])) size opens in (
+      subst (λ (ls : List (Option ℕ)). Wired ls (map owner_told (ks ++ opened max_body to_head i ∷ [])) (xs ++ x ∷ [])) (sym (map-set link_told cs i y))
+          (subst (λ (os : List (Option ℕ)). Wired (set (map link_told cs) i (Some (length ks))) os (xs ++ x ∷ [])) (sym (map_more owner_told ks (opened max_body to_head i))) sized),
+      free_set cs i y (λ e. let shut = sym unshut ∙ e in cc) h.1,
+    )
+
+or_true : (b c : Bool) → c ≡ true → (b || c) ≡ true
+or_true true c e = refl
+or_true false c e = e
+
+-- the connection at i, in a list that has it, is closed
+shut_there : (cs : List ConnStory) (i : ℕ) (c : ConnStory) (close : Bool) → i < length cs → close ≡ true → (get_or (set cs i (closing close c)) i no_connection).closed ≡ true
+shut_there cs i c close here e = ap (λ (c : ConnStory). c.closed) (get_or-set_same cs i (closing close c) no_connection here) ∙ or_true c.closed close e
+
+names_reply : (s after : Story) (i n : ℕ) (bytes : List ℕ) (close : Bool) → IsOpen s (i + 1) → (close ≡ true → (connection_at after i).closed ≡ true) → NamesOpen s after (effects_on i n (Replies bytes close))
+names_reply s after i n bytes true unshut shut = (unshut, (unshut, (i, refl, shut refl), refl))
+names_reply s after i n bytes false unshut shut = (unshut, tt)
+
+both_moved : (s now after : Story) (told said : List Effect) → after ≡ now → told ≡ said → IsOrderly now → NamesOpen s now said → IsOrderly after × NamesOpen s after told
+both_moved s now after told said a t h names =
+    (subst (λ (x : Story). IsOrderly x) (sym a) h, subst (λ (x : Story). NamesOpen s x told) (sym a) (subst (λ (es : List Effect). NamesOpen s now es) (sym t) names))
+
+abbrev is_reply : Outcome → Bool
+is_reply (outcomes.Reply r) = true
+is_reply (outcomes.Forward line bytes) = false
+is_reply outcomes.Ended = false
+
+answer_replies : (table : Table) (date : List ℕ) (es : List Stored) (xs : List Exchange) (x : Option Exchange) (o : Option ℕ) (now id : ℕ) (r : Response) → is_some x ≡ true → is_reply (outcome_of table date es xs x o (events.Answer now id r)) ≡ true
+answer_replies table date es xs (Some x) o now id r e = refl
+answer_replies table date es xs None o now id r e = cc
+
+failed_replies : (table : Table) (date : List ℕ) (es : List Stored) (now : ℕ) (x : Exchange) (kind : FailKind) (d : Decision) → is_reply (failed table date es now x kind d) ≡ true
+failed_replies table date es now x kind (decision.Hit serial) = refl
+failed_replies table date es now x kind (decision.Forward rule against) = refl
+
+failure_replies : (table : Table) (date : List ℕ) (es : List Stored) (xs : List Exchange) (x : Option Exchange) (o : Option ℕ) (now id : ℕ) (kind : FailKind) → is_some x ≡ true → is_reply (outcome_of table date es xs x o (events.Fail now id kind)) ≡ true
+failure_replies table date es xs (Some x) o now id kind e = failed_replies table date es now x kind (decision_of es x.asked now)
+failure_replies table date es xs None o now id kind e = cc
+
+finished_order : (s : Story) (i j : ℕ) (o : Outcome) (core : CoreState) (to_head : Bool) (told : List Effect) (after : Story) → IsOrderly s → j < length s.links → at (map link_told s.connections) i ≡ Some j → (link_at s j).dropped ≡ false → IsOpen s (i + 1)
+    → core.exchanges ≡ closed (i + 1) s.core.exchanges → is_reply o ≡ true → told ≡ effects.Drop (s.first + j) ∷ effects_on i (next_number s) (came s.core.table o) → after ≡ after_on i to_head (came s.core.table o) (with_core (freed s j i) core)
+    → IsOrderly after × NamesOpen s after told
+finished_order s i j (outcomes.Reply r) core to_head told after h within_links here link_open unshut xs e told_is after_is =
+    let cs = set s.connections i (linked None (connection_at s i)) in
+    let ks = set s.links j (dropping (link_at s j)) in
+    let inside : i < length s.connections = subst (λ n. i < n) (length-map s.connections link_told) (within (map link_told s.connections) i j here) in
+    let inside_now : i < length cs = subst (λ n. i < n) (sym (length-set s.connections i (linked None (connection_at s i)))) inside in
+    let none : (get_or cs i no_connection).link ≡ None = ap (λ (c : ConnStory). c.link) (get_or-set_same s.connections i (linked None (connection_at s i)) no_connection inside) in
+    let free : Order cs ks core.exchanges = subst (λ (xs : List Exchange). Order cs ks xs) (sym xs) (freed_order s.connections s.links s.core.exchanges i j (connection_at s i) (link_at s j) here (order_of s h)) in
+    let now = with_connection (with_core (freed s j i) core) i (closing r.close) in
+    both_moved s now after told (effects.Drop (s.first + j) ∷ effects_on i (next_number s) (Replies r.bytes r.close)) after_is told_is
+    (orderly now (closing_order cs ks core.exchanges i r.close none free)) (
+      record { place = j; number = refl; still = link_open; dropped = ap (λ (k : LinkStory). k.dropped) (get_or-set_same s.links j (dropping (link_at s j)) no_link within_links) },
+      names_reply s now i (next_number s) r.bytes r.close unshut (λ shut. shut_there cs i (get_or cs i no_connection) r.close inside_now shut),
+    )
+finished_order s i j (outcomes.Forward line bytes) core to_head told after h within_links here link_open unshut xs e told_is after_is = cc
+finished_order s i j outcomes.Ended core to_head told after h within_links here link_open unshut xs e told_is after_is = cc
+
+-- ---- what is known where an act is due
+
+gone_by : (b : Bool) (o : Option ℕ) (j : ℕ) → None ≡ cond b o None → o ≡ Some j → b ≡ false
+gone_by true o j e l = let none : None ≡ Some j = e ∙ l in cc
+gone_by false o j e l = refl
+
+closed_of : (b : Bool) (o : Option ℕ) (j : ℕ) → (b ≡ true → o ≡ None) → o ≡ Some j → b ≡ false
+closed_of true o j f l = let none : None ≡ Some j = sym (f refl) ∙ l in cc
+closed_of false o j f l = refl
+
+dropped_of : (b : Bool) (n i : ℕ) → ◌≡◌ {A = Option ℕ} (cond b None (Some n)) (Some i) → b ≡ false
+dropped_of true n i e = cc
+dropped_of false n i e = refl
+
+owner_is : (b : Bool) (n : ℕ) → b ≡ false → ◌≡◌ {A = Option ℕ} (cond b None (Some n)) (Some n)
+owner_is true n e = cc
+owner_is false n e = refl
+
+stands_open : (b : Bool) (k : LinkStory) (f : Finish) → FinishBy b k (Some f) → b ≡ false
+stands_open true k f h = cc
+stands_open false k f h = refl
+
+not_busy : (b : Bool) (c : ConnStory) (w : Next Request) → WishBy b c (Some w) → b ≡ false
+not_busy true c w h = cc
+not_busy false c w h = refl
+
+busy_parts : (gone shut : Bool) (l : Option ℕ) → is_busy gone shut l ≡ false → (gone ≡ false) × (shut ≡ false) × (l ≡ None)
+busy_parts true shut l e = cc
+busy_parts false true l e = cc
+busy_parts false false (Some n) e = cc
+busy_parts false false None e = (refl, refl, refl)
+
+lost_parts : (gone : Bool) (o : Option ℕ) (l : ℕ) → Some l ≡ cond gone o None → o ≡ Some l
+lost_parts true o l e = sym e
+lost_parts false o l e = cc
+
+-- the exchange on the link at j is finished
+finishes_order : (s : Story) (now j : ℕ) (f : Finish) (told : List Effect) (after : Story) → IsOrderly s → IsDueFirst s (Some (Finishes j f)) → Finished s now j (link_at s j).connection f told after → IsOrderly after × NamesOpen s after told
+finishes_order s now j f told after h due done = by_finish f done
+  where
+    i : ℕ
+    i = (link_at s j).connection
+
+    xs : List Exchange
+    xs = s.core.exchanges
+
+    link_open : (link_at s j).dropped ≡ false
+    link_open = stands_open (link_at s j).dropped (link_at s j) f due.1.1
+
+    here : at (map link_told s.connections) i ≡ Some j
+    here = h.wired.linked i j (owners_here s.links j ∙ owner_is (link_at s j).dropped i link_open)
+
+    linked_here : (connection_at s i).link ≡ Some j
+    linked_here = sym (links_here s.connections i) ∙ here
+
+    inside : i < length s.connections
+    inside = subst (λ n. i < n) (length-map s.connections link_told) (within (map link_told s.connections) i j here)
+
+    unshut : IsOpen s (i + 1)
+    unshut = record { place = i; number = refl; closed = closed_of (connection_at s i).closed (connection_at s i).link j (h.free i) linked_here; gone = gone_by (connection_at s i).gone (connection_at s i).link j (due.0 i inside) linked_here }
+
+    is_there : is_some (find_exchange (i + 1) xs) ≡ true
+    is_there = h.wired.opened i ∙ ap is_some here
+
+    by_finish : (f : Finish) → Finished s now j i f told after → IsOrderly after × NamesOpen s after told
+    by_finish (Gives r) d =
+        finished_order s i j d.1.outcome d.1.core (link_at s j).progress.to_head told after h due.1.0 here link_open unshut (ap (λ (k : CoreState). k.exchanges) d.1.steps.leaves)
+        (ap is_reply d.1.steps.outcome_is ∙ answer_replies s.core.table d.1.steps.date s.core.entries xs (find_exchange (i + 1) xs) s.core.next now (i + 1) r is_there) d.1.told_is d.1.after_is
+    by_finish (Breaks kind) d =
+        finished_order s i j d.outcome d.core (link_at s j).progress.to_head told after h due.1.0 here link_open unshut (ap (λ (k : CoreState). k.exchanges) d.steps.leaves)
+        (ap is_reply d.steps.outcome_is ∙ failure_replies s.core.table d.steps.date s.core.entries xs (find_exchange (i + 1) xs) s.core.next now (i + 1) kind is_there) d.told_is d.after_is
+
+-- the exchange of the connection at i is abandoned
+abandons_order : (s : Story) (now i l : ℕ) (told : List Effect) (after : Story) → IsOrderly s → IsDueFirst s (Some (Abandons i l)) → Does s now (Abandons i l) told after → IsOrderly after × NamesOpen s after told
+abandons_order s now i l told after h due done =
+    let linked_here : (connection_at s i).link ≡ Some l = lost_parts (connection_at s i).gone (connection_at s i).link l due.1 in
+    let here : at (map link_told s.connections) i ≡ Some l = links_here s.connections i ∙ linked_here in
+    let owner : at (map owner_told s.links) l ≡ Some i = h.wired.owned i l here in
+    let link_open : (link_at s l).dropped ≡ false = dropped_of (link_at s l).dropped (link_at s l).connection i (sym (owners_here s.links l) ∙ owner) in
+    let inside : l < length s.links = subst (λ n. l < n) (length-map s.links owner_told) (within (map owner_told s.links) l i owner) in
+    let cs = set s.connections i (linked None (connection_at s i)) in
+    let ks = set s.links l (dropping (link_at s l)) in
+    let free : Order cs ks done.core.exchanges = subst (λ (xs : List Exchange). Order cs ks xs) (sym (ap (λ (k : CoreState). k.exchanges) done.steps.leaves))
+    (freed_order s.connections s.links s.core.exchanges i l (connection_at s i) (link_at s l) here (order_of s h)) in
+    let behind = with_core (freed s l i) done.core in
+    let ended : done.outcome ≡ outcomes.Ended = done.steps.outcome_is in
+    both_moved s behind after told (effects.Drop (s.first + l) ∷ [])
+    (done.after_is ∙ ap (λ (o : Outcome). after_on i false (came s.core.table o) behind) ended)
+    (done.told_is ∙ ap (λ (o : Outcome). effects.Drop (s.first + l) ∷ effects_on i (next_number s) (came s.core.table o)) ended)
+    (orderly behind free)
+    (record { place = l; number = refl; still = link_open; dropped = ap (λ (k : LinkStory). k.dropped) (get_or-set_same s.links l (dropping (link_at s l)) no_link inside) }, tt)
+
+-- a request arrived on the connection at i
+arrived_order : (s : Story) (now i : ℕ) (m : Next Request) (asked : Asked) (o : Outcome) (core : CoreState) (to_head : Bool) (told : List Effect) (after : Story) → IsOrderly s → i < length s.connections → IsOpen s (i + 1) → (connection_at s i).closed ≡ false → (connection_at s i).link ≡ None
+    → Steps s.core (events.Arrive now (i + 1) asked) o core → told ≡ effects_on i (next_number s) (came s.core.table o) → after ≡ after_on i to_head (came s.core.table o) (with_core (with_connection s i (passing m)) core) → IsOrderly after × NamesOpen s after told
+arrived_order s now i m asked o core to_head told after h inside unshut unclosed none steps told_is after_is = by_outcome o steps told_is after_is
+  where
+    cs : List ConnStory
+    cs = set s.connections i (passing m (connection_at s i))
+
+    here : get_or cs i no_connection ≡ passing m (connection_at s i)
+    here = get_or-set_same s.connections i (passing m (connection_at s i)) no_connection inside
+
+    none_now : (get_or cs i no_connection).link ≡ None
+    none_now = ap (λ (c : ConnStory). c.link) here ∙ none
+
+    unclosed_now : (get_or cs i no_connection).closed ≡ false
+    unclosed_now = ap (λ (c : ConnStory). c.closed) here ∙ unclosed
+
+    inside_now : i < length cs
+    inside_now = subst (λ n. i < n) (sym (length-set s.connections i (passing m (connection_at s i)))) inside
+
+    passed : Order cs s.links s.core.exchanges
+    passed = connection_changed s.connections s.links s.core.exchanges i (passing m (connection_at s i)) refl (λ e. none) (order_of s h)
+
+    base : Story
+    base = with_core (with_connection s i (passing m)) core
+
+    by_outcome : (o : Outcome) → Steps s.core (events.Arrive now (i + 1) asked) o core → told ≡ effects_on i (next_number s) (came s.core.table o) → after ≡ after_on i to_head (came s.core.table o) base → IsOrderly after × NamesOpen s after told
+    by_outcome (outcomes.Reply r) steps told_is after_is =
+        let same : core.exchanges ≡ s.core.exchanges = ap (λ (k : CoreState). k.exchanges) steps.leaves in
+        both_moved s (with_connection base i (closing r.close)) after told (effects_on i (next_number s) (Replies r.bytes r.close)) after_is told_is
+        (orderly (with_connection base i (closing r.close)) (closing_order cs s.links core.exchanges i r.close none_now (subst (λ (xs : List Exchange). Order cs s.links xs) (sym same) passed)))
+        (names_reply s (with_connection base i (closing r.close)) i (next_number s) r.bytes r.close unshut (λ shut. shut_there cs i (get_or cs i no_connection) r.close inside_now shut))
+    by_outcome (outcomes.Forward line bytes) steps told_is after_is =
+        let x = opened_exchange s.core.entries now (i + 1) asked in
+        let more : core.exchanges ≡ s.core.exchanges ++ x ∷ [] = ap (λ (k : CoreState). k.exchanges) steps.leaves in
+        let behind = after_on i to_head (came s.core.table (outcomes.Forward line bytes)) base in
+        both_moved s behind after told (effects_on i (next_number s) (came s.core.table (outcomes.Forward line bytes))) after_is told_is
+        (orderly behind (subst (λ (xs : List Exchange). Order behind.connections behind.links xs) (sym more) (opened_order cs s.links s.core.exchanges x i core.table.max_body to_head inside_now none_now unclosed_now refl passed)))
+        (refl, tt)
+    by_outcome outcomes.Ended steps told_is after_is =
+        let same : core.exchanges ≡ s.core.exchanges = ap (λ (k : CoreState). k.exchanges) steps.leaves in
+        both_moved s base after told [] after_is told_is (orderly base (subst (λ (xs : List Exchange). Order cs s.links xs) (sym same) passed)) tt
+
+-- the connection at i is closed, behind an answer of the proxy or without one
+shuts_order : (s : Story) (i : ℕ) (told said : List Effect) (after : Story) → IsOrderly s → i < length s.connections → (connection_at s i).link ≡ None → told ≡ said → after ≡ with_connection s i (closing true)
+    → ((t : Story) → (connection_at t i).closed ≡ true → NamesOpen s t said) → IsOrderly after × NamesOpen s after told
+shuts_order s i told said after h inside none told_is after_is names =
+    let now = with_connection s i (closing true) in
+    both_moved s now after told said after_is told_is (orderly now (closing_order s.connections s.links s.core.exchanges i true none (order_of s h)))
+    (names now (shut_there s.connections i (connection_at s i) true inside refl))
+
+serves_order : (s : Story) (now i : ℕ) (w : Next Request) (told : List Effect) (after : Story) → IsOrderly s → IsDueFirst s (Some (Serves i w)) → Served s now i w told after → IsOrderly after × NamesOpen s after told
+serves_order s now i w told after h due done = by_wish w done
+  where
+    parts : ((connection_at s i).gone ≡ false) × ((connection_at s i).closed ≡ false) × ((connection_at s i).link ≡ None)
+    parts = busy_parts (connection_at s i).gone (connection_at s i).closed (connection_at s i).link (not_busy (is_busy (connection_at s i).gone (connection_at s i).closed (connection_at s i).link) (connection_at s i) w due.2.1)
+
+    inside : i < length s.connections
+    inside = due.2.0
+
+    unshut : IsOpen s (i + 1)
+    unshut = record { place = i; number = refl; closed = parts.1; gone = parts.0 }
+
+    refuses : (why : Cause) (head : Bool) → Refuses s now i why head told after → IsOrderly after × NamesOpen s after told
+    refuses why head d = shuts_order s i told _ after h inside parts.2 d.told_is d.after_is (λ t shut. (unshut, (unshut, (i, refl, shut), refl)))
+
+    closes : Closes s i told after → IsOrderly after × NamesOpen s after told
+    closes d = shuts_order s i told _ after h inside parts.2 d.0 d.1 (λ t shut. (unshut, (i, refl, shut), refl))
+
+    arrives : (r : Request) (judged : Result Asked TargetFault) → Arrives s now i r judged told after → IsOrderly after × NamesOpen s after told
+    arrives r (Ok asked) d = arrived_order s now i (next.Message r) asked d.1.outcome d.1.core (is_head asked) told after h inside unshut parts.1 parts.2 d.1.steps d.1.told_is d.1.after_is
+    arrives r (Err fault) d = refuses _ _ d
+
+    by_wish : (w : Next Request) → Served s now i w told after → IsOrderly after × NamesOpen s after told
+    by_wish next.More d = absurd d
+    by_wish next.NeedsContinue d =
+        let going = with_connection s i (passing next.NeedsContinue) in
+        both_moved s going after told _ d.1 d.0
+        (orderly going (connection_changed s.connections s.links s.core.exchanges i (passing next.NeedsContinue (connection_at s i)) refl (λ e. parts.2) (order_of s h))) (unshut, tt)
+    by_wish (next.Message r) d = arrives r d.0 d.2
+    by_wish (next.Refused frame.Truncated) d = closes d
+    by_wish (next.Refused frame.Head) d = refuses _ _ d
+    by_wish (next.Refused frame.Version) d = refuses _ _ d
+    by_wish (next.Refused frame.BothLengths) d = refuses _ _ d
+    by_wish (next.Refused frame.Length) d = refuses _ _ d
+    by_wish (next.Refused frame.Coding) d = refuses _ _ d
+    by_wish (next.Refused frame.Chunk) d = refuses _ _ d
+    by_wish (next.Refused frame.TooLarge) d = refuses _ _ d
+    by_wish (next.Refused frame.Expect) d = refuses _ _ d
+    by_wish (next.Refused frame.Status) d = refuses _ _ d
+    by_wish next.End d = closes d
+
+pub acts_in_order : ActsInOrder
+acts_in_order s now (Abandons i l) told after h due done = abandons_order s now i l told after h due done
+acts_in_order s now (Finishes j f) told after h due done = finishes_order s now j f told after h due done
+acts_in_order s now (Serves i w) told after h due done = serves_order s now i w told after h due done

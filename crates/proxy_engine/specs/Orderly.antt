@@ -1,0 +1,63 @@
+-- What each story of an engine keeps to, and which ends its effects name.
+--
+-- IsOrderly: connections, links and open exchanges belong together, and a closed connection has no open exchange
+-- NamesOpen: no effect names a connection that is closed or gone, or a link that was dropped
+-- Stays: what is closed, gone or dropped stays so
+-- BeginsOrderly, TakesInOrder, ActsInOrder: the laws
+use Rattle.std.specs.Prelude.{◌≡◌, ℕ, ◌+◌, List, [], ◌∷◌, map, true, false, Option, None, Some, if◌then◌else◌}
+use Rattle.proxy_core.specs.State.{State as CoreState}
+use Rattle.proxy_script.specs.declared.effect_list.Effect.{Effect}
+use Rattle.proxy_script.specs.declared.effect_list.Effect.TheVariants as effects
+use Rattle.proxy_engine.specs.Happenings.{Said}
+use Rattle.proxy_engine.specs.Story.{Story, ConnStory, LinkStory, connection_at, link_at, heard}
+use Rattle.proxy_engine.specs.Due.{Act, IsDueFirst}
+use Rattle.proxy_engine.specs.Acts.{Does, next_number}
+use Rattle.proxy_engine.specs.State.{begun}
+use Rattle.proxy_engine.specs.Wiring.{Wired}
+
+-- the link on which a connection's request went forward
+abbrev pub link_told : ConnStory → Option ℕ
+link_told c = c.link
+
+-- the connection whose request went forward on a link that isn't dropped
+abbrev pub owner_told : LinkStory → Option ℕ
+owner_told k = if k.dropped then None else Some k.connection
+
+pub record IsOrderly (s : Story) : Type 0 where
+  pub wired : Wired (map link_told s.connections) (map owner_told s.links) s.core.exchanges
+  pub free : (i : ℕ) → (connection_at s i).closed ≡ true → (connection_at s i).link ≡ None
+
+-- the connection of this number is neither closed nor gone
+pub record IsOpen (s : Story) (n : ℕ) : Type 0 where
+  pub place : ℕ
+  pub number : n ≡ place + 1
+  pub closed : (connection_at s place).closed ≡ false
+  pub gone : (connection_at s place).gone ≡ false
+
+-- the connection of this number is closed
+abbrev pub IsClosed : Story → ℕ → Type 0
+IsClosed s n = (i : ℕ) × (n ≡ i + 1) × ((connection_at s i).closed ≡ true)
+
+-- the link of this number was open, and is dropped
+pub record Drops (s after : Story) (l : ℕ) : Type 0 where
+  pub place : ℕ
+  pub number : l ≡ s.first + place
+  pub still : (link_at s place).dropped ≡ false
+  pub dropped : (link_at after place).dropped ≡ true
+
+-- the effects name connections that are open, a close is the last of them, a link is dropped once
+abbrev pub NamesOpen : Story → Story → List Effect → Type 0
+NamesOpen s after [] = Unit {0}
+NamesOpen s after (effects.Client n bytes ∷ rest) = IsOpen s n × NamesOpen s after rest
+NamesOpen s after (effects.Close n ∷ rest) = IsOpen s n × IsClosed after n × (rest ≡ [])
+NamesOpen s after (effects.Forward l address bytes ∷ rest) = (l ≡ next_number s) × NamesOpen s after rest
+NamesOpen s after (effects.Drop l ∷ rest) = Drops s after l × NamesOpen s after rest
+
+abbrev pub BeginsOrderly : Type 0
+BeginsOrderly = (core : CoreState) (first : ℕ) → core.exchanges ≡ [] → IsOrderly (begun core first)
+
+abbrev pub TakesInOrder : Type 0
+TakesInOrder = (s : Story) (h : Said) → IsOrderly s → IsOrderly (heard s h)
+
+abbrev pub ActsInOrder : Type 0
+ActsInOrder = (s : Story) (now : ℕ) (act : Act) (told : List Effect) (after : Story) → IsOrderly s → IsDueFirst s (Some act) → Does s now act told after → IsOrderly after × NamesOpen s after told
