@@ -19,7 +19,7 @@ use Rattle.proxy_script.specs.declared.effect_list.Effect.TheVariants as effects
 use Rattle.proxy_engine.specs.Look.{Due}
 use Rattle.proxy_engine.specs.Story.{Story, ConnStory, with_connection}
 use Rattle.proxy_engine.specs.Due.{Serves, Finish}
-use Rattle.proxy_engine.specs.Acts.{passing, closing, continue_text, Refuses, Closes, Served}
+use Rattle.proxy_engine.specs.Acts.{passing, continue_text, Refuses, Closes, Served}
 use Rattle.proxy_engine.specs.State.{ConnStands, Stands, state, wish_at, finish_at, lost_load, Done}
 use Rattle.proxy_engine.specs.Wishes.{IsMessageWish, IsWish, wish_by}
 use Rattle.proxy_engine.specs.declared.wishes.Wish.{Wish}

@@ -4,7 +4,6 @@
 -- Does: an act was done                             MayForward: an act that may need a link
 use Rattle.std.specs.Prelude.{◌≡◌, ℕ, ◌+◌, ◌<◌, ◌^◌, List, [], ◌∷◌, ◌++◌, length, Bool, true, false, ◌||◌, Option, None, Some, if◌then◌else◌, slice_set, codes, bytes_eq, Result, Ok, Err, unwrap_or}
 use Rattle.hx_framing.specs.declared.requests.Request.{Request}
-use Rattle.hx_framing.specs.declared.fault.FrameFault.{FrameFault}
 use Rattle.hx_framing.specs.declared.fault.FrameFault.TheVariants as frame
 use Rattle.hx_framing.specs.declared.answer.Next.{Next}
 use Rattle.hx_framing.specs.declared.answer.Next.TheVariants as next

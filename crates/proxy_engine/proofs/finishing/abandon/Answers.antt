@@ -1,7 +1,7 @@
 use Rattle.proxy_core.specs.State.{State as CoreState}
-use Rattle.std.proofs.Common.{rules, ◌≡◌, ◌+◌, ◌<◌, ◌≤◌, ◌^◌, ◌∙◌, ◌∷◌, [], ℕ, length, ap, arith}
+use Rattle.std.proofs.Common.{◌≡◌, ◌+◌, ◌≤◌, ◌^◌, ◌∙◌, ◌∷◌, [], ℕ, length, ap, arith}
 use Rattle.proxy_script.specs.declared.effect_list.Effect.TheVariants.{Drop}
-use Rattle.proxy_engine.specs.State.{LinkStands, lost_load}
+use Rattle.proxy_engine.specs.State.{LinkStands}
 use Rattle.proxy_engine.proofs.Parts.{both_length}
 use Rattle.proxy_engine.proofs.Searching.{some_part}
 use Rattle.proxy_engine.proofs.Wishing.{told_one}

@@ -1,13 +1,12 @@
-use Rattle.std.proofs.Common.{rules, ◌≡◌, ◌+◌, ◌<◌, ◌≤◌, ◌^◌, ◌∙◌, ◌++◌, ◌∷◌, [], ℕ, List, true, false, Some, length, get_or, sym, ap, subst, arith}
+use Rattle.std.proofs.Common.{rules, ◌≡◌, ◌+◌, ◌<◌, ◌≤◌, ◌^◌, ◌∙◌, ◌++◌, ◌∷◌, [], ℕ, List, length, get_or, sym, ap, subst, arith}
 use Rattle.proxy_script.specs.declared.effect_list.Effect.{Effect}
 use Rattle.proxy_script.specs.declared.effect_list.Effect.TheVariants.{Drop}
 use Rattle.proxy_engine.specs.Story.{no_link}
 use Rattle.proxy_engine.specs.Due.{Finish, Finishes}
 use Rattle.proxy_engine.specs.Acts.{effects_on}
 use Rattle.proxy_engine.specs.Acts.Came.{Replies}
-use Rattle.proxy_engine.specs.State.{LinkStands, Stands, state, Done, link_load, finish_at}
+use Rattle.proxy_engine.specs.State.{LinkStands, state, Done, link_load}
 use Rattle.proxy_engine.specs.Wishes.{EndFault}
-use Rattle.proxy_engine.specs.declared.ends.Link.{Link}
 use Rattle.proxy_engine.proofs.Parts.{both_length, both_here}
 use Rattle.proxy_engine.proofs.Searching.{some_part}
 use Rattle.proxy_engine.proofs.Wishing.{finish_known, same_place, told_one}

@@ -1,5 +1,4 @@
 use Rattle.std.proofs.Common.{rules, ◌≡◌, List, length, sym, subst, set, ap, ◌∙◌, Option, Some, ℕ}
-use Rattle.proxy_engine.specs.Story.{ConnStory}
 use Rattle.proxy_engine.specs.Acts.{with_opened}
 use Rattle.proxy_engine.specs.State.{Stands, state}
 use Rattle.proxy_engine.specs.declared.ends.Link.{Link}
