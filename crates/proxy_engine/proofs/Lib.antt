@@ -10,3 +10,4 @@ pub mod Wishing
 pub mod Stepping
 pub mod Wires
 pub mod Ordering
+pub mod Staying

@@ -3,8 +3,8 @@
 -- IsOrderly: connections, links and open exchanges belong together, and a closed connection has no open exchange
 -- NamesOpen: no effect names a connection that is closed or gone, or a link that was dropped
 -- Stays: what is closed, gone or dropped stays so
--- BeginsOrderly, TakesInOrder, ActsInOrder: the laws
-use Rattle.std.specs.Prelude.{◌≡◌, ℕ, ◌+◌, List, [], ◌∷◌, map, true, false, Option, None, Some, if◌then◌else◌}
+-- BeginsOrderly, TakesInOrder, ActsInOrder, TakesStay, ActsStay: the laws
+use Rattle.std.specs.Prelude.{◌≡◌, ℕ, ◌+◌, List, [], ◌∷◌, map, true, false, Option, None, Some, if◌then◌else◌, ◌<◌, ◌≤◌, length}
 use Rattle.proxy_core.specs.State.{State as CoreState}
 use Rattle.proxy_script.specs.declared.effect_list.Effect.{Effect}
 use Rattle.proxy_script.specs.declared.effect_list.Effect.TheVariants as effects
@@ -53,6 +53,14 @@ NamesOpen s after (effects.Close n ∷ rest) = IsOpen s n × IsClosed after n ×
 NamesOpen s after (effects.Forward l address bytes ∷ rest) = (l ≡ next_number s) × NamesOpen s after rest
 NamesOpen s after (effects.Drop l ∷ rest) = Drops s after l × NamesOpen s after rest
 
+-- what is closed, gone or dropped is so in a later story
+pub record Stays (s after : Story) : Type 0 where
+  pub closed : (i : ℕ) → i < length s.connections → (connection_at s i).closed ≡ true → (connection_at after i).closed ≡ true
+  pub gone : (i : ℕ) → i < length s.connections → (connection_at s i).gone ≡ true → (connection_at after i).gone ≡ true
+  pub dropped : (j : ℕ) → j < length s.links → (link_at s j).dropped ≡ true → (link_at after j).dropped ≡ true
+  pub connections : length s.connections ≤ length after.connections
+  pub links : length s.links ≤ length after.links
+
 abbrev pub BeginsOrderly : Type 0
 BeginsOrderly = (core : CoreState) (first : ℕ) → core.exchanges ≡ [] → IsOrderly (begun core first)
 
@@ -61,3 +69,9 @@ TakesInOrder = (s : Story) (h : Said) → IsOrderly s → IsOrderly (heard s h)
 
 abbrev pub ActsInOrder : Type 0
 ActsInOrder = (s : Story) (now : ℕ) (act : Act) (told : List Effect) (after : Story) → IsOrderly s → IsDueFirst s (Some act) → Does s now act told after → IsOrderly after × NamesOpen s after told
+
+abbrev pub TakesStay : Type 0
+TakesStay = (s : Story) (h : Said) → Stays s (heard s h)
+
+abbrev pub ActsStay : Type 0
+ActsStay = (s : Story) (now : ℕ) (act : Act) (told : List Effect) (after : Story) → Does s now act told after → Stays s after

@@ -2,7 +2,7 @@
 ghost use Rattle.std.specs.Prelude.{◌≡◌, Option};
 ghost use Rattle.proxy_engine.specs.Story.{Story};
 ghost use Rattle.proxy_engine.specs.Due.{Act, IsDueFirst};
-ghost use Rattle.proxy_engine.specs.Orderly.{BeginsOrderly, TakesInOrder, ActsInOrder};
+ghost use Rattle.proxy_engine.specs.Orderly.{BeginsOrderly, TakesInOrder, ActsInOrder, TakesStay, ActsStay};
 
 /// One act is due first, or none is: so `work` has no choice.
 pub fn due_once()
@@ -15,4 +15,10 @@ pub fn effects_name_open_ends()
     ensures first { BeginsOrderly }
     ensures takes { TakesInOrder }
     ensures acts { ActsInOrder }
+{}
+
+/// What is closed, gone or dropped stays so, whatever happens and is done.
+pub fn what_ends_stays_ended()
+    ensures takes { TakesStay }
+    ensures acts { ActsStay }
 {}

@@ -1,0 +1,164 @@
+-- What is closed, gone or dropped stays so.
+use Rattle.std.proofs.Common.{◌≡◌, ℕ, zero, suc, ◌-◌, ◌<◌, List, [], ◌∷◌, ◌++◌, length, get_or, set, refl, sym, ◌∙◌, subst, arith, Bool, true, false, ◌||◌, cond, None, Some, is_some, Result, Ok, Err}
+use Rattle.std.proofs.lemmas.List.{length_push}
+use Rattle.std.proofs.Math.ListN.{length-set}
+use Rattle.hx_framing.specs.declared.requests.Request.{Request}
+use Rattle.hx_framing.specs.declared.fault.FrameFault.TheVariants as frame
+use Rattle.hx_framing.specs.declared.answer.Next.{Next}
+use Rattle.hx_framing.specs.declared.answer.Next.TheVariants as next
+use Rattle.hx_framing.specs.Progress.{fed, finished}
+use Rattle.hx_hop.specs.declared.asked_for.Asked.{Asked}
+use Rattle.hx_target.specs.declared.faults.TargetFault.{TargetFault}
+use Rattle.proxy_core.specs.State.{State as CoreState}
+use Rattle.proxy_core.specs.declared.event.Event.{Event}
+use Rattle.proxy_script.specs.declared.effect_list.Effect.{Effect}
+use Rattle.proxy_engine.specs.Happenings.{Accepts, Sends, Hears, Ends, Leaves, Shuts, Fails}
+use Rattle.proxy_engine.specs.Story.{Story, ConnStory, LinkStory, no_connection, no_link, accepted, opened, connection_at, with_connection, with_link, with_core, sent, ended, left, heard_by, shut, failed_by}
+use Rattle.proxy_engine.specs.Due.{Abandons, Finishes, Serves, Gives, Breaks}
+use Rattle.proxy_engine.specs.Acts.{Came, Replies, Forwards, Nothing, Served, Arrives, StepsOn, came, after_on, freed, linked, closing, dropping, passing, with_opened}
+use Rattle.proxy_engine.specs.Orderly.{Stays, TakesStay, ActsStay}
+
+stays_set : {A : Type 0} (P : A → Type 0) (d : A) (xs : List A) (i : ℕ) (y : A) (k : ℕ) → (P (get_or xs i d) → P y) → P (get_or xs k d) → P (get_or (set xs i y) k d)
+stays_set P d [] i y k keep e = e
+stays_set P d (x ∷ xs) zero y zero keep e = keep e
+stays_set P d (x ∷ xs) zero y (suc k) keep e = e
+stays_set P d (x ∷ xs) (suc i) y zero keep e = e
+stays_set P d (x ∷ xs) (suc i) y (suc k) keep e = stays_set P d xs i y k keep e
+
+stays_push : {A : Type 0} (P : A → Type 0) (d : A) (xs : List A) (y : A) (k : ℕ) → k < length xs → P (get_or xs k d) → P (get_or (xs ++ y ∷ []) k d)
+stays_push P d [] y k l e = absurd (omega (arith, l))
+stays_push P d (x ∷ xs) y zero l e = e
+stays_push P d (x ∷ xs) y (suc k) l e = stays_push P d xs y k (omega (arith, l)) e
+
+abbrev IsShut : ConnStory → Type 0
+IsShut c = c.closed ≡ true
+
+abbrev IsGone : ConnStory → Type 0
+IsGone c = c.gone ≡ true
+
+abbrev IsDropped : LinkStory → Type 0
+IsDropped k = k.dropped ≡ true
+
+-- the same lists, under another core or none
+stays_here : (s : Story) (core : CoreState) → Stays s (with_core s core)
+stays_here s core = record { closed = λ i l e. e; gone = λ i l e. e; dropped = λ j l e. e; connections = omega arith; links = omega arith }
+
+stays_on : (r s t : Story) → Stays r s → Stays s t → Stays r t
+stays_on r s t f g = record {
+  closed = λ i l e. g.closed i (omega (arith, l, f.connections)) (f.closed i l e);
+  gone = λ i l e. g.gone i (omega (arith, l, f.connections)) (f.gone i l e);
+  dropped = λ j l e. g.dropped j (omega (arith, l, f.links)) (f.dropped j l e);
+  connections = omega (arith, f.connections, g.connections);
+  links = omega (arith, f.links, g.links);
+}
+
+stays_connection : (s : Story) (i : ℕ) (f : ConnStory → ConnStory) → ((c : ConnStory) → IsShut c → IsShut (f c)) → ((c : ConnStory) → IsGone c → IsGone (f c)) → Stays s (with_connection s i f)
+stays_connection s i f shuts goes = record {
+  closed = λ k l e. stays_set IsShut no_connection s.connections i (f (connection_at s i)) k (shuts (connection_at s i)) e;
+  gone = λ k l e. stays_set IsGone no_connection s.connections i (f (connection_at s i)) k (goes (connection_at s i)) e;
+  dropped = λ j l e. e;
+  connections = let same = length-set s.connections i (f (connection_at s i)) in omega (arith, same);
+  links = omega arith;
+}
+
+stays_link : (s : Story) (j : ℕ) (f : LinkStory → LinkStory) → ((k : LinkStory) → IsDropped k → IsDropped (f k)) → Stays s (with_link s j f)
+stays_link s j f drops = record {
+  closed = λ k l e. e;
+  gone = λ k l e. e;
+  dropped = λ k l e. stays_set IsDropped no_link s.links j (f (get_or s.links j no_link)) k (drops (get_or s.links j no_link)) e;
+  connections = omega arith;
+  links = let same = length-set s.links j (f (get_or s.links j no_link)) in omega (arith, same);
+}
+
+shut_by : (b : Bool) (c d : ConnStory) → d.closed ≡ c.closed → IsShut c → IsShut (cond b c d)
+shut_by true c d e h = h
+shut_by false c d e h = e ∙ h
+
+gone_by : (b : Bool) (c d : ConnStory) → (IsGone c → IsGone d) → IsGone c → IsGone (cond b c d)
+gone_by true c d e h = h
+gone_by false c d e h = e h
+
+dropped_by : (b : Bool) (k d : LinkStory) → d.dropped ≡ k.dropped → IsDropped k → IsDropped (cond b k d)
+dropped_by true k d e h = h
+dropped_by false k d e h = e ∙ h
+
+pub takes_stay : TakesStay
+takes_stay s (Accepts n) = record {
+  closed = λ i l e. stays_push IsShut no_connection s.connections (accepted s.core.table.max_body) i l e;
+  gone = λ i l e. stays_push IsGone no_connection s.connections (accepted s.core.table.max_body) i l e;
+  dropped = λ j l e. e;
+  connections = let more = length_push s.connections (accepted s.core.table.max_body) in omega (arith, more);
+  links = omega arith;
+}
+takes_stay s (Sends n bytes) = stays_connection s (n - 1) (sent bytes) (λ c e. shut_by (c.gone || (c.closed || c.progress.ended)) c (record c { progress = fed c.progress bytes }) refl e) (λ c e. gone_by (c.gone || (c.closed || c.progress.ended)) c (record c { progress = fed c.progress bytes }) (λ g. g) e)
+takes_stay s (Ends n) = stays_connection s (n - 1) ended (λ c e. shut_by (c.gone || c.closed) c (record c { progress = finished c.progress }) refl e) (λ c e. gone_by (c.gone || c.closed) c (record c { progress = finished c.progress }) (λ g. g) e)
+takes_stay s (Leaves n) = stays_connection s (n - 1) left (λ c e. shut_by c.closed c (record c { gone = true }) refl e) (λ c e. gone_by c.closed c (record c { gone = true }) (λ g. refl) e)
+takes_stay s (Hears l bytes) = stays_link s (l - s.first) (heard_by bytes) (λ k e. dropped_by (k.dropped || (is_some k.failed || k.progress.ended)) k (record k { progress = fed k.progress bytes }) refl e)
+takes_stay s (Shuts l) = stays_link s (l - s.first) shut (λ k e. dropped_by (k.dropped || is_some k.failed) k (record k { progress = finished k.progress }) refl e)
+takes_stay s (Fails l kind) = stays_link s (l - s.first) (failed_by kind) (λ k e. dropped_by (k.dropped || is_some k.failed) k (record k { failed = Some kind }) refl e)
+
+-- ---- acts
+
+shut_or : (b c : Bool) → b ≡ true → (b || c) ≡ true
+shut_or true c e = refl
+shut_or false c e = cc
+
+stays_closing : (s : Story) (i : ℕ) (close : Bool) → Stays s (with_connection s i (closing close))
+stays_closing s i close = stays_connection s i (closing close) (λ c e. shut_or c.closed close e) (λ c e. e)
+
+stays_opened : (s : Story) (i : ℕ) (to_head : Bool) → Stays s (with_opened s i to_head)
+stays_opened s i to_head =
+    let y = linked (Some (length s.links)) (connection_at s i) in
+    record {
+      closed = λ k l e. stays_set IsShut no_connection s.connections i y k (λ e. e) e;
+      gone = λ k l e. stays_set IsGone no_connection s.connections i y k (λ e. e) e;
+      dropped = λ j l e. stays_push IsDropped no_link s.links (opened s.core.table.max_body to_head i) j l e;
+      connections = let same = length-set s.connections i y in omega (arith, same);
+      links = let more = length_push s.links (opened s.core.table.max_body to_head i) in omega (arith, more);
+    }
+
+stays_after : (s : Story) (i : ℕ) (to_head : Bool) (o : Came) → Stays s (after_on i to_head o s)
+stays_after s i to_head (Replies bytes close) = stays_closing s i close
+stays_after s i to_head (Forwards address bytes) = stays_opened s i to_head
+stays_after s i to_head Nothing = stays_here s s.core
+
+stays_freed : (s : Story) (j i : ℕ) → Stays s (freed s j i)
+stays_freed s j i = stays_on s (with_link s j dropping) (freed s j i) (stays_link s j dropping (λ k e. refl)) (stays_connection (with_link s j dropping) i (linked None) (λ c e. e) (λ c e. e))
+
+stays_equal : (s t after : Story) → after ≡ t → Stays s t → Stays s after
+stays_equal s t after e h = subst (λ (x : Story). Stays s x) (sym e) h
+
+stays_stepped : (s t : Story) (i : ℕ) (to_head : Bool) (event : Event) (before told : List Effect) (after : Story) → Stays s t → StepsOn s t i to_head event before told after → Stays s after
+stays_stepped s t i to_head event before told after h d =
+    let now = with_core t d.core in
+    stays_equal s (after_on i to_head (came s.core.table d.outcome) now) after d.after_is
+    (stays_on s t (after_on i to_head (came s.core.table d.outcome) now) h (stays_on t now (after_on i to_head (came s.core.table d.outcome) now) (stays_here t d.core) (stays_after now i to_head (came s.core.table d.outcome))))
+
+stays_passed : (s : Story) (i : ℕ) (m : Next Request) → Stays s (with_connection s i (passing m))
+stays_passed s i m = stays_connection s i (passing m) (λ c e. e) (λ c e. e)
+
+stays_arrived : (s : Story) (now i : ℕ) (r : Request) (judged : Result Asked TargetFault) (told : List Effect) (after : Story) → Arrives s now i r judged told after → Stays s after
+stays_arrived s now i r (Ok asked) told after d = stays_stepped s (with_connection s i (passing (next.Message r))) i _ _ _ told after (stays_passed s i (next.Message r)) d.1
+stays_arrived s now i r (Err fault) told after d = stays_equal s _ after d.after_is (stays_closing s i true)
+
+stays_served : (s : Story) (now i : ℕ) (w : Next Request) (told : List Effect) (after : Story) → Served s now i w told after → Stays s after
+stays_served s now i next.More told after d = absurd d
+stays_served s now i next.NeedsContinue told after d = stays_equal s _ after d.1 (stays_passed s i next.NeedsContinue)
+stays_served s now i (next.Message r) told after d = stays_arrived s now i r d.0 told after d.2
+stays_served s now i (next.Refused frame.Truncated) told after d = stays_equal s _ after d.1 (stays_closing s i true)
+stays_served s now i (next.Refused frame.Head) told after d = stays_equal s _ after d.after_is (stays_closing s i true)
+stays_served s now i (next.Refused frame.Version) told after d = stays_equal s _ after d.after_is (stays_closing s i true)
+stays_served s now i (next.Refused frame.BothLengths) told after d = stays_equal s _ after d.after_is (stays_closing s i true)
+stays_served s now i (next.Refused frame.Length) told after d = stays_equal s _ after d.after_is (stays_closing s i true)
+stays_served s now i (next.Refused frame.Coding) told after d = stays_equal s _ after d.after_is (stays_closing s i true)
+stays_served s now i (next.Refused frame.Chunk) told after d = stays_equal s _ after d.after_is (stays_closing s i true)
+stays_served s now i (next.Refused frame.TooLarge) told after d = stays_equal s _ after d.after_is (stays_closing s i true)
+stays_served s now i (next.Refused frame.Expect) told after d = stays_equal s _ after d.after_is (stays_closing s i true)
+stays_served s now i (next.Refused frame.Status) told after d = stays_equal s _ after d.after_is (stays_closing s i true)
+stays_served s now i next.End told after d = stays_equal s _ after d.1 (stays_closing s i true)
+
+pub acts_stay : ActsStay
+acts_stay s now (Abandons i l) told after d = stays_stepped s (freed s l i) i _ _ _ told after (stays_freed s l i) d
+acts_stay s now (Finishes j (Gives r)) told after d = stays_stepped s (freed s j _) _ _ _ _ told after (stays_freed s j _) d.1
+acts_stay s now (Finishes j (Breaks kind)) told after d = stays_stepped s (freed s j _) _ _ _ _ told after (stays_freed s j _) d
+acts_stay s now (Serves i w) told after d = stays_served s now i w told after d
