@@ -50,13 +50,16 @@ fn answers(
     Ok(())
 }
 
-/// A run with the table of these tests.
-fn ran(alloc: Global, events: &[Event]) -> Result<Run, Fail> {
-    let config = Config::read(alloc, super::TABLE.as_bytes())
-        .ok()
-        .ok_or("a table")?;
+/// A run with this table.
+fn ran_by(alloc: Global, table: &str, events: &[Event]) -> Result<Run, Fail> {
+    let config = Config::read(alloc, table.as_bytes()).ok().ok_or("a table")?;
     let shelf = ListShelf::new(alloc, config.capacity());
     Ok(run(alloc, config, shelf, 1, events))
+}
+
+/// A run with the table of these tests.
+fn ran(alloc: Global, events: &[Event]) -> Result<Run, Fail> {
+    ran_by(alloc, super::TABLE, events)
 }
 
 fn stops(rt: &impl Abort, ran: &Run, count: usize, fault: Option<CoreFault>) {
@@ -199,3 +202,76 @@ fn a_denied_request_leaves_no_trace(rt: HostRuntime) -> Result<(), Fail> {
     refusal_is_told(&rt, &ran, 3);
     Ok(())
 }
+
+const DENYING: &str = "version = 1
+name = \"edge\"
+capacity = 2
+max_body = 1000
+max_stored = 10
+
+[[line]]
+host = \"*\"
+methods = [\"*\"]
+path = \"/admin\"
+origin = \"deny\"
+
+[[line]]
+host = \"*\"
+methods = [\"GET\"]
+path = \"/\"
+origin = \"127.0.0.1:8081\"
+";
+
+fn forwards_by(rt: &impl Abort, ran: &Run, at: usize, line: u16) {
+    match ran.outcomes.get(at) {
+        Some(Outcome::Forward(number, _)) => assert_eq!(rt; *number, line),
+        Some(Outcome::Reply(_)) => assert!(rt; false),
+        Some(Outcome::Ended) => assert!(rt; false),
+        None => assert!(rt; false),
+    }
+}
+
+fn events_at_a_denial(alloc: Global) -> Result<Vec<Event>, Fail> {
+    let mut events = Vec::new(alloc);
+    arrives(alloc, &mut events, 0, 1, Method::GET, "/admin")?;
+    arrives(alloc, &mut events, 0, 1, Method::HEAD, "/admin/x")?;
+    arrives(alloc, &mut events, 0, 1, Method::GET, "/admins")?;
+    arrives(alloc, &mut events, 0, 2, Method::POST, "/x")?;
+    Ok(events)
+}
+
+#[test]
+fn first_line_denies(rt: HostRuntime) -> Result<(), Fail> {
+    let events = events_at_a_denial(rt.alloc())?;
+    let ran = ran_by(rt.alloc(), DENYING, &events)?;
+    stops(&rt, &ran, 4, None);
+    replies(&rt, &ran, 0, DENIED);
+    replies(&rt, &ran, 1, DENIED_TO_HEAD);
+    forwards_by(&rt, &ran, 2, 2);
+    replies(&rt, &ran, 3, ALLOWED_BY_NONE);
+    Ok(())
+}
+
+const DENIED: &[u8] = b"HTTP/1.1 403 \r
+Date: Thu, 01 Jan 1970 00:00:00 GMT\r
+Content-Type: text/plain\r
+Refusal: denied by line 1\r
+Content-Length: 16\r
+\r
+denied by line 1";
+
+const DENIED_TO_HEAD: &[u8] = b"HTTP/1.1 403 \r
+Date: Thu, 01 Jan 1970 00:00:00 GMT\r
+Content-Type: text/plain\r
+Refusal: denied by line 1\r
+Content-Length: 16\r
+\r
+";
+
+const ALLOWED_BY_NONE: &[u8] = b"HTTP/1.1 403 \r
+Date: Thu, 01 Jan 1970 00:00:00 GMT\r
+Content-Type: text/plain\r
+Refusal: no line allows it\r
+Content-Length: 17\r
+\r
+no line allows it";
