@@ -139,7 +139,7 @@ origin = "255.255.255.255:8020"
 "#;
 
 /// A method, a Host value, a target, and what the table says of them.
-static REQUESTS: [(&str, &str, &str, Verdict); 45] = [
+static REQUESTS: [(&str, &str, &str, Verdict); 49] = [
     ("GET", "h", "/admin", Verdict::DeniedBy(1)),
     ("GET", "shop.example", "/admin/x", Verdict::DeniedBy(1)),
     ("POST", "shop.example", "/admin/", Verdict::DeniedBy(1)),
@@ -185,6 +185,11 @@ static REQUESTS: [(&str, &str, &str, Verdict); 45] = [
     ("GET", "h", "/?/admin", Verdict::Allowed(20)),
     ("GET", "h", "/x/admin", Verdict::Allowed(20)),
     ("POST", "h", "/", Verdict::NoLine),
+    // hosts and paths compare by their bytes
+    ("GET", "shop.example.", "/cart", Verdict::Allowed(20)),
+    ("PUT", "[0::1]", "/x", Verdict::NoLine),
+    ("GET", "h", "/Admin", Verdict::Allowed(20)),
+    ("GET", "h", "//admin", Verdict::Allowed(20)),
 ];
 
 /// A method, a Host value, a target, and the address of the line that allows them.
