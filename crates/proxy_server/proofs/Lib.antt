@@ -3,3 +3,4 @@ pub mod Stepping
 pub mod Fronts
 pub mod Playing
 pub mod Running
+pub mod Behind

@@ -4,3 +4,4 @@ pub mod Replay
 pub mod Steps
 pub mod FaultLines
 pub mod Runs
+pub mod Closes

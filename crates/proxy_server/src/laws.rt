@@ -4,10 +4,16 @@ ghost use Rattle.hx_allow.specs.Lines.{Table};
 ghost use Rattle.proxy_script.specs.Script.{Said as Item};
 ghost use Rattle.proxy_script.specs.declared.effect_list.Effect.{Effect};
 ghost use Rattle.proxy_server.specs.Played.{Scene, Plays, beginning};
+ghost use Rattle.proxy_server.specs.Closes.{EndsWithItsClose};
 ghost use Rattle.proxy_server.specs.Runs.{IsRun};
 
 /// Whatever a script plays, the core's steps are a good run: each outcome is that of its case over what the steps
 /// before it leave, and a denied request leaves no trace.
 pub fn a_play_is_a_run()
     ensures { (table : Table) → (items : List Item) → (effects : List Effect) → (last : Scene) → Plays (beginning table) items effects last → IsRun table last.story.core }
+{}
+
+/// Whatever a script plays, nothing goes to a client behind the close of its connection, and none is closed twice.
+pub fn nothing_follows_a_close()
+    ensures { (table : Table) → (items : List Item) → (effects : List Effect) → (last : Scene) → Plays (beginning table) items effects last → EndsWithItsClose effects }
 {}

@@ -17,6 +17,6 @@ mod steps;
 mod tests;
 
 pub use crate::faults::ReplayFault;
-pub use crate::laws::a_play_is_a_run;
+pub use crate::laws::{a_play_is_a_run, nothing_follows_a_close};
 pub use crate::memory::replayed;
 pub use crate::play::replay;
