@@ -1,7 +1,5 @@
 -- What the spans cover is what the head gives.
-use Rattle.std.proofs.Common.{◌≡◌, ℕ, Bool, List, map, take, length, slice_get, ap, subst, ◌∙◌, refl, [], ◌∷◌, Some, is_some, Result, Ok, Err, is_ok, IsTrue, get_or, arith}
-use Rattle.httpdate.specs.Date.{HasSecs, parse_secs}
-use Rattle.httpdate.specs.declared.date.HttpDate.{HttpDate}
+use Rattle.std.proofs.Common.{◌≡◌, ℕ, Bool, List, map, take, ap, subst, ◌∙◌, refl, [], ◌∷◌, IsTrue, get_or}
 use Rattle.http_header.specs.Token as header
 use Rattle.httparse.specs.Grammar.{RequestHead, ResponseHead, field_value, is_token_byte, IsToken}
 use Rattle.httparse.specs.Grammar as grammar
@@ -42,7 +40,7 @@ pub status_head_at-is : (bytes : List ℕ) (spans : List HeaderSpan) (r : Respon
 status_head_at-is bytes spans r h at =
     let fields : map (field_at bytes) (take r.headers spans) ≡ map field_of h.fields
     = fields_at bytes (take r.headers spans) h.fields at.fields in
-    λ i. record { status = at.code i; fields = fields i }
+    λ i. record { status = at.code i; minor = at.version i; fields = fields i }
 
 -- both crates mean one thing by a token
 same_token_byte : (b : ℕ) → is_token_byte b ≡ header.is_token_byte b
@@ -51,14 +49,3 @@ same_token_byte b = refl
 
 pub is_token-same : (name : List ℕ) → IsToken name → header.IsToken name
 is_token-same name token = (token.0, λ k d inside. subst (λ (t : Bool). IsTrue t) (same_token_byte (get_or name k d)) (token.1 k d inside))
-
--- the only value of a name
-pub only_value : (values : List (List ℕ)) (value : List ℕ) → slice_get values 0 ≡ Some value → length values ≡ 1 → values ≡ value ∷ []
-only_value [] value first one = absurd (omega arith)
-only_value (v ∷ []) value first one = cc
-only_value (v ∷ w ∷ values) value first one = absurd (omega arith)
-
--- a date is read exactly where the text shows one
-pub is_ok-secs : {E : Type 0} (text : List ℕ) (r : Result HttpDate E) → HasSecs text r → is_ok r ≡ is_some (parse_secs text)
-is_ok-secs text (Ok d) secs = ap is_some secs
-is_ok-secs text (Err e) secs = ap is_some secs

@@ -6,7 +6,7 @@ use Rattle.hx_framing.specs.declared.fault.FrameFault.{FrameFault}
 use Rattle.hx_framing.specs.declared.requests.Request.{Request}
 use Rattle.hx_framing.specs.declared.answer.Next.{Next}
 use Rattle.hx_framing.specs.Places.{head_length}
-use Rattle.hx_framing.specs.Head.{Judges, head_of, is_taken}
+use Rattle.hx_framing.specs.Head.{Judges, head_of}
 use Rattle.hx_framing.specs.Reading.{Reading, Spelled}
 use Rattle.hx_framing.specs.RequestReading.{Reads, ReadsBy, with_head}
 use Rattle.hx_framing.specs.Progress.{Progress, next_of}
@@ -14,8 +14,8 @@ use Rattle.hx_framing.specs.RequestStream.{StreamSpells, Answers}
 
 pub judged_once_lem : (bytes : List ℕ) (a b : Result Head FrameFault) → Judges bytes a → Judges bytes b → a ≡ b
 judged_once_lem bytes (Ok a) (Ok b) x y = ap Ok (x.2 ∙ ap head_of (request_unique bytes x.0 y.0 [] [] x.1.0 y.1.0).0 ∙ sym y.2)
-judged_once_lem bytes (Ok a) (Err g) x y = absurd (let no_head = y.0 x.0 x.1 in let head = ap (is_taken bytes) x.2 ∙ no_head in cc (head, x.3))
-judged_once_lem bytes (Err f) (Ok b) x y = absurd (let no_head = x.0 y.0 y.1 in let head = ap (is_taken bytes) y.2 ∙ no_head in cc (head, y.3))
+judged_once_lem bytes (Ok a) (Err g) x y = absurd (y.0 x.0 x.1)
+judged_once_lem bytes (Err f) (Ok b) x y = absurd (x.0 y.0 y.1)
 judged_once_lem bytes (Err f) (Err g) x y = ap Err (x.1 ∙ sym y.1)
 
 pub read_once_lem : (max : ℕ) (ended told : Bool) (bytes : List ℕ) (a b : Reading Request) → Reads max ended told bytes a → Reads max ended told bytes b → a ≡ b

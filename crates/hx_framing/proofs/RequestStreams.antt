@@ -1,13 +1,22 @@
 -- Streams of requests: bytes that come later, one more request, and what a reader stands for.
-use Rattle.std.proofs.Common.{◌≡◌, ℕ, Bool, true, false, List, [], ◌∷◌, ◌++◌, refl, sym, ap, subst, ◌∙◌, Option, Some, None}
+use Rattle.std.proofs.Common.{◌≡◌, ℕ, Bool, true, false, List, [], ◌∷◌, ◌++◌, refl, sym, ap, subst, ◌∙◌, append_assoc, Result, Ok, Err, OnOk}
+use Rattle.std.proofs.lemmas.List.{append-nil}
+use Rattle.hx_framing.specs.declared.request_head.Head.{Head}
+use Rattle.hx_framing.specs.declared.content.Content.{Content}
+use Rattle.hx_framing.specs.declared.request_phase.RequestPhase.{RequestPhase}
+use Rattle.hx_framing.specs.declared.request_phase.RequestPhase.TheVariants as phase
+use Rattle.hx_framing.specs.Body.{Body}
+use Rattle.hx_framing.specs.Contents.{body_from}
 use Rattle.hx_framing.specs.declared.requests.Request.{Request}
 use Rattle.hx_framing.specs.declared.fault.FrameFault.{FrameFault}
 use Rattle.hx_framing.specs.declared.answer.Next.{Next}
-use Rattle.hx_framing.specs.Reading.{Reading, Incomplete, Continue, Over, Spelled, Faulty, IsSettled, extended}
-use Rattle.hx_framing.specs.RequestReading.{Reads}
+use Rattle.hx_framing.specs.Reading.{Reading, Incomplete, Continue, Over, Spelled, Faulty, with_body, IsSettled, extended}
+use Rattle.hx_framing.specs.RequestReading.{request_of, Reads}
+use Rattle.hx_framing.specs.RequestFound.{Resumes}
 use Rattle.hx_framing.specs.RequestStream.{SpellsRequest, StreamSpells, Answers}
 use Rattle.hx_framing.specs.Progress.{Progress, next_of, fed, finished, IsDue}
 use Rattle.hx_framing.specs.RequestState.{State, StandsFor, Keeps}
+use Rattle.hx_framing.proofs.RequestOnce.{read_once_lem}
 use Rattle.hx_framing.proofs.RequestLemmas.{reads_message, reads_append, reads_ended, reads_over}
 
 pub spells_append : (max : ℕ) (stream : List ℕ) (ms : List Request) (rest w : List ℕ)
@@ -23,6 +32,13 @@ pub spells_push : (max : ℕ) (stream : List ℕ) (ms : List Request) (m : Reque
     → StreamSpells max stream ms mid → SpellsRequest max mid m rest → StreamSpells max stream (ms ++ m ∷ []) rest
 spells_push max stream [] m mid rest s x = (rest, subst (λ (b : List ℕ). SpellsRequest max b m rest) s x, refl)
 spells_push max stream (n ∷ ms) m mid rest s x = (s.0, s.1, spells_push max s.0 ms m mid rest s.2 x)
+
+same_fault : (f g : FrameFault) → ◌≡◌ {A = Reading Request} (Faulty f) (Faulty g) → f ≡ g
+same_fault f g e = cc
+
+pub one_fault_lem : (max : ℕ) (t : Bool) (bytes more : List ℕ) (f g : FrameFault) → Reads max false t bytes (Faulty f)
+    → Reads max false t (bytes ++ more) (Faulty g) → f ≡ g
+one_fault_lem max t bytes more f g x y = same_fault f g (read_once_lem max false t (bytes ++ more) (Faulty f) (Faulty g) (reads_append max t bytes more (Faulty f) tt x) y)
 
 -- ---- what is due stays due
 
@@ -72,106 +88,142 @@ due_finished p a due x = record {
 
 -- ---- a reader
 
--- what is read in the unread bytes is read in the stream
-kept_reads : (s : State) (p : Progress Request) (r : Reading Request) → s.fault ≡ None → (stands : StandsFor s p)
-    → Reads p.max_body s.ended s.told s.unread r → Reads p.max_body p.ended p.told stands.rest r
-kept_reads s p r none stands reads =
-    let k = subst (λ (o : Option FrameFault). Keeps s p stands.rest o) none stands.keeps in
-    subst (λ (u : List ℕ). Reads p.max_body p.ended p.told u r) k.0
-    (subst (λ (t : Bool). Reads p.max_body p.ended t s.unread r) k.1
-    (subst (λ (e : Bool). Reads p.max_body e s.told s.unread r) stands.ended reads))
-
--- what is read in the unread bytes, whatever the limit and the continue
-abbrev pub ReadsAlways : State → Reading Request → Type 0
-ReadsAlways s r = (max : ℕ) (told : Bool) → Reads max s.ended told s.unread r
-
-pub answers_by : (s : State) (p : Progress Request) (r : Reading Request) → s.fault ≡ None → ReadsAlways s r
-    → StandsFor s p → Answers p (next_of r)
-answers_by s p r none reads stands = record {
+-- what is found behind the messages given is the answer
+pub answers_by : (p : Progress Request) (s : State) (r : Reading Request) → (stands : StandsFor s p)
+    → Reads p.max_body p.ended p.told stands.rest r → Answers p (next_of r)
+answers_by p s r stands reads = record {
   rest = stands.rest;
   reading = r;
   spells = stands.spells;
-  reads = kept_reads s p r none stands (reads p.max_body s.told);
+  reads = reads;
   answer_is = refl;
 }
 
--- a fault that was answered is answered again
-pub answers_fault : (s : State) (p : Progress Request) (f : FrameFault) → s.fault ≡ Some f → StandsFor s p → Answers p (next_of (Faulty f))
-answers_fault s p f some stands = record {
-  rest = stands.rest;
-  reading = Faulty f;
-  spells = stands.spells;
-  reads = subst (λ (o : Option FrameFault). Keeps s p stands.rest o) some stands.keeps;
-  answer_is = refl;
+-- before a head
+pub before : (s : State) (p : Progress Request) → s.phase ≡ phase.BeforeHead → (stands : StandsFor s p) → (s.unread ≡ stands.rest) × (p.told ≡ false)
+before s p waiting stands = subst (λ (f : RequestPhase). Keeps s p stands.rest f) waiting stands.keeps
+
+-- what is read in the unread bytes is read in the stream
+pub kept_reads : (s : State) (p : Progress Request) (r : Reading Request) → s.phase ≡ phase.BeforeHead → (stands : StandsFor s p)
+    → Reads s.max_body s.ended false s.unread r → Reads p.max_body p.ended p.told stands.rest r
+kept_reads s p r waiting stands reads =
+    let k = before s p waiting stands in
+    subst (λ (m : ℕ). Reads m p.ended p.told stands.rest r) stands.max_body
+    (subst (λ (e : Bool). Reads s.max_body e p.told stands.rest r) stands.ended
+    (subst (λ (t : Bool). Reads s.max_body s.ended t stands.rest r) (sym k.1)
+    (subst (λ (u : List ℕ). Reads s.max_body s.ended false u r) k.0 reads)))
+
+-- in a content
+pub inside : (s : State) (p : Progress Request) (head : Head) (content : Content) → s.phase ≡ phase.InContent head content → (stands : StandsFor s p)
+    → Resumes p.max_body p.told head content stands.rest s.unread
+inside s p head content waiting stands = subst (λ (f : RequestPhase). Keeps s p stands.rest f) waiting stands.keeps
+
+-- what is taken of a content is read in the stream
+pub content_reads : (s : State) (p : Progress Request) (head : Head) (content : Content) (body : Body) → s.phase ≡ phase.InContent head content → (stands : StandsFor s p)
+    → body_from content false s.unread ≡ body → Reads p.max_body p.ended p.told stands.rest (with_body s.ended (request_of head) body)
+content_reads s p head content body waiting stands is =
+    let here : Reads p.max_body p.ended p.told (stands.rest ++ []) (with_body p.ended (request_of head) (body_from content false (s.unread ++ []))) = inside s p head content waiting stands [] p.ended in
+    subst (λ (e : Bool). Reads p.max_body p.ended p.told stands.rest (with_body e (request_of head) body)) (sym stands.ended)
+    (subst (λ (b : Body). Reads p.max_body p.ended p.told stands.rest (with_body p.ended (request_of head) b)) (ap (body_from content false) (append-nil s.unread) ∙ is)
+    (subst (λ (u : List ℕ). Reads p.max_body p.ended p.told u (with_body p.ended (request_of head) (body_from content false (s.unread ++ [])))) (append-nil stands.rest) here))
+
+-- ---- what the reader is left with
+
+pub keeps_going : (t : State) (p : Progress Request) (head : Head) (content : Content) (rest : List ℕ) → t.phase ≡ phase.InContent head content
+    → Resumes p.max_body p.told head content rest t.unread → Keeps t p rest t.phase
+keeps_going t p head content rest going on = subst (λ (f : RequestPhase). Keeps t p rest f) (sym going) on
+
+pub keeps_fault : (t : State) (p : Progress Request) (rest : List ℕ) (f : FrameFault) → t.phase ≡ phase.Faulty f
+    → Reads p.max_body p.ended p.told rest (Faulty f) → Keeps t p rest t.phase
+keeps_fault t p rest f faulty reads = subst (λ (g : RequestPhase). Keeps t p rest g) (sym faulty) reads
+
+-- nothing was given
+pub stands_on : (s t : State) (p : Progress Request) → t.max_body ≡ s.max_body → t.ended ≡ s.ended → (stands : StandsFor s p)
+    → Keeps t p stands.rest t.phase → StandsFor t p
+stands_on s t p max e stands keeps =
+    record { max_body = max ∙ stands.max_body; ended = e ∙ stands.ended; rest = stands.rest; spells = stands.spells; keeps = keeps }
+
+-- one more request was given, and rest is left
+pub stands_given : (s t : State) (p : Progress Request) (m : Request) → t.max_body ≡ s.max_body → t.ended ≡ s.ended → t.phase ≡ phase.BeforeHead
+    → (stands : StandsFor s p) → Reads p.max_body p.ended p.told stands.rest (Spelled m t.unread)
+    → StandsFor t (record p { given = p.given ++ m ∷ []; told = false })
+stands_given s t p m max e waiting stands reads = record {
+  max_body = max ∙ stands.max_body;
+  ended = e ∙ stands.ended;
+  rest = t.unread;
+  spells = spells_push p.max_body p.stream p.given m stands.rest t.unread stands.spells (reads_message p.max_body p.ended p.told stands.rest m t.unread reads);
+  keeps = subst (λ (f : RequestPhase). Keeps t (record p { given = p.given ++ m ∷ []; told = false }) t.unread f) (sym waiting) (refl, refl);
 }
 
--- one more request was given
-pub stands_message : (s : State) (p : Progress Request) (m : Request) (rest : List ℕ) → s.fault ≡ None → ReadsAlways s (Spelled m rest) → StandsFor s p
-    → StandsFor (record s { unread = rest; told = false }) (record p { given = p.given ++ m ∷ []; told = false })
-stands_message s p m rest none reads stands =
-    record {
-      max_body = stands.max_body;
-      ended = stands.ended;
-      rest = rest;
-      spells = spells_push p.max_body p.stream p.given m stands.rest rest stands.spells
-          (reads_message p.max_body p.ended p.told stands.rest m rest (kept_reads s p (Spelled m rest) none stands (reads p.max_body s.told)));
-      keeps = subst (λ (o : Option FrameFault). Keeps (record s { unread = rest; told = false }) (record p { given = p.given ++ m ∷ []; told = false }) rest o) (sym none) (refl, refl);
-    }
+-- ---- a piece has come
 
--- the fault is kept
-pub stands_fault : (s : State) (p : Progress Request) (f : FrameFault) → s.fault ≡ None → ReadsAlways s (Faulty f) → StandsFor s p
-    → StandsFor (record s { fault = Some f }) p
-stands_fault s p f none reads stands = record {
-  max_body = stands.max_body;
-  ended = stands.ended;
-  rest = stands.rest;
-  spells = stands.spells;
-  keeps = kept_reads s p (Faulty f) none stands (reads p.max_body s.told);
+resumes_fed : (max : ℕ) (t : Bool) (head : Head) (content : Content) (rest unread w : List ℕ) → Resumes max t head content rest unread
+    → Resumes max t head content (rest ++ w) (unread ++ w)
+resumes_fed max t head content rest unread w on = λ more ended.
+    subst (λ (u : List ℕ). Reads max ended t u (with_body ended (request_of head) (body_from content false ((unread ++ w) ++ more)))) (sym (append_assoc rest w more))
+    (subst (λ (u : List ℕ). Reads max ended t (rest ++ (w ++ more)) (with_body ended (request_of head) (body_from content false u))) (sym (append_assoc unread w more)) (on (w ++ more) ended))
+
+faulty_fed : (p : Progress Request) (rest w : List ℕ) (f : FrameFault) → p.ended ≡ false → Reads p.max_body p.ended p.told rest (Faulty f)
+    → Reads p.max_body p.ended p.told (rest ++ w) (Faulty f)
+faulty_fed p rest w f open_still k =
+    subst (λ (e : Bool). Reads p.max_body e p.told (rest ++ w) (Faulty f)) (sym open_still)
+    (reads_append p.max_body p.told rest w (Faulty f) tt (subst (λ (e : Bool). Reads p.max_body e p.told rest (Faulty f)) open_still k))
+
+pub stands_fed : (s t : State) (p : Progress Request) (piece : List ℕ) → t.max_body ≡ s.max_body → t.ended ≡ s.ended → t.phase ≡ s.phase → t.unread ≡ s.unread ++ piece
+    → p.ended ≡ false → StandsFor s p → StandsFor t (fed p piece)
+stands_fed s t p piece max e same longer open_still stands = record {
+  max_body = max ∙ stands.max_body;
+  ended = e ∙ stands.ended;
+  rest = stands.rest ++ piece;
+  spells = spells_append p.max_body p.stream p.given stands.rest piece stands.spells;
+  keeps = subst (λ (f : RequestPhase). Keeps t (fed p piece) (stands.rest ++ piece) f) (sym same) (by_phase s.phase stands.keeps);
 }
-
--- a piece has come
-pub stands_fed : (s : State) (p : Progress Request) (piece : List ℕ) → s.fault ≡ None → StandsFor s p
-    → StandsFor (record s { unread = s.unread ++ piece }) (fed p piece)
-stands_fed s p piece none stands =
-    let k = subst (λ (o : Option FrameFault). Keeps s p stands.rest o) none stands.keeps in
-    record {
-      max_body = stands.max_body;
-      ended = stands.ended;
-      rest = stands.rest ++ piece;
-      spells = spells_append p.max_body p.stream p.given stands.rest piece stands.spells;
-      keeps = subst (λ (o : Option FrameFault). Keeps (record s { unread = s.unread ++ piece }) (fed p piece) (stands.rest ++ piece) o) (sym none)
-          (ap (λ b. b ++ piece) k.0, k.1);
-    }
+  where
+    by_phase : (f : RequestPhase) → Keeps s p stands.rest f → Keeps t (fed p piece) (stands.rest ++ piece) f
+    by_phase phase.BeforeHead k = (longer ∙ ap (λ u. u ++ piece) k.0, k.1)
+    by_phase (phase.InContent head content) k =
+        subst (λ (u : List ℕ). Resumes p.max_body p.told head content (stands.rest ++ piece) u) (sym longer)
+        (resumes_fed p.max_body p.told head content stands.rest s.unread piece k)
+    by_phase (phase.Faulty f) k = faulty_fed p stands.rest piece f open_still k
 
 -- after a fault what comes doesn't count
-pub stands_fed_faulty : (s : State) (p : Progress Request) (piece : List ℕ) (f : FrameFault) → s.fault ≡ Some f → StandsFor s p → p.ended ≡ false
+pub stands_fed_faulty : (s : State) (p : Progress Request) (piece : List ℕ) (f : FrameFault) → s.phase ≡ phase.Faulty f → StandsFor s p → p.ended ≡ false
     → StandsFor s (fed p piece)
 stands_fed_faulty s p piece f some stands open_still =
-    let k = subst (λ (o : Option FrameFault). Keeps s p stands.rest o) some stands.keeps in
+    let k = subst (λ (o : RequestPhase). Keeps s p stands.rest o) some stands.keeps in
     record {
       max_body = stands.max_body;
       ended = stands.ended;
       rest = stands.rest ++ piece;
       spells = spells_append p.max_body p.stream p.given stands.rest piece stands.spells;
-      keeps = subst (λ (o : Option FrameFault). Keeps s (fed p piece) (stands.rest ++ piece) o) (sym some)
+      keeps = subst (λ (o : RequestPhase). Keeps s (fed p piece) (stands.rest ++ piece) o) (sym some)
           (subst (λ (e : Bool). Reads p.max_body e p.told (stands.rest ++ piece) (Faulty f)) (sym open_still)
           (reads_append p.max_body p.told stands.rest piece (Faulty f) tt
           (subst (λ (e : Bool). Reads p.max_body e p.told stands.rest (Faulty f)) open_still k)));
     }
 
--- the stream has ended
+-- ---- the stream has ended
+
 pub stands_finished : (s : State) (p : Progress Request) → StandsFor s p → StandsFor (record s { ended = true }) (finished p)
 stands_finished s p stands = record {
   max_body = stands.max_body;
   ended = refl;
   rest = stands.rest;
   spells = stands.spells;
-  keeps = by_fault s.fault stands.keeps;
+  keeps = by_phase s.phase stands.keeps;
 }
   where
-    by_fault : (o : Option FrameFault) → Keeps s p stands.rest o → Keeps (record s { ended = true }) (finished p) stands.rest o
-    by_fault None k = k
-    by_fault (Some f) k = reads_ended p.max_body p.ended p.told stands.rest (Faulty f) tt k
+    by_phase : (f : RequestPhase) → Keeps s p stands.rest f → Keeps (record s { ended = true }) (finished p) stands.rest f
+    by_phase phase.BeforeHead k = k
+    by_phase (phase.InContent head content) k = k
+    by_phase (phase.Faulty f) k = reads_ended p.max_body p.ended p.told stands.rest (Faulty f) tt k
 
 pub ended_is : (s : State) (p : Progress Request) → StandsFor s p → s.ended ≡ p.ended
 ended_is s p stands = stands.ended
+
+-- where the piece found room
+pub stands_fed_by : {A E : Type 0} (s t : State) (piece : List ℕ) {unread : List ℕ} → t.max_body ≡ s.max_body → t.ended ≡ s.ended → t.phase ≡ s.phase → unread ≡ s.unread
+    → (r : Result A E) → OnOk r (t.unread ≡ unread ++ piece)
+    → OnOk r ((p : Progress Request) → StandsFor s p → p.ended ≡ false → StandsFor t (fed p piece))
+stands_fed_by s t piece max e same kept (Ok x) longer = λ p stands open_still. stands_fed s t p piece max e same (longer ∙ ap (λ u. u ++ piece) kept) open_still stands
+stands_fed_by s t piece max e same kept (Err x) longer = tt

@@ -1,29 +1,59 @@
 -- What the definitions of response streams say is one thing.
-use Rattle.std.proofs.Common.{◌≡◌, ℕ, Bool, List, [], ◌∷◌, take, drop, sym, ap, ◌∙◌, Option, Some, None, Result, Ok, Err}
+use Rattle.std.proofs.Common.{◌≡◌, ℕ, Bool, true, false, List, [], ◌∷◌, take, drop, sym, ap, ◌∙◌, subst, Option, Some, None, Result, Ok, Err}
 use Rattle.httparse.proofs.GrammarLemmas.{response_unique}
 use Rattle.hx_framing.specs.declared.status_head.StatusHead.{StatusHead}
 use Rattle.hx_framing.specs.declared.responses.Response.{Response}
 use Rattle.hx_framing.specs.declared.fault.FrameFault.{FrameFault}
 use Rattle.hx_framing.specs.declared.answer.Next.{Next}
 use Rattle.hx_framing.specs.Places.{head_length}
-use Rattle.hx_framing.specs.StatusHead.{Judges, status_head_of, is_taken}
+use Rattle.hx_framing.specs.StatusHead.{Judges, status_head_of}
+use Rattle.hx_framing.specs.Lengths.{is_interim}
 use Rattle.hx_framing.specs.Reading.{Reading, Spelled}
-use Rattle.hx_framing.specs.ResponseReading.{with_head, ReadsBy, Reads}
+use Rattle.hx_framing.specs.ResponseReading.{with_head, IsFinal, FrontBy, Front, IsInterim, Passes, Reads}
 use Rattle.hx_framing.specs.ResponseStream.{AnswersBy, Answers}
 use Rattle.hx_framing.specs.Progress.{Progress, next_of}
 
 pub judged_once_lem : (bytes : List ℕ) (a b : Result StatusHead FrameFault) → Judges bytes a → Judges bytes b → a ≡ b
 judged_once_lem bytes (Ok a) (Ok b) x y = ap Ok (x.2 ∙ ap status_head_of (response_unique bytes x.0 y.0 [] [] x.1.0 y.1.0).0 ∙ sym y.2)
-judged_once_lem bytes (Ok a) (Err g) x y = absurd (let no_head = y.0 x.0 x.1 in let head = ap (is_taken bytes) x.2 ∙ no_head in cc (head, x.3))
-judged_once_lem bytes (Err f) (Ok b) x y = absurd (let no_head = x.0 y.0 y.1 in let head = ap (is_taken bytes) y.2 ∙ no_head in cc (head, y.3))
+judged_once_lem bytes (Ok a) (Err g) x y = absurd (y.0 x.0 x.1)
+judged_once_lem bytes (Err f) (Ok b) x y = absurd (x.0 y.0 y.1)
 judged_once_lem bytes (Err f) (Err g) x y = ap Err (x.1 ∙ sym y.1)
 
-pub read_once_lem : (max : ℕ) (h e : Bool) (bytes : List ℕ) (a b : Reading Response) → Reads max h e bytes a → Reads max h e bytes b → a ≡ b
-read_once_lem max h e bytes a b x y = by_place (head_length (take 32768 bytes)) x y
+front_once : (max : ℕ) (h e : Bool) (bytes : List ℕ) (a b : Reading Response) → Front max h e bytes a → Front max h e bytes b → a ≡ b
+front_once max h e bytes a b x y = by_place (head_length (take 32768 bytes)) x y
   where
-    by_place : (o : Option ℕ) → ReadsBy max h e bytes o a → ReadsBy max h e bytes o b → a ≡ b
+    by_place : (o : Option ℕ) → FrontBy max h e bytes o a → FrontBy max h e bytes o b → a ≡ b
     by_place None x y = x ∙ sym y
-    by_place (Some n) x y = x.2 ∙ ap (with_head max h e (drop n bytes)) (judged_once_lem (take n bytes) x.0 y.0 x.1 y.1) ∙ sym y.2
+    by_place (Some n) x y = x.3 ∙ ap (with_head max h e (drop n bytes)) (judged_once_lem (take n bytes) x.0 y.0 x.1 y.1) ∙ sym y.3
+
+-- behind the interim responses stands none
+front_final : (max : ℕ) (h e : Bool) (bytes : List ℕ) (r : Reading Response) (n : ℕ) → Front max h e bytes r → IsInterim bytes n → ⊥
+front_final max h e bytes r n x y = by_some (subst (λ (o : Option ℕ). FrontBy max h e bytes o r) y.place x)
+  where
+    both : (t : Bool) → t ≡ false → t ≡ true → ⊥
+    both true x y = cc
+    both false x y = cc
+
+    by_some : FrontBy max h e bytes (Some n) r → ⊥
+    by_some x =
+        let final : is_interim y.head.status ≡ false = subst IsFinal (judged_once_lem (take n bytes) x.0 (Ok y.head) x.1 y.judged) x.2 in
+        both (is_interim y.head.status) final y.interim
+
+same_size : (n m : ℕ) → Some n ≡ Some m → n ≡ m
+same_size n m x = cc
+
+once_behind : (max : ℕ) (h e : Bool) (a b : Reading Response) (bytes : List ℕ) (xs ys : List ℕ) (r q : List ℕ) → Passes bytes xs r → Passes bytes ys q
+    → Front max h e r a → Front max h e q b → a ≡ b
+once_behind max h e a b bytes [] [] r q x y f g =
+    front_once max h e q a b (subst (λ (u : List ℕ). Front max h e u a) (sym x ∙ y) f) g
+once_behind max h e a b bytes [] (m ∷ ys) r q x y f g = absurd (front_final max h e bytes a m (subst (λ (u : List ℕ). Front max h e u a) (sym x) f) y.0)
+once_behind max h e a b bytes (n ∷ xs) [] r q x y f g = absurd (front_final max h e bytes b n (subst (λ (u : List ℕ). Front max h e u b) (sym y) g) x.0)
+once_behind max h e a b bytes (n ∷ xs) (m ∷ ys) r q x y f g =
+    let same : n ≡ m = same_size n m (sym x.0.place ∙ y.0.place) in
+    once_behind max h e a b (drop m bytes) xs ys r q (subst (λ (k : ℕ). Passes (drop k bytes) xs r) same x.1) y.1 f g
+
+pub read_once_lem : (max : ℕ) (h e : Bool) (bytes : List ℕ) (a b : Reading Response) → Reads max h e bytes a → Reads max h e bytes b → a ≡ b
+read_once_lem max h e bytes a b x y = once_behind max h e a b bytes x.0 y.0 x.1 y.1 x.2 y.2 x.3 y.3
 
 same_parts : (m n : Response) (r q : List ℕ) → Spelled m r ≡ Spelled n q → (m ≡ n) × (r ≡ q)
 same_parts m n r q e = (cc, cc)

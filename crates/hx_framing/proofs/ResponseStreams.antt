@@ -1,18 +1,31 @@
 -- Streams of one response: bytes that come later, and what a reader stands for.
-use Rattle.std.proofs.Common.{◌≡◌, ℕ, ◌<◌, Bool, true, false, List, [], ◌∷◌, ◌++◌, length, refl, sym, ap, subst, ◌∙◌, append_assoc}
+use Rattle.std.proofs.Common.{◌≡◌, ℕ, Bool, true, false, List, [], ◌∷◌, ◌++◌, drop, refl, sym, ap, subst, ◌∙◌, append_assoc, Result, Ok, Err, OnOk}
+use Rattle.std.proofs.lemmas.List.{append-nil}
+use Rattle.hx_framing.specs.declared.status_head.StatusHead.{StatusHead}
 use Rattle.hx_framing.specs.declared.responses.Response.{Response}
 use Rattle.hx_framing.specs.declared.fault.FrameFault.{FrameFault}
 use Rattle.hx_framing.specs.declared.answer.Next.{Next}
-use Rattle.hx_framing.specs.declared.answer.Next.TheVariants.{More, End}
-use Rattle.hx_framing.specs.declared.response_reader.Phase.{Phase}
-use Rattle.hx_framing.specs.declared.response_reader.Phase.TheVariants as phase
-use Rattle.hx_framing.specs.Reading.{Reading, Incomplete, Continue, Over, Spelled, Faulty, IsSettled, extended}
-use Rattle.hx_framing.specs.ResponseReading.{Reads}
+use Rattle.hx_framing.specs.declared.answer.Next.TheVariants.{End}
+use Rattle.hx_framing.specs.declared.content.Content.{Content}
+use Rattle.hx_framing.specs.declared.response_phase.ResponsePhase.{ResponsePhase}
+use Rattle.hx_framing.specs.declared.response_phase.ResponsePhase.TheVariants as phase
+use Rattle.hx_framing.specs.Body.{Body}
+use Rattle.hx_framing.specs.Contents.{body_from}
+use Rattle.hx_framing.specs.Reading.{Reading, Incomplete, Continue, Over, Spelled, Faulty, with_body, IsSettled, extended}
+use Rattle.hx_framing.specs.ResponseReading.{response_of, Passes, Reads}
+use Rattle.hx_framing.specs.ResponseFound.{Resumes}
 use Rattle.hx_framing.specs.ResponseStream.{IsGiven, AnswersBy, Answers}
 use Rattle.hx_framing.specs.Progress.{Progress, next_of, fed, finished, IsDue}
-use Rattle.hx_framing.specs.Waits.{Waits}
 use Rattle.hx_framing.specs.ResponseState.{State, StandsFor, KeepsBy}
-use Rattle.hx_framing.proofs.ResponseLemmas.{reads_over, reads_ended, reads_append}
+use Rattle.hx_framing.proofs.ResponseOnce.{read_once_lem}
+use Rattle.hx_framing.proofs.ResponseLemmas.{reads_over, reads_ended, reads_append, reads_behind, passes_append, passes_behind}
+
+same_fault : (f g : FrameFault) → ◌≡◌ {A = Reading Response} (Faulty f) (Faulty g) → f ≡ g
+same_fault f g e = cc
+
+pub one_fault_lem : (max : ℕ) (h : Bool) (bytes more : List ℕ) (f g : FrameFault) → Reads max h false bytes (Faulty f)
+    → Reads max h false (bytes ++ more) (Faulty g) → f ≡ g
+one_fault_lem max h bytes more f g x y = same_fault f g (read_once_lem max h false (bytes ++ more) (Faulty f) (Faulty g) (reads_append max h bytes more (Faulty f) tt x) y)
 
 -- ---- what is due stays due
 
@@ -67,64 +80,66 @@ due_finished p a due x = record { spells = given_finished p p.given x.spells; by
 
 -- ---- a reader
 
--- what a reader before its message keeps
-record Before (s : State) (p : Progress Response) (given : List Response) : Type 0 where
-  none : given ≡ []
-  unread : s.unread ≡ p.stream
-  ended : s.ended ≡ p.ended
-  waits : Waits p.max_body p.to_head p.stream s.wanted
+-- what is read before the message is the answer
+pub answers_by : (p : Progress Response) (s : State) (r : Reading Response) → p.given ≡ [] → StandsFor s p
+    → Reads p.max_body p.to_head p.ended p.stream r → Answers p (next_of r)
+answers_by p s r none stands reads = record {
+  spells = stands.spells;
+  by = subst (λ (given : List Response). AnswersBy p given (next_of r)) (sym none) (r, reads, refl);
+}
 
-before_by : (s : State) (p : Progress Response) (given : List Response) → s.ended ≡ p.ended → KeepsBy s p phase.Reading given → Before s p given
-before_by s p [] ended k = record { none = refl; unread = k.0; ended = ended; waits = k.1 }
-before_by s p (m ∷ more) ended k = absurd k
+-- before the head
+pub record Before (s : State) (p : Progress Response) (given : List Response) : Type 0 where
+  pub none : given ≡ []
+  pub passes : (sizes : List ℕ) × Passes p.stream sizes s.unread
 
-before : (s : State) (p : Progress Response) → s.phase ≡ phase.Reading → StandsFor s p → Before s p p.given
-before s p reading stands = before_by s p p.given stands.ended (subst (λ (f : Phase). KeepsBy s p f p.given) reading stands.keeps)
+before_by : (s : State) (p : Progress Response) (given : List Response) → KeepsBy s p phase.BeforeHead given → Before s p given
+before_by s p [] k = record { none = refl; passes = k }
+before_by s p (m ∷ more) k = absurd k
 
--- what is read in the unread bytes, whatever request is answered
-abbrev pub ReadsAlways : State → Reading Response → Type 0
-ReadsAlways s r = (h : Bool) → Reads s.max_body h s.ended s.unread r
+pub before : (s : State) (p : Progress Response) → s.phase ≡ phase.BeforeHead → StandsFor s p → Before s p p.given
+before s p waiting stands = before_by s p p.given (subst (λ (f : ResponsePhase). KeepsBy s p f p.given) waiting stands.keeps)
 
-kept_reads : (s : State) (p : Progress Response) (r : Reading Response) → s.max_body ≡ p.max_body → Before s p p.given → ReadsAlways s r
-    → Reads p.max_body p.to_head p.ended p.stream r
-kept_reads s p r limit keeps reads =
-    subst (λ (m : ℕ). Reads m p.to_head p.ended p.stream r) limit
-    (subst (λ (u : List ℕ). Reads s.max_body p.to_head p.ended u r) keeps.unread
-    (subst (λ (e : Bool). Reads s.max_body p.to_head e s.unread r) keeps.ended (reads p.to_head)))
+-- what is read in the unread bytes is read in the stream
+pub kept_reads : (s : State) (p : Progress Response) (r : Reading Response) → s.phase ≡ phase.BeforeHead → StandsFor s p
+    → Reads s.max_body s.to_head s.ended s.unread r → Reads p.max_body p.to_head p.ended p.stream r
+kept_reads s p r waiting stands reads =
+    let keeps = before s p waiting stands in
+    subst (λ (m : ℕ). Reads m p.to_head p.ended p.stream r) stands.max_body
+    (subst (λ (h : Bool). Reads s.max_body h p.ended p.stream r) stands.to_head
+    (subst (λ (e : Bool). Reads s.max_body s.to_head e p.stream r) stands.ended
+    (reads_behind s.max_body s.to_head s.ended p.stream keeps.passes.0 s.unread r keeps.passes.1 reads)))
 
-pub answers_by : (s : State) (p : Progress Response) (r : Reading Response) → s.phase ≡ phase.Reading → ReadsAlways s r
-    → StandsFor s p → Answers p (next_of r)
-answers_by s p r reading reads stands =
-    let keeps = before s p reading stands in
-    record {
-      spells = stands.spells;
-      by = subst (λ (given : List Response). AnswersBy p given (next_of r)) (sym keeps.none) (r, kept_reads s p r stands.max_body keeps reads, refl);
-    }
+-- in the content
+pub record Inside (s : State) (p : Progress Response) (head : StatusHead) (content : Content) (given : List Response) : Type 0 where
+  pub none : given ≡ []
+  pub resumes : Resumes p.max_body p.to_head head content p.stream s.unread
 
-append-nil : (xs : List ℕ) → xs ++ [] ≡ xs
-append-nil [] = refl
-append-nil (x ∷ xs) = ap (λ ys. x ∷ ys) (append-nil xs)
+inside_by : (s : State) (p : Progress Response) (head : StatusHead) (content : Content) (given : List Response) → KeepsBy s p (phase.InContent head content) given
+    → Inside s p head content given
+inside_by s p head content [] k = record { none = refl; resumes = k }
+inside_by s p head content (m ∷ more) k = absurd k
 
--- with fewer bytes than are waited for nothing is due
-pub answers_short : (s : State) (p : Progress Response) → s.phase ≡ phase.Reading → s.ended ≡ false → length s.unread < s.wanted
-    → StandsFor s p → Answers p More
-answers_short s p reading open_still short stands =
-    let keeps = before s p reading stands in
-    let few : length (p.stream ++ []) < s.wanted
-    = subst (λ (u : List ℕ). length u < s.wanted) (keeps.unread ∙ sym (append-nil p.stream)) short in
-    let reads : Reads p.max_body p.to_head p.ended p.stream Incomplete
-    = subst (λ (e : Bool). Reads p.max_body p.to_head e p.stream Incomplete) (sym open_still ∙ keeps.ended)
-    (subst (λ (u : List ℕ). Reads p.max_body p.to_head false u Incomplete) (append-nil p.stream) (keeps.waits [] few)) in
-    record {
-      spells = stands.spells;
-      by = subst (λ (given : List Response). AnswersBy p given More) (sym keeps.none) (Incomplete, reads, refl);
-    }
+pub inside : (s : State) (p : Progress Response) (head : StatusHead) (content : Content) → s.phase ≡ phase.InContent head content → StandsFor s p
+    → Inside s p head content p.given
+inside s p head content going stands = inside_by s p head content p.given (subst (λ (f : ResponsePhase). KeepsBy s p f p.given) going stands.keeps)
+
+-- what is taken of a content is read in the stream
+pub content_reads : (s : State) (p : Progress Response) (head : StatusHead) (content : Content) (body : Body) → s.phase ≡ phase.InContent head content → StandsFor s p
+    → body_from content s.ended s.unread ≡ body → Reads p.max_body p.to_head p.ended p.stream (with_body s.ended (response_of s.to_head head) body)
+content_reads s p head content body going stands is =
+    let here : Reads p.max_body p.to_head p.ended (p.stream ++ []) (with_body p.ended (response_of p.to_head head) (body_from content p.ended (s.unread ++ []))) = (inside s p head content going stands).resumes [] p.ended in
+    subst (λ (h : Bool). Reads p.max_body p.to_head p.ended p.stream (with_body s.ended (response_of h head) body)) (sym stands.to_head)
+    (subst (λ (e : Bool). Reads p.max_body p.to_head p.ended p.stream (with_body e (response_of p.to_head head) body)) (sym stands.ended)
+    (subst (λ (b : Body). Reads p.max_body p.to_head p.ended p.stream (with_body p.ended (response_of p.to_head head) b))
+    (ap (body_from content p.ended) (append-nil s.unread) ∙ ap (λ (e : Bool). body_from content e s.unread) (sym stands.ended) ∙ is)
+    (subst (λ (u : List ℕ). Reads p.max_body p.to_head p.ended u (with_body p.ended (response_of p.to_head head) (body_from content p.ended (s.unread ++ [])))) (append-nil p.stream) here)))
 
 -- behind the message comes the end
 pub answers_end : (s : State) (p : Progress Response) → s.phase ≡ phase.Given → StandsFor s p → Answers p End
 answers_end s p given stands = record {
   spells = stands.spells;
-  by = by_given p.given (subst (λ (f : Phase). KeepsBy s p f p.given) given stands.keeps);
+  by = by_given p.given (subst (λ (f : ResponsePhase). KeepsBy s p f p.given) given stands.keeps);
 }
   where
     by_given : (g : List Response) → KeepsBy s p phase.Given g → AnswersBy p g End
@@ -135,77 +150,116 @@ answers_end s p given stands = record {
 pub answers_fault : (s : State) (p : Progress Response) (f : FrameFault) → s.phase ≡ phase.Faulty f → StandsFor s p → Answers p (next_of (Faulty f))
 answers_fault s p f faulty stands = record {
   spells = stands.spells;
-  by = by_given p.given (subst (λ (f : Phase). KeepsBy s p f p.given) faulty stands.keeps);
+  by = by_given p.given (subst (λ (f : ResponsePhase). KeepsBy s p f p.given) faulty stands.keeps);
 }
   where
     by_given : (g : List Response) → KeepsBy s p (phase.Faulty f) g → AnswersBy p g (next_of (Faulty f))
     by_given [] k = (Faulty f, k, refl)
     by_given (m ∷ more) k = absurd k
 
+-- ---- what the reader is left with
+
+-- a reader over the same stream
+pub record Same (s t : State) : Type 0 where
+  pub max_body : t.max_body ≡ s.max_body
+  pub to_head : t.to_head ≡ s.to_head
+  pub ended : t.ended ≡ s.ended
+
+stands_on : (s t : State) (p : Progress Response) → Same s t → StandsFor s p → KeepsBy t p t.phase p.given → StandsFor t p
+stands_on s t p same stands keeps = record {
+  max_body = same.max_body ∙ stands.max_body;
+  to_head = same.to_head ∙ stands.to_head;
+  ended = same.ended ∙ stands.ended;
+  spells = stands.spells;
+  keeps = keeps;
+}
+
+-- interim responses were passed over
+pub stands_passed : (s t : State) (p : Progress Response) (n : ℕ) → Same s t → s.phase ≡ phase.BeforeHead → t.phase ≡ phase.BeforeHead
+    → t.unread ≡ drop n s.unread → (sizes : List ℕ) × Passes s.unread sizes (drop n s.unread) → StandsFor s p → StandsFor t p
+stands_passed s t p n same waiting still left x stands =
+    let keeps = before s p waiting stands in
+    let passed : (sizes : List ℕ) × Passes p.stream sizes t.unread
+    = (keeps.passes.0 ++ x.0, subst (λ (u : List ℕ). Passes p.stream (keeps.passes.0 ++ x.0) u) (sym left) (passes_behind p.stream keeps.passes.0 s.unread x.0 (drop n s.unread) keeps.passes.1 x.1)) in
+    stands_on s t p same stands (subst (λ (f : ResponsePhase). KeepsBy t p f p.given) (sym still)
+    (subst (λ (g : List Response). KeepsBy t p phase.BeforeHead g) (sym keeps.none) passed))
+
+-- a content goes on
+pub stands_going : (s t : State) (p : Progress Response) (head : StatusHead) (content : Content) → Same s t → p.given ≡ [] → t.phase ≡ phase.InContent head content
+    → Resumes p.max_body p.to_head head content p.stream t.unread → StandsFor s p → StandsFor t p
+stands_going s t p head content same none going on stands =
+    stands_on s t p same stands (subst (λ (f : ResponsePhase). KeepsBy t p f p.given) (sym going)
+    (subst (λ (g : List Response). KeepsBy t p (phase.InContent head content) g) (sym none) on))
+
+-- a content was begun
+pub stands_begun : (s t : State) (p : Progress Response) (head : StatusHead) (content : Content) (n : ℕ) → Same s t → s.phase ≡ phase.BeforeHead → t.phase ≡ phase.InContent head content
+    → t.unread ≡ drop n s.unread → Resumes s.max_body s.to_head head content s.unread (drop n s.unread) → StandsFor s p → StandsFor t p
+stands_begun s t p head content n same waiting going left on stands =
+    let keeps = before s p waiting stands in
+    let here : Resumes s.max_body s.to_head head content p.stream t.unread = λ more ended.
+    reads_behind s.max_body s.to_head ended (p.stream ++ more) keeps.passes.0 (s.unread ++ more) _ (passes_append p.stream keeps.passes.0 s.unread more keeps.passes.1)
+    (subst (λ (u : List ℕ). Reads s.max_body s.to_head ended (s.unread ++ more) (with_body ended (response_of s.to_head head) (body_from content ended (u ++ more)))) (sym left) (on more ended)) in
+    stands_going s t p head content same keeps.none going
+    (subst (λ (m : ℕ). Resumes m p.to_head head content p.stream t.unread) stands.max_body
+    (subst (λ (h : Bool). Resumes s.max_body h head content p.stream t.unread) stands.to_head here)) stands
+
 -- the message was given
-pub stands_message : (s : State) (p : Progress Response) (m : Response) (rest : List ℕ) → s.phase ≡ phase.Reading → ReadsAlways s (Spelled m rest)
-    → StandsFor s p → StandsFor (record s { phase = phase.Given }) (record p { given = p.given ++ m ∷ []; told = false })
-stands_message s p m rest reading reads stands =
-    let keeps = before s p reading stands in
+pub stands_given : (s t : State) (p : Progress Response) (m : Response) (rest : List ℕ) → Same s t → p.given ≡ [] → t.phase ≡ phase.Given
+    → Reads p.max_body p.to_head p.ended p.stream (Spelled m rest) → StandsFor s p → StandsFor t (record p { given = p.given ++ m ∷ []; told = false })
+stands_given s t p m rest same none given reads stands =
     let q : Progress Response = record p { given = p.given ++ m ∷ []; told = false } in
     record {
-      max_body = stands.max_body;
-      to_head = stands.to_head;
-      ended = stands.ended;
-      spells = subst (λ (g : List Response). IsGiven q (g ++ m ∷ [])) (sym keeps.none) (rest, kept_reads s p (Spelled m rest) stands.max_body keeps reads);
-      keeps = subst (λ (g : List Response). KeepsBy (record s { phase = phase.Given }) q phase.Given (g ++ m ∷ [])) (sym keeps.none) tt;
+      max_body = same.max_body ∙ stands.max_body;
+      to_head = same.to_head ∙ stands.to_head;
+      ended = same.ended ∙ stands.ended;
+      spells = subst (λ (g : List Response). IsGiven q (g ++ m ∷ [])) (sym none) (rest, reads);
+      keeps = subst (λ (f : ResponsePhase). KeepsBy t q f (p.given ++ m ∷ [])) (sym given)
+          (subst (λ (g : List Response). KeepsBy t q phase.Given (g ++ m ∷ [])) (sym none) tt);
     }
 
 -- the fault is kept
-pub stands_fault : (s : State) (p : Progress Response) (f : FrameFault) → s.phase ≡ phase.Reading → ReadsAlways s (Faulty f)
-    → StandsFor s p → StandsFor (record s { phase = phase.Faulty f }) p
-stands_fault s p f reading reads stands =
-    let keeps = before s p reading stands in
-    record {
-      max_body = stands.max_body;
-      to_head = stands.to_head;
-      ended = stands.ended;
-      spells = stands.spells;
-      keeps = subst (λ (g : List Response). KeepsBy (record s { phase = phase.Faulty f }) p (phase.Faulty f) g) (sym keeps.none)
-          (kept_reads s p (Faulty f) stands.max_body keeps reads);
-    }
-
--- the number of bytes to wait for is kept
-pub stands_waits : (s : State) (p : Progress Response) (wanted : ℕ) → s.phase ≡ phase.Reading → ((h : Bool) → Waits s.max_body h s.unread wanted)
-    → StandsFor s p → StandsFor (record s { wanted = wanted }) p
-stands_waits s p wanted reading waits stands =
-    let keeps = before s p reading stands in
-    record {
-      max_body = stands.max_body;
-      to_head = stands.to_head;
-      ended = stands.ended;
-      spells = stands.spells;
-      keeps = subst (λ (f : Phase). KeepsBy (record s { wanted = wanted }) p f p.given) (sym reading)
-          (subst (λ (g : List Response). KeepsBy (record s { wanted = wanted }) p phase.Reading g) (sym keeps.none) (
-            keeps.unread,
-            subst (λ (m : ℕ). Waits m p.to_head p.stream wanted) stands.max_body
-                (subst (λ (u : List ℕ). Waits s.max_body p.to_head u wanted) keeps.unread (waits p.to_head)),
-          ));
-    }
+pub stands_fault : (s t : State) (p : Progress Response) (f : FrameFault) → Same s t → p.given ≡ [] → t.phase ≡ phase.Faulty f
+    → Reads p.max_body p.to_head p.ended p.stream (Faulty f) → StandsFor s p → StandsFor t p
+stands_fault s t p f same none faulty reads stands =
+    stands_on s t p same stands (subst (λ (g : ResponsePhase). KeepsBy t p g p.given) (sym faulty)
+    (subst (λ (g : List Response). KeepsBy t p (phase.Faulty f) g) (sym none) reads))
 
 -- ---- a piece has come, and the stream has ended
 
-pub stands_fed : (s : State) (p : Progress Response) (piece : List ℕ) → s.phase ≡ phase.Reading → StandsFor s p
-    → StandsFor (record s { unread = s.unread ++ piece }) (fed p piece)
-stands_fed s p piece reading stands =
-    let keeps = before s p reading stands in
-    let waits : Waits p.max_body p.to_head (p.stream ++ piece) s.wanted = λ more short.
-    subst (λ (u : List ℕ). Reads p.max_body p.to_head false u Incomplete) (sym (append_assoc p.stream piece more))
-    (keeps.waits (piece ++ more) (subst (λ (u : List ℕ). length u < s.wanted) (append_assoc p.stream piece more) short)) in
-    record {
-      max_body = stands.max_body;
-      to_head = stands.to_head;
-      ended = stands.ended;
-      spells = subst (λ (g : List Response). IsGiven (fed p piece) g) (sym keeps.none) tt;
-      keeps = subst (λ (f : Phase). KeepsBy (record s { unread = s.unread ++ piece }) (fed p piece) f p.given) (sym reading)
-          (subst (λ (g : List Response). KeepsBy (record s { unread = s.unread ++ piece }) (fed p piece) phase.Reading g) (sym keeps.none)
-          (ap (λ b. b ++ piece) keeps.unread, waits));
-    }
+resumes_fed : (max : ℕ) (h : Bool) (head : StatusHead) (content : Content) (bytes unread w : List ℕ) → Resumes max h head content bytes unread
+    → Resumes max h head content (bytes ++ w) (unread ++ w)
+resumes_fed max h head content bytes unread w on = λ more ended.
+    subst (λ (u : List ℕ). Reads max h ended u (with_body ended (response_of h head) (body_from content ended ((unread ++ w) ++ more)))) (sym (append_assoc bytes w more))
+    (subst (λ (u : List ℕ). Reads max h ended (bytes ++ (w ++ more)) (with_body ended (response_of h head) (body_from content ended u))) (sym (append_assoc unread w more)) (on (w ++ more) ended))
+
+pub stands_fed : (s t : State) (p : Progress Response) (piece : List ℕ) → Same s t → t.phase ≡ s.phase → t.unread ≡ s.unread ++ piece → p.ended ≡ false
+    → StandsFor s p → StandsFor t (fed p piece)
+stands_fed s t p piece same kept longer open_still stands = record {
+  max_body = same.max_body ∙ stands.max_body;
+  to_head = same.to_head ∙ stands.to_head;
+  ended = same.ended ∙ stands.ended;
+  spells = given_fed p piece p.given open_still stands.spells;
+  keeps = subst (λ (f : ResponsePhase). KeepsBy t (fed p piece) f p.given) (sym kept) (by_phase s.phase p.given stands.keeps);
+}
+  where
+    by_phase : (f : ResponsePhase) (g : List Response) → KeepsBy s p f g → KeepsBy t (fed p piece) f g
+    by_phase phase.BeforeHead [] k = (k.0, subst (λ (u : List ℕ). Passes (p.stream ++ piece) k.0 u) (sym longer) (passes_append p.stream k.0 s.unread piece k.1))
+    by_phase phase.BeforeHead (m ∷ more) k = k
+    by_phase (phase.InContent head content) [] k =
+        subst (λ (u : List ℕ). Resumes p.max_body p.to_head head content (p.stream ++ piece) u) (sym longer)
+        (resumes_fed p.max_body p.to_head head content p.stream s.unread piece k)
+    by_phase (phase.InContent head content) (m ∷ more) k = k
+    by_phase phase.Given [] k = k
+    by_phase phase.Given (m ∷ more) k = k
+    by_phase (phase.Faulty f) [] k = reads_fed p (Faulty f) piece open_still tt k
+    by_phase (phase.Faulty f) (m ∷ more) k = k
+
+-- where the piece found room
+pub stands_fed_by : {A E : Type 0} (s t : State) (piece : List ℕ) {unread : List ℕ} → Same s t → t.phase ≡ s.phase → unread ≡ s.unread
+    → (r : Result A E) → OnOk r (t.unread ≡ unread ++ piece)
+    → OnOk r ((p : Progress Response) → StandsFor s p → p.ended ≡ false → StandsFor t (fed p piece))
+stands_fed_by s t piece same phase_same kept (Ok x) longer = λ p stands open_still. stands_fed s t p piece same phase_same (longer ∙ ap (λ u. u ++ piece) kept) open_still stands
+stands_fed_by s t piece same phase_same kept (Err x) longer = tt
 
 pub stands_fed_given : (s : State) (p : Progress Response) (piece : List ℕ) → s.phase ≡ phase.Given → StandsFor s p → p.ended ≡ false
     → StandsFor s (fed p piece)
@@ -214,8 +268,8 @@ stands_fed_given s p piece given stands open_still = record {
   to_head = stands.to_head;
   ended = stands.ended;
   spells = given_fed p piece p.given open_still stands.spells;
-  keeps = subst (λ (f : Phase). KeepsBy s (fed p piece) f p.given) (sym given)
-      (by_given p.given (subst (λ (f : Phase). KeepsBy s p f p.given) given stands.keeps));
+  keeps = subst (λ (f : ResponsePhase). KeepsBy s (fed p piece) f p.given) (sym given)
+      (by_given p.given (subst (λ (f : ResponsePhase). KeepsBy s p f p.given) given stands.keeps));
 }
   where
     by_given : (g : List Response) → KeepsBy s p phase.Given g → KeepsBy s (fed p piece) phase.Given g
@@ -229,8 +283,8 @@ stands_fed_faulty s p piece f faulty stands open_still = record {
   to_head = stands.to_head;
   ended = stands.ended;
   spells = given_fed p piece p.given open_still stands.spells;
-  keeps = subst (λ (f : Phase). KeepsBy s (fed p piece) f p.given) (sym faulty)
-      (by_given p.given (subst (λ (f : Phase). KeepsBy s p f p.given) faulty stands.keeps));
+  keeps = subst (λ (f : ResponsePhase). KeepsBy s (fed p piece) f p.given) (sym faulty)
+      (by_given p.given (subst (λ (f : ResponsePhase). KeepsBy s p f p.given) faulty stands.keeps));
 }
   where
     by_given : (g : List Response) → KeepsBy s p (phase.Faulty f) g → KeepsBy s (fed p piece) (phase.Faulty f) g
@@ -246,9 +300,11 @@ stands_finished s p stands = record {
   keeps = by_phase s.phase p.given stands.keeps;
 }
   where
-    by_phase : (f : Phase) (g : List Response) → KeepsBy s p f g → KeepsBy (record s { ended = true }) (finished p) f g
-    by_phase phase.Reading [] k = k
-    by_phase phase.Reading (m ∷ more) k = k
+    by_phase : (f : ResponsePhase) (g : List Response) → KeepsBy s p f g → KeepsBy (record s { ended = true }) (finished p) f g
+    by_phase phase.BeforeHead [] k = k
+    by_phase phase.BeforeHead (m ∷ more) k = k
+    by_phase (phase.InContent head content) [] k = k
+    by_phase (phase.InContent head content) (m ∷ more) k = k
     by_phase phase.Given [] k = k
     by_phase phase.Given (m ∷ more) k = k
     by_phase (phase.Faulty f) [] k = reads_ended p.max_body p.to_head p.ended p.stream (Faulty f) tt k

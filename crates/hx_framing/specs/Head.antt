@@ -1,17 +1,16 @@
 -- Which bytes are the head of a request, and what it gives (RFC 9112, sections 2 to 5).
-use Rattle.std.specs.Prelude.{◌≡◌, ℕ, ◌≤◌, ◌&&◌, ◌==◌, Bool, true, false, List, [], map, length, take, codes, bytes_eq, Result, Ok, Err}
-use Rattle.std.specs.List.{list_all}
+use Rattle.std.specs.Prelude.{◌≡◌, ℕ, ◌≤◌, if◌then◌else◌, List, [], map, length, take, Result, Ok, Err}
 use Rattle.httparse.specs.Grammar.{RequestHead, ReadsRequest, field_value}
 use Rattle.httparse.specs.Grammar as grammar
 use Rattle.httparse.specs.Spans.{span_bytes}
 use Rattle.httparse.specs.declared.spans.HeaderSpan.{HeaderSpan}
 use Rattle.httparse.specs.declared.spans.RequestSpans.{RequestSpans}
 use Rattle.hx_fields.specs.declared.field_line.Field.{Field}
-use Rattle.hx_fields.specs.Lines.{is_named}
 use Rattle.hx_framing.specs.declared.request_head.Head.{Head}
 use Rattle.hx_framing.specs.declared.fault.FrameFault.{FrameFault}
 use Rattle.hx_framing.specs.declared.fault.FrameFault.TheVariants as fault
-use Rattle.hx_framing.specs.Places.{blank_length, most_field_lines}
+use Rattle.hx_framing.specs.Places.{most_field_lines}
+use Rattle.hx_framing.specs.Version.{start_line, without_return, ends_with_other_version}
 
 -- a line's name, and its value without the white space around it
 abbrev pub field_of : grammar.Field → Field
@@ -34,19 +33,16 @@ head_at bytes spans r = record {
   fields = map (field_at bytes) (take r.headers spans);
 }
 
--- just these bytes are the head h
+-- just these bytes are the head h, with the empty lines in front
 abbrev pub IsHead : List ℕ → RequestHead → Type 0
 IsHead bytes h = ReadsRequest bytes h [] × (length h.fields ≤ most_field_lines)
 
--- own: the heads that are taken so far: GET of HTTP/1.1, with Host lines alone and no empty line in front
-abbrev pub is_taken : List ℕ → Head → Bool
-is_taken bytes head =
-    blank_length bytes == 0
-    && bytes_eq head.method (codes "GET")
-    && (head.minor == 1)
-    && list_all (is_named (codes "host")) head.fields
+-- the fault of bytes that are no head: Version takes the place of Head where the request line ends with another version
+-- own: whatever else is wrong with the head
+abbrev pub head_fault : List ℕ → FrameFault
+head_fault bytes = if ends_with_other_version (without_return (start_line bytes)) then fault.Version else fault.Head
 
 -- how the bytes of a whole head are judged
 abbrev pub Judges : List ℕ → Result Head FrameFault → Type 0
-Judges bytes (Ok head) = (h : RequestHead) × IsHead bytes h × (head ≡ head_of h) × (is_taken bytes head ≡ true)
-Judges bytes (Err f) = ((h : RequestHead) → IsHead bytes h → is_taken bytes (head_of h) ≡ false) × (f ≡ fault.Head)
+Judges bytes (Ok head) = (h : RequestHead) × IsHead bytes h × (head ≡ head_of h)
+Judges bytes (Err f) = ((h : RequestHead) → ¬ (IsHead bytes h)) × (f ≡ head_fault bytes)

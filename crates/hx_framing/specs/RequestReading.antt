@@ -1,23 +1,36 @@
 -- What stands at the front of the unread bytes of a request stream (RFC 9112, sections 2 and 6).
-use Rattle.std.specs.Prelude.{◌≡◌, ℕ, ◌&&◌, Bool, cond, List, Option, Some, None, Result, Ok, Err, length, take, drop, nat_lt, ◌==◌}
+use Rattle.std.specs.Prelude.{◌≡◌, ℕ, ◌&&◌, Bool, false, not, cond, List, Option, Some, None, Result, Ok, Err, length, take, drop, nat_lt, ◌==◌}
 use Rattle.hx_framing.specs.declared.request_head.Head.{Head}
 use Rattle.hx_framing.specs.declared.requests.Request.{Request}
+use Rattle.hx_framing.specs.declared.plan.Plan.{Plan}
 use Rattle.hx_framing.specs.declared.fault.FrameFault.{FrameFault}
 use Rattle.hx_framing.specs.declared.fault.FrameFault.TheVariants as fault
 use Rattle.hx_framing.specs.Places.{head_length, blank_length, most_head_bytes}
 use Rattle.hx_framing.specs.Head.{Judges}
-use Rattle.hx_framing.specs.Reading.{Reading, Over, Spelled, Faulty, cut_off}
+use Rattle.hx_framing.specs.Lengths.{plan_of, without_lengths}
+use Rattle.hx_framing.specs.Contents.{body_at}
+use Rattle.hx_framing.specs.Reading.{Reading, Continue, Over, Faulty, cut_off, with_body}
 
--- a head with its content
+-- a head with its content, without its length fields
 abbrev pub request_of : Head → Option (List ℕ) → Request
-request_of head content =
-    record { method = head.method; target = head.target; minor = head.minor; fields = head.fields; content = content }
+request_of head content = record {
+  method = head.method;
+  target = head.target;
+  minor = head.minor;
+  fields = without_lengths head.fields;
+  content = content;
+}
+
+-- behind a head that tells its content; a continue comes before all that may follow (RFC 9110, section 10.1.1)
+abbrev pub with_plan : ℕ → Bool → Bool → Head → List ℕ → Result Plan FrameFault → Reading Request
+with_plan max_body ended told head bytes (Err f) = Faulty f
+with_plan max_body ended told head bytes (Ok plan) =
+    cond (plan.wants_continue && not told) Continue (with_body ended (request_of head) (body_at max_body plan.framing false bytes))
 
 -- behind a judged head
--- own: a head that is taken so far announces no content
 abbrev pub with_head : ℕ → Bool → Bool → List ℕ → Result Head FrameFault → Reading Request
 with_head max_body ended told bytes (Err f) = Faulty f
-with_head max_body ended told bytes (Ok head) = Spelled (request_of head None) bytes
+with_head max_body ended told bytes (Ok head) = with_plan max_body ended told head bytes (plan_of max_body head)
 
 -- no head ends within the limit; empty lines alone are no message
 abbrev pub without_head : Bool → List ℕ → Reading Request

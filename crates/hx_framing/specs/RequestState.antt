@@ -1,24 +1,28 @@
 -- What a request reader keeps, and which streams it stands for.
-use Rattle.std.specs.Prelude.{◌≡◌, ℕ, ◌+◌, ◌*◌, Bool, cond, List, length, Option, Some, None}
+use Rattle.std.specs.Prelude.{◌≡◌, ℕ, ◌+◌, ◌*◌, Bool, false, List, length}
 use Rattle.hx_framing.specs.declared.requests.Request.{Request}
-use Rattle.hx_framing.specs.declared.fault.FrameFault.{FrameFault}
+use Rattle.hx_framing.specs.declared.request_phase.RequestPhase.{RequestPhase}
+use Rattle.hx_framing.specs.declared.request_phase.RequestPhase.TheVariants as phase
 use Rattle.hx_framing.specs.Reading.{Faulty}
 use Rattle.hx_framing.specs.RequestReading.{Reads}
+use Rattle.hx_framing.specs.RequestFound.{Resumes}
 use Rattle.hx_framing.specs.RequestStream.{StreamSpells}
 use Rattle.hx_framing.specs.Progress.{Progress}
 
--- what contracts see of a reader
+-- what contracts see of a reader; spare: how many more bytes find room without new memory
 pub record State : Type 0 where
   pub max_body : ℕ
   pub unread : List ℕ
+  pub spare : ℕ
   pub ended : Bool
-  pub told : Bool
-  pub fault : Option FrameFault
+  pub phase : RequestPhase
 
--- until a fault the reader keeps what follows the messages given; from then on the stream has that fault there
-abbrev pub Keeps : State → Progress Request → List ℕ → Option FrameFault → Type 0
-Keeps s p rest None = (s.unread ≡ rest) × (s.told ≡ p.told)
-Keeps s p rest (Some f) = Reads p.max_body p.ended p.told rest (Faulty f)
+-- before a head the reader keeps what follows the messages given; in a content it keeps what is still to come of it;
+-- from a fault on the stream has that fault there
+abbrev pub Keeps : State → Progress Request → List ℕ → RequestPhase → Type 0
+Keeps s p rest phase.BeforeHead = (s.unread ≡ rest) × (p.told ≡ false)
+Keeps s p rest (phase.InContent head content) = Resumes p.max_body p.told head content rest s.unread
+Keeps s p rest (phase.Faulty f) = Reads p.max_body p.ended p.told rest (Faulty f)
 
 -- the reader stands for the stream
 pub record StandsFor (s : State) (p : Progress Request) : Type 0 where
@@ -26,8 +30,14 @@ pub record StandsFor (s : State) (p : Progress Request) : Type 0 where
   pub ended : s.ended ≡ p.ended
   pub rest : List ℕ
   pub spells : StreamSpells p.max_body p.stream p.given rest
-  pub keeps : Keeps s p rest s.fault
+  pub keeps : Keeps s p rest s.phase
+
+-- a message that was begun may still be due
+abbrev pub open_load : RequestPhase → ℕ
+open_load phase.BeforeHead = 0
+open_load (phase.InContent head content) = 1
+open_load (phase.Faulty f) = 0
 
 -- a bound on the continues and messages that are still to come of what was fed
 abbrev pub weight : State → ℕ
-weight s = 2 * length s.unread + cond s.told 0 1
+weight s = 2 * length s.unread + open_load s.phase

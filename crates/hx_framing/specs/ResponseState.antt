@@ -1,27 +1,30 @@
 -- What a response reader keeps, and which streams it stands for.
 use Rattle.std.specs.Prelude.{◌≡◌, ℕ, ◌+◌, ◌*◌, Bool, cond, List, [], ◌∷◌, length}
 use Rattle.hx_framing.specs.declared.responses.Response.{Response}
-use Rattle.hx_framing.specs.declared.response_reader.Phase.{Phase}
-use Rattle.hx_framing.specs.declared.response_reader.Phase.TheVariants as phase
+use Rattle.hx_framing.specs.declared.response_phase.ResponsePhase.{ResponsePhase}
+use Rattle.hx_framing.specs.declared.response_phase.ResponsePhase.TheVariants as phase
 use Rattle.hx_framing.specs.Reading.{Faulty}
-use Rattle.hx_framing.specs.Waits.{Waits}
-use Rattle.hx_framing.specs.ResponseReading.{Reads}
+use Rattle.hx_framing.specs.ResponseReading.{Passes, Reads}
+use Rattle.hx_framing.specs.ResponseFound.{Resumes}
 use Rattle.hx_framing.specs.ResponseStream.{IsGiven}
 use Rattle.hx_framing.specs.Progress.{Progress}
 
--- what contracts see of a reader
+-- what contracts see of a reader; spare: how many more bytes find room without new memory
 pub record State : Type 0 where
   pub max_body : ℕ
   pub to_head : Bool
   pub unread : List ℕ
-  pub wanted : ℕ
+  pub spare : ℕ
   pub ended : Bool
-  pub phase : Phase
+  pub phase : ResponsePhase
 
--- before the message the reader keeps the stream; behind it, or from a fault on, what comes doesn't count
-abbrev pub KeepsBy : State → Progress Response → Phase → List Response → Type 0
-KeepsBy s p phase.Reading [] = (s.unread ≡ p.stream) × Waits p.max_body p.to_head p.stream s.wanted
-KeepsBy s p phase.Reading (message ∷ more) = ⊥
+-- before the head the reader keeps the stream but for interim responses, in the content what is still to come of it;
+-- behind the message, or from a fault on, what comes doesn't count
+abbrev pub KeepsBy : State → Progress Response → ResponsePhase → List Response → Type 0
+KeepsBy s p phase.BeforeHead [] = (sizes : List ℕ) × Passes p.stream sizes s.unread
+KeepsBy s p phase.BeforeHead (message ∷ more) = ⊥
+KeepsBy s p (phase.InContent head content) [] = Resumes p.max_body p.to_head head content p.stream s.unread
+KeepsBy s p (phase.InContent head content) (message ∷ more) = ⊥
 KeepsBy s p phase.Given [] = ⊥
 KeepsBy s p phase.Given (message ∷ more) = Unit {0}
 KeepsBy s p (phase.Faulty f) [] = Reads p.max_body p.to_head p.ended p.stream (Faulty f)
@@ -36,8 +39,9 @@ pub record StandsFor (s : State) (p : Progress Response) : Type 0 where
   pub keeps : KeepsBy s p s.phase p.given
 
 -- what may still be due, by where the reader is
-abbrev pub weight_by : State → Phase → ℕ
-weight_by s phase.Reading = 2 * length s.unread + cond s.ended 1 0
+abbrev pub weight_by : State → ResponsePhase → ℕ
+weight_by s phase.BeforeHead = 2 * length s.unread + cond s.ended 1 0
+weight_by s (phase.InContent head content) = 2 * length s.unread + 2 + cond s.ended 1 0
 weight_by s phase.Given = 1
 weight_by s (phase.Faulty f) = 1
 

@@ -1,13 +1,17 @@
 //! What stands at the front of unread bytes.
 
+use crate::content::Content;
 use crate::fault::FrameFault;
 
-/// What is due.
+/// What is due, and how many bytes it takes. H is a head, M a message.
 #[derive(Debug, Drop)]
-pub(crate) enum Found<M> {
-    /// Nothing before so many bytes are there.
+pub(crate) enum Found<H, M> {
+    /// Nothing yet.
     Incomplete(usize),
-    /// A message, and how many bytes it takes.
+    /// A continue, before the content.
+    Continue(H, Content, usize),
+    /// Nothing before the content goes on.
+    Going(H, Content, usize),
     Message(M, usize),
     Faulty(FrameFault),
     Over,

@@ -6,31 +6,61 @@
 #![tactic(auto)]
 
 mod answer;
+pub mod chunk_laws;
+mod chunk_phase;
+mod chunk_pieces;
+mod chunk_place;
+#[cfg(test)]
+mod chunk_tests;
+mod chunks;
+mod content;
+mod content_length;
+mod content_reading;
+mod decoded;
 mod fault;
 mod found;
+mod head_laws;
+mod length_laws;
+mod lengths;
 mod lines;
 mod places;
+mod plan;
 mod request_head;
 pub mod request_laws;
+mod request_phase;
 mod request_reader;
 mod request_reading;
 mod requests;
 pub mod response_laws;
+mod response_phase;
 mod response_reader;
 mod response_reading;
 mod responses;
+mod size_line;
+mod status_front;
 mod status_head;
+mod taken;
 #[cfg(test)]
 mod tests;
 mod text_laws;
 mod unread;
+mod version;
 mod writing;
+pub mod writing_laws;
 
 pub use crate::answer::Next;
 pub use crate::fault::FrameFault;
+pub use crate::head_laws::{
+    field_lines_of_heads, request_heads_are_lines, response_heads_are_lines, versions_of_requests,
+    versions_of_responses,
+};
+pub use crate::length_laws::{
+    announced_lengths_to_head, codings_of_requests, expectations, large_lengths,
+    lengths_of_responses, lines_without_lengths, listed_lengths, statuses,
+};
 pub use crate::request_reader::RequestReader;
 pub use crate::requests::Request;
 pub use crate::response_reader::ResponseReader;
 pub use crate::responses::Response;
-pub use crate::text_laws::{announced_lengths, forwarded_text, head_lengths, reply_texts};
+pub use crate::text_laws::{forwarded_text, head_lengths, reply_texts};
 pub use crate::writing::{write_request, write_response};

@@ -1,5 +1,6 @@
 //! Where the head of a message ends. The definitions are in `specs/Places.antt`.
-ghost use Rattle.std.specs.Prelude.{◌≡◌, ◌≤◌, ◌<◌, ℕ, length, drop, take, slice_index, IfSome};
+ghost use Rattle.std.specs.Prelude.{◌≡◌, ◌==◌, ◌≤◌, ◌<◌, ℕ, length, drop, take, slice_index, IfSome};
+ghost use Rattle.std.specs.List.{position_or_len, before_first};
 ghost use Rattle.hx_framing.specs.Places.{blank_at, empty_at, blank_length, empty_line_from, head_length};
 
 /// The most bytes of a head, with the empty lines in front of it.
@@ -89,7 +90,7 @@ fn head_length(bytes: &[u8]) -> Option<usize>
 }
 
 /// The first bytes, at most so many.
-fn first(bytes: &[u8], limit: usize) -> &[u8]
+pub(crate) fn first(bytes: &[u8], limit: usize) -> &[u8]
     ensures value { result.now ≡ take limit bytes.now }
     ensures len { length result.now ≤ length bytes.now }
 {
@@ -98,6 +99,26 @@ fn first(bytes: &[u8], limit: usize) -> &[u8]
     } else {
         bytes
     }
+}
+
+/// Where a byte stands first, or the length.
+fn place_of(text: &[u8], byte: u8) -> usize
+    ensures place { result ≡ position_or_len (λ b. b == byte) text.now }
+    ensures within { result ≤ length text.now }
+{
+    for (i, b) in text.iter().enumerate() {
+        if *b == byte {
+            return i;
+        }
+    }
+    text.len()
+}
+
+/// What stands before a byte, or all where it doesn't stand.
+pub(crate) fn before_byte(text: &[u8], byte: u8) -> &[u8]
+    ensures { result.now ≡ before_first (λ b. b == byte) text.now }
+{
+    first(text, place_of(text, byte))
 }
 
 /// How many bytes a head takes, if it ends within the limit.

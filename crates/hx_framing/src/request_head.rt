@@ -1,20 +1,19 @@
 //! Heads of requests (RFC 9112, sections 2 to 5). The definitions are in `specs/Head.antt`.
-ghost use Rattle.std.specs.Prelude.{◌≡◌, ℕ, [], IfOk, IfSome, IfNone, bytes_eq, codes};
-ghost use Rattle.std.specs.List.{list_all};
+ghost use Rattle.std.specs.Prelude.{◌≡◌, IfOk, IfSome, IfNone};
 ghost use Rattle.http_header.specs.Token.{IsToken};
 ghost use Rattle.httparse.specs.Grammar.{RequestHead};
 ghost use Rattle.httparse.specs.Spans.{IsRequestAt, IsRequestWithin, span_bytes};
-ghost use Rattle.hx_fields.specs.Lines.{is_named};
-ghost use Rattle.hx_framing.specs.Head.{IsHead, Judges, is_taken, head_at};
+ghost use Rattle.hx_framing.specs.Head.{IsHead, Judges, head_at, head_fault};
 
 use crate::fault::FrameFault;
 use crate::lines::copy_fields;
-use crate::places::{MOST_FIELD_LINES, blank_length};
+use crate::places::MOST_FIELD_LINES;
+use crate::version::request_has_other_version;
 use http::Method;
 use http::method::MethodError;
 use httparse::Status;
 use httparse::spans::{EMPTY_HEADER_SPAN, HeaderSpan, RequestSpans, parse_request};
-use hx_fields::{Bytes, Field, Fields, is_same_name};
+use hx_fields::{Bytes, Fields};
 use std::alloc::{AllocError, Global};
 
 /// A head: its request line and its field lines.
@@ -79,28 +78,15 @@ fn copy_head(
     })
 }
 
-fn is_get(method: &Method) -> bool
-    ensures { result ≡ bytes_eq method.now (codes "GET") }
+/// The fault of bytes that are no head.
+fn head_fault(bytes: &[u8]) -> FrameFault
+    ensures { result ≡ head_fault bytes.now }
 {
-    method.as_str().as_bytes() == b"GET".as_slice()
-}
-
-fn are_host_lines(lines: &[Field]) -> bool
-    ensures { result ≡ list_all (is_named (codes "host")) lines.now }
-{
-    lines
-        .iter()
-        .all(|line| is_same_name(line.name.as_slice(), b"host"))
-}
-
-/// Whether a head is one of those that are taken so far.
-fn is_taken(bytes: &[u8], head: &Head) -> bool
-    ensures { result ≡ is_taken bytes.now head.now }
-{
-    if blank_length(bytes) > 0 || !is_get(&head.method) || head.minor != 1 {
-        return false;
+    if request_has_other_version(bytes) {
+        FrameFault::Version
+    } else {
+        FrameFault::Head
     }
-    are_host_lines(head.fields.as_slice())
 }
 
 /// Judges the bytes of a whole head.
@@ -111,13 +97,8 @@ pub(crate) fn judge_head(
     ensures { IfOk result (λ judged. Judges bytes.now judged) }
 {
     let mut spans = [EMPTY_HEADER_SPAN; MOST_FIELD_LINES];
-    let Some(found) = find_head(bytes, &mut spans) else {
-        return Ok(Err(FrameFault::Head));
-    };
-    let head = copy_head(alloc, bytes, &spans, found)?;
-    if is_taken(bytes, &head) {
-        Ok(Ok(head))
-    } else {
-        Ok(Err(FrameFault::Head))
+    match find_head(bytes, &mut spans) {
+        Some(found) => Ok(Ok(copy_head(alloc, bytes, &spans, found)?)),
+        None => Ok(Err(head_fault(bytes))),
     }
 }

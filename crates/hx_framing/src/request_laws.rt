@@ -2,7 +2,8 @@
 ghost use Rattle.std.specs.Prelude.{◌≡◌, ◌++◌, ℕ, Bool, List, length, false};
 ghost use Rattle.hx_framing.specs.declared.requests.Request.{Request};
 ghost use Rattle.hx_framing.specs.declared.answer.Next.{Next};
-ghost use Rattle.hx_framing.specs.Reading.{Reading, IsSettled, extended};
+ghost use Rattle.hx_framing.specs.declared.fault.FrameFault.{FrameFault};
+ghost use Rattle.hx_framing.specs.Reading.{Reading, Faulty, IsSettled, extended};
 ghost use Rattle.hx_framing.specs.RequestReading.{Reads};
 ghost use Rattle.hx_framing.specs.RequestStream.{StreamSpells, Answers};
 ghost use Rattle.hx_framing.specs.Progress.{Progress, IsDue, fed, finished};
@@ -19,6 +20,21 @@ pub fn read_stays()
     ensures { (max_body : ℕ) → (told : Bool) → (bytes more : List ℕ) → (reading : Reading Request)
         → IsSettled reading → Reads max_body false told bytes reading
         → Reads max_body false told (bytes ++ more) (extended reading more) }
+{}
+
+/// A stream has one fault at most behind the same requests: where one of its beginnings is at fault, so is every
+/// longer one, by the same fault. So the fault of a stream is the one at its earliest place.
+pub fn one_fault()
+    ensures { (max_body : ℕ) → (told : Bool) → (bytes more : List ℕ) → (f g : FrameFault)
+        → Reads max_body false told bytes (Faulty f)
+        → Reads max_body false told (bytes ++ more) (Faulty g) → f ≡ g }
+{}
+
+/// What a stream spells it spells however it goes on: the requests given never change.
+pub fn spelled_stays()
+    ensures { (max_body : ℕ) → (stream more : List ℕ) → (ms : List Request) → (rest : List ℕ)
+        → StreamSpells max_body stream ms rest
+        → StreamSpells max_body (stream ++ more) ms (rest ++ more) }
 {}
 
 /// A stream begins with one list of so many requests.

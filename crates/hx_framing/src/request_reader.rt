@@ -1,18 +1,23 @@
 //! A reader of the requests of a connection. What it answers is said in `specs/RequestStream.antt`, of every
 //! stream that it stands for (`specs/RequestState.antt`).
-ghost use Rattle.std.specs.Prelude.{◌≡◌, ◌+◌, ◌*◌, ◌≤◌, false, IfOk, OnOk, OnErr, length};
+ghost use Rattle.std.specs.Prelude.{◌≡◌, ◌+◌, ◌*◌, ◌≤◌, false, IsOk, IfOk, OnOk, OnErr, length};
 ghost use Rattle.hx_framing.specs.declared.requests.Request.{Request};
 ghost use Rattle.hx_framing.specs.Progress.{Progress, start, fed, finished, moved, cost};
 ghost use Rattle.hx_framing.specs.RequestStream.{Answers};
 
 use crate::answer::Next;
+use crate::content::Content;
 use crate::fault::FrameFault;
 use crate::found::Found;
-use crate::request_reading::read_request;
+use crate::request_head::Head;
+use crate::request_phase::RequestPhase;
+use crate::request_reading::{read_request, request_of};
 use crate::requests::Request;
+use crate::taken::Taken;
 use crate::unread::Unread;
 use std::alloc::{AllocError, Global};
 use std::marker::Model;
+use std::mem::{drop, replace};
 
 /// A reader of a stream of requests.
 #[derive(Debug, Drop)]
@@ -20,8 +25,7 @@ pub struct RequestReader {
     max_body: u64,
     unread: Unread,
     ended: bool,
-    told: bool,
-    fault: Option<FrameFault>,
+    phase: RequestPhase,
 }
 
 impl Model for RequestReader {
@@ -31,14 +35,15 @@ impl Model for RequestReader {
 
     ghost view = { λ r. record {
       max_body = r.max_body;
-      unread = r.unread;
+      unread = r.unread.items;
+      spare = r.unread.spare;
       ended = r.ended;
-      told = r.told;
-      fault = r.fault;
+      phase = r.phase;
     } };
 }
 
 impl RequestReader {
+    ghost use Rattle.hx_framing.specs.declared.request_phase.RequestPhase.TheVariants as phase;
     ghost use Rattle.hx_framing.specs.RequestState.{StandsFor, weight};
 
     /// A reader of an empty stream. Contents have at most `max_body` bytes.
@@ -50,9 +55,17 @@ impl RequestReader {
             max_body,
             unread: Unread::new(alloc),
             ended: false,
-            told: false,
-            fault: None,
+            phase: RequestPhase::BeforeHead,
         }
+    }
+
+    /// Makes room, so that one `feed` of at most n bytes finds its memory. An `Err` changes nothing.
+    pub fn reserve(&mut self, n: usize) -> Result<(), AllocError>
+        ensures ok { OnOk result (n ≤ self.new.spare) }
+        ensures same { self.new ≡ record self.old { spare = self.new.spare } }
+        ensures err { OnErr result (self.new ≡ self.old) }
+    {
+        self.unread.reserve(n)
     }
 
     /// Takes the next piece of the stream, before `finish`. An `Err` changes nothing.
@@ -60,15 +73,14 @@ impl RequestReader {
         ensures stands { OnOk result ((p : Progress Request) → StandsFor self.old p
             → p.ended ≡ false → StandsFor self.new (fed p piece.now)) }
         ensures weight { weight self.new ≤ weight self.old + 2 * length piece.now }
+        ensures reserved { length piece.now ≤ self.old.spare → IsOk result }
         ensures err { OnErr result (self.new ≡ self.old) }
     {
-        // What follows a fault doesn't count.
-        match self.fault {
-            Some(_) => Ok(()),
-            None => {
-                self.unread.extend(piece)?;
-                Ok(())
-            }
+        match &self.phase {
+            RequestPhase::BeforeHead => self.unread.extend(piece),
+            RequestPhase::InContent(_, _) => self.unread.extend(piece),
+            // What follows a fault doesn't count.
+            RequestPhase::Faulty(_) => Ok(()),
         }
     }
 
@@ -97,21 +109,90 @@ impl RequestReader {
         ensures weight { IfOk result (λ answer. weight self.new + cost answer ≤ weight self.old) }
         ensures err { OnErr result (self.new ≡ self.old) }
     {
-        match self.fault {
-            Some(fault) => Ok(Next::Refused(fault)),
-            None => match read_request(alloc, self.ended, self.unread.as_slice())? {
-                Found::Incomplete(_) => Ok(Next::More),
-                Found::Over => Ok(Next::End),
-                Found::Message(request, n) => {
-                    self.unread.take_front(n);
-                    self.told = false;
-                    Ok(Next::Message(request))
-                }
-                Found::Faulty(fault) => {
-                    self.fault = Some(fault);
-                    Ok(Next::Refused(fault))
-                }
-            },
+        match replace(&mut self.phase, RequestPhase::BeforeHead) {
+            RequestPhase::BeforeHead => self.read_head(alloc),
+            RequestPhase::InContent(head, content) => self.read_content(alloc, head, content),
+            RequestPhase::Faulty(fault) => {
+                self.phase = RequestPhase::Faulty(fault);
+                Ok(Next::Refused(fault))
+            }
+        }
+    }
+
+    /// What is due before a head.
+    fn read_head(&mut self, alloc: Global) -> Result<Next<Request>, AllocError>
+        requires { self.old.phase ≡ phase.BeforeHead }
+        ensures answers { IfOk result (λ answer. (p : Progress Request) → StandsFor self.old p
+            → Answers p answer) }
+        ensures stands { IfOk result (λ answer. (p : Progress Request) → StandsFor self.old p
+            → StandsFor self.new (moved p answer)) }
+        ensures weight { IfOk result (λ answer. weight self.new + cost answer ≤ weight self.old) }
+        ensures err { OnErr result (self.new ≡ self.old) }
+    {
+        match read_request(alloc, self.max_body, self.ended, self.unread.as_slice())? {
+            Found::Incomplete(_) => Ok(Next::More),
+            Found::Over => Ok(Next::End),
+            Found::Faulty(fault) => {
+                self.phase = RequestPhase::Faulty(fault);
+                Ok(Next::Refused(fault))
+            }
+            Found::Message(request, n) => {
+                self.unread.take_front(n);
+                Ok(Next::Message(request))
+            }
+            Found::Continue(head, content, n) => {
+                self.unread.take_front(n);
+                self.phase = RequestPhase::InContent(head, content);
+                Ok(Next::NeedsContinue)
+            }
+            Found::Going(head, content, n) => {
+                self.unread.take_front(n);
+                self.phase = RequestPhase::InContent(head, content);
+                Ok(Next::More)
+            }
+        }
+    }
+
+    /// What is due in the content behind a head.
+    fn read_content(
+        &mut self,
+        alloc: Global,
+        head: Head,
+        mut content: Content,
+    ) -> Result<Next<Request>, AllocError>
+        ensures answers { IfOk result (λ answer. (p : Progress Request)
+            → StandsFor (record self.old { phase = phase.InContent head content }) p → Answers p answer) }
+        ensures stands { IfOk result (λ answer. (p : Progress Request)
+            → StandsFor (record self.old { phase = phase.InContent head content }) p
+            → StandsFor self.new (moved p answer)) }
+        ensures weight { IfOk result (λ answer. weight self.new + cost answer
+            ≤ 2 * length self.old.unread + 1) }
+        ensures err { OnErr result (self.new ≡ record self.old { phase = phase.InContent head content }) }
+    {
+        match content.advance(alloc, false, self.unread.as_slice()) {
+            Err(error) => {
+                self.phase = RequestPhase::InContent(head, content);
+                Err(error)
+            }
+            Ok(Taken::Short(_)) if self.ended => {
+                self.phase = RequestPhase::Faulty(FrameFault::Truncated);
+                Ok(Next::Refused(FrameFault::Truncated))
+            }
+            Ok(Taken::Short(n)) => {
+                self.unread.take_front(n);
+                self.phase = RequestPhase::InContent(head, content);
+                Ok(Next::More)
+            }
+            Ok(Taken::Bad(fault)) => {
+                self.phase = RequestPhase::Faulty(fault);
+                Ok(Next::Refused(fault))
+            }
+            Ok(Taken::Whole(whole, n)) => {
+                drop(content);
+                self.unread.take_front(n);
+                self.phase = RequestPhase::BeforeHead;
+                Ok(Next::Message(request_of(head, whole)))
+            }
         }
     }
 }

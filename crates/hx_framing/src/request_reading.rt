@@ -1,19 +1,26 @@
 //! What stands at the front of the unread bytes of a request stream. The definitions are in
-//! `specs/RequestReading.antt`.
-ghost use Rattle.std.specs.Prelude.{◌≡◌, ℕ, Bool, IfOk, Ok};
-ghost use Rattle.hx_framing.specs.RequestReading.{request_of, without_head, Reads};
-ghost use Rattle.hx_framing.specs.Found.{reading_of, IsWithin};
+//! `specs/RequestReading.antt` and `specs/RequestFound.antt`.
+ghost use Rattle.std.specs.Prelude.{◌≡◌, ◌<◌, IfOk, Some, None, Ok, Err, length, take, drop};
+ghost use Rattle.hx_framing.specs.Places.{head_length, most_head_bytes};
+ghost use Rattle.hx_framing.specs.Head.{Judges};
+ghost use Rattle.hx_framing.specs.Lengths.{plan_of};
+ghost use Rattle.hx_framing.specs.RequestReading.{request_of};
+ghost use Rattle.hx_framing.specs.RequestFound.{IsFound};
 
+use crate::content::Content;
 use crate::fault::FrameFault;
 use crate::found::Found;
-use crate::places::{MOST_HEAD_BYTES, blank_length, head_within};
+use crate::lengths::{plan_of, without_lengths};
+use crate::places::{MOST_HEAD_BYTES, blank_length, head_within, rest_from};
+use crate::plan::Plan;
 use crate::request_head::{Head, judge_head};
 use crate::requests::Request;
+use crate::taken::Taken;
 use hx_fields::Bytes;
 use std::alloc::{AllocError, Global};
 
-/// A head with its content.
-fn request_of(head: Head, content: Option<Bytes>) -> Request
+/// A head with its content, without its length fields.
+pub(crate) fn request_of(head: Head, content: Option<Bytes>) -> Request
     ensures { result ≡ request_of head content }
 {
     let Head {
@@ -26,15 +33,15 @@ fn request_of(head: Head, content: Option<Bytes>) -> Request
         method,
         target,
         minor,
-        fields,
+        fields: without_lengths(fields),
         content,
     }
 }
 
 /// Where no head ends within the limit.
-fn without_head(ended: bool, bytes: &[u8]) -> Found<Request>
-    ensures reads { reading_of bytes.now result ≡ without_head ended bytes.now }
-    ensures within { IsWithin ended bytes.now result }
+fn without_head(max_body: u64, ended: bool, bytes: &[u8]) -> Found<Head, Request>
+    requires { head_length (take most_head_bytes bytes.now) ≡ None }
+    ensures { IsFound max_body ended bytes.now result }
 {
     if bytes.len() > MOST_HEAD_BYTES {
         Found::Faulty(FrameFault::Head)
@@ -47,24 +54,52 @@ fn without_head(ended: bool, bytes: &[u8]) -> Found<Request>
     }
 }
 
-/// What stands at the front of the unread bytes.
-pub(crate) fn read_request(
+/// Behind a head of `at` bytes that tells its content.
+fn with_plan(
     alloc: Global,
+    max_body: u64,
     ended: bool,
     bytes: &[u8],
-) -> Result<Found<Request>, AllocError>
-    ensures reads { IfOk result (λ found. (max_body : ℕ) → (told : Bool)
-        → Reads max_body ended told bytes.now (reading_of bytes.now found)) }
-    ensures within { IfOk result (IsWithin ended bytes.now) }
+    at: usize,
+    head: Head,
+    plan: Plan,
+) -> Result<Found<Head, Request>, AllocError>
+    requires place { head_length (take most_head_bytes bytes.now) ≡ Some at }
+    requires some { 0 < at }
+    requires judged { Judges (take at bytes.now) (Ok head) }
+    requires plan { plan_of max_body head ≡ Ok plan }
+    ensures { IfOk result (IsFound max_body ended bytes.now) }
 {
-    match head_within(bytes, MOST_HEAD_BYTES) {
-        None => Ok(without_head(ended, bytes)),
-        Some(n) => {
-            let (front, _) = bytes.split_at(n);
-            match judge_head(alloc, front)? {
-                Err(fault) => Ok(Found::Faulty(fault)),
-                Ok(head) => Ok(Found::Message(request_of(head, None), n)),
-            }
-        }
+    let mut content = Content::begun(alloc, max_body, plan.framing);
+    if plan.wants_continue {
+        return Ok(Found::Continue(head, content, at));
+    }
+    match content.advance(alloc, false, rest_from(bytes, at))? {
+        Taken::Short(_) if ended => Ok(Found::Faulty(FrameFault::Truncated)),
+        Taken::Short(n) => Ok(Found::Going(head, content, at + n)),
+        Taken::Bad(fault) => Ok(Found::Faulty(fault)),
+        Taken::Whole(content, n) => Ok(Found::Message(request_of(head, content), at + n)),
+    }
+}
+
+/// What stands at the front of the unread bytes, before a continue was given.
+pub(crate) fn read_request(
+    alloc: Global,
+    max_body: u64,
+    ended: bool,
+    bytes: &[u8],
+) -> Result<Found<Head, Request>, AllocError>
+    ensures { IfOk result (IsFound max_body ended bytes.now) }
+{
+    let Some(at) = head_within(bytes, MOST_HEAD_BYTES) else {
+        return Ok(without_head(max_body, ended, bytes));
+    };
+    let (front, _) = bytes.split_at(at);
+    match judge_head(alloc, front)? {
+        Err(fault) => Ok(Found::Faulty(fault)),
+        Ok(head) => match plan_of(alloc, max_body, &head)? {
+            Err(fault) => Ok(Found::Faulty(fault)),
+            Ok(plan) => with_plan(alloc, max_body, ended, bytes, at, head, plan),
+        },
     }
 }

@@ -2,7 +2,8 @@
 ghost use Rattle.std.specs.Prelude.{◌≡◌, ◌++◌, ◌∷◌, [], ℕ, Bool, List, false};
 ghost use Rattle.hx_framing.specs.declared.responses.Response.{Response};
 ghost use Rattle.hx_framing.specs.declared.answer.Next.{Next};
-ghost use Rattle.hx_framing.specs.Reading.{Reading, IsSettled, extended};
+ghost use Rattle.hx_framing.specs.declared.fault.FrameFault.{FrameFault};
+ghost use Rattle.hx_framing.specs.Reading.{Reading, Faulty, IsSettled, extended};
 ghost use Rattle.hx_framing.specs.ResponseReading.{Reads};
 ghost use Rattle.hx_framing.specs.ResponseStream.{SpellsResponse, IsGiven, Answers};
 ghost use Rattle.hx_framing.specs.Progress.{Progress, IsDue, fed, finished};
@@ -20,6 +21,13 @@ pub fn read_stays()
         → (reading : Reading Response) → IsSettled reading
         → Reads max_body to_head false bytes reading
         → Reads max_body to_head false (bytes ++ more) (extended reading more) }
+{}
+
+/// A stream has one fault at most: where one of its beginnings is at fault, so is every longer one, by the same fault.
+pub fn one_fault()
+    ensures { (max_body : ℕ) → (to_head : Bool) → (bytes more : List ℕ) → (f g : FrameFault)
+        → Reads max_body to_head false bytes (Faulty f)
+        → Reads max_body to_head false (bytes ++ more) (Faulty g) → f ≡ g }
 {}
 
 /// A stream begins with one response.

@@ -1,38 +1,32 @@
 //! A reader of the response on a link. What it answers is said in `specs/ResponseStream.antt`, of every
 //! stream that it stands for (`specs/ResponseState.antt`).
-ghost use Rattle.std.specs.Prelude.{◌≡◌, ◌+◌, ◌*◌, ◌≤◌, false, IfOk, OnOk, OnErr, length};
+ghost use Rattle.std.specs.Prelude.{◌≡◌, ◌+◌, ◌*◌, ◌≤◌, false, cond, IsOk, IfOk, OnOk, OnErr, length};
 ghost use Rattle.hx_framing.specs.declared.responses.Response.{Response};
 ghost use Rattle.hx_framing.specs.Progress.{Progress, start, fed, finished, moved, IsDue, cost};
 ghost use Rattle.hx_framing.specs.ResponseStream.{Answers};
 
 use crate::answer::Next;
+use crate::content::Content;
 use crate::fault::FrameFault;
 use crate::found::Found;
-use crate::response_reading::read_response;
+use crate::response_phase::ResponsePhase;
+use crate::response_reading::{read_response, response_of};
 use crate::responses::Response;
+use crate::status_head::StatusHead;
+use crate::taken::Taken;
+use crate::unread::Unread;
 use std::alloc::{AllocError, Global};
 use std::marker::Model;
-
-/// Where a reader is in its stream.
-#[derive(Clone, Copy, Debug, PartialEq, Eq)]
-pub(crate) enum Phase {
-    /// Before the message, or in it.
-    Reading,
-    /// Behind the message.
-    Given,
-    Faulty(FrameFault),
-}
+use std::mem::{drop, replace};
 
 /// A reader of a stream of one response.
 #[derive(Debug, Drop)]
 pub struct ResponseReader {
     max_body: u64,
     to_head: bool,
-    unread: Vec<u8>,
-    /// With fewer unread bytes nothing is due: they aren't read again before.
-    wanted: usize,
+    unread: Unread,
     ended: bool,
-    phase: Phase,
+    phase: ResponsePhase,
 }
 
 impl Model for ResponseReader {
@@ -44,13 +38,14 @@ impl Model for ResponseReader {
       max_body = r.max_body;
       to_head = r.to_head;
       unread = r.unread.items;
-      wanted = r.wanted;
+      spare = r.unread.spare;
       ended = r.ended;
       phase = r.phase;
     } };
 }
 
 impl ResponseReader {
+    ghost use Rattle.hx_framing.specs.declared.response_phase.ResponsePhase.TheVariants as phase;
     ghost use Rattle.hx_framing.specs.ResponseState.{StandsFor, weight};
 
     /// A reader of an empty stream. A content has at most `max_body` bytes; `to_head` says that it
@@ -62,11 +57,19 @@ impl ResponseReader {
         ResponseReader {
             max_body,
             to_head,
-            unread: Vec::new(alloc),
-            wanted: 0,
+            unread: Unread::new(alloc),
             ended: false,
-            phase: Phase::Reading,
+            phase: ResponsePhase::BeforeHead,
         }
+    }
+
+    /// Makes room, so that one `feed` of at most n bytes finds its memory. An `Err` changes nothing.
+    pub fn reserve(&mut self, n: usize) -> Result<(), AllocError>
+        ensures ok { OnOk result (n ≤ self.new.spare) }
+        ensures same { self.new ≡ record self.old { spare = self.new.spare } }
+        ensures err { OnErr result (self.new ≡ self.old) }
+    {
+        self.unread.reserve(n)
     }
 
     /// Takes the next piece of the stream, before `finish`. An `Err` changes nothing.
@@ -74,16 +77,15 @@ impl ResponseReader {
         ensures stands { OnOk result ((p : Progress Response) → StandsFor self.old p
             → p.ended ≡ false → StandsFor self.new (fed p piece.now)) }
         ensures weight { weight self.new ≤ weight self.old + 2 * length piece.now }
+        ensures reserved { length piece.now ≤ self.old.spare → IsOk result }
         ensures err { OnErr result (self.new ≡ self.old) }
     {
-        match self.phase {
-            Phase::Reading => {
-                self.unread.extend_from_slice(piece)?;
-                Ok(())
-            }
+        match &self.phase {
+            ResponsePhase::BeforeHead => self.unread.extend(piece),
+            ResponsePhase::InContent(_, _) => self.unread.extend(piece),
             // What follows the message or a fault doesn't count.
-            Phase::Given => Ok(()),
-            Phase::Faulty(_) => Ok(()),
+            ResponsePhase::Given => Ok(()),
+            ResponsePhase::Faulty(_) => Ok(()),
         }
     }
 
@@ -113,28 +115,96 @@ impl ResponseReader {
         ensures due { IfOk result (λ answer. IsDue answer → 1 ≤ weight self.new + cost answer) }
         ensures err { OnErr result (self.new ≡ self.old) }
     {
-        match self.phase {
-            Phase::Given => Ok(Next::End),
-            Phase::Faulty(fault) => Ok(Next::Refused(fault)),
-            Phase::Reading => {
-                if !self.ended && self.unread.len() < self.wanted {
-                    return Ok(Next::More);
-                }
-                match read_response(alloc, self.max_body, self.ended, self.unread.as_slice())? {
-                    Found::Incomplete(wanted) => {
-                        self.wanted = wanted;
-                        Ok(Next::More)
-                    }
-                    Found::Over => unreachable!(),
-                    Found::Message(response, _) => {
-                        self.phase = Phase::Given;
-                        Ok(Next::Message(response))
-                    }
-                    Found::Faulty(fault) => {
-                        self.phase = Phase::Faulty(fault);
-                        Ok(Next::Refused(fault))
-                    }
-                }
+        match replace(&mut self.phase, ResponsePhase::BeforeHead) {
+            ResponsePhase::BeforeHead => self.read_head(alloc),
+            ResponsePhase::InContent(head, content) => self.read_content(alloc, head, content),
+            ResponsePhase::Given => {
+                self.phase = ResponsePhase::Given;
+                Ok(Next::End)
+            }
+            ResponsePhase::Faulty(fault) => {
+                self.phase = ResponsePhase::Faulty(fault);
+                Ok(Next::Refused(fault))
+            }
+        }
+    }
+
+    /// What is due before the head of the final response.
+    fn read_head(&mut self, alloc: Global) -> Result<Next<Response>, AllocError>
+        requires { self.old.phase ≡ phase.BeforeHead }
+        ensures answers { IfOk result (λ answer. (p : Progress Response) → StandsFor self.old p
+            → Answers p answer) }
+        ensures stands { IfOk result (λ answer. (p : Progress Response) → StandsFor self.old p
+            → StandsFor self.new (moved p answer)) }
+        ensures weight { IfOk result (λ answer. weight self.new + cost answer ≤ weight self.old) }
+        ensures due { IfOk result (λ answer. IsDue answer → 1 ≤ weight self.new + cost answer) }
+        ensures err { OnErr result (self.new ≡ self.old) }
+    {
+        let bytes = self.unread.as_slice();
+        match read_response(alloc, self.max_body, self.to_head, self.ended, bytes)? {
+            Found::Incomplete(n) => {
+                self.unread.take_front(n);
+                Ok(Next::More)
+            }
+            Found::Going(head, content, n) => {
+                self.unread.take_front(n);
+                self.phase = ResponsePhase::InContent(head, content);
+                Ok(Next::More)
+            }
+            Found::Message(response, n) => {
+                self.unread.take_front(n);
+                self.phase = ResponsePhase::Given;
+                Ok(Next::Message(response))
+            }
+            Found::Faulty(fault) => {
+                self.phase = ResponsePhase::Faulty(fault);
+                Ok(Next::Refused(fault))
+            }
+            Found::Continue(_, _, _) => unreachable!(),
+            Found::Over => unreachable!(),
+        }
+    }
+
+    /// What is due in the content behind a head.
+    fn read_content(
+        &mut self,
+        alloc: Global,
+        head: StatusHead,
+        mut content: Content,
+    ) -> Result<Next<Response>, AllocError>
+        ensures answers { IfOk result (λ answer. (p : Progress Response)
+            → StandsFor (record self.old { phase = phase.InContent head content }) p → Answers p answer) }
+        ensures stands { IfOk result (λ answer. (p : Progress Response)
+            → StandsFor (record self.old { phase = phase.InContent head content }) p
+            → StandsFor self.new (moved p answer)) }
+        ensures weight { IfOk result (λ answer. weight self.new + cost answer
+            ≤ 2 * length self.old.unread + 2 + cond self.old.ended 1 0) }
+        ensures due { IfOk result (λ answer. IsDue answer → 1 ≤ weight self.new + cost answer) }
+        ensures err { OnErr result (self.new ≡ record self.old { phase = phase.InContent head content }) }
+    {
+        match content.advance(alloc, self.ended, self.unread.as_slice()) {
+            Err(error) => {
+                self.phase = ResponsePhase::InContent(head, content);
+                Err(error)
+            }
+            Ok(Taken::Short(_)) if self.ended => {
+                self.phase = ResponsePhase::Faulty(FrameFault::Truncated);
+                Ok(Next::Refused(FrameFault::Truncated))
+            }
+            Ok(Taken::Short(n)) => {
+                self.unread.take_front(n);
+                self.phase = ResponsePhase::InContent(head, content);
+                Ok(Next::More)
+            }
+            Ok(Taken::Bad(fault)) => {
+                self.phase = ResponsePhase::Faulty(fault);
+                Ok(Next::Refused(fault))
+            }
+            Ok(Taken::Whole(whole, n)) => {
+                drop(content);
+                self.unread.take_front(n);
+                self.phase = ResponsePhase::Given;
+                Ok(Next::Message(response_of(alloc, self.to_head, head, whole)))
             }
         }
     }

@@ -1,175 +1,140 @@
-//! What stands at the front of a response stream. The definitions are in `specs/ResponseReading.antt`.
-ghost use Rattle.std.specs.Prelude.{◌≡◌, ◌<◌, ◌≤◌, ◌+◌, ℕ, Bool, List, IfOk, Ok, true, length as size, drop, codes};
-ghost use Rattle.std.specs.Char.{is_ascii_digit, digit_value};
-ghost use Rattle.hx_framing.specs.ResponseReading.{announced_value, announced, with_status, is_refused_status, length_of, response_of, with_length, without_head, Reads};
-ghost use Rattle.hx_framing.specs.Reading.{cut_off};
-ghost use Rattle.hx_framing.specs.Waits.{WantsAtMost, WaitsFor};
-ghost use Rattle.hx_framing.specs.Found.{reading_of, IsWithin};
-ghost use Rattle.hx_fields.specs.Lines.{values_of};
+//! What stands at the front of a response stream. The definitions are in `specs/ResponseReading.antt` and
+//! `specs/ResponseFound.antt`.
+ghost use Rattle.std.specs.Prelude.{◌≡◌, ◌≤◌, IfOk, Ok, ℕ, Bool, length};
+ghost use Rattle.hx_framing.specs.declared.status_front.StatusFront.TheVariants as front;
+ghost use Rattle.hx_framing.specs.Lengths.{framing_of_response};
+ghost use Rattle.hx_framing.specs.ResponseReading.{content_of, response_of};
+ghost use Rattle.hx_framing.specs.ResponseFound.{IsFound, IsFront};
 
+use crate::content::Content;
 use crate::fault::FrameFault;
 use crate::found::Found;
+use crate::lengths::{announced_of, framing_of_response, is_interim, without_lengths};
 use crate::places::{MOST_HEAD_BYTES, head_within, rest_from};
+use crate::plan::Framing;
 use crate::responses::Response;
+use crate::status_front::StatusFront;
 use crate::status_head::{StatusHead, judge_head};
-use hx_fields::{Bytes, Fields};
+use crate::taken::Taken;
+use hx_fields::Bytes;
 use std::alloc::{AllocError, Global};
 
-/// The number that a digit stands for.
-fn digit(b: u8) -> u8
-    requires { is_ascii_digit b ≡ true }
-    ensures value { result ≡ digit_value b }
-    ensures small { result < 10 }
+/// The bytes of a content; no content has none.
+fn content_of(alloc: Global, content: Option<Bytes>) -> Bytes
+    ensures { result ≡ content_of content }
 {
-    b - b'0'
-}
-
-/// The length that a value announces, in bytes.
-fn announced_value(max_body: u64, value: &[u8]) -> Result<u64, FrameFault>
-    ensures { result ≡ announced_value max_body value.now }
-{
-    if value.is_empty() {
-        return Err(FrameFault::Length);
-    }
-    let most = max_body as u128;
-    let mut n = 0u128;
-    for b in value {
-        if !b.is_ascii_digit() {
-            return Err(FrameFault::Length);
-        }
-        // A number that is too large already doesn't grow: it may have any number of digits.
-        if n <= most {
-            n = n * 10 + digit(*b) as u128;
-        }
-    }
-    if n <= most {
-        Ok(n as u64)
-    } else {
-        Err(FrameFault::TooLarge)
+    match content {
+        Some(bytes) => bytes,
+        None => Bytes::new(alloc),
     }
 }
 
-/// The length that the Content-Length lines announce, in bytes.
-fn announced(max_body: u64, fields: &Fields) -> Result<u64, FrameFault>
-    ensures { result ≡ announced max_body (values_of fields.now (codes "content-length")) }
+/// A head with its content, without its length fields.
+pub(crate) fn response_of(
+    alloc: Global,
+    to_head: bool,
+    head: StatusHead,
+    content: Option<Bytes>,
+) -> Response
+    ensures { result ≡ response_of to_head head content }
 {
-    match fields.value(b"content-length") {
-        Some(value) => {
-            if fields.count(b"content-length") == 1 {
-                announced_value(max_body, value)
-            } else {
-                Err(FrameFault::Length)
-            }
-        }
-        None => Err(FrameFault::Length),
-    }
-}
-
-fn is_refused_status(status: u16) -> bool
-    ensures { result ≡ is_refused_status status }
-{
-    status < 100 || status >= 600 || status == 101
-}
-
-/// The length of the content behind a head, in bytes.
-fn length_of(max_body: u64, head: &StatusHead) -> Result<u64, FrameFault>
-    ensures { result ≡ length_of max_body head.now }
-{
-    match announced(max_body, &head.fields) {
-        Ok(_) if is_refused_status(head.status) => Err(FrameFault::Status),
-        Err(_) if head.status == 101 => Err(FrameFault::Status),
-        other => other,
-    }
-}
-
-/// A head with its content.
-fn response_of(head: StatusHead, content: Bytes) -> Response
-    ensures { result ≡ response_of head content }
-{
-    let StatusHead { status, mut fields } = head;
-    fields.remove_named(b"content-length");
+    let announced = announced_of(to_head, &head);
+    let StatusHead {
+        status,
+        minor: _,
+        fields,
+    } = head;
     Response {
         status,
-        fields,
-        content,
-        announced: None,
+        fields: without_lengths(fields),
+        content: content_of(alloc, content),
+        announced,
     }
 }
 
-/// Where a message is cut off if the stream ends here, and otherwise goes on up to so many bytes.
-fn cut_off(ended: bool, wanted: usize) -> Found<Response>
-    ensures reads { (bytes : List ℕ) → reading_of bytes result ≡ cut_off ended }
-    ensures within { (bytes : List ℕ) → IsWithin ended bytes result }
-    ensures wants { WantsAtMost wanted result }
+/// What stands behind the interim responses in front.
+fn front_of(alloc: Global, bytes: &[u8]) -> Result<StatusFront, AllocError>
+    ensures { IfOk result (IsFront bytes.now) }
 {
-    if ended {
+    let mut at = 0;
+    loop {
+        let rest = rest_from(bytes, at);
+        let Some(n) = head_within(rest, MOST_HEAD_BYTES) else {
+            return Ok(StatusFront::Open(at));
+        };
+        let (head, _) = rest.split_at(n);
+        match judge_head(alloc, head)? {
+            Ok(head) => {
+                if !is_interim(head.status) {
+                    return Ok(StatusFront::Final(head, at + n));
+                }
+                at += n;
+            }
+            Err(fault) => return Ok(StatusFront::Faulty(fault)),
+        }
+    }
+}
+
+/// Where no head ends within the limit behind the interim responses, which take `at` bytes.
+fn without_head(ended: bool, bytes: &[u8], at: usize) -> Found<StatusHead, Response>
+    requires within { at ≤ length bytes.now }
+    requires open { IsFront bytes.now (front.Open at) }
+    ensures { (max_body : ℕ) (to_head : Bool) → IsFound max_body to_head ended bytes.now result }
+{
+    if bytes.len() - at > MOST_HEAD_BYTES {
+        Found::Faulty(FrameFault::Head)
+    } else if ended {
         Found::Faulty(FrameFault::Truncated)
     } else {
-        Found::Incomplete(wanted)
+        Found::Incomplete(at)
     }
 }
 
-/// Behind a head of `at` bytes that announces a length.
-fn with_length(
+/// Behind a final head, which ends at `at`.
+fn with_framing(
     alloc: Global,
+    max_body: u64,
+    to_head: bool,
     ended: bool,
-    head: StatusHead,
     bytes: &[u8],
     at: usize,
-    length: u64,
-) -> Result<Found<Response>, AllocError>
-    requires some { 0 < at }
-    requires within { at ≤ size bytes.now }
-    ensures reads { IfOk result (λ found. reading_of bytes.now found
-        ≡ with_length ended head (drop at bytes.now) (Ok length)) }
-    ensures within { IfOk result (IsWithin ended bytes.now) }
-    ensures wants { IfOk result (WantsAtMost (at + length)) }
+    head: StatusHead,
+    framing: Framing,
+) -> Result<Found<StatusHead, Response>, AllocError>
+    requires front { IsFront bytes.now (front.Final head at) }
+    requires framing { framing_of_response max_body to_head head ≡ Ok framing }
+    ensures { IfOk result (IsFound max_body to_head ended bytes.now) }
 {
-    let rest = rest_from(bytes, at);
-    if (rest.len() as u64) < length {
-        return Ok(cut_off(ended, at.saturating_add(length as usize)));
-    }
-    let (front, _) = rest.split_at(length as usize);
-    let content = Bytes::copy_of(alloc, front)?;
-    Ok(Found::Message(response_of(head, content), at + length as usize))
-}
-
-/// Where no head ends within the limit.
-fn without_head(ended: bool, bytes: &[u8]) -> Found<Response>
-    ensures reads { reading_of bytes.now result ≡ without_head ended bytes.now }
-    ensures within { IsWithin ended bytes.now result }
-    ensures wants { WantsAtMost 0 result }
-{
-    if bytes.len() > MOST_HEAD_BYTES {
-        Found::Faulty(FrameFault::Head)
-    } else {
-        cut_off(ended, 0)
+    let mut content = Content::begun(alloc, max_body, framing);
+    match content.advance(alloc, ended, rest_from(bytes, at))? {
+        Taken::Short(_) if ended => Ok(Found::Faulty(FrameFault::Truncated)),
+        Taken::Short(n) => Ok(Found::Going(head, content, at + n)),
+        Taken::Bad(fault) => Ok(Found::Faulty(fault)),
+        Taken::Whole(content, n) => {
+            Ok(Found::Message(response_of(alloc, to_head, head, content), at + n))
+        }
     }
 }
 
-/// What stands at the front of the stream.
+/// What stands at the front of the unread bytes.
 pub(crate) fn read_response(
     alloc: Global,
     max_body: u64,
+    to_head: bool,
     ended: bool,
     bytes: &[u8],
-) -> Result<Found<Response>, AllocError>
-    ensures reads { IfOk result (λ found. (to_head : Bool)
-        → Reads max_body to_head ended bytes.now (reading_of bytes.now found)) }
-    ensures within { IfOk result (IsWithin ended bytes.now) }
-    ensures waits { IfOk result (λ found. (to_head : Bool)
-        → WaitsFor max_body to_head bytes.now found) }
+) -> Result<Found<StatusHead, Response>, AllocError>
+    ensures { IfOk result (IsFound max_body to_head ended bytes.now) }
 {
-    match head_within(bytes, MOST_HEAD_BYTES) {
-        None => Ok(without_head(ended, bytes)),
-        Some(at) => {
-            let (front, _) = bytes.split_at(at);
-            match judge_head(alloc, front)? {
+    match front_of(alloc, bytes)? {
+        StatusFront::Open(at) => Ok(without_head(ended, bytes, at)),
+        StatusFront::Faulty(fault) => Ok(Found::Faulty(fault)),
+        StatusFront::Final(head, at) => {
+            match framing_of_response(alloc, max_body, to_head, &head)? {
                 Err(fault) => Ok(Found::Faulty(fault)),
-                Ok(head) => match length_of(max_body, &head) {
-                    Err(fault) => Ok(Found::Faulty(fault)),
-                    Ok(length) => with_length(alloc, ended, head, bytes, at, length),
-                },
+                Ok(framing) => {
+                    with_framing(alloc, max_body, to_head, ended, bytes, at, head, framing)
+                }
             }
         }
     }

@@ -1,10 +1,7 @@
 //! What the definitions give on values that can be judged by eye.
-ghost use Rattle.std.specs.Prelude.{◌≡◌, ◌∷◌, [], codes, length, Some, None, Ok, Err, true, false};
-ghost use Rattle.hx_framing.specs.declared.fault.FrameFault.TheVariants as fault;
-ghost use Rattle.hx_framing.specs.Examples.{get_request, first_forward, stored_fields, hit_fields, date_101};
+ghost use Rattle.std.specs.Prelude.{◌≡◌, ◌∷◌, [], codes, length, Some, None, true, false};
+ghost use Rattle.hx_framing.specs.Examples.{get_request, first_forward, stored_fields, hit_fields};
 ghost use Rattle.hx_framing.specs.Places.{head_length};
-ghost use Rattle.hx_framing.specs.ResponseReading.{announced};
-ghost use Rattle.hx_framing.specs.StatusHead.{is_one_date};
 ghost use Rattle.hx_framing.specs.Text.{request_text, response_text};
 
 /// The request that goes to the origin in the first run.
@@ -36,17 +33,4 @@ pub fn head_lengths()
     ensures blank { head_length (codes "\r\n\nA\r\n\r\nB") ≡ Some 8 }
     ensures lone_return { head_length (codes "A\r\n\r\r\n") ≡ None }
     ensures open { head_length (codes "A\r\n\r") ≡ None }
-{}
-
-/// Lengths and dates of response heads.
-pub fn announced_lengths()
-    ensures two { announced 1000 (codes "2" ∷ []) ≡ Ok 2 }
-    ensures zeros { announced 1000 (codes "0001000" ∷ []) ≡ Ok 1000 }
-    ensures large { announced 1000 (codes "1001" ∷ []) ≡ Err fault.TooLarge }
-    ensures empty { announced 1000 ([] ∷ []) ≡ Err fault.Length }
-    ensures sign { announced 1000 (codes "+2" ∷ []) ≡ Err fault.Length }
-    ensures none { announced 1000 [] ≡ Err fault.Length }
-    ensures date { is_one_date (date_101 ∷ []) ≡ true }
-    ensures no_date { is_one_date (codes "Thu, 32 Jan 1970 00:01:41 GMT" ∷ []) ≡ false }
-    ensures two_dates { is_one_date (date_101 ∷ date_101 ∷ []) ≡ false }
 {}

@@ -11,7 +11,7 @@ use Rattle.hx_framing.specs.declared.answer.Next.TheVariants as next
 use Rattle.hx_framing.specs.Progress.{fed, finished}
 use Rattle.hx_allow.specs.Lines.{Table}
 use Rattle.hx_hop.specs.declared.asked_for.Asked.{Asked}
-use Rattle.hx_target.specs.declared.faults.TargetFault.{TargetFault}
+use Rattle.proxy_engine.specs.Taken.{Refusal}
 use Rattle.hx_reuse.specs.Rules.{decision_of}
 use Rattle.hx_reuse.specs.declared.decision.Decision.{Decision}
 use Rattle.hx_reuse.specs.declared.decision.Decision.TheVariants as decision
@@ -379,7 +379,7 @@ serves_order s now i w told after h due done = by_wish w done
     closes : Closes s i told after → IsOrderly after × NamesOpen s after told
     closes d = shuts_order s i told _ after h inside parts.2 d.0 d.1 (λ t shut. (unshut, (i, refl, shut), refl))
 
-    arrives : (r : Request) (judged : Result Asked TargetFault) → Arrives s now i r judged told after → IsOrderly after × NamesOpen s after told
+    arrives : (r : Request) (judged : Result Asked Refusal) → Arrives s now i r judged told after → IsOrderly after × NamesOpen s after told
     arrives r (Ok asked) d = arrived_order s now i (next.Message r) asked d.1.outcome d.1.core (is_head asked) told after h inside unshut parts.1 parts.2 d.1.steps d.1.told_is d.1.after_is
     arrives r (Err fault) d = refuses _ _ d
 

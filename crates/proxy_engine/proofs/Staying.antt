@@ -8,7 +8,7 @@ use Rattle.hx_framing.specs.declared.answer.Next.{Next}
 use Rattle.hx_framing.specs.declared.answer.Next.TheVariants as next
 use Rattle.hx_framing.specs.Progress.{fed, finished}
 use Rattle.hx_hop.specs.declared.asked_for.Asked.{Asked}
-use Rattle.hx_target.specs.declared.faults.TargetFault.{TargetFault}
+use Rattle.proxy_engine.specs.Taken.{Refusal}
 use Rattle.proxy_core.specs.State.{State as CoreState}
 use Rattle.proxy_core.specs.declared.event.Event.{Event}
 use Rattle.proxy_script.specs.declared.effect_list.Effect.{Effect}
@@ -137,7 +137,7 @@ stays_stepped s t i to_head event before told after h d =
 stays_passed : (s : Story) (i : ℕ) (m : Next Request) → Stays s (with_connection s i (passing m))
 stays_passed s i m = stays_connection s i (passing m) (λ c e. e) (λ c e. e)
 
-stays_arrived : (s : Story) (now i : ℕ) (r : Request) (judged : Result Asked TargetFault) (told : List Effect) (after : Story) → Arrives s now i r judged told after → Stays s after
+stays_arrived : (s : Story) (now i : ℕ) (r : Request) (judged : Result Asked Refusal) (told : List Effect) (after : Story) → Arrives s now i r judged told after → Stays s after
 stays_arrived s now i r (Ok asked) told after d = stays_stepped s (with_connection s i (passing (next.Message r))) i _ _ _ told after (stays_passed s i (next.Message r)) d.1
 stays_arrived s now i r (Err fault) told after d = stays_equal s _ after d.after_is (stays_closing s i true)
 

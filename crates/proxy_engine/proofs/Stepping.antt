@@ -4,7 +4,7 @@ use Rattle.hx_framing.specs.declared.requests.Request.{Request}
 use Rattle.hx_framing.specs.declared.answer.Next.{Next}
 use Rattle.hx_framing.specs.declared.answer.Next.TheVariants as next
 use Rattle.hx_hop.specs.declared.asked_for.Asked.{Asked}
-use Rattle.hx_hop.specs.Asking.{IsAsked}
+use Rattle.proxy_engine.specs.Taken.{IsAdmitted}
 use Rattle.hx_allow.specs.Lines.{Table}
 use Rattle.hx_allow.specs.Matching.{verdict_of}
 use Rattle.hx_allow.specs.declared.verdicts.Verdict.{Verdict}
@@ -60,7 +60,7 @@ arrival_way core core1 now id asked o address steps e =
 -- a request has arrived
 pub arrived_done : (s : Story) (cs cs2 : List Connection) (ks ks1 ks2 : List Link) (core core1 : CoreState) (first now i max_body : ℕ) (r : Request) (asked : Asked) (o : Outcome) (address : List ℕ) (to_head : Bool) (x y d : Connection) (told : List Effect)
     → i < length cs → x ≡ get_or cs i x → (get_or cs i d).watch.look ≡ Due (next.Message r) → ((c : ConnStory) (a : Next Request) → x.watch.look ≡ Due a → ConnStands x c → ConnStands y (passing a c))
-    → IsAsked r (Ok asked) → Steps core (events.Arrive now (i + 1) asked) o core1 → ks1 ≡ ks → first + length ks1 < 2 ^ 64
+    → IsAdmitted r (Ok asked) → Steps core (events.Arrive now (i + 1) asked) o core1 → ks1 ≡ ks → first + length ks1 < 2 ^ 64
     → address ≡ verdict_address core.table (verdict_of core.table.lines asked.method asked.target) → max_body ≡ core.table.max_body → to_head ≡ is_head asked
     → told ≡ effects_on i (first + length ks1) (came_at address o)
     → ((t : Story) (k : CoreState) → k.table.max_body ≡ max_body → Stands (state (set cs i y) ks1 k first) t → Stands (state cs2 ks2 k first) (after_on i to_head (came_at address o) t))

@@ -8,7 +8,6 @@ use Rattle.hx_framing.specs.declared.fault.FrameFault.TheVariants as frame
 use Rattle.hx_framing.specs.declared.answer.Next.{Next}
 use Rattle.hx_framing.specs.declared.answer.Next.TheVariants as next
 use Rattle.hx_hop.specs.declared.asked_for.Asked.{Asked}
-use Rattle.hx_hop.specs.Asking.{IsAsked}
 use Rattle.hx_status.specs.declared.cause.Cause.{Cause}
 use Rattle.hx_status.specs.declared.cause.Cause.TheVariants as cause
 use Rattle.proxy_core.specs.Moments.{IsDateOf}
@@ -16,6 +15,7 @@ use Rattle.proxy_core.specs.Replies.{refused_text}
 use Rattle.proxy_core.specs.State.{State as CoreState}
 use Rattle.proxy_script.specs.declared.effect_list.Effect.{Effect}
 use Rattle.proxy_script.specs.declared.effect_list.Effect.TheVariants as effects
+use Rattle.proxy_engine.specs.Taken.{IsAdmitted}
 use Rattle.proxy_engine.specs.Look.{Due}
 use Rattle.proxy_engine.specs.Story.{Story, ConnStory, with_connection}
 use Rattle.proxy_engine.specs.Due.{Serves, Finish}
@@ -77,7 +77,7 @@ pub refused_served : (s : Story) (now i : ℕ) (a : Next Request) (why : Cause) 
 refused_served s now i next.More why head told after w h = absurd w
 refused_served s now i next.NeedsContinue why head told after w h = cc
 refused_served s now i (next.Message r) why head told after w h =
-    (Err w.0, w.1, subst (λ (b : Bool). Refuses s now i (cause.Target w.0) b told after) w.3 (subst (λ (y : Cause). Refuses s now i y head told after) w.2 h))
+    (Err (record { why = why; head = head }), w, h)
 refused_served s now i (next.Refused f) why head told after w h = refused_frame s now i f why head told after w h
 refused_served s now i next.End why head told after w h = cc
 
@@ -113,7 +113,7 @@ no_arrival frame.Expect asked e = cc
 no_arrival frame.Status asked e = cc
 
 -- what arrives is a message that was read
-pub arrival_wish : (a : Next Request) (w : Wish) (asked : Asked) → w ≡ wish.Arrive asked → IsWish a w → (r : Request) × (a ≡ next.Message r) × IsAsked r (Ok asked)
+pub arrival_wish : (a : Next Request) (w : Wish) (asked : Asked) → w ≡ wish.Arrive asked → IsWish a w → (r : Request) × (a ≡ next.Message r) × IsAdmitted r (Ok asked)
 arrival_wish next.More w asked e h = absurd h
 arrival_wish next.NeedsContinue w asked e h = cc
 arrival_wish (next.Message r) w asked e h = (r, refl, subst (λ (v : Wish). IsMessageWish r v) e h)

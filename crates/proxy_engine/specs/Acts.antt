@@ -2,15 +2,13 @@
 --
 -- Came: an outcome of the core, on a connection     effects_on, after_on: its effects there, and the story behind it
 -- Does: an act was done                             MayForward: an act that may need a link
-use Rattle.std.specs.Prelude.{◌≡◌, ℕ, ◌+◌, ◌<◌, ◌^◌, List, [], ◌∷◌, ◌++◌, length, Bool, true, false, ◌||◌, Option, None, Some, if◌then◌else◌, slice_set, codes, bytes_eq, Result, Ok, Err, unwrap_or}
+use Rattle.std.specs.Prelude.{◌≡◌, ℕ, ◌+◌, ◌<◌, ◌^◌, List, [], ◌∷◌, ◌++◌, length, Bool, true, false, ◌||◌, Option, None, Some, if◌then◌else◌, slice_set, codes, Result, Ok, Err, unwrap_or}
 use Rattle.hx_framing.specs.declared.requests.Request.{Request}
 use Rattle.hx_framing.specs.declared.fault.FrameFault.TheVariants as frame
 use Rattle.hx_framing.specs.declared.answer.Next.{Next}
 use Rattle.hx_framing.specs.declared.answer.Next.TheVariants as next
 use Rattle.hx_framing.specs.Progress.{moved}
 use Rattle.hx_hop.specs.declared.asked_for.Asked.{Asked}
-use Rattle.hx_hop.specs.Asking.{IsAsked}
-use Rattle.hx_target.specs.declared.faults.TargetFault.{TargetFault}
 use Rattle.hx_allow.specs.Lines.{Table}
 use Rattle.hx_allow.specs.Matching.{origin_of}
 use Rattle.hx_status.specs.declared.cause.Cause.{Cause}
@@ -24,6 +22,7 @@ use Rattle.proxy_core.specs.declared.event.Event.{Event}
 use Rattle.proxy_core.specs.declared.event.Event.TheVariants as events
 use Rattle.proxy_script.specs.declared.effect_list.Effect.{Effect}
 use Rattle.proxy_script.specs.declared.effect_list.Effect.TheVariants as effects
+use Rattle.proxy_engine.specs.Taken.{Refusal, IsAdmitted}
 use Rattle.proxy_engine.specs.Story.{Story, ConnStory, LinkStory, opened, connection_at, link_at, with_connection, with_link, with_core}
 use Rattle.proxy_engine.specs.Due.{Finish, Gives, Breaks, Act, Abandons, Finishes, Serves}
 
@@ -112,11 +111,11 @@ pub record Refuses (s : Story) (now i : ℕ) (why : Cause) (head : Bool) (told :
 abbrev pub Closes : Story → ℕ → List Effect → Story → Type 0
 Closes s i told after = (told ≡ effects.Close (i + 1) ∷ []) × (after ≡ with_connection s i (closing true))
 
--- a request arrives at the core, or names no resource
-abbrev pub Arrives : Story → ℕ → ℕ → Request → Result Asked TargetFault → List Effect → Story → Type 0
+-- a request arrives at the core, or is refused
+abbrev pub Arrives : Story → ℕ → ℕ → Request → Result Asked Refusal → List Effect → Story → Type 0
 Arrives s now i r (Ok asked) told after =
     (next_number s < 2 ^ 64) × StepsOn s (with_connection s i (passing (next.Message r))) i (is_head asked) (events.Arrive now (i + 1) asked) [] told after
-Arrives s now i r (Err fault) told after = Refuses s now i (cause.Target fault) (bytes_eq r.method (codes "HEAD")) told after
+Arrives s now i r (Err refusal) told after = Refuses s now i refusal.why refusal.head told after
 
 -- what a client's stream asks for is done
 abbrev pub Served : Story → ℕ → ℕ → Next Request → List Effect → Story → Type 0
@@ -124,7 +123,7 @@ Served s now i next.More told after = ⊥
 Served s now i next.NeedsContinue told after =
     (told ≡ effects.Client (i + 1) continue_text ∷ []) × (after ≡ with_connection s i (passing next.NeedsContinue))
 Served s now i (next.Message r) told after =
-    (judged : Result Asked TargetFault) × IsAsked r judged × Arrives s now i r judged told after
+    (judged : Result Asked Refusal) × IsAdmitted r judged × Arrives s now i r judged told after
 Served s now i (next.Refused frame.Truncated) told after = Closes s i told after
 Served s now i (next.Refused frame.Head) told after = Refuses s now i (cause.Frame frame.Head) false told after
 Served s now i (next.Refused frame.Version) told after = Refuses s now i (cause.Frame frame.Version) false told after
@@ -155,7 +154,7 @@ abbrev pub MayForward : Act → Type 0
 MayForward (Abandons i l) = ⊥
 MayForward (Finishes j (Gives r)) = Unit {0}
 MayForward (Finishes j (Breaks kind)) = ⊥
-MayForward (Serves i (next.Message r)) = (asked : Asked) × IsAsked r (Ok asked)
+MayForward (Serves i (next.Message r)) = (asked : Asked) × IsAdmitted r (Ok asked)
 MayForward (Serves i next.More) = ⊥
 MayForward (Serves i next.NeedsContinue) = ⊥
 MayForward (Serves i (next.Refused fault)) = ⊥

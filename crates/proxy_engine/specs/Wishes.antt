@@ -3,14 +3,12 @@
 -- IsWish: what a client's stream asks for, read as a request or refused
 -- verdict_address: the address that a verdict leads to
 -- Ends: the core's step that finishes an exchange     EndFault: why it isn't done
-use Rattle.std.specs.Prelude.{◌≡◌, ℕ, List, [], Bool, true, false, Option, None, Some, bytes_eq, codes, Ok, Err}
+use Rattle.std.specs.Prelude.{◌≡◌, ℕ, List, [], Bool, true, false, Option, None, Some, Ok, Err}
 use Rattle.hx_framing.specs.declared.requests.Request.{Request}
 use Rattle.hx_framing.specs.declared.fault.FrameFault.{FrameFault}
 use Rattle.hx_framing.specs.declared.fault.FrameFault.TheVariants as frame
 use Rattle.hx_framing.specs.declared.answer.Next.{Next}
 use Rattle.hx_framing.specs.declared.answer.Next.TheVariants as next
-use Rattle.hx_hop.specs.Asking.{IsAsked}
-use Rattle.hx_target.specs.declared.faults.TargetFault.{TargetFault}
 use Rattle.hx_allow.specs.Lines.{Table}
 use Rattle.hx_allow.specs.declared.verdicts.Verdict.{Verdict}
 use Rattle.hx_allow.specs.declared.verdicts.Verdict.TheVariants as verdict
@@ -20,6 +18,7 @@ use Rattle.proxy_core.specs.declared.outcome.Outcome.{Outcome}
 use Rattle.proxy_core.specs.declared.outcome.Outcome.TheVariants as outcomes
 use Rattle.proxy_core.specs.declared.outcome.Reply.{Reply}
 use Rattle.proxy_core.specs.declared.event.Event.TheVariants as events
+use Rattle.proxy_engine.specs.Taken.{IsAdmitted}
 use Rattle.proxy_engine.specs.Acts.{address_of}
 use Rattle.proxy_engine.specs.Due.{Finish, Gives, Breaks}
 use Rattle.proxy_engine.specs.declared.happening.EngineFault.{EngineFault}
@@ -27,12 +26,11 @@ use Rattle.proxy_engine.specs.declared.happening.EngineFault.TheVariants.{WrongN
 use Rattle.proxy_engine.specs.declared.wishes.Wish.{Wish}
 use Rattle.proxy_engine.specs.declared.wishes.Wish.TheVariants as wish
 
--- a message that was read: it arrives, or its target is refused
+-- a message that was read: it arrives, or is refused
 abbrev pub IsMessageWish : Request → Wish → Type 0
 IsMessageWish r wish.Continue = ⊥
-IsMessageWish r (wish.Arrive asked) = IsAsked r (Ok asked)
-IsMessageWish r (wish.Refuse why head) =
-    (fault : TargetFault) × IsAsked r (Err fault) × (why ≡ cause.Target fault) × (head ≡ bytes_eq r.method (codes "HEAD"))
+IsMessageWish r (wish.Arrive asked) = IsAdmitted r (Ok asked)
+IsMessageWish r (wish.Refuse why head) = IsAdmitted r (Err (record { why = why; head = head }))
 IsMessageWish r wish.Close = ⊥
 
 -- a stream that was cut off is closed without an answer

@@ -14,6 +14,7 @@ ghost use Rattle.proxy_engine.specs.Wishes.{Ends, MayGive, EndFault, outcome_by,
 use crate::ends::{Connection, Link};
 use crate::happening::EngineFault;
 use crate::outcomes::{free, is_spent, lacks_memory, number_at, put, room, send_reply};
+use crate::taken::is_taken_response;
 use hx_framing::{FrameFault, Next};
 use hx_status::FailKind;
 use hx_store::Shelf;
@@ -83,6 +84,9 @@ fn end<S: Shelf>(
     match link.watch.due() {
         Some(next) => match next {
             Next::Message(response) => {
+                if !is_taken_response(response) {
+                    return fail(core, alloc, now, id, FailKind::BadAnswer);
+                }
                 if spent {
                     return Err(EngineFault::Spent);
                 }

@@ -18,6 +18,7 @@ mod outcomes;
 mod request_watch;
 mod response_watch;
 mod serving;
+mod taken;
 mod takes;
 #[cfg(test)]
 mod tests;

@@ -3,7 +3,7 @@ ghost use Rattle.std.specs.Prelude.{◌≡◌, ℕ, ◌+◌, ◌<◌, ◌≤◌,
 ghost use Rattle.hx_framing.specs.declared.requests.Request.{Request};
 ghost use Rattle.hx_framing.specs.declared.answer.Next.{Next};
 ghost use Rattle.hx_framing.specs.declared.answer.Next.TheVariants as next;
-ghost use Rattle.hx_hop.specs.Asking.{IsAsked};
+ghost use Rattle.proxy_engine.specs.Taken.{IsAdmitted};
 ghost use Rattle.hx_allow.specs.Matching.{verdict_of};
 ghost use Rattle.proxy_core.specs.Moments.{IsDateOf};
 ghost use Rattle.proxy_core.specs.Replies.{refused_text, is_head};
@@ -151,11 +151,11 @@ fn arrive<S: Shelf>(
     requires wired { IsWired (state connections.old.items links.old.items core.old first) }
     requires early { now < 253402300800 }
     ensures wired { IsWired (state connections.new.items links.new.items core.new first) }
-    ensures ok { IfOk result (λ effects. (s : Story) → (r : Request) → (c : Connection) → IsAsked r (Ok asked.now) → (slice_index_or connections.old.items i c).watch.look ≡ Due (next.Message r)
+    ensures ok { IfOk result (λ effects. (s : Story) → (r : Request) → (c : Connection) → IsAdmitted r (Ok asked.now) → (slice_index_or connections.old.items i c).watch.look ≡ Due (next.Message r)
         → Stands (state connections.old.items links.old.items core.old first) s → Done s now (Serves i (next.Message r)) effects.items (state connections.new.items links.new.items core.new first)) }
     ensures less { OnOk result ((r : Request) → (c : Connection) → (slice_index_or connections.old.items i c).watch.look ≡ Due (next.Message r)
         → load_of connections.new.items links.new.items < load_of connections.old.items links.old.items) }
-    ensures fault { IfErr result (λ fault. (s : Story) → (r : Request) → IsAsked r (Ok asked.now) → IsDueFirst s (Some (Serves i (next.Message r)))
+    ensures fault { IfErr result (λ fault. (s : Story) → (r : Request) → IsAdmitted r (Ok asked.now) → IsDueFirst s (Some (Serves i (next.Message r)))
         → Stands (state connections.old.items links.old.items core.old first) s → Failed s fault) }
     ensures err { OnErr result ((connections.new.items ≡ connections.old.items) × (links.new.items ≡ links.old.items) × (core.new ≡ core.old)) }
 {

@@ -7,7 +7,7 @@ use Rattle.hx_framing.specs.declared.fault.FrameFault.TheVariants as frame
 use Rattle.hx_framing.specs.declared.answer.Next.{Next}
 use Rattle.hx_framing.specs.declared.answer.Next.TheVariants as next
 use Rattle.hx_hop.specs.declared.asked_for.Asked.{Asked}
-use Rattle.hx_target.specs.declared.faults.TargetFault.{TargetFault}
+use Rattle.proxy_engine.specs.Taken.{Refusal}
 use Rattle.proxy_core.specs.State.{State as CoreState, Steps}
 use Rattle.proxy_core.specs.declared.outcome.Outcome.{Outcome}
 use Rattle.proxy_core.specs.declared.event.Event.{Event}
@@ -60,9 +60,9 @@ kept table s after e run = subst (λ (k : CoreState). IsRun table k) (sym e) run
 core_of : (s t : Story) → s ≡ t → s.core ≡ t.core
 core_of s t e = ap (λ (u : Story). u.core) e
 
-arrives_runs : (table : Table) (s : Story) (now i : ℕ) (r : Request) (judged : Result Asked TargetFault) (told : List Effect) (after : Story) → Arrives s now i r judged told after → IsRun table s.core → IsRun table after.core
+arrives_runs : (table : Table) (s : Story) (now i : ℕ) (r : Request) (judged : Result Asked Refusal) (told : List Effect) (after : Story) → Arrives s now i r judged told after → IsRun table s.core → IsRun table after.core
 arrives_runs table s now i r (Ok asked) told after h run = steps_on_runs table s _ i _ _ _ told after h.1 run
-arrives_runs table s now i r (Err fault) told after h run = kept table s after (core_of after _ h.after_is) run
+arrives_runs table s now i r (Err refusal) told after h run = kept table s after (core_of after _ h.after_is) run
 
 refused_runs : (table : Table) (s : Story) (now i : ℕ) (f : FrameFault) (told : List Effect) (after : Story) → Served s now i (next.Refused f) told after → IsRun table s.core → IsRun table after.core
 refused_runs table s now i frame.Truncated told after h run = kept table s after (core_of after _ h.1) run

@@ -148,28 +148,30 @@ fn a_fault_is_named_on_one_line(rt: HostRuntime) -> Result<(), Fail> {
             }
         }
     }
-    for (fault, line) in [
-        (ReplayFault::Engine(EngineFault::Spent), "engine fault 4"),
-        (ReplayFault::Config(ConfigFault::OutOfMemory), "no memory"),
+    Ok(())
+}
+
+#[test]
+fn a_fault_without_a_script_is_named(rt: HostRuntime) -> Result<(), Fail> {
+    for (fault, line, status) in [
+        (ReplayFault::Engine(EngineFault::Spent), "engine fault 4", 1),
+        (
+            ReplayFault::Config(ConfigFault::OutOfMemory),
+            "no memory",
+            1,
+        ),
         (
             ReplayFault::Config(ConfigFault::BadPath(2)),
             "config fault 7 line 2",
+            2,
         ),
-        (ReplayFault::Read, "read fault"),
-        (ReplayFault::Write, "write fault"),
-        (ReplayFault::OutOfMemory, "no memory"),
+        (ReplayFault::Read, "read fault", 1),
+        (ReplayFault::Write, "write fault", 1),
+        (ReplayFault::OutOfMemory, "no memory", 1),
     ] {
         let text = format!(in rt.alloc(); "{fault}")?;
         assert!(rt; text.as_str() == line, "at {line}: {text}");
-        assert!(rt;
-            fault.exit_status()
-                == if matches!(fault, ReplayFault::Config(ConfigFault::BadPath(_))) {
-                    2
-                } else {
-                    1
-                },
-            "at {line}"
-        );
+        assert!(rt; fault.exit_status() == status, "at {line}");
     }
     Ok(())
 }

@@ -1,13 +1,18 @@
-use Rattle.std.proofs.Common.{ℕ, List, Result, sym, subst, take, ◌∙◌}
-use Rattle.hx_framing.specs.declared.status_head.StatusHead.{StatusHead}
-use Rattle.hx_framing.specs.declared.fault.FrameFault.{FrameFault}
-use Rattle.hx_framing.specs.StatusHead.{Judges}
-use Rattle.hx_framing.proofs.ResponseLemmas.{waits_behind, waits_found}
+use Rattle.std.proofs.Common.{sym, subst, ◌∙◌}
+use Rattle.hx_framing.specs.declared.status_front.StatusFront.{StatusFront}
+use Rattle.hx_framing.specs.ResponseFound.{IsFront}
+use Rattle.hx_framing.proofs.ResponseFinding.{found_refused, found_unframed}
 use Rattle.hx_framing.proofs.response_reading.read_response.Goals as goal
 
-pub returns-in-Ok-length_of-clause-waits : goal.returns-in-Ok-length_of-clause-waits
-returns-in-Ok-length_of-clause-waits c =
-    waits_found _ _ _ _ c.with_length.ensures.wants (λ h wanted few.
-    waits_behind c.args.max_body h c.args.bytes.now c.in-Some.at c.in-Ok-length_of.length wanted c.in-Ok.head (sym c.in-Some.ensures.size)
-    (subst (λ (j : Result StatusHead FrameFault). Judges (take c.in-Some.at c.args.bytes.now) j) c.in-Ok.is (subst (λ (b : List ℕ). Judges b c.in_ok-fault-in-Some.field-0) c.split_at.ensures.front c.in_ok-fault-in-Some.ensures))
-    (sym c.length_of.ensures ∙ c.in-Ok-length_of.is) few)
+pub returns-in-Open : goal.returns-in-Open
+returns-in-Open c = c.without_head.ensures c.args.max_body c.args.to_head
+
+pub returns-in-Faulty : goal.returns-in-Faulty
+returns-in-Faulty c =
+    found_refused _ _ c.args.ended _ _ (subst (λ (f : StatusFront). IsFront c.args.bytes.now f) c.in-Faulty.is c.in_ok-at.ensures)
+
+pub returns-in-Err : goal.returns-in-Err
+returns-in-Err c =
+    found_unframed c.args.max_body c.args.to_head c.args.ended c.args.bytes.now c.in-Final.at c.in-Final.head c.in-Err.fault
+    (subst (λ (f : StatusFront). IsFront c.args.bytes.now f) c.in-Final.is c.in_ok-at.ensures)
+    (sym c.in_ok-fault-in-Final.ensures ∙ c.in-Err.is)

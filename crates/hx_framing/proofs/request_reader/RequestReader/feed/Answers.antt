@@ -1,20 +1,18 @@
-use Rattle.std.proofs.Common.{ℕ, List, sym, subst, ap, ◌∙◌}
-use Rattle.hx_framing.specs.Progress.{fed}
-use Rattle.hx_framing.specs.RequestState.{State, StandsFor}
-use Rattle.hx_framing.proofs.RequestStreams.{stands_fed, stands_fed_faulty}
+use Rattle.std.proofs.Common.{ℕ, List, sym, ap, subst, ◌∙◌, OnOk}
+use Rattle.hx_framing.specs.RequestState.{State}
+use Rattle.hx_framing.proofs.RequestStreams.{stands_fed_by, stands_fed_faulty}
 use Rattle.hx_framing.proofs.request_reader.RequestReader.feed.Goals as goal
 
-pub returns-in-Some-clause-stands : goal.returns-in-Some-clause-stands
-returns-in-Some-clause-stands c = λ p h open_still.
-    stands_fed_faulty _ p _ c.in-Some.field-0 (ap (λ (s : State). s.fault) (sym c.self.view_is) ∙ c.in-Some.is) h open_still
+pub returns-in-BeforeHead-clause-stands : goal.returns-in-BeforeHead-clause-stands
+returns-in-BeforeHead-clause-stands c =
+    stands_fed_by c.args.self.now _ c.args.piece.now (ap (λ (s : State). s.max_body) c.self.view_is) (ap (λ (s : State). s.ended) c.self.view_is) (ap (λ (s : State). s.phase) c.self.view_is)
+    (ap (λ (s : State). s.unread) c.self.view_is) c.extend.result c.extend.ensures.ok
 
-pub returns-in_ok-extend-in-None-clause-stands : goal.returns-in_ok-extend-in-None-clause-stands
-returns-in_ok-extend-in-None-clause-stands c = λ p h open_still.
-    subst (λ (u : List ℕ). StandsFor (record {
-      max_body = c.self.inside.max_body;
-      unread = u;
-      ended = c.self.inside.ended;
-      told = c.self.inside.told;
-      fault = c.self.inside.fault;
-    }) (fed p c.args.piece.now)) (sym c.in_ok-extend-in-None.ensures.ok)
-    (stands_fed _ p c.args.piece.now c.in-None.is (subst (λ (s : State). StandsFor s p) (sym c.self.view_is) h))
+pub returns-in-InContent-clause-stands : goal.returns-in-InContent-clause-stands
+returns-in-InContent-clause-stands c =
+    stands_fed_by c.args.self.now _ c.args.piece.now (ap (λ (s : State). s.max_body) c.self.view_is) (ap (λ (s : State). s.ended) c.self.view_is) (ap (λ (s : State). s.phase) c.self.view_is)
+    (ap (λ (s : State). s.unread) c.self.view_is) c.extend-in-InContent.result c.extend-in-InContent.ensures.ok
+
+pub returns-in-Faulty-clause-stands : goal.returns-in-Faulty-clause-stands
+returns-in-Faulty-clause-stands c = λ p h open_still.
+    stands_fed_faulty _ p _ c.in-Faulty.field-0 (ap (λ (s : State). s.phase) (sym c.self.view_is) ∙ c.in-Faulty.is) h open_still

@@ -1,8 +1,17 @@
-use Rattle.std.proofs.Common.{ℕ, List, sym, subst, ap, ◌∙◌}
-use Rattle.hx_framing.specs.Progress.{fed}
-use Rattle.hx_framing.specs.ResponseState.{State, StandsFor}
-use Rattle.hx_framing.proofs.ResponseStreams.{stands_fed, stands_fed_given, stands_fed_faulty}
+use Rattle.std.proofs.Common.{sym, ap, ◌∙◌}
+use Rattle.hx_framing.specs.ResponseState.{State}
+use Rattle.hx_framing.proofs.ResponseStreams.{stands_fed_by, stands_fed_given, stands_fed_faulty}
 use Rattle.hx_framing.proofs.response_reader.ResponseReader.feed.Goals as goal
+
+pub returns-in-BeforeHead-clause-stands : goal.returns-in-BeforeHead-clause-stands
+returns-in-BeforeHead-clause-stands c =
+    stands_fed_by c.args.self.now _ c.args.piece.now (record { max_body = ap (λ (s : State). s.max_body) c.self.view_is; to_head = ap (λ (s : State). s.to_head) c.self.view_is; ended = ap (λ (s : State). s.ended) c.self.view_is }) (ap (λ (s : State). s.phase) c.self.view_is)
+    (ap (λ (s : State). s.unread) c.self.view_is) c.extend.result c.extend.ensures.ok
+
+pub returns-in-InContent-clause-stands : goal.returns-in-InContent-clause-stands
+returns-in-InContent-clause-stands c =
+    stands_fed_by c.args.self.now _ c.args.piece.now (record { max_body = ap (λ (s : State). s.max_body) c.self.view_is; to_head = ap (λ (s : State). s.to_head) c.self.view_is; ended = ap (λ (s : State). s.ended) c.self.view_is }) (ap (λ (s : State). s.phase) c.self.view_is)
+    (ap (λ (s : State). s.unread) c.self.view_is) c.extend-in-InContent.result c.extend-in-InContent.ensures.ok
 
 pub returns-in-Given-clause-stands : goal.returns-in-Given-clause-stands
 returns-in-Given-clause-stands c = λ p h open_still.
@@ -11,15 +20,3 @@ returns-in-Given-clause-stands c = λ p h open_still.
 pub returns-in-Faulty-clause-stands : goal.returns-in-Faulty-clause-stands
 returns-in-Faulty-clause-stands c = λ p h open_still.
     stands_fed_faulty _ p _ c.in-Faulty.field-0 (ap (λ (s : State). s.phase) (sym c.self.view_is) ∙ c.in-Faulty.is) h open_still
-
-pub returns-in_ok-extend_from_slice-in-Reading-clause-stands : goal.returns-in_ok-extend_from_slice-in-Reading-clause-stands
-returns-in_ok-extend_from_slice-in-Reading-clause-stands c = λ p h open_still.
-    subst (λ (u : List ℕ). StandsFor (record {
-      max_body = c.self.inside.max_body;
-      to_head = c.self.inside.to_head;
-      unread = u;
-      wanted = c.self.inside.wanted;
-      ended = c.self.inside.ended;
-      phase = c.self.inside.phase;
-    }) (fed p c.args.piece.now)) (sym c.in_ok-extend_from_slice-in-Reading.ensures.items)
-    (stands_fed _ p c.args.piece.now c.in-Reading.is (subst (λ (s : State). StandsFor s p) (sym c.self.view_is) h))

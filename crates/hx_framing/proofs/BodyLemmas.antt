@@ -1,0 +1,129 @@
+-- Contents: bytes that come later, the stream's end, and what is taken of a content.
+use Rattle.std.proofs.Common.{◌≡◌, ℕ, ◌+◌, ◌<◌, ◌≤◌, Bool, true, false, cond, List, [], ◌∷◌, ◌++◌, length, drop, take, nat_lt, refl, sym, ap, ◌∙◌, subst, arith, Option, Some, None, length-append}
+use Rattle.std.proofs.lemmas.List.{append-nil, drop-append-le, take-append-le}
+use Rattle.std.proofs.lemmas.Bool.{ltb-true, ltb-false, lt-ltb, le-ltb}
+use Rattle.hx_framing.specs.declared.fault.FrameFault.{FrameFault}
+use Rattle.hx_framing.specs.declared.fault.FrameFault.TheVariants as fault
+use Rattle.hx_framing.specs.declared.decoded.Decoded.{Decoded}
+use Rattle.hx_framing.specs.declared.decoded.Decoded.TheVariants as decoded
+use Rattle.hx_framing.specs.declared.content.Content.TheVariants as content
+use Rattle.hx_framing.specs.declared.taken.Taken.TheVariants as taken
+use Rattle.hx_framing.specs.declared.plan.Framing.{Framing}
+use Rattle.hx_framing.specs.declared.plan.Framing.TheVariants as framing
+use Rattle.hx_framing.specs.Body.{Body, Short, Bad, Whole, IsDecided, extended_body}
+use Rattle.hx_framing.specs.Chunking.{Chunking}
+use Rattle.hx_framing.specs.Chunks.{chunks_from, start}
+use Rattle.hx_framing.specs.Decoding.{Decodes}
+use Rattle.hx_framing.specs.Contents.{body_at, body_from, begun, announced_body, closed_body, Advances}
+use Rattle.hx_framing.specs.Reading.{Reading, Incomplete, Over, Spelled, Faulty, with_body, IsSettled, extended}
+use Rattle.hx_framing.proofs.ChunkStreams.{chunks_append}
+
+-- ---- a message made of a content
+
+pub body_message : {M : Type 0} (e : Bool) (make : Option (List ℕ) → M) (m : M) (r : List ℕ) (b : Body)
+    → Spelled m r ≡ with_body e make b → Spelled m r ≡ with_body false make b
+body_message true make m r Short x = absurd cc
+body_message false make m r Short x = absurd cc
+body_message e make m r (Bad f) x = absurd cc
+body_message e make m r (Whole c rest) x = x
+
+pub body_ended : {M : Type 0} (make : Option (List ℕ) → M) (r : Reading M) (b : Body) → IsSettled r
+    → r ≡ with_body false make b → r ≡ with_body true make b
+body_ended make r Short due x = absurd (subst IsSettled x due)
+body_ended make r (Bad f) due x = x
+body_ended make r (Whole c rest) due x = x
+
+pub body_over : {M : Type 0} (e : Bool) (make : Option (List ℕ) → M) (b : Body) → Over ≡ with_body e make b → ⊥
+body_over true make Short x = cc
+body_over false make Short x = cc
+body_over e make (Bad f) x = cc
+body_over e make (Whole c rest) x = cc
+
+-- what is settled by a content is decided by it
+pub settled_decided : {M : Type 0} (make : Option (List ℕ) → M) (b : Body) → IsSettled (with_body false make b) → IsDecided b
+settled_decided make Short due = due
+settled_decided make (Bad f) due = tt
+settled_decided make (Whole c rest) due = tt
+
+pub body_extended : {M : Type 0} (make : Option (List ℕ) → M) (b : Body) (w : List ℕ) → IsDecided b
+    → with_body false make (extended_body b w) ≡ extended (with_body false make b) w
+body_extended make Short w due = absurd due
+body_extended make (Bad f) w due = refl
+body_extended make (Whole c rest) w due = refl
+
+-- ---- bytes that come later
+
+announced_append : (n : ℕ) (bytes w : List ℕ) → IsDecided (announced_body n bytes)
+    → announced_body n (bytes ++ w) ≡ extended_body (announced_body n bytes) w
+announced_append n bytes w due = by_test (nat_lt (length bytes) n) refl due
+  where
+    by_test : (t : Bool) → nat_lt (length bytes) n ≡ t → IsDecided (cond t Short (Whole (Some (take n bytes)) (drop n bytes)))
+        → announced_body n (bytes ++ w) ≡ extended_body (cond t Short (Whole (Some (take n bytes)) (drop n bytes))) w
+    by_test true p due = absurd due
+    by_test false p due =
+        let enough : n ≤ length bytes = ltb-false _ _ p in
+        let still : nat_lt (length (bytes ++ w)) n ≡ false = le-ltb _ _ (omega (arith, length-append bytes w)) in
+        rw (still, take-append-le n bytes w enough, drop-append-le n bytes w enough)
+
+closed_append : (max : ℕ) (bytes w : List ℕ) → IsDecided (closed_body max false bytes)
+    → closed_body max false (bytes ++ w) ≡ extended_body (closed_body max false bytes) w
+closed_append max bytes w due = by_test (nat_lt max (length bytes)) refl due
+  where
+    by_test : (t : Bool) → nat_lt max (length bytes) ≡ t → IsDecided (cond t (Bad fault.TooLarge) Short)
+        → closed_body max false (bytes ++ w) ≡ extended_body (cond t (Bad fault.TooLarge) Short) w
+    by_test true p due =
+        let above : max < length bytes = ltb-true _ _ p in
+        let still : nat_lt max (length (bytes ++ w)) ≡ true = lt-ltb _ _ (omega (arith, length-append bytes w)) in
+        rw still
+    by_test false p due = absurd due
+
+pub body_append : (max : ℕ) (told : Framing) (bytes w : List ℕ) → IsDecided (body_at max told false bytes)
+    → body_at max told false (bytes ++ w) ≡ extended_body (body_at max told false bytes) w
+body_append max framing.Nothing bytes w due = refl
+body_append max (framing.Announced n) bytes w due = announced_append n bytes w due
+body_append max framing.Chunked bytes w due = chunks_append bytes w (start max) due
+body_append max framing.UntilClose bytes w due = closed_append max bytes w due
+
+-- what is decided before the stream's end is decided so at its end
+pub body_stays : (max : ℕ) (told : Framing) (bytes : List ℕ) → IsDecided (body_at max told false bytes)
+    → body_at max told false bytes ≡ body_at max told true bytes
+body_stays max framing.Nothing bytes due = refl
+body_stays max (framing.Announced n) bytes due = refl
+body_stays max framing.Chunked bytes due = refl
+body_stays max framing.UntilClose bytes due = by_test (nat_lt max (length bytes)) due
+  where
+    by_test : (t : Bool) → IsDecided (cond t (Bad fault.TooLarge) Short)
+        → cond t (Bad fault.TooLarge) Short ≡ cond t (Bad fault.TooLarge) (Whole (Some bytes) [])
+    by_test true due = refl
+    by_test false due = absurd due
+
+-- ---- a content that was begun
+
+pub begun_is : (max : ℕ) (told : Framing) (e : Bool) (bytes : List ℕ) → body_at max told e bytes ≡ body_from (begun max told) e bytes
+begun_is max framing.Nothing e bytes = refl
+begun_is max (framing.Announced n) e bytes = refl
+begun_is max framing.Chunked e bytes = refl
+begun_is max framing.UntilClose e bytes = refl
+
+-- ---- what a decoder of chunks takes
+
+nothing_more : (bytes : List ℕ) (s : Chunking) (b : Body) → chunks_from (bytes ++ []) s ≡ b → chunks_from bytes s ≡ b
+nothing_more bytes s b x = ap (λ u. chunks_from u s) (sym (append-nil bytes)) ∙ x
+
+pub decoded_more : (d : Decoded) (n : ℕ) (old : Chunking) (bytes : List ℕ) (new : Chunking) (ended : Bool) → d ≡ decoded.More n
+    → Decodes old bytes new d → Advances ended bytes (content.Chunked old) (taken.Short n) (content.Chunked new)
+decoded_more d n old bytes new ended is h =
+    let k : Decodes old bytes new (decoded.More n) = subst (λ (d : Decoded). Decodes old bytes new d) is h in
+    (k.0, nothing_more bytes old Short (k.1 [] ∙ ap (λ u. chunks_from u new) (append-nil (drop n bytes)) ∙ k.2), λ more e. k.1 more)
+
+pub decoded_whole : (d : Decoded) (n : ℕ) (old : Chunking) (bytes : List ℕ) (mid new : Chunking) (c : List ℕ) (ended : Bool) → d ≡ decoded.Whole n
+    → c ≡ mid.content → Decodes old bytes mid d → Advances ended bytes (content.Chunked old) (taken.Whole (Some c) n) (content.Chunked new)
+decoded_whole d n old bytes mid new c ended is same h =
+    let k : Decodes old bytes mid (decoded.Whole n) = subst (λ (d : Decoded). Decodes old bytes mid d) is h in
+    (k.0, nothing_more bytes old (Whole (Some c) (drop n bytes)) (k.2 [] ∙ ap (λ u. Whole (Some mid.content) u) (append-nil (drop n bytes)) ∙ ap (λ (c : List ℕ). Whole (Some c) (drop n bytes)) (sym same)))
+
+pub decoded_bad : (d : Decoded) (f : FrameFault) (old : Chunking) (bytes : List ℕ) (new : Chunking) (ended : Bool) → d ≡ decoded.Faulty f
+    → Decodes old bytes new d → Advances ended bytes (content.Chunked old) (taken.Bad f) (content.Chunked new)
+decoded_bad d f old bytes new ended is h =
+    let k : Decodes old bytes new (decoded.Faulty f) = subst (λ (d : Decoded). Decodes old bytes new d) is h in
+    nothing_more bytes old (Bad f) (k [])

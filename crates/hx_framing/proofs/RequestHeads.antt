@@ -1,0 +1,53 @@
+-- What a request reader reads before a head, and what it is left with.
+use Rattle.std.proofs.Common.{◌≡◌, ℕ, Bool, true, false, List, drop, refl, sym, ◌∙◌, subst, Result, Ok, Err, IfOk}
+use Rattle.hx_framing.specs.declared.request_head.Head.{Head}
+use Rattle.hx_framing.specs.declared.requests.Request.{Request}
+use Rattle.hx_framing.specs.declared.content.Content.{Content}
+use Rattle.hx_framing.specs.declared.found.Found.{Found}
+use Rattle.hx_framing.specs.declared.request_phase.RequestPhase.TheVariants as phase
+use Rattle.hx_framing.specs.Progress.{Progress}
+use Rattle.hx_framing.specs.RequestFound.{Resumes, IsFound}
+use Rattle.hx_framing.specs.RequestState.{State, StandsFor}
+use Rattle.hx_framing.proofs.RequestStreams.{before, keeps_going}
+
+-- what is found in the unread bytes, as a function has it
+pub found_of : (b : State) (max : ℕ) (e : Bool) (slice unread : List ℕ) (f g : Found Head Request) → max ≡ b.max_body → e ≡ b.ended → slice ≡ unread → unread ≡ b.unread → f ≡ g
+    → IsFound max e slice f → IsFound b.max_body b.ended b.unread g
+found_of b max e slice unread f g same ends read kept is h =
+    subst (λ (m : ℕ). IsFound m b.ended b.unread g) same
+    (subst (λ (e : Bool). IsFound max e b.unread g) ends
+    (subst (λ (u : List ℕ). IsFound max e u g) (read ∙ kept)
+    (subst (λ (f : Found Head Request). IsFound max e slice f) is h)))
+
+resumes_kept : (b : State) (p : Progress Request) (t : Bool) (head : Head) (content : Content) (unread : List ℕ) → b.phase ≡ phase.BeforeHead → (stands : StandsFor b p)
+    → Resumes b.max_body t head content b.unread unread → Resumes p.max_body t head content stands.rest unread
+resumes_kept b p t head content unread waiting stands on =
+    subst (λ (m : ℕ). Resumes m t head content stands.rest unread) stands.max_body
+    (subst (λ (u : List ℕ). Resumes b.max_body t head content u unread) (before b p waiting stands).0 on)
+
+-- a continue was given
+pub stands_told : (b t : State) (p : Progress Request) (head : Head) (content : Content) (n : ℕ) → b.phase ≡ phase.BeforeHead → t.max_body ≡ b.max_body → t.ended ≡ b.ended
+    → t.phase ≡ phase.InContent head content → t.unread ≡ drop n b.unread → Resumes b.max_body true head content b.unread (drop n b.unread)
+    → StandsFor b p → StandsFor t (record p { told = true })
+stands_told b t p head content n waiting max e going left on stands = record {
+  max_body = max ∙ stands.max_body;
+  ended = e ∙ stands.ended;
+  rest = stands.rest;
+  spells = stands.spells;
+  keeps = keeps_going t (record p { told = true }) head content stands.rest going
+      (subst (λ (u : List ℕ). Resumes p.max_body true head content stands.rest u) (sym left) (resumes_kept b p true head content (drop n b.unread) waiting stands on));
+}
+
+-- the content goes on
+pub stands_begun : (b t : State) (p : Progress Request) (head : Head) (content : Content) (n : ℕ) → b.phase ≡ phase.BeforeHead → t.max_body ≡ b.max_body → t.ended ≡ b.ended
+    → t.phase ≡ phase.InContent head content → t.unread ≡ drop n b.unread → Resumes b.max_body false head content b.unread (drop n b.unread)
+    → StandsFor b p → StandsFor t p
+stands_begun b t p head content n waiting max e going left on stands = record {
+  max_body = max ∙ stands.max_body;
+  ended = e ∙ stands.ended;
+  rest = stands.rest;
+  spells = stands.spells;
+  keeps = keeps_going t p head content stands.rest going
+      (subst (λ (u : List ℕ). Resumes p.max_body p.told head content stands.rest u) (sym left)
+      (subst (λ (t : Bool). Resumes p.max_body t head content stands.rest (drop n b.unread)) (sym (before b p waiting stands).1) (resumes_kept b p false head content (drop n b.unread) waiting stands on)));
+}

@@ -1,0 +1,157 @@
+-- A request that is written is read back whole.
+use Rattle.std.proofs.Common.{◌≡◌, ℕ, ◌≤◌, ◌<◌, ◌^◌, ◌&&◌, ◌||◌, ◌==◌, Bool, true, false, not, cond, is_some, List, [], ◌∷◌, ◌++◌, length, take, drop, map, length-append, refl, sym, ap, ◌∙◌, subst, arith, Option, Some, None, Ok, Err, ne_eqb, nat_lt, nat_le}
+use Rattle.std.specs.Prelude.{All, codes, decimal}
+use Rattle.std.specs.List.{list_all, filter}
+use Rattle.std.specs.Char.{is_ascii_digit}
+use Rattle.std.specs.Str.Parse.{digits_value}
+use Rattle.std.proofs.lemmas.Bool.{and_parts, and_from, le-ltb, leb-true, lt-ltb}
+use Rattle.std.proofs.lemmas.List.Elements.{All-nil, All-cons}
+use Rattle.std.proofs.lemmas.List.Splits.{slice_split_none}
+use Rattle.std.proofs.Math.Seq.{take-append_seam, drop-append_seam}
+use Rattle.hx_fields.specs.declared.field_line.Field.{Field}
+use Rattle.hx_fields.specs.Names.{flatten, is_nonempty, joined}
+use Rattle.hx_fields.specs.Lines.{is_named, has, values_of, without_named}
+use Rattle.hx_framing.specs.declared.fault.FrameFault.TheVariants as fault
+use Rattle.hx_framing.specs.declared.plan.Framing.{Framing}
+use Rattle.hx_framing.specs.declared.plan.Framing.TheVariants as framing
+use Rattle.hx_framing.specs.declared.plan.Plan.{Plan}
+use Rattle.hx_framing.specs.declared.requests.Request.{Request}
+use Rattle.hx_framing.specs.Head.{Judges}
+use Rattle.hx_framing.specs.ContentLength.{comma_pieces, is_digits, length_told, one_number}
+use Rattle.hx_framing.specs.Lengths.{transfer_encoding, expect, codings, ends_in_chunks, is_only_chunked, is_above, framing_or, expectation, framing_of_request, with_expectation, plan_of, without_lengths}
+use Rattle.hx_framing.specs.Body.{Short, Whole}
+use Rattle.hx_framing.specs.Contents.{body_at}
+use Rattle.hx_framing.specs.Reading.{Reading, Spelled, with_body}
+use Rattle.hx_framing.specs.RequestReading.{request_of, Reads}
+use Rattle.hx_framing.specs.Text.{content_length, content_bytes, request_text}
+use Rattle.hx_framing.specs.Written.{head_text, sent_fields, sent_head, close_field, read_back, IsWritable}
+use Rattle.hx_framing.proofs.LengthTold.{values_of-absent}
+use Rattle.hx_framing.proofs.RequestFinding.{Begins, reads_content}
+use Rattle.hx_framing.proofs.WrittenLines.{written_head, head_written}
+use Rattle.hx_framing.proofs.WrittenEnds.{head_ends}
+use Rattle.hx_framing.proofs.WrittenFields.{lengths_none, lengths_some, codings_none, expectations_none, without_length, without_coding, decimal_back, head_front, content_behind}
+
+-- digits are one piece
+no_comma : (ds : List ℕ) → list_all is_ascii_digit ds ≡ true → All (λ b. (b == 44) ≡ false) ds
+no_comma [] digits = All-nil (λ b. (b == 44) ≡ false)
+no_comma (d ∷ ds) digits =
+    let parts = and_parts (is_ascii_digit d) (list_all is_ascii_digit ds) digits in
+    let low = leb-true 48 d (and_parts (nat_le 48 d) (nat_le d 57) parts.0).0 in
+    All-cons (λ b. (b == 44) ≡ false) d ds (ne_eqb d 44 (λ e. omega (arith, low, e))) (no_comma ds parts.1)
+
+-- and a length that is told
+one_piece : (ds : List ℕ) (n : ℕ) → 0 < length ds → list_all is_ascii_digit ds ≡ true → digits_value 10 ds ≡ n
+    → one_number (flatten (map comma_pieces (ds ∷ []))) ≡ Some n
+one_piece ds n some digits value =
+    let one : comma_pieces ds ≡ ds ∷ [] = slice_split_none (λ b. b == 44) ds (no_comma ds digits) in
+    let test : is_digits ds ≡ true = and_from (is_nonempty ds) (list_all is_ascii_digit ds) (lt-ltb 0 (length ds) some) digits in
+    ap (λ ps. one_number (ps ++ [])) one ∙ ap (λ t. cond ((t && true) && true) (Some (digits_value 10 ds)) None) test ∙ ap Some value
+
+-- the length that is told is the content's
+told_sent : (r : Request) (c : Option (List ℕ)) → IsWritable r → r.content ≡ c → length_told (sent_fields r) ≡ content_length c
+told_sent r None writable is = ap (λ vs. one_number (flatten (map comma_pieces vs))) (lengths_none r writable is)
+told_sent r (Some bytes) writable is =
+    let small : length bytes < 2 ^ 64 = subst (λ c. length (content_bytes c) < 2 ^ 64) is writable.content in
+    let back = decimal_back (length bytes) small in
+    ap (λ vs. one_number (flatten (map comma_pieces vs))) (lengths_some r bytes writable is)
+    ∙ one_piece (decimal (length bytes)) (length bytes) back.0 back.1 back.2
+
+-- where a name has no value no line has it
+none_has : (fields : List Field) (name : List ℕ) → values_of fields name ≡ [] → has fields name ≡ false
+none_has [] name none = refl
+none_has (f ∷ fields) name none = by_test (none_has fields name) (is_named name f) none
+  where
+    by_test : (values_of fields name ≡ [] → has fields name ≡ false) → (t : Bool)
+        → map (λ (g : Field). g.value) (cond t (f ∷ filter (is_named name) fields) (filter (is_named name) fields)) ≡ []
+        → (t || has fields name) ≡ false
+    by_test later true h = absurd cc
+    by_test later false h = later h
+
+and_false : (t : Bool) → (t && false) ≡ false
+and_false true = refl
+and_false false = refl
+
+-- no line announces a length that isn't one
+length_sent : (r : Request) (c : Option (List ℕ)) → IsWritable r → r.content ≡ c
+    → (has (sent_fields r) (codes "content-length") && not (is_some (length_told (sent_fields r)))) ≡ false
+length_sent r None writable is =
+    ap (λ t. t && not (is_some (length_told (sent_fields r)))) (none_has (sent_fields r) (codes "content-length") (lengths_none r writable is))
+length_sent r (Some bytes) writable is =
+    ap (λ told. has (sent_fields r) (codes "content-length") && not (is_some told)) (told_sent r (Some bytes) writable is)
+    ∙ and_false (has (sent_fields r) (codes "content-length"))
+
+within_sent : (max : ℕ) (c : Option (List ℕ)) → length (content_bytes c) ≤ max → is_above max (content_length c) ≡ false
+within_sent max None small = refl
+within_sent max (Some bytes) small = le-ltb max (length bytes) small
+
+-- how fields without a coding are judged
+by_fields : (max : ℕ) (coded stands zero ends only : Bool) (told : Option ℕ) → coded ≡ false → (stands && not (is_some told)) ≡ false → is_above max told ≡ false
+    → cond (coded && stands) (Err fault.BothLengths)
+    (cond (((coded && zero) || (stands && not (is_some told))) || (coded && not ends)) (Err fault.Length)
+    (cond (coded && not only) (Err fault.Coding)
+    (cond (is_above max told) (Err fault.TooLarge) (Ok (cond coded framing.Chunked (framing_or framing.Nothing told))))))
+    ≡ Ok (framing_or framing.Nothing told)
+by_fields max true stands zero ends only told coded length within = absurd cc
+by_fields max false stands zero ends only told coded length within = rw (length, within) refl
+
+-- what the fields tell of the content
+abbrev sent_framing : Option (List ℕ) → Framing
+sent_framing c = framing_or framing.Nothing (content_length c)
+
+framing_sent : (r : Request) (c : Option (List ℕ)) (max : ℕ) → IsWritable r → r.content ≡ c → length (content_bytes c) ≤ max
+    → framing_of_request max (sent_head r) ≡ Ok (sent_framing c)
+framing_sent r c max writable is small =
+    let fields = sent_fields r in
+    let told = told_sent r c writable is in
+    by_fields max (has fields transfer_encoding) (has fields (codes "content-length")) false (ends_in_chunks (codings fields)) (is_only_chunked (codings fields))
+    (length_told fields) (codings_none r writable) (length_sent r c writable is) (ap (is_above max) told ∙ within_sent max c small)
+    ∙ ap (λ n. Ok (framing_or framing.Nothing n)) told
+
+abbrev sent_plan : Option (List ℕ) → Plan
+sent_plan c = record { framing = sent_framing c; wants_continue = false }
+
+-- no continue is wanted
+plan_sent : (r : Request) (c : Option (List ℕ)) (max : ℕ) → IsWritable r → r.content ≡ c → length (content_bytes c) ≤ max
+    → plan_of max (sent_head r) ≡ Ok (sent_plan c)
+plan_sent r c max writable is small =
+    let none : expectation (sent_head r) ≡ None = ap joined (values_of-absent (sent_fields r) expect (expectations_none r writable)) in
+    ap (λ expected. with_expectation expected (framing_of_request max (sent_head r))) none
+    ∙ ap (with_expectation None) (framing_sent r c max writable is small)
+
+-- the content and what follows it
+body_sent : (max : ℕ) (c : Option (List ℕ)) (rest : List ℕ) → body_at max (sent_framing c) false (content_bytes c ++ rest) ≡ Whole c rest
+body_sent max None rest = refl
+body_sent max (Some bytes) rest =
+    let n = length bytes in
+    let enough : nat_lt (length (bytes ++ rest)) n ≡ false = le-ltb (length (bytes ++ rest)) n (omega (arith, length-append bytes rest)) in
+    ap (λ t. cond t Short (Whole (Some (take n (bytes ++ rest))) (drop n (bytes ++ rest)))) enough
+    ∙ ap (λ front. Whole (Some front) (drop n (bytes ++ rest))) (take-append_seam bytes rest)
+    ∙ ap (Whole (Some bytes)) (drop-append_seam bytes rest)
+
+-- the request, without its length field
+request_sent : (r : Request) → IsWritable r → request_of (sent_head r) r.content ≡ read_back r
+request_sent r writable =
+    let fields : without_lengths (sent_fields r) ≡ r.fields ++ close_field ∷ []
+    = ap (λ fs. without_named fs transfer_encoding) (without_length r writable) ∙ without_coding r writable in
+    λ i. record { method = r.method; target = r.target; minor = 1; fields = fields i; content = r.content }
+
+begins_sent : (r : Request) (max : ℕ) (rest : List ℕ) → IsWritable r → length (content_bytes r.content) ≤ max
+    → Begins max (request_text r ++ rest) (length (head_text r)) (sent_head r) (sent_plan r.content)
+begins_sent r max rest writable small =
+    let read = head_written r writable in record {
+      place = head_ends r writable rest;
+      judged = subst (λ (u : List ℕ). Judges u (Ok (sent_head r))) (sym (head_front r rest)) (written_head r, read.0, sym read.1);
+      plan_is = plan_sent r r.content max writable refl small;
+    }
+
+pub request_back : (r : Request) (max : ℕ) (e t : Bool) (rest : List ℕ) → IsWritable r → length (content_bytes r.content) ≤ max
+    → Reads max e t (request_text r ++ rest) (Spelled (read_back r) rest)
+request_back r max e t rest writable small =
+    let head = sent_head r in
+    let plan = sent_plan r.content in
+    let bytes = request_text r ++ rest in
+    let at = length (head_text r) in
+    subst (λ (reading : Reading Request). Reads max e t bytes reading)
+    (ap (λ u. with_body e (request_of head) (body_at max plan.framing false u)) (content_behind r rest)
+    ∙ ap (with_body e (request_of head)) (body_sent max r.content rest) ∙ ap (λ m. Spelled m rest) (request_sent r writable))
+    (reads_content max e t bytes at head plan (begins_sent r max rest writable small) refl)

@@ -1,0 +1,30 @@
+-- How far content in chunks has come (RFC 9112, section 7.1).
+use Rattle.std.specs.Prelude.{◌≡◌, ◌<◌, ℕ, List, []}
+use Rattle.hx_framing.specs.declared.chunk_phase.Phase.{Phase}
+use Rattle.hx_framing.specs.declared.chunk_phase.Phase.TheVariants as phase
+use Rattle.hx_framing.specs.declared.chunk_place.Place.{Place}
+
+-- need: bytes of data still to come of this chunk; left: bytes of content that later chunks may have;
+-- used: bytes of the whole trailer lines; content: the data so far; line: the bytes of the line so far, or the CR behind data
+pub record Chunking : Type 0 where
+  pub phase : Phase
+  pub need : ℕ
+  pub left : ℕ
+  pub used : ℕ
+  pub content : List ℕ
+  pub line : List ℕ
+
+-- in the data of a chunk, some of it is still to come
+abbrev pub NeedsData : Phase → ℕ → Type 0
+NeedsData at need = at ≡ phase.Data → 0 < need
+
+-- with no line begun
+abbrev pub chunking_of : Place → List ℕ → Chunking
+chunking_of place content = record {
+  phase = place.phase;
+  need = place.need;
+  left = place.left;
+  used = place.used;
+  content = content;
+  line = [];
+}

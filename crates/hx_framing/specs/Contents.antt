@@ -1,0 +1,52 @@
+-- The content behind a head (RFC 9112, section 6), whole and as far as a reader has come in it.
+--
+-- body_at: the content that bytes spell    body_from: the rest of one that was begun    Advances: one goes on
+use Rattle.std.specs.Prelude.{◌≡◌, ℕ, ◌<◌, ◌≤◌, ◌++◌, Bool, false, cond, List, [], length, take, drop, nat_lt, Some, None}
+use Rattle.hx_framing.specs.declared.fault.FrameFault.TheVariants as fault
+use Rattle.hx_framing.specs.declared.plan.Framing.{Framing}
+use Rattle.hx_framing.specs.declared.plan.Framing.TheVariants as framing
+use Rattle.hx_framing.specs.declared.content.Content.{Content}
+use Rattle.hx_framing.specs.declared.content.Content.TheVariants as content
+use Rattle.hx_framing.specs.declared.taken.Taken.{Taken}
+use Rattle.hx_framing.specs.declared.taken.Taken.TheVariants as taken
+use Rattle.hx_framing.specs.Body.{Body, Short, Bad, Whole}
+use Rattle.hx_framing.specs.Chunks.{chunks, chunks_from, start}
+
+-- n bytes (RFC 9112, section 6.2)
+abbrev pub announced_body : ℕ → List ℕ → Body
+announced_body n bytes = cond (nat_lt (length bytes) n) Short (Whole (Some (take n bytes)) (drop n bytes))
+
+-- all bytes until the stream's end (RFC 9112, section 6.3)
+-- own: a content of more than max_body bytes is refused
+abbrev pub closed_body : ℕ → Bool → List ℕ → Body
+closed_body max_body ended bytes =
+    cond (nat_lt max_body (length bytes)) (Bad fault.TooLarge) (cond ended (Whole (Some bytes) []) Short)
+
+-- the content that the bytes behind a head spell; ended: no more of them come
+abbrev pub body_at : ℕ → Framing → Bool → List ℕ → Body
+body_at max_body framing.Nothing ended bytes = Whole None bytes
+body_at max_body (framing.Announced n) ended bytes = announced_body n bytes
+body_at max_body framing.Chunked ended bytes = chunks max_body bytes
+body_at max_body framing.UntilClose ended bytes = closed_body max_body ended bytes
+
+-- a content of which nothing was taken
+abbrev pub begun : ℕ → Framing → Content
+begun max_body framing.Nothing = content.Nothing
+begun max_body (framing.Announced n) = content.Announced n
+begun max_body framing.Chunked = content.Chunked (start max_body)
+begun max_body framing.UntilClose = content.UntilClose max_body
+
+-- the content whose beginning was taken
+abbrev pub body_from : Content → Bool → List ℕ → Body
+body_from content.Nothing ended bytes = Whole None bytes
+body_from (content.Announced n) ended bytes = announced_body n bytes
+body_from (content.Chunked chunks) ended bytes = chunks_from bytes chunks
+body_from (content.UntilClose max_body) ended bytes = closed_body max_body ended bytes
+
+-- what is found in the bytes of a content: it goes on behind n of them, is at fault, or ends behind n of them
+abbrev pub Advances : Bool → List ℕ → Content → Taken → Content → Type 0
+Advances ended bytes old (taken.Short n) new =
+    (n ≤ length bytes) × (body_from old ended bytes ≡ Short)
+    × ((more : List ℕ) (e : Bool) → body_from old e (bytes ++ more) ≡ body_from new e (drop n bytes ++ more))
+Advances ended bytes old (taken.Bad f) new = body_from old ended bytes ≡ Bad f
+Advances ended bytes old (taken.Whole c n) new = (n ≤ length bytes) × (body_from old ended bytes ≡ Whole c (drop n bytes))

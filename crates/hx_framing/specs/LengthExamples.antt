@@ -1,0 +1,49 @@
+-- Heads with these field lines, for worked examples of length fields.
+use Rattle.std.specs.Prelude.{ℕ, List, codes, true, false, Result, Ok}
+use Rattle.hx_fields.specs.declared.field_line.Field.{Field}
+use Rattle.hx_fields.specs.Examples.{line}
+use Rattle.hx_framing.specs.declared.fault.FrameFault.{FrameFault}
+use Rattle.hx_framing.specs.declared.plan.Framing.{Framing}
+use Rattle.hx_framing.specs.declared.plan.Framing.TheVariants as framing
+use Rattle.hx_framing.specs.declared.plan.Plan.{Plan}
+use Rattle.hx_framing.specs.declared.request_head.Head.{Head}
+use Rattle.hx_framing.specs.declared.status_head.StatusHead.{StatusHead}
+use Rattle.hx_framing.specs.Lengths.{plan_of, framing_of_response}
+
+abbrev pub length_line : List ℕ → Field
+length_line value = line (codes "Content-Length") value
+
+abbrev pub coding_line : List ℕ → Field
+coding_line value = line (codes "Transfer-Encoding") value
+
+abbrev pub expect_line : List ℕ → Field
+expect_line value = line (codes "Expect") value
+
+-- a request of HTTP/1.minor
+abbrev pub request_head : ℕ → List Field → Head
+request_head minor fields = record { method = codes "PUT"; target = codes "/a"; minor = minor; fields = fields }
+
+-- a response of HTTP/1.minor
+abbrev pub response_head : ℕ → ℕ → List Field → StatusHead
+response_head status minor fields = record { status = status; minor = minor; fields = fields }
+
+-- judged with at most 1000 bytes of content
+abbrev pub asks : ℕ → List Field → Result Plan FrameFault
+asks minor fields = plan_of 1000 (request_head minor fields)
+
+abbrev pub answers : ℕ → ℕ → List Field → Result Framing FrameFault
+answers status minor fields = framing_of_response 1000 false (response_head status minor fields)
+
+abbrev pub answers_head : ℕ → List Field → Result Framing FrameFault
+answers_head status fields = framing_of_response 1000 true (response_head status 1 fields)
+
+-- a plan that waits for no continue
+abbrev pub plain : Framing → Result Plan FrameFault
+plain told = Ok (record { framing = told; wants_continue = false })
+
+abbrev pub of_length : ℕ → Result Plan FrameFault
+of_length n = plain (framing.Announced n)
+
+-- a plan that waits for a continue
+abbrev pub waiting : Framing → Result Plan FrameFault
+waiting told = Ok (record { framing = told; wants_continue = true })

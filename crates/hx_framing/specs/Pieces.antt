@@ -1,0 +1,38 @@
+-- What it means to take a piece of content in chunks: the bytes of the piece lead from a state to the next.
+use Rattle.std.specs.Prelude.{◌≡◌, ◌≤◌, ◌<◌, ℕ, true, List, ◌++◌, Some, length, take, drop, slice_index}
+use Rattle.hx_framing.specs.declared.chunk_place.Place.{Place}
+use Rattle.hx_framing.specs.declared.chunk_pieces.Piece.{Piece}
+use Rattle.hx_framing.specs.declared.chunk_pieces.Piece.TheVariants as piece
+use Rattle.hx_framing.specs.Body.{Bad, Whole}
+use Rattle.hx_framing.specs.ChunkGrammar.{has_no_lf}
+use Rattle.hx_framing.specs.Chunking.{NeedsData, chunking_of}
+use Rattle.hx_framing.specs.Chunks.{chunks_from, state_after}
+
+-- the first LF stands at this index, below the limit
+pub record IsLineFeed (bytes : List ℕ) (limit at : ℕ) : Type 0 where
+  pub below : at < limit
+  pub inside : at < length bytes
+  pub first : has_no_lf (take at bytes) ≡ true
+  pub here : slice_index bytes at ≡ 10
+
+-- at a place, with the content old; new is the content behind the piece
+abbrev pub Takes : Place → List ℕ → List ℕ → List ℕ → Piece → Type 0
+Takes place old bytes new piece.Short =
+    (new ≡ old) × (state_after bytes (chunking_of place old) ≡ Some (record (chunking_of place old) { line = bytes }))
+Takes place old bytes new (piece.Taken n next) =
+    (n ≤ length bytes)
+    × (0 < n)
+    × NeedsData next.phase next.need
+    × (state_after (take n bytes) (chunking_of place old) ≡ Some (chunking_of next new))
+Takes place old bytes new (piece.Last n) =
+    (n ≤ length bytes)
+    × (0 < n)
+    × ((more : List ℕ) → chunks_from (bytes ++ more) (chunking_of place old) ≡ Whole (Some new) (drop n bytes ++ more))
+Takes place old bytes new (piece.Faulty f) = (more : List ℕ) → chunks_from (bytes ++ more) (chunking_of place old) ≡ Bad f
+
+-- how many bytes were taken
+abbrev pub bytes_of : Piece → ℕ
+bytes_of piece.Short = 0
+bytes_of (piece.Taken n next) = n
+bytes_of (piece.Last n) = n
+bytes_of (piece.Faulty f) = 0

@@ -1,0 +1,30 @@
+-- What is found at the front of a request stream, and how its content goes on.
+use Rattle.std.specs.Prelude.{◌≡◌, ℕ, ◌<◌, ◌≤◌, ◌++◌, Bool, true, false, List, length, drop}
+use Rattle.hx_framing.specs.declared.request_head.Head.{Head}
+use Rattle.hx_framing.specs.declared.requests.Request.{Request}
+use Rattle.hx_framing.specs.declared.content.Content.{Content}
+use Rattle.hx_framing.specs.declared.found.Found.{Found}
+use Rattle.hx_framing.specs.declared.found.Found.TheVariants as found
+use Rattle.hx_framing.specs.Contents.{body_from}
+use Rattle.hx_framing.specs.Reading.{Incomplete, Continue, Over, Spelled, Faulty, with_body}
+use Rattle.hx_framing.specs.RequestReading.{request_of, Reads}
+
+-- whatever comes, the bytes read as this head with what the unread ones make of its content
+abbrev pub Resumes : ℕ → Bool → Head → Content → List ℕ → List ℕ → Type 0
+Resumes max_body told head content bytes unread = (more : List ℕ) (ended : Bool)
+    → Reads max_body ended told (bytes ++ more) (with_body ended (request_of head) (body_from content false (unread ++ more)))
+
+-- a place behind some of the bytes
+abbrev pub IsBehind : List ℕ → ℕ → Type 0
+IsBehind bytes n = (0 < n) × (n ≤ length bytes)
+
+-- it is what the bytes read as, before a continue was given
+abbrev pub IsFound : ℕ → Bool → List ℕ → Found Head Request → Type 0
+IsFound max_body ended bytes (found.Incomplete n) = Reads max_body ended false bytes Incomplete
+IsFound max_body ended bytes (found.Continue head content n) =
+    IsBehind bytes n × Reads max_body ended false bytes Continue × Resumes max_body true head content bytes (drop n bytes)
+IsFound max_body ended bytes (found.Going head content n) =
+    IsBehind bytes n × Reads max_body ended false bytes Incomplete × Resumes max_body false head content bytes (drop n bytes)
+IsFound max_body ended bytes (found.Message m n) = IsBehind bytes n × Reads max_body ended false bytes (Spelled m (drop n bytes))
+IsFound max_body ended bytes (found.Faulty f) = Reads max_body ended false bytes (Faulty f)
+IsFound max_body ended bytes found.Over = Reads max_body ended false bytes Over

@@ -1,0 +1,50 @@
+-- What is found at the front of a response stream, and how its content goes on.
+use Rattle.std.specs.Prelude.{◌≡◌, ℕ, ◌+◌, ◌<◌, ◌≤◌, ◌++◌, Bool, false, cond, List, length, take, drop, Some, None, Ok, Err}
+use Rattle.hx_framing.specs.declared.status_head.StatusHead.{StatusHead}
+use Rattle.hx_framing.specs.declared.responses.Response.{Response}
+use Rattle.hx_framing.specs.declared.content.Content.{Content}
+use Rattle.hx_framing.specs.declared.found.Found.{Found}
+use Rattle.hx_framing.specs.declared.found.Found.TheVariants as found
+use Rattle.hx_framing.specs.declared.status_front.StatusFront.{StatusFront}
+use Rattle.hx_framing.specs.declared.status_front.StatusFront.TheVariants as front
+use Rattle.hx_framing.specs.Places.{head_length, most_head_bytes}
+use Rattle.hx_framing.specs.StatusHead.{Judges}
+use Rattle.hx_framing.specs.Lengths.{is_interim}
+use Rattle.hx_framing.specs.Contents.{body_from}
+use Rattle.hx_framing.specs.Reading.{Incomplete, Spelled, Faulty, with_body}
+use Rattle.hx_framing.specs.ResponseReading.{response_of, Passes, Reads}
+
+-- whatever comes, the bytes read as this head with what the unread ones make of its content
+abbrev pub Resumes : ℕ → Bool → StatusHead → Content → List ℕ → List ℕ → Type 0
+Resumes max_body to_head head content bytes unread = (more : List ℕ) (ended : Bool)
+    → Reads max_body to_head ended (bytes ++ more) (with_body ended (response_of to_head head) (body_from content ended (unread ++ more)))
+
+-- a place behind some of the bytes
+abbrev pub IsBehind : List ℕ → ℕ → Type 0
+IsBehind bytes n = (0 < n) × (n ≤ length bytes)
+
+-- what stands behind the interim responses in front; a head ends behind some bytes and within them
+abbrev pub IsFront : List ℕ → StatusFront → Type 0
+IsFront bytes (front.Open at) =
+    (at ≤ length bytes) × ((sizes : List ℕ) × Passes bytes sizes (drop at bytes))
+    × (head_length (take most_head_bytes (drop at bytes)) ≡ None)
+IsFront bytes (front.Faulty f) =
+    (0 < length bytes) × ((sizes : List ℕ) × (rest : List ℕ) × (n : ℕ) × Passes bytes sizes rest
+    × (head_length (take most_head_bytes rest) ≡ Some n) × Judges (take n rest) (Err f))
+IsFront bytes (front.Final head at) =
+    IsBehind bytes at × ((sizes : List ℕ) × (rest : List ℕ) × (n : ℕ) × Passes bytes sizes rest
+    × (head_length (take most_head_bytes rest) ≡ Some n) × Judges (take n rest) (Ok head) × (is_interim head.status ≡ false)
+    × (drop n rest ≡ drop at bytes))
+
+-- it is what the bytes read as; a response stream never ends without a message or a fault
+abbrev pub IsFound : ℕ → Bool → Bool → List ℕ → Found StatusHead Response → Type 0
+IsFound max_body to_head ended bytes (found.Incomplete n) =
+    (n ≤ length bytes) × Reads max_body to_head ended bytes Incomplete × ((sizes : List ℕ) × Passes bytes sizes (drop n bytes))
+IsFound max_body to_head ended bytes (found.Continue head content n) = ⊥
+IsFound max_body to_head ended bytes (found.Going head content n) =
+    IsBehind bytes n × Reads max_body to_head ended bytes Incomplete × Resumes max_body to_head head content bytes (drop n bytes)
+IsFound max_body to_head ended bytes (found.Message m n) =
+    IsBehind bytes n × Reads max_body to_head ended bytes (Spelled m (drop n bytes))
+IsFound max_body to_head ended bytes (found.Faulty f) =
+    (1 ≤ length bytes + cond ended 1 0) × Reads max_body to_head ended bytes (Faulty f)
+IsFound max_body to_head ended bytes found.Over = ⊥

@@ -1,0 +1,66 @@
+-- Size lines of chunks (RFC 9112, sections 7.1 and 7.1.1).
+use Rattle.std.specs.Prelude.{ℕ, ◌+◌, ◌-◌, ◌&&◌, ◌||◌, Bool, true, cond, not, List, [], ◌∷◌, length, take, drop, ◌==◌, nat_lt, nat_le, slice_index, Option, Some, None, Result, Err, ok_or}
+use Rattle.std.specs.List.{list_all, prefix_len}
+use Rattle.std.specs.Char.{is_ascii_hexdigit}
+use Rattle.std.specs.Str.Parse.{digits_value}
+use Rattle.hx_framing.specs.declared.fault.FrameFault.{FrameFault}
+use Rattle.hx_framing.specs.declared.fault.FrameFault.TheVariants as fault
+
+-- own: a size of more digits is refused, leading zeros counted
+abbrev pub most_size_digits : ℕ
+most_size_digits = 15
+
+-- own: a longer extension is refused
+abbrev pub most_extension_bytes : ℕ
+most_extension_bytes = 256
+
+-- the longest size line, with its CRLF
+abbrev pub most_size_line_bytes : ℕ
+most_size_line_bytes = most_size_digits + most_extension_bytes + 2
+
+-- behind blanks a semicolon, or nothing: [ BWS ";" .. ]
+-- own: what follows the semicolon isn't judged further; blanks with no semicolon are taken
+abbrev pub starts_well : List ℕ → Bool
+starts_well [] = true
+starts_well (b ∷ bytes) = cond (b == 32 || b == 9) (starts_well bytes) (b == 59)
+
+-- own: no control but the tab
+abbrev pub is_line_byte : ℕ → Bool
+is_line_byte b = (b == 9 || nat_le 32 b) && not (b == 127)
+
+-- what may stand behind the digits
+abbrev pub is_extension : List ℕ → Bool
+is_extension text = nat_le (length text) most_extension_bytes && list_all is_line_byte text && starts_well text
+
+-- how many hexadecimal digits stand at the front
+abbrev pub hex_length : List ℕ → ℕ
+hex_length text = prefix_len is_ascii_hexdigit text
+
+-- chunk-size [ chunk-ext ], with chunk-size = 1*HEXDIG
+abbrev pub is_size : List ℕ → Bool
+is_size text =
+    nat_lt 0 (hex_length text) && nat_le (hex_length text) most_size_digits && is_extension (drop (hex_length text) text)
+
+-- the size that the digits spell
+abbrev pub size_of : List ℕ → ℕ
+size_of text = digits_value 16 (take (hex_length text) text)
+
+-- the last byte is CR
+abbrev pub ends_in_cr : List ℕ → Bool
+ends_in_cr line = slice_index line (length line - 1) == 13
+
+-- the bytes without the last
+abbrev pub but_last : List ℕ → List ℕ
+but_last line = take (length line - 1) line
+
+-- the number, where it is at most most
+abbrev pub capped : ℕ → ℕ → Option ℕ
+capped most n = cond (nat_le n most) (Some n) None
+
+-- the size that a line without its LF spells, or its fault
+-- own: a size above left, what is left of max_body, is refused
+abbrev pub size_at : List ℕ → ℕ → Result ℕ FrameFault
+size_at line left =
+    cond (ends_in_cr line && is_size (but_last line))
+    (ok_or (capped left (size_of (but_last line))) fault.TooLarge)
+    (Err fault.Chunk)

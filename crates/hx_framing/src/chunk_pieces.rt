@@ -1,0 +1,199 @@
+//! The pieces of content in chunks: a size line, a run of data, the CRLF behind data, a trailer line.
+//!
+//! `specs/Pieces.antt` says what it means to take one. Nothing here takes memory.
+ghost use Rattle.std.specs.Prelude.{◌≡◌, ◌≤◌, ◌<◌, ◌+◌, ◌-◌, ℕ, List, true, cond, nat_lt, length, take, vec_len, vec_capacity, IfSome, IfNone};
+ghost use Rattle.hx_framing.specs.declared.chunk_phase.Phase.TheVariants as phase;
+ghost use Rattle.hx_framing.specs.declared.chunk_pieces.Piece.TheVariants as piece;
+ghost use Rattle.hx_framing.specs.declared.fault.FrameFault.TheVariants as fault;
+ghost use Rattle.hx_framing.specs.ChunkGrammar.{has_no_lf};
+ghost use Rattle.hx_framing.specs.Chunking.{NeedsData, chunking_of};
+ghost use Rattle.hx_framing.specs.Decoding.{Decodes};
+ghost use Rattle.hx_framing.specs.Pieces.{Takes, IsLineFeed, bytes_of};
+
+use crate::chunk_phase::Phase;
+use crate::chunk_place::Place;
+use crate::decoded::Decoded;
+use crate::fault::FrameFault;
+use crate::places::rest_from;
+use crate::size_line::{MOST_SIZE_LINE_BYTES, ends_in_cr, size_at};
+
+/// The most bytes of trailers, with the empty line behind them.
+const MOST_TRAILER_BYTES: usize = 32768;
+
+/// What stands at the front of the bytes.
+#[derive(Clone, Copy, Debug, PartialEq, Eq)]
+pub(crate) enum Piece {
+    /// Nothing, or a part of a piece.
+    Short,
+    /// A piece of so many bytes, and the place behind it.
+    Taken(usize, Place),
+    /// The last piece, of so many bytes.
+    Last(usize),
+    Faulty(FrameFault),
+}
+
+/// Where the first LF stands, if it is one of so many bytes.
+fn line_feed_within(bytes: &[u8], limit: usize) -> Option<usize>
+    ensures found { IfSome result (IsLineFeed bytes.now limit) }
+    ensures none { IfNone result (has_no_lf (take limit bytes.now) ≡ true) }
+{
+    for (at, b) in bytes.iter().enumerate() {
+        if at >= limit {
+            return None;
+        }
+        if *b == b'\n' {
+            return Some(at);
+        }
+    }
+    None
+}
+
+/// A line with no LF within the limit.
+fn open_line(bytes: &[u8], limit: usize) -> Piece
+    ensures { result ≡ cond (nat_lt limit (length bytes.now)) (piece.Faulty fault.Chunk) piece.Short }
+{
+    if limit < bytes.len() {
+        Piece::Faulty(FrameFault::Chunk)
+    } else {
+        Piece::Short
+    }
+}
+
+fn size_piece(place: Place, bytes: &[u8]) -> Piece
+    requires { place.phase ≡ phase.Size }
+    ensures { (content : List ℕ) → Takes place content bytes.now content result }
+{
+    let Some(at) = line_feed_within(bytes, MOST_SIZE_LINE_BYTES) else {
+        return open_line(bytes, MOST_SIZE_LINE_BYTES);
+    };
+    let (line, _) = bytes.split_at(at);
+    match size_at(line, place.left) {
+        Err(fault) => Piece::Faulty(fault),
+        Ok(0) => Piece::Taken(
+            at + 1,
+            Place {
+                phase: Phase::Trailers,
+                ..place
+            },
+        ),
+        Ok(size) => Piece::Taken(
+            at + 1,
+            Place {
+                phase: Phase::Data,
+                need: size,
+                left: place.left - size,
+                ..place
+            },
+        ),
+    }
+}
+
+fn data_piece(place: Place, content: &mut Vec<u8>, bytes: &[u8]) -> Piece
+    requires phase { place.phase ≡ phase.Data }
+    requires need { 0 < place.need }
+    requires room { vec_len content.now + length bytes.now ≤ vec_capacity content.now }
+    ensures takes { Takes place content.old.items bytes.now content.new.items result }
+    ensures room { vec_len content.new + (length bytes.now - bytes_of result) ≤ vec_capacity content.new }
+{
+    if bytes.is_empty() {
+        return Piece::Short;
+    }
+    let taken = place.need.min(bytes.len() as u64);
+    let (run, _) = bytes.split_at(taken as usize);
+    let Ok(()) = content.extend_from_slice(run) else {
+        unreachable!()
+    };
+    let need = place.need - taken;
+    let phase = if need > 0 {
+        Phase::Data
+    } else {
+        Phase::DataEnd
+    };
+    Piece::Taken(
+        taken as usize,
+        Place {
+            phase,
+            need,
+            ..place
+        },
+    )
+}
+
+/// The CRLF behind data.
+fn end_piece(place: Place, bytes: &[u8]) -> Piece
+    requires { place.phase ≡ phase.DataEnd }
+    ensures { (content : List ℕ) → Takes place content bytes.now content result }
+{
+    match bytes {
+        [] | [b'\r'] => Piece::Short,
+        [b'\r', b'\n', ..] => Piece::Taken(
+            2,
+            Place {
+                phase: Phase::Size,
+                ..place
+            },
+        ),
+        _ => Piece::Faulty(FrameFault::Chunk),
+    }
+}
+
+/// A trailer line, or the empty line behind the trailers.
+fn trailer_piece(place: Place, bytes: &[u8]) -> Piece
+    requires { place.phase ≡ phase.Trailers }
+    ensures { (content : List ℕ) → Takes place content bytes.now content result }
+{
+    let limit = MOST_TRAILER_BYTES.saturating_sub(place.used);
+    let Some(at) = line_feed_within(bytes, limit) else {
+        return open_line(bytes, limit);
+    };
+    let (line, _) = bytes.split_at(at);
+    if !ends_in_cr(line) {
+        Piece::Faulty(FrameFault::Chunk)
+    } else if line.len() == 1 {
+        Piece::Last(at + 1)
+    } else {
+        Piece::Taken(
+            at + 1,
+            Place {
+                used: place.used + at + 1,
+                ..place
+            },
+        )
+    }
+}
+
+/// The piece at the front of the bytes, for whose data there is room.
+fn next_piece(place: Place, content: &mut Vec<u8>, bytes: &[u8]) -> Piece
+    requires need { NeedsData place.phase place.need }
+    requires room { vec_len content.now + length bytes.now ≤ vec_capacity content.now }
+    ensures takes { Takes place content.old.items bytes.now content.new.items result }
+    ensures room { vec_len content.new + (length bytes.now - bytes_of result) ≤ vec_capacity content.new }
+{
+    match place.phase {
+        Phase::Size => size_piece(place, bytes),
+        Phase::Data => data_piece(place, content, bytes),
+        Phase::DataEnd => end_piece(place, bytes),
+        Phase::Trailers => trailer_piece(place, bytes),
+    }
+}
+
+/// Takes the whole pieces at the front of the bytes, for whose data there is room.
+pub(crate) fn take_pieces(place: &mut Place, content: &mut Vec<u8>, bytes: &[u8]) -> Decoded
+    requires need { NeedsData place.now.phase place.now.need }
+    requires room { vec_len content.now + length bytes.now ≤ vec_capacity content.now }
+    ensures decodes { Decodes (chunking_of place.old content.old.items) bytes.now (chunking_of place.new content.new.items) result }
+    ensures need { NeedsData place.new.phase place.new.need }
+{
+    let mut taken = 0;
+    loop {
+        match next_piece(*place, content, rest_from(bytes, taken)) {
+            Piece::Short => return Decoded::More(taken),
+            Piece::Taken(n, next) => {
+                taken += n;
+                *place = next;
+            }
+            Piece::Last(n) => return Decoded::Whole(taken + n),
+            Piece::Faulty(fault) => return Decoded::Faulty(fault),
+        }
+    }
+}
