@@ -5,6 +5,7 @@
 -- framing_told: what faultless length fields say
 -- framing_of_lengths, plan_of, framing_of_response: how a head is judged
 -- announced_of, without_lengths: what a message keeps of its length fields
+-- uncoded, framing_of_codings, framing_of_only_coding: the judgement in steps
 use Rattle.std.specs.Prelude.{ℕ, ◌-◌, ◌^◌, ◌&&◌, ◌||◌, Bool, true, false, cond, not, List, [], length, Option, Some, None, is_some, Result, Ok, Err, nat_lt, nat_le, ◌==◌, codes, count_by, slice_index_or}
 use Rattle.std.specs.List.{list_all}
 use Rattle.hx_fields.specs.declared.field_line.Field.{Field}
@@ -74,29 +75,6 @@ framing_or neither (Some n) = framing.Announced n
 -- what faultless length fields say, or what holds where neither stands
 abbrev pub framing_told : Framing → List Field → Framing
 framing_told neither fields = cond (has fields transfer_encoding) framing.Chunked (framing_or neither (length_told fields))
-
-abbrev pub announced : Result ℕ FrameFault → Result Framing FrameFault
-announced (Ok n) = Ok (framing.Announced n)
-announced (Err f) = Err f
-
--- what Content-Length alone says, or what holds without it
-abbrev pub announced_or : ℕ → Framing → List Field → Result Framing FrameFault
-announced_or max_body neither fields =
-    cond (has fields content_length) (announced (length_up_to max_body (length_told fields))) (Ok neither)
-
--- what is judged of the length fields without their codings, if that is enough
-abbrev pub uncoded : ℕ → ℕ → Framing → List Field → Option (Result Framing FrameFault)
-uncoded max_body minor neither fields =
-    cond (has_both fields) (Some (Err fault.BothLengths))
-    (cond (not (has fields transfer_encoding)) (Some (announced_or max_body neither fields))
-    (cond (minor == 0) (Some (Err fault.Length)) None))
-
--- what codings say where they count
-abbrev pub framing_of_only_coding : List (List ℕ) → Result Framing FrameFault
-framing_of_only_coding names = cond (is_only_chunked names) (Ok framing.Chunked) (Err fault.Coding)
-
-abbrev pub framing_of_codings : List (List ℕ) → Result Framing FrameFault
-framing_of_codings names = cond (ends_in_chunks names) (framing_of_only_coding names) (Err fault.Length)
 
 -- what is expected of a server
 -- own: in HTTP/1.0 Expect is ignored, not only 100-continue (RFC 9110, section 10.1.1)
@@ -184,3 +162,28 @@ announced_of to_head head =
 -- the lines that are no length fields
 abbrev pub without_lengths : List Field → List Field
 without_lengths fields = without_named (without_named fields content_length) transfer_encoding
+
+-- ---- the same judgement in steps: first what needs no codings
+
+abbrev pub announced : Result ℕ FrameFault → Result Framing FrameFault
+announced (Ok n) = Ok (framing.Announced n)
+announced (Err f) = Err f
+
+-- what Content-Length alone says, or what holds without it
+abbrev pub announced_or : ℕ → Framing → List Field → Result Framing FrameFault
+announced_or max_body neither fields =
+    cond (has fields content_length) (announced (length_up_to max_body (length_told fields))) (Ok neither)
+
+-- what is judged of the length fields without their codings, if that is enough
+abbrev pub uncoded : ℕ → ℕ → Framing → List Field → Option (Result Framing FrameFault)
+uncoded max_body minor neither fields =
+    cond (has_both fields) (Some (Err fault.BothLengths))
+    (cond (not (has fields transfer_encoding)) (Some (announced_or max_body neither fields))
+    (cond (minor == 0) (Some (Err fault.Length)) None))
+
+-- what codings say where they count
+abbrev pub framing_of_only_coding : List (List ℕ) → Result Framing FrameFault
+framing_of_only_coding names = cond (is_only_chunked names) (Ok framing.Chunked) (Err fault.Coding)
+
+abbrev pub framing_of_codings : List (List ℕ) → Result Framing FrameFault
+framing_of_codings names = cond (ends_in_chunks names) (framing_of_only_coding names) (Err fault.Length)
