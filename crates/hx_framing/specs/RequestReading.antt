@@ -22,6 +22,7 @@ request_of head content = record {
 }
 
 -- behind a head that tells its content; a continue comes before all that may follow (RFC 9110, section 10.1.1)
+-- no request's content runs until the close, so it is the same whether the stream ends
 abbrev pub with_plan : ℕ → Bool → Bool → Head → List ℕ → Result Plan FrameFault → Reading Request
 with_plan max_body ended told head bytes (Err f) = Faulty f
 with_plan max_body ended told head bytes (Ok plan) =
