@@ -1,3 +1,4 @@
 pub mod FirstFaults
 pub mod Items
 pub mod Readings
+pub mod TablePaths

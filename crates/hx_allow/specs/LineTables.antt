@@ -2,11 +2,11 @@
 use Rattle.std.specs.Prelude.{ℕ, ◌+◌, ◌-◌, ◌==◌, nat_le, Bool, true, false, not, ◌&&◌, ◌||◌, if◌then◌else◌, List, [], ◌∷◌, length, slice_index, codes, bytes_eq, Option, Some, None, unwrap_or}
 use Rattle.std.specs.List.{list_any, list_all}
 use Rattle.std.specs.Char.{is_ascii_uppercase}
-use Rattle.http_uri.specs.ByteClasses.{slash, hash_sign, percent_sign, question_mark}
+use Rattle.http_uri.specs.ByteClasses.{slash, hash_sign, question_mark}
 use Rattle.toml.specs.Data.{Items, no_items, item, table, Members, as_str, as_table}
 use Rattle.hx_fields.specs.Tokens.{is_token}
 use Rattle.hx_target.specs.Hosts.{is_host}
-use Rattle.hx_target.specs.Paths.{has_dot_segment, table_path_of}
+use Rattle.hx_target.specs.Paths.{has_bad_escape, has_dot_segment, table_path_of}
 use Rattle.hx_allow.specs.Addresses.{is_address}
 use Rattle.hx_allow.specs.Lines.{Line as PlainLine}
 use Rattle.hx_allow.specs.Matching.{is_never_allowed}
@@ -14,10 +14,6 @@ use Rattle.hx_allow.specs.Values.{first_unknown, text_at, is_some_and, counts_wi
 use Rattle.hx_allow.specs.declared.values.Scope.TheVariants.{Line}
 use Rattle.hx_allow.specs.declared.faults.ConfigFault.{ConfigFault}
 use Rattle.hx_allow.specs.declared.faults.ConfigFault.TheVariants.{UnknownKey, BadHost, BadMethod, BadPath, BadOrigin}
-
--- What isn't read yet: a path with an escape.
-abbrev pub is_left_out : List ℕ → Bool
-is_left_out path = list_any (λ b. b == percent_sign) path
 
 -- `*`, or a host in lower case
 unfoldable pub is_line_host : List ℕ → Bool
@@ -37,10 +33,11 @@ is_path_byte b = nat_le 0x21 b && nat_le b 0x7E && not (b == question_mark) && n
 abbrev pub ends_open : List ℕ → Bool
 ends_open text = (length text == 1) || not (slice_index text (length text - 1) == slash)
 
--- `/`, or a path that begins with `/` and doesn't end with it, without dot segments
+-- `/`, or a path that begins with `/` and doesn't end with it, with whole escapes and, as a table path, without dot
+-- segments (RFC 3986, sections 2.1, 3.3 and 5.2.4)
 unfoldable pub is_line_path : List ℕ → Bool
 is_line_path text =
-    (slice_index text 0 == slash) && ends_open text && list_all is_path_byte text && not (is_left_out text)
+    (slice_index text 0 == slash) && ends_open text && list_all is_path_byte text && not (has_bad_escape text)
     && not (has_dot_segment (table_path_of text))
 
 -- `deny`, or an address

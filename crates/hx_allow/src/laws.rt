@@ -1,15 +1,19 @@
 //! What the definitions of `specs/` say together, and what they give on tables of one and of two lines: each
 //! function's contract is a law, and its body is empty.
 ghost use Rattle.std.specs.Prelude.{◌≡◌, ◌+◌, ◌++◌, List, ℕ, Result, Ok, Err, Some, None, [], ◌∷◌, codes, length, option_map};
-ghost use Rattle.std.specs.List.{position_from};
+ghost use Rattle.std.specs.List.{All, position_from};
 ghost use Rattle.toml.specs.Data.{Members};
 ghost use Rattle.toml.specs.Parse.{parse_document};
 ghost use Rattle.hx_target.specs.declared.targets.Target.{Target};
+ghost use Rattle.hx_target.specs.Judgement.{Judged};
+ghost use Rattle.hx_target.specs.Paths.{table_path_of};
 ghost use Rattle.hx_allow.specs.Lines.{Line, Table};
 ghost use Rattle.hx_allow.specs.LineTables.{line_fault, lines_fault, tables};
 ghost use Rattle.hx_allow.specs.Matching.{matches_line, verdict_of, line_number};
 ghost use Rattle.hx_allow.specs.Tables.{judge_table, ReadsAs};
 ghost use Rattle.hx_allow.specs.declared.faults.ConfigFault.{ConfigFault as Fault};
+
+use hx_target::normalising_twice_is_once;
 
 /// A text is read in one way.
 pub fn a_table_is_read_in_one_way()
@@ -20,6 +24,17 @@ pub fn a_table_is_read_in_one_way()
 pub fn the_first_line_that_matches_decides()
     ensures { (lines : List Line) (method : List ℕ) (target : Target) → line_number (verdict_of lines method target) ≡ position_from (λ line. matches_line line method target) 1 lines }
 {}
+
+/// A verdict rests on a target's host and table path alone, for requests that are read too: whatever its port, its
+/// query and the spelling of its path. What it is compared with is a table path as well: the path of each line of a
+/// table that is read is its own table path.
+pub fn one_verdict_for_each_table_path()
+    ensures alike { (lines : List Line) (method : List ℕ) (a b : Target) → a.key.host ≡ b.key.host → a.table_path ≡ b.table_path → verdict_of lines method a ≡ verdict_of lines method b }
+    ensures read { (lines : List Line) (method : List ℕ) (target also : List ℕ) (hosts others : List (List ℕ)) (a b : Target) → Judged target hosts (Ok a) → Judged also others (Ok b) → a.key.host ≡ b.key.host → a.table_path ≡ b.table_path → verdict_of lines method a ≡ verdict_of lines method b }
+    ensures lines { (bytes : List ℕ) (table : Table) → ReadsAs bytes (Ok table) → All (λ (line : Line). table_path_of line.path ≡ line.path) table.lines }
+{
+    normalising_twice_is_once();
+}
 
 /// Where the lines in front have no fault, a fault of a line is told by that line's number, whatever follows.
 pub fn the_first_line_at_fault_is_told()

@@ -12,8 +12,6 @@ mod line_tables;
 mod lines;
 mod reading;
 mod tables;
-#[cfg(test)]
-mod tests;
 mod values;
 mod verdicts;
 
@@ -21,7 +19,7 @@ pub use config::Config;
 pub use faults::{ConfigFault, NumberKey};
 pub use laws::{
     a_fault_of_the_second_line_has_its_number, a_table_is_read_in_one_way,
-    a_table_of_two_lines_is_read, a_whole_table_is_read, the_first_line_at_fault_is_told,
-    the_first_line_that_matches_decides,
+    a_table_of_two_lines_is_read, a_whole_table_is_read, one_verdict_for_each_table_path,
+    the_first_line_at_fault_is_told, the_first_line_that_matches_decides,
 };
 pub use verdicts::Verdict;

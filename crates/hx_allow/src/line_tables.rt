@@ -7,14 +7,14 @@ ghost use Rattle.std.specs.List.{list_any, list_all};
 ghost use Rattle.std.specs.Char.{is_ascii_uppercase};
 ghost use Rattle.toml.specs.View.{table_view, items_view, view};
 ghost use Rattle.hx_allow.specs.Values.{is_some_and, items_at, unless_text, texts_of};
-ghost use Rattle.hx_allow.specs.LineTables.{is_line_host, is_line_method, are_line_methods, is_path_byte, is_left_out, ends_open, is_line_path, is_line_origin, line_fault, line_of, lines_fault, lines_of, item_fault, has_key};
+ghost use Rattle.hx_allow.specs.LineTables.{is_line_host, is_line_method, are_line_methods, is_path_byte, ends_open, is_line_path, is_line_origin, line_fault, line_of, lines_fault, lines_of, item_fault, has_key};
 
 use crate::ConfigFault;
 use crate::addresses::is_address;
 use crate::lines::{Line, is_never_allowed};
 use crate::values::{Scope, array_at, counts_within, first_unknown, text_at};
 use hx_fields::{Bytes, is_token};
-use hx_target::{has_dot_segment, is_host};
+use hx_target::{has_bad_escape, is_host, names_a_dot_segment, table_path};
 use std::alloc::{AllocError, Global};
 use toml::{Table, Value};
 
@@ -91,12 +91,6 @@ fn are_path_bytes(text: &[u8]) -> bool
     text.iter().all(|b| is_path_byte(*b))
 }
 
-fn has_escape(text: &[u8]) -> bool
-    ensures { result ≡ is_left_out text.now }
-{
-    text.contains(&b'%')
-}
-
 fn ends_open(text: &[u8]) -> bool
     ensures { result ≡ ends_open text.now }
 {
@@ -111,7 +105,7 @@ fn is_line_path(text: &[u8]) -> bool
     if text.first() != Some(&b'/') || !ends_open(text) {
         return false;
     }
-    are_path_bytes(text) && !has_escape(text) && !has_dot_segment(text)
+    are_path_bytes(text) && !has_bad_escape(text) && !names_a_dot_segment(text)
 }
 
 fn is_good_path(text: Option<&str>) -> bool
@@ -191,7 +185,7 @@ fn path_rule(alloc: Global, text: Option<&str>) -> Result<Bytes, AllocError>
     ensures { IfOk result (λ path. path ≡ table_path_of (unwrap_or (option_copied text.entry) [])) }
 {
     match text {
-        Some(text) => Bytes::copy_of(alloc, text.as_bytes()),
+        Some(text) => table_path(alloc, text.as_bytes()),
         None => Ok(Bytes::new(alloc)),
     }
 }

@@ -1,0 +1,5 @@
+pub mod Lines
+pub mod Moments
+pub mod Stripped
+pub mod Dating
+pub mod Forwards

@@ -1,28 +1,22 @@
 -- What every later rule sees of a request (RFC 9110, section 7.6.1).
-use Rattle.std.specs.Prelude.{◌≡◌, ◌==◌, Bool, not, ◌||◌, List, filter, codes, Result, Ok, Err}
+use Rattle.std.specs.Prelude.{◌≡◌, ◌==◌, Bool, ◌||◌, List, codes, Result, Ok, Err}
 use Rattle.hx_fields.specs.declared.field_line.Field.{Field}
-use Rattle.hx_fields.specs.Lines.{is_named, values_of}
+use Rattle.hx_fields.specs.Lines.{values_of, without_named}
 use Rattle.hx_framing.specs.declared.requests.Request.{Request}
 use Rattle.hx_target.specs.declared.faults.TargetFault.{TargetFault}
 use Rattle.hx_target.specs.declared.targets.Target.{Target}
 use Rattle.hx_target.specs.Judgement.{Judged}
 use Rattle.hx_hop.specs.declared.asked_for.Asked.{Asked}
+use Rattle.hx_hop.specs.Stripping.{connection_names, stripped}
 
--- What isn't taken out yet: the fields of one connection, and those that members of Connection name.
-abbrev pub stripped : List Field → List Field
-stripped fields = fields
-
--- the target has taken in Host, and the reader has carried out Expect (RFC 9110, section 10.1.1)
-abbrev pub is_taken_out : Field → Bool
-is_taken_out line = is_named (codes "Host") line || is_named (codes "Expect") line
-
--- the lines that go on
+-- The lines that go on: the target has taken in Host, and the reader has carried out Expect (RFC 9110, section 10.1.1).
 abbrev pub kept_fields : List Field → List Field
-kept_fields fields = filter (λ line. not (is_taken_out line)) (stripped fields)
+kept_fields fields = without_named (without_named (stripped fields) (codes "Host")) (codes "Expect")
 
--- the client's connection closes after the answer: own for HTTP/1.0 ("Connections of HTTP/1.0 close")
+-- the client's connection closes after the answer (RFC 9112, section 9.6)
+-- own: that of an HTTP/1.0 client always does ("Connections of HTTP/1.0 close")
 abbrev pub closes : Request → Bool
-closes request = request.minor == 0
+closes request = (request.minor == 0) || connection_names request.fields (codes "close")
 
 -- the request with its target read
 abbrev pub asked_of : Request → Target → Asked

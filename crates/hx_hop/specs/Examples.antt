@@ -1,5 +1,9 @@
--- Requests of the first example, and one to another port.
-use Rattle.std.specs.Prelude.{[], ◌∷◌, codes, Some, None, true, false}
+-- Requests and responses of the worked cases.
+use Rattle.std.specs.Prelude.{ℕ, List, [], ◌∷◌, codes, Some, None, true, false}
+use Rattle.hx_fields.specs.declared.field_line.Field.{Field}
+use Rattle.hx_framing.specs.declared.requests.Request.{Request}
+use Rattle.hx_framing.specs.declared.responses.Response.{Response}
+use Rattle.hx_target.specs.declared.targets.Target.{Target}
 use Rattle.hx_hop.specs.declared.asked_for.Asked.{Asked}
 use Rattle.hx_hop.specs.declared.validators.Conditions.{Conditions}
 use Rattle.hx_hop.specs.Forwarding.{line}
@@ -27,3 +31,32 @@ asked_to_port = record {
 
 abbrev pub first_conditions : Conditions
 first_conditions = record { etag = Some (codes "\"v1\""); modified = None }
+
+-- in absolute form, with a Host line that doesn't count and a member of Connection
+abbrev pub absolute_request : Request
+absolute_request = record {
+  method = codes "GET";
+  target = codes "http://H:80";
+  minor = 1;
+  fields
+      = line (codes "Host") (codes "x") ∷ line (codes "Connection") (codes "X-A") ∷ line (codes "X-A") (codes "1") ∷ line (codes "X-B") (codes "2") ∷ [];
+  content = None;
+}
+
+-- its target
+abbrev pub absolute_target : Target
+absolute_target = record { key = record { host = codes "h"; port = 80; path_query = codes "/" }; table_path = codes "/" }
+
+-- a response of these lines
+abbrev pub response_of : List Field → Response
+response_of fields = record { status = 200; fields = fields; content = []; announced = None }
+
+abbrev pub date_line : List ℕ → Field
+date_line text = line (codes "Date") text
+
+-- lines of one connection in any case beside some that only look like them
+abbrev pub mixed_fields : List Field
+mixed_fields =
+    line (codes "cONNECTION") (codes "close, x-a ,, \"b, c\"") ∷ line (codes "X-A") (codes "1") ∷ line (codes "pROXY-aUTHENTICATE") (codes "Basic")
+    ∷ line (codes "Proxy-Authenticat") (codes "2") ∷ line (codes "Connection") (codes "ETag") ∷ line (codes "ETag") (codes "\"v1\"")
+    ∷ line (codes "Keep-Alive") (codes "5") ∷ line (codes "B") (codes "3") ∷ []

@@ -1,4 +1,8 @@
+pub mod Answering
 pub mod Asking
 pub mod Bypass
 pub mod Examples
 pub mod Forwarding
+pub mod Meaning
+pub mod Moments
+pub mod Stripping

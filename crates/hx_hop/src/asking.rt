@@ -2,33 +2,31 @@
 ghost use Rattle.std.specs.Prelude.{◌≡◌, codes, Err, false, IfOk};
 ghost use Rattle.hx_fields.specs.Lines.{values_of};
 ghost use Rattle.hx_target.specs.Judgement.{is_malformed};
-ghost use Rattle.hx_hop.specs.Asking.{is_taken_out, kept_fields, asked_of, IsAsked};
+ghost use Rattle.hx_hop.specs.Asking.{kept_fields, closes, asked_of, IsAsked};
 
 use crate::Asked;
 use crate::asked_for::copy_content;
-use hx_fields::{Field, Fields, is_same_name};
+use crate::stripping::{connection_names, strip};
+use hx_fields::Fields;
 use hx_framing::Request;
 use hx_target::{Target, TargetFault, read_target};
 use std::alloc::{AllocError, Global};
-
-/// Whether a line doesn't go on.
-fn is_taken_out(line: &Field) -> bool
-    ensures { result ≡ is_taken_out line.now }
-{
-    is_same_name(line.name.as_slice(), b"Host") || is_same_name(line.name.as_slice(), b"Expect")
-}
 
 /// The lines that go on.
 fn kept_fields(alloc: Global, fields: &Fields) -> Result<Fields, AllocError>
     ensures { IfOk result (λ kept. kept ≡ kept_fields fields.now) }
 {
-    let mut kept = Fields::new(alloc);
-    for line in fields.as_slice() {
-        if !is_taken_out(line) {
-            kept.push(line.name.as_slice(), line.value.as_slice())?;
-        }
-    }
+    let mut kept = strip(alloc, fields)?;
+    kept.remove_named(b"Host");
+    kept.remove_named(b"Expect");
     Ok(kept)
+}
+
+/// Whether the client's connection closes after the answer.
+fn closes(request: &Request) -> bool
+    ensures { result ≡ closes request.now }
+{
+    request.minor == 0 || connection_names(&request.fields, b"close")
 }
 
 fn asked_of(alloc: Global, request: &Request, target: Target) -> Result<Asked, AllocError>
@@ -40,7 +38,7 @@ fn asked_of(alloc: Global, request: &Request, target: Target) -> Result<Asked, A
         target,
         fields: kept_fields(alloc, &request.fields)?,
         content: copy_content(alloc, request.content.as_ref())?,
-        close: request.minor == 0,
+        close: closes(request),
     })
 }
 

@@ -1,21 +1,30 @@
-//! A request between its two connections: what every later rule sees of it, and what goes to the origin
-//! (RFC 9110, section 7.6).
+//! Messages between their two connections: what every later rule sees of a request and of a response, and what goes
+//! to the origin (RFC 9110, section 7.6).
 //!
-//! `ask` reads the target and takes out what concerns one connection alone; `forward_request` adds what the
-//! next one needs. The law is in `specs/Asking.antt` and `specs/Forwarding.antt`. Nothing here knows the
-//! store or the operator's table.
+//! `ask` and `answered` take out what concerns one connection alone, which `strip` says; `answered` gives a response
+//! one valid Date; `forward_request` adds what the next connection needs. The law is in `specs/`: `Asking.antt`,
+//! `Answering.antt`, `Stripping.antt`, `Moments.antt` and `Forwarding.antt`, with what they mean in `Meaning.antt`.
+//! Nothing here knows the store or the operator's table, and no clock is read.
 #![tactic(auto)]
 
+mod answered_with;
+mod answering;
 mod asked_for;
 mod asking;
 mod forwarding;
 mod laws;
-#[cfg(test)]
-mod tests;
+mod stripping;
 mod validators;
 
+pub use answered_with::Answered;
+pub use answering::{answered, date_text, dated};
 pub use asked_for::Asked;
 pub use asking::ask;
 pub use forwarding::forward_request;
-pub use laws::{a_request_is_asked_in_one_way, the_first_request_is_forwarded};
+pub use laws::{
+    a_request_is_asked_in_one_way, absolute_form_is_rewritten, members_of_connection_are_taken_out,
+    missing_date_is_added, moments_are_told, one_date_stands, one_host_goes_forward,
+    the_first_request_is_forwarded, the_rest_goes_on,
+};
+pub use stripping::{lists_cache_field, strip};
 pub use validators::Conditions;

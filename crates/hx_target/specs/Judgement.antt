@@ -1,40 +1,57 @@
 -- What a request's target and Host lines are judged to be (RFC 9112, sections 3.2 and 3.3; RFC 9110, section 7.1).
 --
--- Question: a target that is cut, and the values of the Host lines
+-- Question: the parts of a target, and the values of the Host lines
 -- stands: the condition of each fault, faults: by their numbers
 -- judged_of: the least fault that stands, or the target
 -- Judged: the same of a text, with the cut of `http_uri` as a relation
-use Rattle.std.specs.Prelude.{◌≡◌, ◌⊎◌, ℕ, ◌==◌, nat_lt, Bool, true, false, not, ◌||◌, if◌then◌else◌, List, [], ◌∷◌, length, slice_index, find, Option, Some, None, is_none, unwrap_or, Result, Ok, Err}
+use Rattle.std.specs.Prelude.{◌≡◌, ◌⊎◌, ℕ, ◌==◌, nat_lt, Bool, true, false, not, ◌&&◌, ◌||◌, if◌then◌else◌, List, [], ◌∷◌, length, slice_index, find, codes, bytes_eq, Option, Some, None, is_none, is_some, unwrap_or, Result, Ok, Err}
 use Rattle.std.specs.Option.{option_and_then}
 use Rattle.std.specs.List.{list_any}
 use Rattle.http_uri.specs.declared.uri.Uri.{Uri}
-use Rattle.http_uri.specs.Uri.{Spells, SpellsNone, uri_path_and_query}
-use Rattle.http_uri.specs.Grammar.{path_of, or_slash}
-use Rattle.http_uri.specs.ByteClasses.{slash, hash_sign, percent_sign}
+use Rattle.http_uri.specs.Uri.{Spells, SpellsNone, uri_scheme, uri_authority, uri_data}
+use Rattle.http_uri.specs.Grammar.{path_of}
+use Rattle.http_uri.specs.ByteClasses.{slash, hash_sign, at_sign, rsplit_once_back}
 use Rattle.hx_target.specs.Hosts.{has_valid_host, host_part, port_part, lowercase}
-use Rattle.hx_target.specs.Paths.{has_dot_segment, table_path_of}
+use Rattle.hx_target.specs.Paths.{has_bad_escape, has_dot_segment, table_path_of}
 use Rattle.hx_target.specs.declared.faults.TargetFault.{TargetFault}
 use Rattle.hx_target.specs.declared.faults.TargetFault.TheVariants.{Form, Scheme, Host, Port, Userinfo, Escape, DotSegment, TooLong, OutOfMemory}
 use Rattle.hx_target.specs.declared.targets.Target.{Target}
 
 -- a byte that no target has: none of 21 to 7E (hex), or `#`
+-- own: no bytes above ASCII, though some parsers let them pass ("Targets are ASCII")
 abbrev pub is_bad_byte : ℕ → Bool
 is_bad_byte b = nat_lt b 0x21 || nat_lt 0x7E b || (b == hash_sign)
 
--- What isn't read yet: a target that isn't in origin form, and one with an escape.
-abbrev pub is_left_out : List ℕ → Bool
-is_left_out target = not (slice_index target 0 == slash) || list_any (λ b. b == percent_sign) target
-
 -- a text whose bytes alone tell that it is no target
 unfoldable pub is_malformed : List ℕ → Bool
-is_malformed target = list_any is_bad_byte target || is_left_out target
+is_malformed target = list_any is_bad_byte target
 
--- A target that is cut, and the values of the Host lines.
+-- The parts of a target, and the values of the Host lines.
 pub record Question : Type 0 where
   pub target : List ℕ
+  pub scheme : Option (List ℕ)
+  pub authority : Option (List ℕ)
   -- path and query
   pub kept : List ℕ
   pub hosts : List (List ℕ)
+
+-- the parts that a URI has
+abbrev pub question_of : List ℕ → Uri → List (List ℕ) → Question
+question_of target uri hosts =
+    record { target = target; scheme = uri_scheme uri; authority = uri_authority uri; kept = uri_data uri; hosts = hosts }
+
+-- the origin form begins with `/`, the absolute form has scheme and authority (RFC 9112, sections 3.2.1 and 3.2.2)
+-- own: the authority form and the asterisk form, of CONNECT and OPTIONS, aren't read ("Two forms of targets")
+abbrev pub has_read_form : Question → Bool
+has_read_form q = (slice_index q.target 0 == slash) || (is_some q.scheme && is_some q.authority)
+
+-- schemes compare without case (RFC 3986, section 3.1)
+abbrev pub is_http : List ℕ → Bool
+is_http scheme = bytes_eq (lowercase scheme) (codes "http")
+
+abbrev pub has_other_scheme : Option (List ℕ) → Bool
+has_other_scheme None = false
+has_other_scheme (Some scheme) = not (is_http scheme)
 
 -- the only one of a list
 abbrev pub only : List (List ℕ) → Option (List ℕ)
@@ -54,17 +71,36 @@ host_value hosts = option_and_then if_valid (only hosts)
 abbrev pub host_port : List (List ℕ) → Option ℕ
 host_port hosts = option_and_then port_part (host_value hosts)
 
+-- What names host and port: the authority behind its last `@`, which replaces the Host line, or this line (RFC 9112,
+-- section 3.2.2; RFC 3986, section 3.2).
+abbrev pub naming : Option (List ℕ) → List ℕ → List ℕ
+naming None value = value
+naming (Some authority) value = rsplit_once_back at_sign authority
+
+abbrev pub named : Question → List ℕ
+named q = naming q.authority (unwrap_or (host_value q.hosts) [])
+
+-- an `@` in the authority (RFC 9110, section 4.2.4)
+abbrev pub has_userinfo : Option (List ℕ) → Bool
+has_userinfo None = false
+has_userinfo (Some authority) = list_any (λ b. b == at_sign) authority
+
 abbrev pub table_path : Question → List ℕ
 table_path q = table_path_of (path_of q.kept)
 
--- the condition of each fault; a fault that only a text left out could have stands nowhere
+-- path and query as they came, an empty path as `/` (RFC 9110, section 4.2.3)
+abbrev pub path_query_of : List ℕ → List ℕ
+path_query_of kept = if slice_index kept 0 == slash then kept else slash ∷ kept
+
+-- the condition of each fault
+-- own: in absolute form the Host line is judged too, though it names nothing then ("Host lines are always judged")
 abbrev pub stands : TargetFault → Question → Bool
-stands Form q = false
-stands Scheme q = false
-stands Host q = is_none (host_value q.hosts)
-stands Port q = is_none (host_port q.hosts)
-stands Userinfo q = false
-stands Escape q = false
+stands Form q = not (has_read_form q)
+stands Scheme q = has_other_scheme q.scheme
+stands Host q = is_none (host_value q.hosts) || not (has_valid_host (named q))
+stands Port q = is_none (host_port q.hosts) || is_none (port_part (named q))
+stands Userinfo q = has_userinfo q.authority
+stands Escape q = has_bad_escape (path_of q.kept)
 stands DotSegment q = has_dot_segment (table_path q)
 stands TooLong q = nat_lt 8192 (length q.target)
 stands OutOfMemory q = false
@@ -81,9 +117,9 @@ first_fault q = find (λ fault. stands fault q) faults
 abbrev pub target_of : Question → Target
 target_of q = record {
   key = record {
-    host = lowercase (host_part (unwrap_or (host_value q.hosts) []));
-    port = unwrap_or (host_port q.hosts) 80;
-    path_query = or_slash q.kept;
+    host = lowercase (host_part (named q));
+    port = unwrap_or (port_part (named q)) 80;
+    path_query = path_query_of q.kept;
   };
   table_path = table_path q;
 }
@@ -92,19 +128,14 @@ abbrev pub fault_or_target : Option TargetFault → Question → Result Target T
 fault_or_target (Some fault) q = Err fault
 fault_or_target None q = Ok (target_of q)
 
--- the least fault of a target that is cut, or what it asks for
+-- the least fault of the parts, or what they ask for
 unfoldable pub judged_of : Question → Result Target TargetFault
 judged_of q = fault_or_target (first_fault q) q
 
--- the same of what `http_uri` gives: a text that is an authority alone has no path and is no target
-abbrev pub judged_parts : List ℕ → Option (List ℕ) → List (List ℕ) → Result Target TargetFault
-judged_parts target None hosts = Err Form
-judged_parts target (Some kept) hosts = judged_of (record { target = target; kept = kept; hosts = hosts })
-
 -- What a target and the values of the Host lines are judged to be: Form where the text's bytes tell it or where the
--- text spells no target, else what its parts are judged to be.
+-- text spells no URI, else what its parts are judged to be.
 abbrev pub Judged : List ℕ → List (List ℕ) → Result Target TargetFault → Type 0
 Judged target hosts r =
     ((is_malformed target ≡ true) × (r ≡ Err Form))
     ⊎ ((SpellsNone target × (r ≡ Err Form))
-    ⊎ ((is_malformed target ≡ false) × ((uri : Uri) × Spells target uri × (r ≡ judged_parts target (uri_path_and_query uri) hosts))))
+    ⊎ ((is_malformed target ≡ false) × ((uri : Uri) × Spells target uri × (r ≡ judged_of (question_of target uri hosts)))))

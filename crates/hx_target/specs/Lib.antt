@@ -1,4 +1,5 @@
 pub mod Hosts
+pub mod Paths
 pub mod Judgement
 pub mod Keys
-pub mod Paths
+pub mod Examples

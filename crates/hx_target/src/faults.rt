@@ -8,13 +8,14 @@ use std::alloc::AllocError;
 /// answered.
 #[derive(Clone, Copy, Debug, PartialEq, Eq, Hash)]
 pub enum TargetFault {
-    /// The text is no target that is read here.
+    /// The text is no target in origin form or in absolute form.
     Form = 1,
     /// The scheme isn't `http`.
     Scheme,
-    /// There is no Host line or more than one, or the host in it is invalid.
+    /// There is no Host line or more than one, or the host in it or in the authority is invalid.
     Host,
-    /// The port is neither empty nor one to five digits of a value from 1 to 65535.
+    /// A port, in the Host line or in the authority, is neither empty nor one to five digits of a value from 1
+    /// to 65535.
     Port,
     /// The authority has an `@`.
     Userinfo,

@@ -5,7 +5,7 @@ ghost use Rattle.std.specs.Prelude.{◌≡◌, ◌≤◌, ◌<◌, ◌^◌, ◌+
 ghost use Rattle.std.specs.Char.{is_ascii_digit};
 ghost use Rattle.std.specs.Option.{option_copied};
 ghost use Rattle.std.specs.List.{list_all};
-ghost use Rattle.http_uri.specs.ByteClasses.{index_of};
+ghost use Rattle.http_uri.specs.ByteClasses.{index_of, index_after_last};
 ghost use Rattle.hx_target.specs.Hosts.{is_name_byte, is_address_byte, is_name, is_address, is_host, host_part, after_host, has_valid_host, digits_on, short_number, port_of, port_part, lowercase};
 
 use hx_fields::Bytes;
@@ -80,6 +80,18 @@ fn index_of(byte: u8, text: &[u8]) -> usize
         i += 1;
     }
     i
+}
+
+/// The place after the last such byte, or 0.
+pub fn index_after_last(byte: u8, text: &[u8]) -> usize
+    ensures place { result ≡ index_after_last byte text.now }
+    ensures bound { result ≤ length text.now }
+{
+    let mut end = text.len();
+    while end > 0 && text[end - 1] != byte {
+        end -= 1;
+    }
+    end
 }
 
 /// The host of a Host value.

@@ -1,11 +1,14 @@
 //! What the definitions of `specs/` say together: each function's contract is a law, and its body is empty.
-ghost use Rattle.std.specs.Prelude.{◌≡◌, List, ℕ, Result, Ok, true, false, codes, [], ◌∷◌};
+ghost use Rattle.std.specs.Prelude.{◌≡◌, List, ℕ, Result, Ok, Some, true, false, codes, [], ◌∷◌};
 ghost use Rattle.hx_target.specs.declared.faults.TargetFault.{TargetFault as Fault};
 ghost use Rattle.hx_target.specs.declared.targets.Target.{Target as Aim};
 ghost use Rattle.hx_target.specs.declared.keys.Key.{Key as StoreKey};
+ghost use Rattle.hx_target.specs.declared.faults.TargetFault.TheVariants.{Scheme, Host, Port, Userinfo, Escape, DotSegment};
+ghost use Rattle.hx_target.specs.Examples.{in_origin_form, in_absolute_form};
+ghost use Rattle.hx_target.specs.Hosts.{lowercase};
 ghost use Rattle.hx_target.specs.Keys.{same_key};
-ghost use Rattle.hx_target.specs.Paths.{has_dot_segment};
-ghost use Rattle.hx_target.specs.Judgement.{Judged};
+ghost use Rattle.hx_target.specs.Paths.{has_bad_escape, has_dot_segment, is_normal, table_path_of};
+ghost use Rattle.hx_target.specs.Judgement.{Judged, Question, judged_of};
 
 /// A target and its Host lines are judged in one way.
 pub fn a_target_is_judged_in_one_way()
@@ -15,6 +18,57 @@ pub fn a_target_is_judged_in_one_way()
 /// The table path of a target that is read has no dot segment.
 pub fn no_dot_segment_passes()
     ensures { (target : List ℕ) (hosts : List (List ℕ)) (aim : Aim) → Judged target hosts (Ok aim) → has_dot_segment aim.table_path ≡ false }
+{}
+
+/// The table path of a target that is read has no escape of an unreserved character, and each escape in it
+/// is in upper case; so it is its own table path.
+pub fn a_table_path_is_normal()
+    ensures normal { (target : List ℕ) (hosts : List (List ℕ)) (aim : Aim) → Judged target hosts (Ok aim) → is_normal aim.table_path ≡ true }
+    ensures stays { (target : List ℕ) (hosts : List (List ℕ)) (aim : Aim) → Judged target hosts (Ok aim) → table_path_of aim.table_path ≡ aim.table_path }
+{}
+
+/// A path is normalised once: where each of its `%` begins an escape, its table path is normal and is its
+/// own table path.
+pub fn normalising_twice_is_once()
+    ensures normal { (path : List ℕ) → has_bad_escape path ≡ false → is_normal (table_path_of path) ≡ true }
+    ensures stays { (path : List ℕ) → is_normal path ≡ true → table_path_of path ≡ path }
+    ensures once { (path : List ℕ) → has_bad_escape path ≡ false → table_path_of (table_path_of path) ≡ table_path_of path }
+{}
+
+/// Worked paths (RFC 3986, sections 5.2.4 and 6.2.2): what the operator's table sees of them.
+#[tactic(auto, unfolding(crate::specs::Paths::has_dot_segment))]
+pub fn worked_paths_are_normalised()
+    ensures decoded { table_path_of (codes "/%41dmin%2fa%7e") ≡ codes "/Admin%2Fa~" }
+    ensures once { table_path_of (codes "/%2541%20") ≡ codes "/%2541%20" }
+    ensures bad { table_path_of (codes "/%zz%4") ≡ codes "/%zz%4" }
+    ensures bad_is_told { has_bad_escape (codes "/a%4") ≡ true }
+    ensures good_is_told { has_bad_escape (codes "/%2fa%C3") ≡ false }
+    ensures escaped_dots { has_dot_segment (table_path_of (codes "/a/%2e%2E/b")) ≡ true }
+    ensures three_dots { has_dot_segment (table_path_of (codes "/.%2e./.%2F.")) ≡ false }
+    ensures lower_digits { is_normal (codes "/%2f") ≡ false }
+    ensures upper_digits { is_normal (codes "/%2F") ≡ true }
+{}
+
+/// Worked targets (RFC 9112, sections 3.2.1 and 3.2.2; RFC 3986, section 3.2): what their parts ask for.
+#[tactic(auto, unfolding(crate::specs::Judgement::judged_of, crate::specs::Hosts::is_host, crate::specs::Hosts::short_number, crate::specs::Hosts::port_of, crate::specs::Paths::has_dot_segment))]
+pub fn worked_targets_are_judged()
+    ensures origin_form { judged_of (in_origin_form (codes "/%61?%") (codes "H:08080")) ≡ Ok (record { key = record { host = codes "h"; port = 8080; path_query = codes "/%61?%" }; table_path = codes "/a" }) }
+    ensures absolute_form { judged_of (in_absolute_form (codes "HTTP") (codes "[::1]:") (codes "?x") (codes "h")) ≡ Ok (record { key = record { host = codes "[::1]"; port = 80; path_query = codes "/?x" }; table_path = codes "/" }) }
+    ensures scheme { judged_of (in_absolute_form (codes "https") (codes "h") (codes "/") (codes "")) ≡ Err Scheme }
+    ensures empty_scheme { judged_of (in_absolute_form [] (codes "h") (codes "/") (codes "h")) ≡ Err Scheme }
+    ensures host { judged_of (in_absolute_form (codes "http") (codes "h:0") (codes "/..") (codes "")) ≡ Err Host }
+    ensures port { judged_of (in_absolute_form (codes "http") (codes "u@h:65536") (codes "/..") (codes "h")) ≡ Err Port }
+    ensures userinfo { judged_of (in_absolute_form (codes "http") (codes "u@h") (codes "/%/..") (codes "h")) ≡ Err Userinfo }
+    ensures escape { judged_of (in_origin_form (codes "/%/..") (codes "h")) ≡ Err Escape }
+    ensures dot_segment { judged_of (in_origin_form (codes "/%2e./a") (codes "h")) ≡ Err DotSegment }
+{}
+
+/// The case of the letters of a scheme, of an authority and of a Host line changes nothing (RFC 3986,
+/// section 6.2.2.1).
+pub fn case_names_nothing()
+    ensures scheme { (q : Question) (a b : List ℕ) → lowercase a ≡ lowercase b → judged_of (record q { scheme = Some a }) ≡ judged_of (record q { scheme = Some b }) }
+    ensures authority { (q : Question) (a b : List ℕ) → lowercase a ≡ lowercase b → judged_of (record q { authority = Some a }) ≡ judged_of (record q { authority = Some b }) }
+    ensures host_line { (q : Question) (a b : List ℕ) → lowercase a ≡ lowercase b → judged_of (record q { hosts = a ∷ [] }) ≡ judged_of (record q { hosts = b ∷ [] }) }
 {}
 
 /// Keys that are the same are one, and a key is the same as itself.

@@ -5,6 +5,7 @@
 //! is answered. Nothing here knows the operator's table or the store.
 #![tactic(auto)]
 
+mod escapes;
 mod faults;
 mod hosts;
 mod keys;
@@ -12,13 +13,16 @@ mod laws;
 mod paths;
 mod reading;
 mod targets;
-#[cfg(test)]
-mod tests;
 
+pub use escapes::{has_bad_escape, table_path};
 pub use faults::TargetFault;
 pub use hosts::{is_host, short_number};
 pub use keys::Key;
-pub use laws::{a_target_is_judged_in_one_way, equal_keys_are_one, no_dot_segment_passes};
-pub use paths::has_dot_segment;
+pub use laws::{
+    a_table_path_is_normal, a_target_is_judged_in_one_way, case_names_nothing, equal_keys_are_one,
+    no_dot_segment_passes, normalising_twice_is_once, worked_paths_are_normalised,
+    worked_targets_are_judged,
+};
+pub use paths::{has_dot_segment, names_a_dot_segment};
 pub use reading::read_target;
 pub use targets::Target;

@@ -1,16 +1,19 @@
 //! Reading a target. The law is `Judged` in `specs/Judgement.antt`.
-ghost use Rattle.std.specs.Prelude.{◌≡◌, ◌==◌, codes, Err, Ok, None, false, is_some};
+//!
+//! A target is cut by `http_uri`; what is read here are the parts that it gives.
+ghost use Rattle.std.specs.Prelude.{◌≡◌, ◌==◌, ◌||◌, ◌&&◌, not, codes, Err, Ok, None, false, slice_index, is_some, IfOk};
 ghost use Rattle.std.specs.List.{list_any};
 ghost use Rattle.std.specs.Option.{option_copied};
-ghost use Rattle.http_uri.specs.ByteClasses.{percent_sign};
+ghost use Rattle.http_uri.specs.ByteClasses.{slash, at_sign, rsplit_once_back};
+ghost use Rattle.http_uri.specs.Uri.{Spells, uri_scheme, uri_authority};
 ghost use Rattle.hx_fields.specs.Lines.{values_of};
-ghost use Rattle.hx_target.specs.Judgement.{is_bad_byte, is_malformed, host_value, first_fault, judged_of, Judged};
+ghost use Rattle.hx_target.specs.Judgement.{is_bad_byte, is_malformed, is_http, has_other_scheme, host_value, naming, has_userinfo, path_query_of, question_of, first_fault, judged_of, Judged};
 
-use crate::hosts::{has_valid_host, host_part, lowercase, port_part};
-use crate::{Key, Target, TargetFault, has_dot_segment};
+use crate::hosts::{has_valid_host, host_part, index_after_last, lowercase, port_part};
+use crate::{Key, Target, TargetFault, has_bad_escape, names_a_dot_segment, table_path};
 use http_uri::{PathAndQuery, Uri, UriError};
 use hx_fields::{Bytes, Fields};
-use std::alloc::Global;
+use std::alloc::{AllocError, Global};
 
 /// The most bytes of a target.
 const MAX_TARGET: usize = 8_192;
@@ -21,18 +24,34 @@ fn has_bad_byte(target: &[u8]) -> bool
     target.iter().any(|b| *b < 0x21 || *b > 0x7e || *b == b'#')
 }
 
-fn has_escape(target: &[u8]) -> bool
-    ensures { result ≡ list_any (λ b. b == percent_sign) target.now }
-{
-    target.contains(&b'%')
-}
-
 /// Whether the bytes alone tell that a text is no target.
 #[tactic(auto, unfolding(crate::specs::Judgement::is_malformed))]
 fn is_malformed(target: &[u8]) -> bool
     ensures { result ≡ is_malformed target.now }
 {
-    has_bad_byte(target) || target.first() != Some(&b'/') || has_escape(target)
+    has_bad_byte(target)
+}
+
+/// Whether a target is in origin form or in absolute form.
+fn has_read_form(target: &[u8], uri: &Uri) -> bool
+    ensures { result ≡ ((slice_index target.now 0 == slash) || (is_some (uri_scheme uri.now) && is_some (uri_authority uri.now))) }
+{
+    target.first() == Some(&b'/') || (uri.scheme().is_some() && uri.authority().is_some())
+}
+
+fn is_http(scheme: &[u8]) -> bool
+    ensures { result ≡ is_http scheme.now }
+{
+    scheme.eq_ignore_ascii_case(b"http")
+}
+
+fn has_other_scheme(uri: &Uri) -> bool
+    ensures { result ≡ has_other_scheme (uri_scheme uri.now) }
+{
+    match uri.scheme_str() {
+        Some(scheme) => !is_http(scheme.as_bytes()),
+        None => false,
+    }
 }
 
 /// The value of the only Host line, where its host is valid.
@@ -48,25 +67,88 @@ fn host_value(fields: &Fields) -> Option<&[u8]>
     }
 }
 
-/// What a target that is cut asks for, or its least fault.
+/// What follows the last `@` of an authority, where userinfo ends.
+fn after_userinfo(authority: &[u8]) -> &[u8]
+    ensures { result.now ≡ rsplit_once_back at_sign authority.now }
+{
+    &authority[index_after_last(b'@', authority)..]
+}
+
+/// What names host and port: the authority, or else the value of the Host line.
+fn naming<'a>(uri: &'a Uri, value: &'a [u8]) -> &'a [u8]
+    ensures { result.now ≡ naming (uri_authority uri.now) value.now }
+{
+    match uri.authority() {
+        Some(authority) => after_userinfo(authority.as_str().as_bytes()),
+        None => value,
+    }
+}
+
+fn has_at_sign(text: &[u8]) -> bool
+    ensures { result ≡ list_any (λ b. b == 64) text.now }
+{
+    text.contains(&b'@')
+}
+
+fn has_userinfo(uri: &Uri) -> bool
+    ensures { result ≡ has_userinfo (uri_authority uri.now) }
+{
+    match uri.authority() {
+        Some(authority) => has_at_sign(authority.as_str().as_bytes()),
+        None => false,
+    }
+}
+
+/// Path and query as they came, an empty path as `/`.
+fn path_query(alloc: Global, kept: &PathAndQuery) -> Result<Bytes, AllocError>
+    ensures { IfOk result (λ text. text ≡ path_query_of kept.now) }
+{
+    let text = kept.as_str().as_bytes();
+    if text.first() == Some(&b'/') {
+        return Bytes::copy_of(alloc, text);
+    }
+    let mut found = Vec::new(alloc);
+    found.push(b'/')?;
+    found.extend_from_slice(text)?;
+    Ok(Bytes::from_vec(found))
+}
+
+/// What the parts of a target ask for, or their least fault.
 #[tactic(auto, unfolding(crate::specs::Judgement::judged_of))]
-fn judge(
+fn judge_parts(
     alloc: Global,
     target: &[u8],
+    uri: &Uri,
     kept: &PathAndQuery,
     fields: &Fields,
 ) -> Result<Target, TargetFault>
-    ensures judged { ¬ (result ≡ Err TargetFault.OutOfMemory) → result ≡ judged_of (record { target = target.now; kept = kept.now; hosts = values_of fields.now (codes "Host") }) }
-    ensures memory_last { result ≡ Err TargetFault.OutOfMemory → first_fault (record { target = target.now; kept = kept.now; hosts = values_of fields.now (codes "Host") }) ≡ None }
+    ensures judged { ¬ (result ≡ Err TargetFault.OutOfMemory) → result ≡ judged_of (record { target = target.now; scheme = uri_scheme uri.now; authority = uri_authority uri.now; kept = kept.now; hosts = values_of fields.now (codes "Host") }) }
+    ensures memory_last { result ≡ Err TargetFault.OutOfMemory → first_fault (record { target = target.now; scheme = uri_scheme uri.now; authority = uri_authority uri.now; kept = kept.now; hosts = values_of fields.now (codes "Host") }) ≡ None }
 {
+    if !has_read_form(target, uri) {
+        return Err(TargetFault::Form);
+    }
+    if has_other_scheme(uri) {
+        return Err(TargetFault::Scheme);
+    }
     let Some(value) = host_value(fields) else {
         return Err(TargetFault::Host);
     };
-    let Some(port) = port_part(value) else {
+    let named = naming(uri, value);
+    if !has_valid_host(named) {
+        return Err(TargetFault::Host);
+    }
+    let (Some(_), Some(port)) = (port_part(value), port_part(named)) else {
         return Err(TargetFault::Port);
     };
+    if has_userinfo(uri) {
+        return Err(TargetFault::Userinfo);
+    }
     let path = kept.path().as_bytes();
-    if has_dot_segment(path) {
+    if has_bad_escape(path) {
+        return Err(TargetFault::Escape);
+    }
+    if names_a_dot_segment(path) {
         return Err(TargetFault::DotSegment);
     }
     if target.len() > MAX_TARGET {
@@ -74,12 +156,25 @@ fn judge(
     }
     Ok(Target {
         key: Key {
-            host: lowercase(alloc, host_part(value))?,
+            host: lowercase(alloc, host_part(named))?,
             port,
-            path_query: Bytes::copy_of(alloc, kept.as_str().as_bytes())?,
+            path_query: path_query(alloc, kept)?,
         },
-        table_path: Bytes::copy_of(alloc, path)?,
+        table_path: table_path(alloc, path)?,
     })
+}
+
+/// What a target that is cut asks for, or its least fault.
+fn judge(alloc: Global, target: &[u8], uri: &Uri, fields: &Fields) -> Result<Target, TargetFault>
+    requires cut { Spells target.now uri.now }
+    ensures judged { ¬ (result ≡ Err TargetFault.OutOfMemory) → result ≡ judged_of (question_of target.now uri.now (values_of fields.now (codes "Host"))) }
+    ensures memory_last { result ≡ Err TargetFault.OutOfMemory → first_fault (question_of target.now uri.now (values_of fields.now (codes "Host"))) ≡ None }
+{
+    match uri.path_and_query() {
+        Some(kept) => judge_parts(alloc, target, uri, kept, fields),
+        // An authority alone.
+        None => Err(TargetFault::Form),
+    }
 }
 
 /// Reads a request's target and its Host lines (RFC 9112, section 3.2): what it asks for, or the least of
@@ -93,10 +188,7 @@ pub fn read_target(alloc: Global, target: &[u8], fields: &Fields) -> Result<Targ
         return Err(TargetFault::Form);
     }
     match Uri::from_bytes(alloc, target) {
-        Ok(uri) => match uri.path_and_query() {
-            Some(kept) => judge(alloc, target, kept, fields),
-            None => Err(TargetFault::Form),
-        },
+        Ok(uri) => judge(alloc, target, &uri, fields),
         Err(UriError::Invalid(_)) => Err(TargetFault::Form),
         Err(UriError::OutOfMemory) => Err(TargetFault::OutOfMemory),
     }

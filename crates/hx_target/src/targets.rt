@@ -10,7 +10,8 @@ use std::alloc::{AllocError, Global};
 pub struct Target {
     /// What a stored response is found by.
     pub key: Key,
-    /// The path as the operator's table compares it: without query and without dot segments.
+    /// The path as the operator's table compares it: without query and dot segments, with escapes of
+    /// unreserved characters decoded and the other ones in upper case (RFC 3986, section 6.2.2).
     pub table_path: Bytes,
 }
 

@@ -1,0 +1,38 @@
+-- What dating leaves.
+use Rattle.std.proofs.Common.{◌≡◌, ℕ, ◌<◌, Bool, true, false, not, cond, List, [], ◌∷◌, ◌++◌, refl, ◌∙◌, ap, codes}
+use Rattle.std.specs.Prelude.{is_some}
+use Rattle.std.proofs.lemmas.List.Elements.{filter-append}
+use Rattle.hx_fields.specs.declared.field_line.Field.{Field}
+use Rattle.hx_fields.specs.Lines.{is_named, values_of, without_named}
+use Rattle.hx_hop.specs.Answering.{dated_of, has_one_date, is_one_date}
+use Rattle.hx_hop.specs.Forwarding.{line}
+use Rattle.hx_hop.specs.Meaning.{HasOneDate, DatesOnce, TellsTheMoment}
+use Rattle.hx_hop.specs.Moments.{date_text_of}
+use Rattle.hx_hop.proofs.Lines.{filter_none, not_true}
+use Rattle.hx_hop.proofs.Moments.{parse_secs-date_text_of}
+
+pub tells_the_moment : TellsTheMoment
+tells_the_moment now early = parse_secs-date_text_of now early
+
+-- the one Date that is added is the only one
+added : (fields : List Field) (text : List ℕ) → values_of (without_named fields (codes "Date") ++ line (codes "Date") text ∷ []) (codes "Date") ≡ text ∷ []
+added fields text =
+    let none = filter_none (λ f. not (is_named (codes "Date") f)) (is_named (codes "Date")) (λ f e. not_true _ e) fields in
+    rw (filter-append (is_named (codes "Date")) (without_named fields (codes "Date")) (line (codes "Date") text ∷ []), none) refl
+
+replaced : (fields : List Field) (now : ℕ) → now < 253402300800
+    → has_one_date (without_named fields (codes "Date") ++ line (codes "Date") (date_text_of now) ∷ []) ≡ true
+replaced fields now early = ap is_one_date (added fields (date_text_of now)) ∙ ap is_some (tells_the_moment now early)
+
+by_date : (fields : List Field) (now : ℕ) → now < 253402300800 → (t : Bool) → has_one_date fields ≡ t
+    → has_one_date (cond t fields (without_named fields (codes "Date") ++ line (codes "Date") (date_text_of now) ∷ [])) ≡ true
+by_date fields now early true e = e
+by_date fields now early false e = replaced fields now early
+
+pub has_one : HasOneDate
+has_one fields now early = by_date fields now early (has_one_date fields) refl
+
+pub dates_once : DatesOnce
+dates_once fields now later early =
+    ap (λ t. cond t (dated_of fields now) (without_named (dated_of fields now) (codes "Date") ++ line (codes "Date") (date_text_of later) ∷ []))
+    (has_one fields now early)

@@ -1,0 +1,90 @@
+//! Which lines concern one connection alone (RFC 9110, section 7.6.1).
+//!
+//! The definitions are in `specs/Stripping.antt`. A member of Connection is compared where it stands, so no
+//! list of members is built.
+ghost use Rattle.std.specs.Prelude.{◌≡◌, codes, IfOk};
+ghost use Rattle.hx_fields.specs.Names.{members_of_value};
+ghost use Rattle.hx_hop.specs.Stripping.{connection_names, is_among, is_hop_line, is_hop_name, lists_cache_field, stripped};
+
+use hx_fields::{Field, Fields, is_same_name, next_member};
+use std::alloc::{AllocError, Global};
+
+/// Whether a member of this value is a name.
+fn value_names(value: &[u8], name: &[u8]) -> bool
+    ensures { result ≡ is_among (members_of_value value.now) name.now }
+{
+    let mut rest = value;
+    while let Some((member, behind)) = next_member(rest) {
+        if is_same_name(member, name) {
+            return true;
+        }
+        rest = behind;
+    }
+    false
+}
+
+/// Whether a member of Connection is this name.
+pub(crate) fn connection_names(fields: &Fields, name: &[u8]) -> bool
+    ensures { result ≡ connection_names fields.now name.now }
+{
+    for line in fields.as_slice() {
+        if is_same_name(line.name.as_slice(), b"Connection")
+            && value_names(line.value.as_slice(), name)
+        {
+            return true;
+        }
+    }
+    false
+}
+
+/// Whether a field of this name never goes on.
+fn is_hop_name(name: &[u8]) -> bool
+    ensures { result ≡ is_hop_name name.now }
+{
+    is_same_name(b"Connection", name)
+        || is_same_name(b"Proxy-Connection", name)
+        || is_same_name(b"Keep-Alive", name)
+        || is_same_name(b"TE", name)
+        || is_same_name(b"Transfer-Encoding", name)
+        || is_same_name(b"Upgrade", name)
+        || is_same_name(b"Trailer", name)
+        || is_same_name(b"Proxy-Authenticate", name)
+        || is_same_name(b"Proxy-Authentication-Info", name)
+        || is_same_name(b"Proxy-Authorization", name)
+}
+
+/// Whether a line of these fields doesn't go on.
+fn is_hop_line(fields: &Fields, line: &Field) -> bool
+    ensures { result ≡ is_hop_line fields.now line.now }
+{
+    is_hop_name(line.name.as_slice()) || connection_names(fields, line.name.as_slice())
+}
+
+/// The lines that go on: those of the connection alone are left out, and those that a member of Connection
+/// names. Its only error is want of memory.
+pub fn strip(alloc: Global, fields: &Fields) -> Result<Fields, AllocError>
+    ensures { IfOk result (λ kept. kept ≡ stripped fields.now) }
+{
+    let mut kept = Fields::new(alloc);
+    for line in fields.as_slice() {
+        if !is_hop_line(fields, line) {
+            kept.push(line.name.as_slice(), line.value.as_slice())?;
+        }
+    }
+    Ok(kept)
+}
+
+/// Whether a member of Connection names a field by which a cache decides. It is asked of fields before they
+/// are stripped, and takes no memory.
+pub fn lists_cache_field(fields: &Fields) -> bool
+    ensures { result ≡ lists_cache_field fields.now }
+{
+    connection_names(fields, b"Age")
+        || connection_names(fields, b"Cache-Control")
+        || connection_names(fields, b"Date")
+        || connection_names(fields, b"ETag")
+        || connection_names(fields, b"Expires")
+        || connection_names(fields, b"Last-Modified")
+        || connection_names(fields, b"Set-Cookie")
+        || connection_names(fields, b"Vary")
+}

@@ -1,0 +1,12 @@
+-- Parts of targets for worked examples.
+use Rattle.std.specs.Prelude.{ℕ, List, [], ◌∷◌, ◌++◌, codes, Some, None}
+use Rattle.hx_target.specs.Judgement.{Question}
+
+-- a target in origin form, and one Host line
+abbrev pub in_origin_form : List ℕ → List ℕ → Question
+in_origin_form target host = record { target = target; scheme = None; authority = None; kept = target; hosts = host ∷ [] }
+
+-- a target `scheme://authority` with this path and query, and one Host line
+abbrev pub in_absolute_form : List ℕ → List ℕ → List ℕ → List ℕ → Question
+in_absolute_form scheme authority kept host =
+    record { target = scheme ++ codes "://" ++ authority ++ kept; scheme = Some scheme; authority = Some authority; kept = kept; hosts = host ∷ [] }
