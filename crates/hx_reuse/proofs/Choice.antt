@@ -20,10 +20,10 @@ contains_member [] e m = absurd m
 contains_member (x ∷ xs) e (inl same) = subst (λ (y : Stored). Contains (x ∷ xs) y) same (Contains-append_left (x ∷ []) xs x (Contains-push [] x))
 contains_member (x ∷ xs) e (inr m) = Contains-append_right (x ∷ []) xs e (contains_member xs e m)
 
-nothing_in_none : (e : Stored) → Contains [] e → ⊥
+nothing_in_none : {X : Type 0} (e : X) → Contains [] e → ⊥
 nothing_in_none e c = let below = c.1 in absurd (omega (arith, below))
 
-pub member_contained : (xs : List Stored) (e : Stored) → Contains xs e → IsMember e xs
+pub member_contained : {X : Type 0} (xs : List X) (e : X) → Contains xs e → IsMember e xs
 member_contained [] e c = absurd (nothing_in_none e c)
 member_contained (x ∷ xs) e c = split (Contains-append_cases (x ∷ []) xs e c) (member_contained xs e)
   where

@@ -1,8 +1,12 @@
 pub mod Members
+pub mod JoinedTests
+pub mod FirstThat
 pub mod Latest
 pub mod RuleLemmas
 pub mod LeastRule
 pub mod Choice
 pub mod MeaningLemmas
 pub mod ReusableLemmas
+pub mod OnErrorLemmas
+pub mod PromiseLemmas
 pub mod WordLemmas

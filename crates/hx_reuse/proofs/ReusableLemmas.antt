@@ -1,7 +1,6 @@
 -- No rule stands exactly where the standard's list holds of the chosen response.
-use Rattle.std.proofs.Common.{◌≡◌, ℕ, ◌+◌, ◌-◌, ◌<◌, ◌≤◌, ◌⊎◌, inl, inr, Bool, true, false, List, refl, sym, ◌∙◌, ap, arith}
-use Rattle.std.specs.Prelude.{◌&&◌, ◌||◌, not, nat_lt, codes, bytes_eq, is_none, is_some, Option, Some, None}
-use Rattle.std.proofs.lemmas.Bool.Decides.{nat_tests}
+use Rattle.std.proofs.Common.{◌≡◌, ℕ, ◌+◌, ◌-◌, ◌⊎◌, inl, inr, Bool, true, false, List, refl, sym, ◌∙◌, ap}
+use Rattle.std.specs.Prelude.{◌||◌, not, nat_lt, codes, bytes_eq, is_none, is_some, Some}
 use Rattle.std.proofs.lemmas.Slice.Eq.{bytes_eq-Decides}
 use Rattle.hx_directives.specs.Answers.{has, first_valid, max_stale}
 use Rattle.hx_directives.specs.declared.names.Directive.TheVariants as directive
@@ -18,77 +17,11 @@ use Rattle.hx_reuse.specs.declared.rule.ReuseRule.TheVariants.{Method, Content, 
 use Rattle.hx_reuse.specs.Chosen.{of_key, chosen_of}
 use Rattle.hx_reuse.specs.Rules.{Standing, stands, against, standing, fresh, must_revalidate, above_max_age, below_min_fresh, accepts_stale, past_limit, is_some_and, decision_of}
 use Rattle.hx_reuse.specs.Reusable.{IsWithinMaxAge, IsFreshForMinFresh, IsSentFresh, IsSentStale, TakesStaleness, MayBeReused}
+use Rattle.hx_reuse.proofs.JoinedTests.{never, second_false, both_false, last_false, under_not, not_first, not_false, left_false, right_false, neither, test_false, none_tests, no_value, not_below, is_not_below, below, is_below, not_true}
 use Rattle.hx_reuse.proofs.Latest.{member_filter}
 use Rattle.hx_reuse.proofs.RuleLemmas.{some_there}
 use Rattle.hx_reuse.proofs.Choice.{chosen_is_latest, latest_is_the_chosen, member_contained}
 use Rattle.hx_reuse.proofs.MeaningLemmas.{may_be_sent, is_sent}
-
--- ---- tests joined
-
-never : true ≡ false → ⊥
-never h = cc
-
-second_false : (a b : Bool) → a ≡ true → a && b ≡ false → b ≡ false
-second_false true b h k = k
-second_false false b h k = absurd (never (sym h))
-
-both_false : (a b : Bool) → a ≡ false → a && b ≡ false
-both_false true b h = absurd (never h)
-both_false false b h = refl
-
-last_false : (a b : Bool) → b ≡ false → a && b ≡ false
-last_false true b h = h
-last_false false b h = refl
-
-under_not : (a b : Bool) → a ≡ false → not a && b ≡ false → b ≡ false
-under_not true b h k = absurd (never h)
-under_not false b h k = k
-
-not_first : (a b : Bool) → a ≡ true → not a && b ≡ false
-not_first true b h = refl
-not_first false b h = absurd (never (sym h))
-
-not_false : (a : Bool) → not a ≡ false → a ≡ true
-not_false true h = refl
-not_false false h = absurd (never h)
-
-left_false : (a b : Bool) → a || b ≡ false → a ≡ false
-left_false true b h = absurd (never h)
-left_false false b h = refl
-
-right_false : (a b : Bool) → a || b ≡ false → b ≡ false
-right_false true b h = absurd (never h)
-right_false false b h = h
-
-neither : (a b : Bool) → a ≡ false → b ≡ false → a || b ≡ false
-neither true b h k = absurd (never h)
-neither false b h k = k
-
--- ---- a test of a value that may be absent
-
-test_false : (test : ℕ → Bool) (o : Option ℕ) (n : ℕ) → is_some_and test o ≡ false → o ≡ Some n → test n ≡ false
-test_false test None n h k = absurd cc
-test_false test (Some m) n h k = let same : m ≡ n = cc in sym (ap test same) ∙ h
-
-none_tests : (test : ℕ → Bool) (o : Option ℕ) → ((n : ℕ) → o ≡ Some n → test n ≡ false) → is_some_and test o ≡ false
-none_tests test None all = refl
-none_tests test (Some n) all = all n refl
-
-no_value : (o : Option ℕ) → is_some o ≡ false → o ≡ None
-no_value None h = refl
-no_value (Some n) h = absurd (never h)
-
-not_below : (m n : ℕ) → nat_lt m n ≡ false → n ≤ m
-not_below m n h = grind (arith, nat_tests)
-
-is_not_below : (m n : ℕ) → n ≤ m → nat_lt m n ≡ false
-is_not_below m n h = grind (arith, nat_tests)
-
-below : (m n : ℕ) → nat_lt m n ≡ true → m < n
-below m n h = grind (arith, nat_tests)
-
-is_below : (m n : ℕ) → m < n → nat_lt m n ≡ true
-is_below m n h = grind (arith, nat_tests)
 
 -- ---- the request's method and its max-stale
 
@@ -117,10 +50,6 @@ not_past_what_it_takes : (limit : MaxStale) (n : ℕ) → TakesStaleness limit n
 not_past_what_it_takes Absent n h = absurd h
 not_past_what_it_takes Any n h = refl
 not_past_what_it_takes (UpTo most) n h = is_not_below most n h
-
-not_true : (a : Bool) → a ≡ true → not a ≡ false
-not_true true h = refl
-not_true false h = sym h
 
 module _ (e : Stored) (asked : Asked) (now : ℕ) where
   abbrev here : Standing

@@ -1,5 +1,9 @@
 pub mod Words
 pub mod Chosen
 pub mod Rules
+pub mod ErrorRules
 pub mod Meaning
 pub mod Reusable
+pub mod OnError
+pub mod Promises
+pub mod Cases

@@ -66,7 +66,7 @@ fn accepts_stale(request: &Directives) -> bool
     request.max_stale() != MaxStale::Absent
 }
 
-fn must_revalidate(response: &Directives) -> bool
+pub(crate) fn must_revalidate(response: &Directives) -> bool
     ensures { result ≡ ((has response.now MustRevalidate || has response.now ProxyRevalidate) || has response.now SMaxage) }
 {
     response.has(Directive::MustRevalidate)

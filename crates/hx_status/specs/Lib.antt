@@ -1,2 +1,3 @@
 pub mod Member
 pub mod Refusals
+pub mod Cases

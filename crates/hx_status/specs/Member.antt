@@ -2,7 +2,7 @@
 --
 -- member_text: the member
 -- how_text, fwd_status_text, ttl_text, flag_text, detail_text: its parameters
-use Rattle.std.specs.Prelude.{ℕ, ℤ, List, [], ◌∷◌, ◌++◌, codes, Bool, true, false, Option, Some, None}
+use Rattle.std.specs.Prelude.{ℕ, ℤ, List, [], ◌++◌, codes, Bool, true, false, Option, Some, None}
 use Rattle.std.specs.Fmt.{decimal, signed_decimal}
 use Rattle.hx_reuse.specs.Words.{reason_of, detail_of}
 use Rattle.hx_status.specs.declared.status.How.{How}

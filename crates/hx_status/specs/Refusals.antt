@@ -3,7 +3,8 @@
 --
 -- status_of, text_of: the answer to a cause    origin_text: where the origin failed
 -- frame_word, target_word: the words of faults
-use Rattle.std.specs.Prelude.{ℕ, List, [], ◌∷◌, ◌++◌, codes, Option, Some, None}
+-- TextsTellRulesApart: a reader of the text knows the rule
+use Rattle.std.specs.Prelude.{◌≡◌, ℕ, List, [], ◌++◌, codes, Option, Some, None}
 use Rattle.std.specs.Fmt.{decimal}
 use Rattle.hx_framing.specs.declared.fault.FrameFault.{FrameFault}
 use Rattle.hx_framing.specs.declared.fault.FrameFault.TheVariants as frame
@@ -109,3 +110,7 @@ text_of (OnlyIfCached rule) = codes "only-if-cached" ++ rule_text rule
 text_of (Origin kind rule error) = origin_text kind rule error
 text_of (Frame fault) = codes "refused: " ++ frame_word fault
 text_of (Target fault) = codes "refused: " ++ target_word fault
+
+-- no two reuse rules are named by the same text, in a refusal as in Cache-Status
+abbrev pub TextsTellRulesApart : Type 0
+TextsTellRulesApart = (rule other : ReuseRule) → rule_text rule ≡ rule_text other → rule ≡ other

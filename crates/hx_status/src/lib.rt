@@ -9,11 +9,14 @@ mod laws;
 mod refusing;
 mod status;
 mod telling;
-#[cfg(test)]
-mod tests;
+mod worked_cases;
 
 pub use crate::cause::{Cause, FailKind};
-pub use crate::laws::worked_texts;
+pub use crate::laws::texts_tell_the_rule;
 pub use crate::refusing::refusal;
 pub use crate::status::{Detail, How, Status};
 pub use crate::telling::member;
+pub use crate::worked_cases::{
+    bypass_rules_in_order, least_reuse_rule, no_lifetime_is_only_validated, second_request_waits,
+    stale_if_error_of_request, stale_if_error_of_response, worked_texts,
+};

@@ -10,8 +10,6 @@ mod laws;
 mod list_shelf;
 mod serial_list;
 mod shelves;
-#[cfg(test)]
-mod tests;
 
 pub use entries::Entry;
 pub use laws::{found_serials_are_those_of_the_key, shelf_calls};

@@ -1,6 +1,6 @@
 //! Serials in ascending order.
 
-ghost use Rattle.std.specs.Prelude.{◌≡◌, ◌≤◌, ◌-◌, ◌==◌, [], IfOk, OnOk, OnErr, length, nat_le, slice_get};
+ghost use Rattle.std.specs.Prelude.{◌≡◌, ◌≤◌, ◌-◌, ◌==◌, ◌++◌, ◌∷◌, [], IfOk, OnOk, OnErr, length, nat_le, slice_get};
 ghost use Rattle.std.specs.List.{position_or_len};
 ghost use Rattle.hx_store.specs.Serials.{insert_ascending};
 
@@ -38,6 +38,15 @@ impl Serials {
     {
         let place = place_of(self.serials.as_slice(), serial);
         self.serials.insert(place, serial)?;
+        Ok(())
+    }
+
+    /// Puts a serial behind the others, in whatever order. Fails for want of memory alone.
+    pub fn push(&mut self, serial: u64) -> Result<(), AllocError>
+        ensures ok { OnOk result (self.new ≡ self.old ++ serial ∷ []) }
+        ensures err { OnErr result (self.new ≡ self.old) }
+    {
+        self.serials.push(serial)?;
         Ok(())
     }
 

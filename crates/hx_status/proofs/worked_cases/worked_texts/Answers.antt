@@ -1,6 +1,6 @@
 use Rattle.std.proofs.Common.{refl}
 use Rattle.std.specs.Fmt.{digits}
-use Rattle.hx_status.proofs.laws.worked_texts.Goals as goal
+use Rattle.hx_status.proofs.worked_cases.worked_texts.Goals as goal
 
 pub returns-clause-hit : goal.returns-clause-hit
 unfolding digits
@@ -10,9 +10,9 @@ pub returns-clause-stored : goal.returns-clause-stored
 unfolding digits
 returns-clause-stored c = refl
 
-pub returns-clause-error : goal.returns-clause-error
+pub returns-clause-over : goal.returns-clause-over
 unfolding digits
-returns-clause-error c = refl
+returns-clause-over c = refl
 
 pub returns-clause-denied : goal.returns-clause-denied
 unfolding digits

@@ -1,0 +1,87 @@
+-- Tests that are joined, and tests of a value that may be absent.
+use Rattle.std.proofs.Common.{◌≡◌, ℕ, ◌<◌, ◌≤◌, ◌⊎◌, inl, inr, Bool, true, false, refl, sym, ◌∙◌, ap, arith}
+use Rattle.std.specs.Prelude.{◌&&◌, ◌||◌, not, nat_lt, is_none, is_some, Option, Some, None}
+use Rattle.std.proofs.lemmas.Bool.Decides.{nat_tests}
+use Rattle.hx_reuse.specs.Rules.{is_some_and}
+
+-- ---- tests joined
+
+pub never : true ≡ false → ⊥
+never h = cc
+
+pub second_false : (a b : Bool) → a ≡ true → a && b ≡ false → b ≡ false
+second_false true b h k = k
+second_false false b h k = absurd (never (sym h))
+
+pub both_false : (a b : Bool) → a ≡ false → a && b ≡ false
+both_false true b h = absurd (never h)
+both_false false b h = refl
+
+pub last_false : (a b : Bool) → b ≡ false → a && b ≡ false
+last_false true b h = h
+last_false false b h = refl
+
+pub under_not : (a b : Bool) → a ≡ false → not a && b ≡ false → b ≡ false
+under_not true b h k = absurd (never h)
+under_not false b h k = k
+
+pub not_first : (a b : Bool) → a ≡ true → not a && b ≡ false
+not_first true b h = refl
+not_first false b h = absurd (never (sym h))
+
+pub not_false : (a : Bool) → not a ≡ false → a ≡ true
+not_false true h = refl
+not_false false h = absurd (never h)
+
+pub left_false : (a b : Bool) → a || b ≡ false → a ≡ false
+left_false true b h = absurd (never h)
+left_false false b h = refl
+
+pub right_false : (a b : Bool) → a || b ≡ false → b ≡ false
+right_false true b h = absurd (never h)
+right_false false b h = h
+
+pub neither : (a b : Bool) → a ≡ false → b ≡ false → a || b ≡ false
+neither true b h k = absurd (never h)
+neither false b h k = k
+
+pub not_true : (a : Bool) → a ≡ true → not a ≡ false
+not_true true h = refl
+not_true false h = sym h
+
+-- ---- a test of a value that may be absent
+
+pub test_false : (test : ℕ → Bool) (o : Option ℕ) (n : ℕ) → is_some_and test o ≡ false → o ≡ Some n → test n ≡ false
+test_false test None n h k = absurd cc
+test_false test (Some m) n h k = let same : m ≡ n = cc in sym (ap test same) ∙ h
+
+pub none_tests : (test : ℕ → Bool) (o : Option ℕ) → ((n : ℕ) → o ≡ Some n → test n ≡ false) → is_some_and test o ≡ false
+none_tests test None all = refl
+none_tests test (Some n) all = all n refl
+
+pub no_value : (o : Option ℕ) → is_some o ≡ false → o ≡ None
+no_value None h = refl
+no_value (Some n) h = absurd (never h)
+
+pub not_below : (m n : ℕ) → nat_lt m n ≡ false → n ≤ m
+not_below m n h = grind (arith, nat_tests)
+
+pub is_not_below : (m n : ℕ) → n ≤ m → nat_lt m n ≡ false
+is_not_below m n h = grind (arith, nat_tests)
+
+pub below : (m n : ℕ) → nat_lt m n ≡ true → m < n
+below m n h = grind (arith, nat_tests)
+
+pub is_below : (m n : ℕ) → m < n → nat_lt m n ≡ true
+is_below m n h = grind (arith, nat_tests)
+
+pub either_false : (a b : Bool) → a && b ≡ false → (a ≡ false) ⊎ (b ≡ false)
+either_false true b h = inr h
+either_false false b h = inl refl
+
+pub some_value : (o : Option ℕ) → is_none o ≡ false → (n : ℕ) × (o ≡ Some n)
+some_value None h = absurd (never h)
+some_value (Some n) h = (n, refl)
+
+pub has_value : (o : Option ℕ) (n : ℕ) → o ≡ Some n → is_none o ≡ false
+has_value o n h = ap is_none h

@@ -1,0 +1,75 @@
+-- What is sent without the origin has the nominated values, and is fresh where it forbids to be sent stale.
+use Rattle.std.proofs.Common.{◌≡◌, ℕ, ◌<◌, ◌⊎◌, inl, inr, Bool, true, false, List, [], ◌∷◌, refl, sym, ◌∙◌, ap, subst}
+use Rattle.std.specs.Prelude.{◌&&◌, Option, Some, None}
+use Rattle.std.specs.List.{Contains, list_all}
+use Rattle.std.proofs.lemmas.Slice.Eq.{bytes_eq-Decides}
+use Rattle.hx_fields.specs.Lines.{combined_of}
+use Rattle.hx_directives.specs.Occurrences.{occurrences_of}
+use Rattle.hx_directives.specs.Answers.{has}
+use Rattle.hx_directives.specs.declared.occurrences.Occurrence.{Occurrence}
+use Rattle.hx_directives.specs.declared.names.Directive.TheVariants.{NoCache}
+use Rattle.hx_age.specs.Lifetime.{lifetime_of}
+use Rattle.hx_age.specs.Age.{age_of}
+use Rattle.hx_vary.specs.declared.nominated_values.NominatedValue.{NominatedValue}
+use Rattle.hx_vary.specs.Vary.{is_same_value}
+use Rattle.hx_hop.specs.declared.asked_for.Asked.{Asked}
+use Rattle.hx_store.specs.Stored.{Stored}
+use Rattle.hx_reuse.specs.ErrorRules.{error_rule_on}
+use Rattle.hx_reuse.specs.Reusable.{MayBeReused, IsSentFresh, IsSentStale}
+use Rattle.hx_reuse.specs.Promises.{ForbidsStale, IsSent}
+use Rattle.hx_reuse.proofs.Members.{IsMember, distinct_entries}
+use Rattle.hx_reuse.proofs.JoinedTests.{never}
+use Rattle.hx_reuse.proofs.Choice.{member_contained}
+use Rattle.hx_reuse.proofs.ReusableLemmas.{reused_is_allowed}
+use Rattle.hx_reuse.proofs.OnErrorLemmas.{sent_may_be}
+
+same_value : (a b : Option (List ℕ)) → is_same_value a b ≡ true → a ≡ b
+same_value None None h = refl
+same_value None (Some b) h = absurd (never (sym h))
+same_value (Some a) None h = absurd (never (sym h))
+same_value (Some a) (Some b) h = ap Some ((bytes_eq-Decides a b).0 h)
+
+left_true : (a b : Bool) → a && b ≡ true → a ≡ true
+left_true true b h = refl
+left_true false b h = h
+
+right_true : (a b : Bool) → a && b ≡ true → b ≡ true
+right_true true b h = h
+right_true false b h = absurd (never (sym h))
+
+-- a test that all pass is passed by each member
+passed : {X : Type 0} (p : X → Bool) (xs : List X) (x : X) → list_all p xs ≡ true → IsMember x xs → p x ≡ true
+passed p [] x h m = absurd m
+passed p (y ∷ ys) x h (inl same) = rw (← same) (left_true (p y) (list_all p ys) h)
+passed p (y ∷ ys) x h (inr m) = passed p ys x (right_true (p y) (list_all p ys) h) m
+
+module _ (held : List Stored) (asked : Asked) (now : ℕ) (response : Stored) (sent : IsSent held asked now response) where
+  reused : MayBeReused held asked now response
+  reused =
+      let r = reused_is_allowed held asked now response.serial sent.is_the_hit in
+      let same : r.0 ≡ response = distinct_entries held sent.names_one r.0 response (member_contained held r.0 r.1.is_chosen.is_candidate.is_held) (member_contained held response sent.is_held) r.2 in
+      subst (λ (e : Stored). MayBeReused held asked now e) same r.1
+
+  pub same_values : (kept : NominatedValue) → Contains response.nominated kept → kept.value ≡ combined_of asked.fields kept.name
+  same_values kept c =
+      same_value kept.value (combined_of asked.fields kept.name)
+      (passed (λ k. is_same_value k.value (combined_of asked.fields k.name)) response.nominated kept reused.is_chosen.is_candidate.has_the_values (member_contained response.nominated kept c))
+
+  fresh_of : IsSentFresh response asked now ⊎ IsSentStale response asked now → ForbidsStale response → age_of response.times now < (lifetime_of response.fields).seconds
+  fresh_of (inl fresh) forbids = fresh.is_fresh
+  fresh_of (inr stale) (inl must) = absurd (never (sym must ∙ stale.no_must_revalidate))
+  fresh_of (inr stale) (inr (inl proxy)) = absurd (never (sym proxy ∙ stale.no_proxy_revalidate))
+  fresh_of (inr stale) (inr (inr shared)) = absurd (never (sym shared ∙ stale.no_s_maxage))
+
+  pub is_fresh : ForbidsStale response → age_of response.times now < (lifetime_of response.fields).seconds
+  is_fresh forbids = fresh_of reused.fresh_or_stale forbids
+
+  pub has_no_no_cache : has (occurrences_of response.fields) NoCache ≡ true → ⊥
+  has_no_no_cache h = never (sym h ∙ reused.no_no_cache)
+
+module _ (response : Stored) (request : List Occurrence) (now : ℕ) where
+  pub never_on_error : error_rule_on response request now ≡ None → (has (occurrences_of response.fields) NoCache ≡ true) ⊎ ForbidsStale response → ⊥
+  never_on_error h (inl no_cache) = let may = sent_may_be response request now h in never (sym no_cache ∙ may.no_no_cache)
+  never_on_error h (inr (inl must)) = let may = sent_may_be response request now h in never (sym must ∙ may.no_must_revalidate)
+  never_on_error h (inr (inr (inl proxy))) = let may = sent_may_be response request now h in never (sym proxy ∙ may.no_proxy_revalidate)
+  never_on_error h (inr (inr (inr shared))) = let may = sent_may_be response request now h in never (sym shared ∙ may.no_s_maxage)

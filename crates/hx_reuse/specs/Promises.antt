@@ -1,0 +1,56 @@
+-- What an origin can rely on once its response is stored, whatever the requests say: it follows from the rules.
+--
+-- ForbidsStale: the response may not be sent stale    IsSent: it is the one that answers
+-- Below them are the statements that the laws of `src/laws.rt` prove.
+use Rattle.std.specs.Prelude.{◌≡◌, ℕ, ◌<◌, ◌⊎◌, true, List, None}
+use Rattle.std.specs.List.{Contains}
+use Rattle.hx_fields.specs.Lines.{combined_of}
+use Rattle.hx_directives.specs.Occurrences.{occurrences_of}
+use Rattle.hx_directives.specs.Answers.{has}
+use Rattle.hx_directives.specs.declared.occurrences.Occurrence.{Occurrence}
+use Rattle.hx_directives.specs.declared.names.Directive.TheVariants.{NoCache, MustRevalidate, ProxyRevalidate, SMaxage}
+use Rattle.hx_age.specs.Lifetime.{lifetime_of}
+use Rattle.hx_age.specs.Age.{age_of}
+use Rattle.hx_vary.specs.declared.nominated_values.NominatedValue.{NominatedValue}
+use Rattle.hx_hop.specs.declared.asked_for.Asked.{Asked}
+use Rattle.hx_store.specs.Stored.{Stored}
+use Rattle.hx_store.specs.Serials.{Distinct}
+use Rattle.hx_store.specs.Shelf.{serials}
+use Rattle.hx_reuse.specs.Rules.{decision_of}
+use Rattle.hx_reuse.specs.ErrorRules.{error_rule_on}
+use Rattle.hx_reuse.specs.declared.decision.Decision.TheVariants.{Hit}
+
+-- must-revalidate, proxy-revalidate or s-maxage (RFC 9111, sections 5.2.2.2, 5.2.2.8 and 5.2.2.10)
+abbrev pub ForbidsStale : Stored → Type 0
+ForbidsStale response =
+    (has (occurrences_of response.fields) MustRevalidate ≡ true)
+    ⊎ ((has (occurrences_of response.fields) ProxyRevalidate ≡ true) ⊎ (has (occurrences_of response.fields) SMaxage ≡ true))
+
+-- a held response answers the request without the origin; each serial names one response
+pub record IsSent (held : List Stored) (asked : Asked) (now : ℕ) (response : Stored) : Type 0 where
+  pub names_one : Distinct (serials held)
+  pub is_held : Contains held response
+  pub is_the_hit : decision_of held asked now ≡ Hit response.serial
+
+-- ---- the statements
+
+-- the request has of each nominated field the value that the response was asked for with (RFC 9111, section 4.1)
+abbrev pub SendsNoOtherVariant : Type 0
+SendsNoOtherVariant = (held : List Stored) (asked : Asked) (now : ℕ) (response : Stored) →
+    IsSent held asked now response → (kept : NominatedValue) → Contains response.nominated kept →
+    kept.value ≡ combined_of asked.fields kept.name
+
+-- one that forbids to be sent stale is fresh
+abbrev pub NeverSendsStaleAgainst : Type 0
+NeverSendsStaleAgainst = (held : List Stored) (asked : Asked) (now : ℕ) (response : Stored) →
+    IsSent held asked now response → ForbidsStale response → age_of response.times now < (lifetime_of response.fields).seconds
+
+-- one with no-cache is sent only once it was validated (RFC 9111, section 5.2.2.4)
+abbrev pub NeverSendsUnvalidated : Type 0
+NeverSendsUnvalidated = (held : List Stored) (asked : Asked) (now : ℕ) (response : Stored) →
+    IsSent held asked now response → has (occurrences_of response.fields) NoCache ≡ true → ⊥
+
+-- nor is one of either kind sent in place of an error
+abbrev pub NeverSendsOnError : Type 0
+NeverSendsOnError = (response : Stored) (request : List Occurrence) (now : ℕ) →
+    error_rule_on response request now ≡ None → (has (occurrences_of response.fields) NoCache ≡ true) ⊎ ForbidsStale response → ⊥

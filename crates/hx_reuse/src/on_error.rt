@@ -1,0 +1,92 @@
+//! Whether a stored response may be sent in place of an error (RFC 5861, section 4).
+//!
+//! The rules and their order stand in `specs/ErrorRules.antt`. Which response is asked about, and that no rule stands
+//! that asks of the request alone, is the caller's matter.
+ghost use Rattle.std.specs.Prelude.{◌≡◌, ◌||◌, ◌&&◌, nat_lt, find, is_none};
+ghost use Rattle.hx_directives.specs.Answers.{has, seconds, first_valid};
+ghost use Rattle.hx_directives.specs.declared.names.Directive.TheVariants.{StaleIfError};
+ghost use Rattle.hx_reuse.specs.Rules.{is_some_and, stands_at};
+ghost use Rattle.hx_reuse.specs.ErrorRules.{stated_once, error_rules, against_on_error, leave_on_error};
+
+use crate::against::must_revalidate;
+use crate::rule::ErrorRule;
+use hx_age::{Lifetime, current_age, staleness};
+use hx_directives::{Directive, Directives, Seconds};
+use hx_store::Entry;
+
+/// The staleness that a response allows, in seconds.
+fn response_limit(response: &Directives) -> Option<u32>
+    ensures { result ≡ stated_once (seconds response.now StaleIfError) }
+{
+    match response.seconds(Directive::StaleIfError) {
+        Seconds::Value(most) => Some(most),
+        _ => None,
+    }
+}
+
+fn is_past(stale_by: u32, limit: Option<u32>) -> bool
+    ensures { result ≡ is_some_and (λ most. nat_lt most stale_by) limit }
+{
+    match limit {
+        Some(most) => most < stale_by,
+        None => false,
+    }
+}
+
+fn allows_no_staleness(response: &Directives, request: &Directives) -> bool
+    ensures { result ≡ (is_none (stated_once (seconds response.now StaleIfError)) && is_none (first_valid request.now StaleIfError)) }
+{
+    response_limit(response).is_none() && request.first_valid(Directive::StaleIfError).is_none()
+}
+
+/// Whether a response is staler than itself or the request allows.
+fn is_too_stale(stale_by: u32, response: &Directives, request: &Directives) -> bool
+    ensures { result ≡ (is_some_and (λ most. nat_lt most stale_by) (stated_once (seconds response.now StaleIfError)) || is_some_and (λ most. nat_lt most stale_by) (first_valid request.now StaleIfError)) }
+{
+    is_past(stale_by, response_limit(response))
+        || is_past(stale_by, request.first_valid(Directive::StaleIfError))
+}
+
+/// The least rule on a response that would be sent in place of an error.
+fn rule_on_error(
+    lifetime: Lifetime,
+    age: u32,
+    response: &Directives,
+    request: &Directives,
+) -> Option<ErrorRule>
+    ensures { result ≡ find (λ r. against_on_error r (stands_at lifetime age response.now request.now)) error_rules }
+{
+    if response.has(Directive::NoCache) {
+        Some(ErrorRule::NoCache)
+    } else if must_revalidate(response) {
+        Some(ErrorRule::MustRevalidate)
+    } else if !lifetime.explicit {
+        Some(ErrorRule::NoLifetime)
+    } else if request.has(Directive::NoCache) {
+        Some(ErrorRule::RequestNoCache)
+    } else if allows_no_staleness(response, request) {
+        Some(ErrorRule::NoDirective)
+    } else if is_too_stale(staleness(lifetime, age), response, request) {
+        Some(ErrorRule::TooStale)
+    } else {
+        None
+    }
+}
+
+/// Whether the response that was chosen for a request may be sent in place of an error, at a moment in Unix seconds; if
+/// not, the least rule against it. The request's directives are handed in. No memory is taken.
+#[tactic(auto, unfolding(crate::specs::ErrorRules::error_rule_on))]
+pub fn may_serve_on_error(
+    asked_directives: &Directives,
+    entry: &Entry,
+    now: u64,
+) -> Result<(), ErrorRule>
+    ensures { result ≡ leave_on_error entry.now asked_directives.now now }
+{
+    let lifetime = Lifetime::of(&entry.fields, &entry.directives);
+    let age = current_age(&entry.times, now);
+    match rule_on_error(lifetime, age, &entry.directives, asked_directives) {
+        Some(rule) => Err(rule),
+        None => Ok(()),
+    }
+}

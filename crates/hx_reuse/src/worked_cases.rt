@@ -1,0 +1,85 @@
+//! What the rules give on worked cases, computed from the definitions: each function's contract is the cases, and its
+//! body is empty.
+#![tactic(auto, unfolding(crate::specs::Rules::reuse_rule_of, crate::specs::Rules::decision_of, crate::specs::ErrorRules::error_rule_on))]
+
+ghost use Rattle.std.specs.Prelude.{◌≡◌, ◌∷◌, [], Some, None, Ok, Err, true, codes};
+ghost use Rattle.hx_fields.specs.Examples.{line};
+ghost use Rattle.hx_directives.specs.Answers.{has};
+ghost use Rattle.hx_directives.specs.declared.names.Directive.TheVariants.{OnlyIfCached};
+ghost use Rattle.hx_reuse.specs.Rules.{decision_of, reuse_rule_of};
+ghost use Rattle.hx_reuse.specs.ErrorRules.{leave_on_error, error_rule_of};
+ghost use Rattle.hx_reuse.specs.Cases.{control, speaks, get, get_with, stored_at, controlled, held, held_in_german, held_with_tag, asks};
+
+use crate::{Decision, ErrorRule, ReuseRule};
+
+/// Stored for a request in German: the same value, none, and two lines.
+pub fn vary_values_are_compared()
+    ensures same { decision_of held_in_german (get (speaks (codes "de") ∷ [])) 1 ≡ Decision.Hit 1 }
+    ensures absent { decision_of held_in_german (get []) 1 ≡ Decision.Forward ReuseRule.VaryMiss None }
+    ensures two_lines { decision_of held_in_german (get (speaks (codes "de") ∷ speaks (codes "en") ∷ [])) 1 ≡ Decision.Forward ReuseRule.VaryMiss None }
+{}
+
+/// A response of a minute at 90, stored at 101: it was a second on the way.
+pub fn moment_goes_backwards()
+    ensures { decision_of (stored_at 101 [] (control (codes "max-age=60")) ∷ []) (get []) 90 ≡ Decision.Hit 1 }
+{}
+
+/// A response of a minute, at a minute and a second before.
+pub fn age_equal_to_lifetime_is_stale()
+    ensures stale { decision_of (held (codes "max-age=60")) (get []) 60 ≡ Decision.Forward ReuseRule.NoMaxStale (Some 1) }
+    ensures fresh { decision_of (held (codes "max-age=60")) (get []) 59 ≡ Decision.Hit 1 }
+{}
+
+/// A response of 6 seconds, asked for with max-age=5. Whether the origin may be asked is no matter of the rule.
+pub fn request_max_age_and_only_if_cached()
+    ensures max_age { decision_of (held (codes "max-age=60")) (get (control (codes "max-age=5"))) 6 ≡ Decision.Forward ReuseRule.AboveMaxAge (Some 1) }
+    ensures only_if_cached { decision_of (held (codes "max-age=60")) (get (control (codes "max-age=5, only-if-cached"))) 6 ≡ Decision.Forward ReuseRule.AboveMaxAge (Some 1) }
+    ensures is_asked { has (asks (codes "max-age=5, only-if-cached")) OnlyIfCached ≡ true }
+{}
+
+/// Content, a range and a precondition, in this order, with nothing held.
+pub fn bypass_rules_in_order()
+    ensures content { decision_of [] (get_with (codes "x") (line (codes "Range") (codes "bytes=0-1") ∷ [])) 0 ≡ Decision.Forward ReuseRule.Content None }
+    ensures range { decision_of [] (get (line (codes "Range") (codes "bytes=0-1") ∷ line (codes "If-Match") (codes "*") ∷ [])) 0 ≡ Decision.Forward ReuseRule.Range None }
+    ensures precondition { decision_of [] (get (line (codes "If-Match") (codes "*") ∷ [])) 0 ≡ Decision.Forward ReuseRule.Precondition None }
+    ensures no_byte { decision_of [] (get_with [] []) 0 ≡ Decision.Forward ReuseRule.UriMiss None }
+{}
+
+/// A response that states no lifetime, with an entity tag, at 5.
+pub fn no_lifetime_is_only_validated()
+    ensures { decision_of (held_with_tag []) (get []) 5 ≡ Decision.Forward ReuseRule.NoLifetime (Some 1) }
+{}
+
+/// The least rule, where several stand.
+pub fn least_reuse_rule()
+    ensures response_no_cache { decision_of (held (codes "no-cache, max-age=60")) (get (control (codes "no-cache"))) 1 ≡ Decision.Forward ReuseRule.ResponseNoCache (Some 1) }
+    ensures request_no_cache { decision_of (held (codes "max-age=60")) (get (control (codes "no-cache, max-age=0"))) 1 ≡ Decision.Forward ReuseRule.RequestNoCache (Some 1) }
+    ensures must_revalidate { decision_of (held_with_tag (control (codes "must-revalidate"))) (get []) 5 ≡ Decision.Forward ReuseRule.MustRevalidate (Some 1) }
+    ensures past_max_stale { decision_of (held (codes "max-age=60")) (get (control (codes "max-stale=5, max-age=0"))) 66 ≡ Decision.Forward ReuseRule.PastMaxStale (Some 1) }
+{}
+
+/// Of 10 seconds, with stale-if-error=60: stale by 60 and by 61, and with must-revalidate too.
+pub fn stale_if_error_of_response()
+    ensures stale { decision_of (held (codes "max-age=10, stale-if-error=60")) (get []) 70 ≡ Decision.Forward ReuseRule.NoMaxStale (Some 1) }
+    ensures within { leave_on_error (controlled (codes "max-age=10, stale-if-error=60")) [] 70 ≡ Ok tt }
+    ensures past { leave_on_error (controlled (codes "max-age=10, stale-if-error=60")) [] 71 ≡ Err ErrorRule.TooStale }
+    ensures forbidden { leave_on_error (controlled (codes "max-age=10, stale-if-error=60, must-revalidate")) [] 70 ≡ Err ErrorRule.MustRevalidate }
+    ensures of_the_chosen { error_rule_of (held (codes "max-age=10, stale-if-error=60")) (get []) 71 ≡ Some ErrorRule.TooStale }
+{}
+
+/// Of 10 seconds, stale by 10: without the directive, and by the request's.
+pub fn stale_if_error_of_request()
+    ensures none { leave_on_error (controlled (codes "max-age=10")) [] 20 ≡ Err ErrorRule.NoDirective }
+    ensures within { leave_on_error (controlled (codes "max-age=10")) (asks (codes "stale-if-error=10")) 20 ≡ Ok tt }
+    ensures past { leave_on_error (controlled (codes "max-age=10")) (asks (codes "stale-if-error=9")) 20 ≡ Err ErrorRule.TooStale }
+{}
+
+/// The least rule after an error, where several stand; a limit that stands twice is none.
+pub fn least_error_rule()
+    ensures no_cache { leave_on_error (controlled (codes "no-cache, must-revalidate")) (asks (codes "no-cache")) 20 ≡ Err ErrorRule.NoCache }
+    ensures s_maxage { leave_on_error (controlled (codes "s-maxage=10, stale-if-error=60")) [] 20 ≡ Err ErrorRule.MustRevalidate }
+    ensures no_lifetime { leave_on_error (controlled (codes "stale-if-error=60")) (asks (codes "no-cache")) 20 ≡ Err ErrorRule.NoLifetime }
+    ensures request_no_cache { leave_on_error (controlled (codes "max-age=10")) (asks (codes "no-cache")) 20 ≡ Err ErrorRule.RequestNoCache }
+    ensures repeated { leave_on_error (controlled (codes "max-age=10, stale-if-error=60, stale-if-error=60")) [] 20 ≡ Err ErrorRule.NoDirective }
+    ensures lesser { leave_on_error (controlled (codes "max-age=10, stale-if-error=60")) (asks (codes "stale-if-error=x, stale-if-error=9")) 20 ≡ Err ErrorRule.TooStale }
+{}

@@ -1,0 +1,71 @@
+//! The texts of worked cases, computed from the definitions: each function's contract is the cases, and its body is empty.
+ghost use Rattle.std.specs.Prelude.{◌≡◌, codes, Some, None, true, false, pos, negsuc};
+ghost use Rattle.hx_reuse.specs.declared.rule.ReuseRule.TheVariants as rule;
+ghost use Rattle.hx_reuse.specs.declared.rule.ErrorRule.TheVariants as on_error;
+ghost use Rattle.hx_status.specs.declared.status.How.TheVariants.{Hit, Fwd};
+ghost use Rattle.hx_status.specs.declared.status.Detail.TheVariants.{StaleIfError, ReuseAfterError, ReuseAfter304};
+ghost use Rattle.hx_status.specs.declared.cause.Cause.TheVariants.{Denied, NoLine, OnlyIfCached, Origin};
+ghost use Rattle.hx_status.specs.declared.cause.FailKind.TheVariants.{Refused, TimedOut, Closed, BadAnswer};
+ghost use Rattle.hx_status.specs.Member.{member_text};
+ghost use Rattle.hx_status.specs.Refusals.{status_of, text_of};
+ghost use Rattle.hx_status.specs.Cases.{passed_on, passed_on_and_stored, sent_after_all};
+
+/// A hit, a first answer that is stored, one with no lifetime left, and denials by the operator's table.
+pub fn worked_texts()
+    ensures hit { member_text (codes "edge") (record { how = Hit; fwd_status = None; ttl = Some (pos 30); stored = false; collapsed = false; detail = None }) ≡ codes "edge;hit;ttl=30" }
+    ensures stored { member_text (codes "edge") (passed_on_and_stored rule.UriMiss (pos 59)) ≡ codes "edge;fwd=uri-miss;ttl=59;stored" }
+    ensures over { member_text (codes "edge") (passed_on_and_stored rule.UriMiss (negsuc 0)) ≡ codes "edge;fwd=uri-miss;ttl=-1;stored" }
+    ensures another_variant { member_text (codes "edge") (passed_on rule.VaryMiss) ≡ codes "edge;fwd=vary-miss" }
+    ensures another_method { member_text (codes "edge") (passed_on rule.Method) ≡ codes "edge;fwd=method" }
+    ensures denied { text_of (Denied 1) ≡ codes "denied by line 1" }
+    ensures no_line { text_of NoLine ≡ codes "no line allows it" }
+    ensures forbidden { status_of NoLine ≡ 403 }
+{}
+
+/// Content, a range, a precondition.
+pub fn bypass_rules_in_order()
+    ensures content { member_text (codes "edge") (passed_on rule.Content) ≡ codes "edge;fwd=bypass;detail=content" }
+    ensures range { member_text (codes "edge") (passed_on rule.Range) ≡ codes "edge;fwd=bypass;detail=range" }
+    ensures precondition { member_text (codes "edge") (passed_on rule.Precondition) ≡ codes "edge;fwd=bypass;detail=precondition" }
+{}
+
+/// The least rule where several stand, and what only the origin could answer.
+pub fn least_reuse_rule()
+    ensures response_no_cache { member_text (codes "edge") (passed_on rule.ResponseNoCache) ≡ codes "edge;fwd=stale;detail=response-no-cache" }
+    ensures request_no_cache { member_text (codes "edge") (passed_on rule.RequestNoCache) ≡ codes "edge;fwd=request;detail=no-cache" }
+    ensures must_revalidate { member_text (codes "edge") (passed_on rule.MustRevalidate) ≡ codes "edge;fwd=stale;detail=must-revalidate" }
+    ensures max_stale { member_text (codes "edge") (passed_on rule.PastMaxStale) ≡ codes "edge;fwd=stale;detail=max-stale" }
+    ensures only_if_cached { text_of (OnlyIfCached rule.AboveMaxAge) ≡ codes "only-if-cached;fwd=request;detail=max-age" }
+    ensures no_answer { status_of (OnlyIfCached rule.AboveMaxAge) ≡ 504 }
+{}
+
+/// A 304 of the origin freshens what states no lifetime, and one that validates nothing leads to what is held.
+pub fn no_lifetime_is_only_validated()
+    ensures stored { member_text (codes "edge") (passed_on_and_stored rule.UriMiss (pos 0)) ≡ codes "edge;fwd=uri-miss;ttl=0;stored" }
+    ensures freshened { member_text (codes "edge") (sent_after_all rule.NoLifetime (Some 304) (Some (pos 0)) None) ≡ codes "edge;fwd=stale;fwd-status=304;ttl=0;detail=no-lifetime" }
+    ensures after_304 { member_text (codes "edge") (sent_after_all rule.NoMaxStale (Some 304) (Some (pos 59)) (Some ReuseAfter304)) ≡ codes "edge;fwd=stale;fwd-status=304;ttl=59;detail=reuse-after-304" }
+    ensures after_error { member_text (codes "edge") (sent_after_all rule.NoMaxStale None (Some (pos 50)) (Some ReuseAfterError)) ≡ codes "edge;fwd=stale;ttl=50;detail=reuse-after-error" }
+{}
+
+/// By the response's stale-if-error, after a failure and after a 503; and the first rule against it.
+pub fn stale_if_error_of_response()
+    ensures sent { member_text (codes "edge") (sent_after_all rule.NoMaxStale None (Some (negsuc 59)) (Some StaleIfError)) ≡ codes "edge;fwd=stale;ttl=-60;detail=stale-if-error" }
+    ensures after_503 { member_text (codes "edge") (sent_after_all rule.NoMaxStale (Some 503) (Some (negsuc 59)) (Some StaleIfError)) ≡ codes "edge;fwd=stale;fwd-status=503;ttl=-60;detail=stale-if-error" }
+    ensures too_stale { text_of (Origin Refused rule.NoMaxStale (Some on_error.TooStale)) ≡ codes "origin refused;fwd=stale;stale-if-error=too-stale" }
+    ensures forbidden { text_of (Origin Refused rule.MustRevalidate (Some on_error.MustRevalidate)) ≡ codes "origin refused;fwd=stale;detail=must-revalidate;stale-if-error=must-revalidate" }
+    ensures bad_gateway { status_of (Origin Refused rule.NoMaxStale (Some on_error.TooStale)) ≡ 502 }
+{}
+
+/// By the request's; a time-out is told from other failures by its status.
+pub fn stale_if_error_of_request()
+    ensures sent { member_text (codes "edge") (sent_after_all rule.NoMaxStale None (Some (negsuc 9)) (Some StaleIfError)) ≡ codes "edge;fwd=stale;ttl=-10;detail=stale-if-error" }
+    ensures no_directive { text_of (Origin TimedOut rule.NoMaxStale (Some on_error.NoDirective)) ≡ codes "origin timed-out;fwd=stale;stale-if-error=no-directive" }
+    ensures time_out { status_of (Origin TimedOut rule.NoMaxStale (Some on_error.NoDirective)) ≡ 504 }
+    ensures nothing_held { text_of (Origin BadAnswer rule.UriMiss None) ≡ codes "origin bad-answer;fwd=uri-miss" }
+    ensures closed { text_of (Origin Closed rule.UriMiss None) ≡ codes "origin closed;fwd=uri-miss" }
+{}
+
+/// The answer to a request that waited for another's.
+pub fn second_request_waits()
+    ensures { member_text (codes "edge") (record { how = Fwd rule.UriMiss; fwd_status = None; ttl = Some (pos 59); stored = false; collapsed = true; detail = None }) ≡ codes "edge;fwd=uri-miss;ttl=59;collapsed" }
+{}

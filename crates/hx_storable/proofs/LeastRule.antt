@@ -1,0 +1,55 @@
+-- The first storage rule of the table that stands is the least that does.
+use Rattle.std.proofs.Common.{◌≡◌, inl, inr, true, false, refl}
+use Rattle.std.specs.Prelude.{Some}
+use Rattle.hx_hop.specs.declared.asked_for.Asked.{Asked}
+use Rattle.hx_hop.specs.declared.answered_with.Answered.{Answered}
+use Rattle.hx_storable.specs.declared.known_facts.Facts.{Facts}
+use Rattle.hx_storable.specs.declared.rule.StoreRule.{StoreRule}
+use Rattle.hx_storable.specs.declared.rule.StoreRule.TheVariants.{Method, Bypass, Status, MustUnderstand, ResponseNoStore, RequestNoStore, Private, Authorization, NothingAllows, VaryStar, ConnectionField, NothingToReuse, TooLarge, Overtaken, Serials}
+use Rattle.hx_storable.specs.Rules.{stands, number_of, storage_rules, storage_rule_of}
+use Rattle.hx_storable.specs.Storable.{IsLeast, IsStored}
+use Rattle.hx_storable.proofs.FirstThat.{IsMember, ascends, passes, fails_before, none_passes, none_found, first_found}
+
+-- each rule is in the table
+listed : (r : StoreRule) → IsMember r storage_rules
+listed Method = inl refl
+listed Bypass = inr (inl refl)
+listed Status = inr (inr (inl refl))
+listed MustUnderstand = inr (inr (inr (inl refl)))
+listed ResponseNoStore = inr (inr (inr (inr (inl refl))))
+listed RequestNoStore = inr (inr (inr (inr (inr (inl refl)))))
+listed Private = inr (inr (inr (inr (inr (inr (inl refl))))))
+listed Authorization = inr (inr (inr (inr (inr (inr (inr (inl refl)))))))
+listed NothingAllows = inr (inr (inr (inr (inr (inr (inr (inr (inl refl))))))))
+listed VaryStar = inr (inr (inr (inr (inr (inr (inr (inr (inr (inl refl)))))))))
+listed ConnectionField = inr (inr (inr (inr (inr (inr (inr (inr (inr (inr (inl refl))))))))))
+listed NothingToReuse = inr (inr (inr (inr (inr (inr (inr (inr (inr (inr (inr (inl refl)))))))))))
+listed TooLarge = inr (inr (inr (inr (inr (inr (inr (inr (inr (inr (inr (inr (inl refl))))))))))))
+listed Overtaken = inr (inr (inr (inr (inr (inr (inr (inr (inr (inr (inr (inr (inr (inl refl)))))))))))))
+listed Serials = inr (inr (inr (inr (inr (inr (inr (inr (inr (inr (inr (inr (inr (inr (inl refl))))))))))))))
+
+in_order : ascends number_of 0 storage_rules ≡ true
+unfolding ascends
+in_order = refl
+
+module _ (asked : Asked) (answered : Answered) (facts : Facts) where
+  pub rule_is_least : (least : StoreRule) → storage_rule_of asked answered facts ≡ Some least → IsLeast asked answered facts least
+  unfolding storage_rule_of
+  rule_is_least least h =
+      record {
+        it_stands = passes number_of (λ r. stands r asked answered facts) storage_rules least h;
+        none_before = λ r l. fails_before number_of (λ r. stands r asked answered facts) 0 storage_rules least r in_order h (listed r) l;
+      }
+
+  pub least_is_rule : (least : StoreRule) → IsLeast asked answered facts least → storage_rule_of asked answered facts ≡ Some least
+  unfolding storage_rule_of
+  least_is_rule least is =
+      first_found number_of (λ r. stands r asked answered facts) 0 storage_rules least in_order (listed least) is.it_stands is.none_before
+
+  pub no_rule_stands : (any : StoreRule) → IsStored asked answered facts → stands any asked answered facts ≡ false
+  unfolding storage_rule_of
+  no_rule_stands any h = none_passes number_of (λ r. stands r asked answered facts) storage_rules any h (listed any)
+
+  pub no_rule_found : ((any : StoreRule) → stands any asked answered facts ≡ false) → IsStored asked answered facts
+  unfolding storage_rule_of
+  no_rule_found none = none_found number_of (λ r. stands r asked answered facts) storage_rules none

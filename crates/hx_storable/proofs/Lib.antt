@@ -1,0 +1,4 @@
+pub mod FirstThat
+pub mod JoinedTests
+pub mod LeastRule
+pub mod StorableLemmas

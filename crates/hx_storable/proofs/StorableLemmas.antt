@@ -1,0 +1,255 @@
+-- No storage rule stands exactly where the standard's list holds, and what this cache asks besides.
+use Rattle.std.proofs.Common.{◌≡◌, ℕ, ◌⊎◌, inl, inr, Bool, true, false, List, refl, sym, ◌∙◌, ap}
+use Rattle.std.specs.Prelude.{◌==◌, ◌&&◌, ◌||◌, not, codes, bytes_eq}
+use Rattle.std.proofs.lemmas.Slice.Eq.{bytes_eq-Decides}
+use Rattle.hx_fields.specs.Lines.{has as has_line}
+use Rattle.hx_directives.specs.Occurrences.{occurrences_of}
+use Rattle.hx_directives.specs.declared.names.Directive.TheVariants as directive
+use Rattle.hx_hop.specs.declared.asked_for.Asked.{Asked}
+use Rattle.hx_hop.specs.declared.answered_with.Answered.{Answered}
+use Rattle.hx_hop.specs.Bypass.{has_content, asks_for_range, has_precondition}
+use Rattle.hx_storable.specs.declared.known_facts.Facts.{Facts}
+use Rattle.hx_storable.specs.declared.rule.StoreRule.{StoreRule}
+use Rattle.hx_storable.specs.declared.rule.StoreRule.TheVariants.{Method, Bypass, Status, MustUnderstand, ResponseNoStore, RequestNoStore, Private, Authorization, NothingAllows, VaryStar, ConnectionField, NothingToReuse, TooLarge, Overtaken, Serials}
+use Rattle.hx_storable.specs.Rules.{asks, says, is_heuristic, is_understood, allows_shared, allows_storing, stands}
+use Rattle.hx_storable.specs.Storable.{IsFinal, NeedsUnderstanding, IsNotForbidden, AllowsShared, AllowsStoring, IsForTheStore, MayBeStored, IsStored}
+use Rattle.hx_storable.proofs.JoinedTests.{never, not_false, not_true, left_false, right_false, neither, one_of, or_left, or_right, second_false, either_false, first_absent, last_absent, is_equal, not_equal, implied}
+use Rattle.hx_storable.proofs.LeastRule.{no_rule_stands, no_rule_found}
+
+-- ---- statuses and methods
+
+part_is_not_understood : (status : ℕ) → status ≡ 206 → is_understood status ≡ true → ⊥
+part_is_not_understood status e h = never (sym (sym (ap is_understood e) ∙ h))
+
+not_modified_is_not_understood : (status : ℕ) → status ≡ 304 → is_understood status ≡ true → ⊥
+not_modified_is_not_understood status e h = never (sym (sym (ap is_understood e) ∙ h))
+
+method_is_get : (m : List ℕ) → not (bytes_eq m (codes "GET")) ≡ false → m ≡ codes "GET"
+method_is_get m h = (bytes_eq-Decides m (codes "GET")).0 (not_false (bytes_eq m (codes "GET")) h)
+
+get_is_method : (m : List ℕ) → m ≡ codes "GET" → not (bytes_eq m (codes "GET")) ≡ false
+get_is_method m is = rw is refl
+
+module _ (asked : Asked) (answered : Answered) (facts : Facts) where
+  -- ---- what is so where no rule stands
+
+  module _ (none : (any : StoreRule) → stands any asked answered facts ≡ false) where
+    pub is_get : asked.method ≡ codes "GET"
+    is_get = method_is_get asked.method (none Method)
+
+    pub not_a_part : answered.status ≡ 206 → ⊥
+    not_a_part e = never (sym (is_equal answered.status 206 e) ∙ left_false (answered.status == 206) (answered.status == 304) (none Status))
+
+    pub not_a_304 : answered.status ≡ 304 → ⊥
+    not_a_304 e = never (sym (is_equal answered.status 304 e) ∙ right_false (answered.status == 206) (answered.status == 304) (none Status))
+
+    must_be_understood : says answered directive.MustUnderstand ≡ true → is_understood answered.status ≡ true
+    must_be_understood must =
+        not_false (is_understood answered.status) (second_false (says answered directive.MustUnderstand) (not (is_understood answered.status)) must (none MustUnderstand))
+
+    understood : NeedsUnderstanding answered → is_understood answered.status ≡ true
+    understood (inl part) = absurd (not_a_part part)
+    understood (inr (inl not_modified)) = absurd (not_a_304 not_modified)
+    understood (inr (inr must)) = must_be_understood must
+
+    pub not_forbidden : IsNotForbidden answered
+    not_forbidden = at (either_false (says answered directive.NoStore) (not (says answered directive.MustUnderstand)) (none ResponseNoStore))
+      where
+        at : (says answered directive.NoStore ≡ false) ⊎ (not (says answered directive.MustUnderstand) ≡ false) → IsNotForbidden answered
+        at (inl absent) = inl absent
+        at (inr lifted) = let must = not_false (says answered directive.MustUnderstand) lifted in inr (must, must_be_understood must)
+
+    pub shared_or_unauthorized : (has_line asked.fields (codes "Authorization") ≡ false) ⊎ AllowsShared answered
+    shared_or_unauthorized = at (either_false (has_line asked.fields (codes "Authorization")) (not (allows_shared (occurrences_of answered.fields))) (none Authorization))
+      where
+        must : Bool
+        must = says answered directive.MustRevalidate
+
+        public : Bool
+        public = says answered directive.Public
+
+        shared : Bool
+        shared = says answered directive.SMaxage
+
+        last : (must || public ≡ true) ⊎ (shared ≡ true) → AllowsShared answered
+        last (inl h) = elim (one_of must public h) [ inl k ↦ inl k | inr k ↦ inr (inl k) ]
+        last (inr h) = inr (inr h)
+
+        at : (has_line asked.fields (codes "Authorization") ≡ false) ⊎ (not (allows_shared (occurrences_of answered.fields)) ≡ false) → (has_line asked.fields (codes "Authorization") ≡ false) ⊎ AllowsShared answered
+        at (inl absent) = inl absent
+        at (inr h) = inr (last (one_of (must || public) shared (not_false (allows_shared (occurrences_of answered.fields)) h)))
+
+    allowed : AllowsStoring answered
+    allowed = first (one_of (((public || expires) || max_age) || shared) (is_heuristic answered.status) (not_false (allows_storing answered) (none NothingAllows)))
+      where
+        public : Bool
+        public = says answered directive.Public
+
+        expires : Bool
+        expires = has_line answered.fields (codes "Expires")
+
+        max_age : Bool
+        max_age = says answered directive.MaxAge
+
+        shared : Bool
+        shared = says answered directive.SMaxage
+
+        third : (public || expires ≡ true) ⊎ (max_age ≡ true) → AllowsStoring answered
+        third (inl h) = elim (one_of public expires h) [ inl k ↦ inl k | inr k ↦ inr (inl k) ]
+        third (inr h) = inr (inr (inl h))
+
+        second : ((public || expires) || max_age ≡ true) ⊎ (shared ≡ true) → AllowsStoring answered
+        second (inl h) = third (one_of (public || expires) max_age h)
+        second (inr h) = inr (inr (inr (inl h)))
+
+        first : (((public || expires) || max_age) || shared ≡ true) ⊎ (is_heuristic answered.status ≡ true) → AllowsStoring answered
+        first (inl h) = second (one_of ((public || expires) || max_age) shared h)
+        first (inr h) = inr (inr (inr (inr h)))
+
+    lasts_or_is_validated : (facts.explicit ≡ true) ⊎ (facts.validator ≡ true)
+    lasts_or_is_validated = at (either_false (not facts.explicit) (not facts.validator) (none NothingToReuse))
+      where
+        at : (not facts.explicit ≡ false) ⊎ (not facts.validator ≡ false) → (facts.explicit ≡ true) ⊎ (facts.validator ≡ true)
+        at (inl h) = inl (not_false facts.explicit h)
+        at (inr h) = inr (not_false facts.validator h)
+
+    no_bypass : IsForTheStore asked
+    no_bypass =
+        let both = left_false (has_content asked || asks_for_range asked) (has_precondition asked) (none Bypass) in
+        record {
+          is_get = is_get;
+          no_content = left_false (has_content asked) (asks_for_range asked) both;
+          no_range = right_false (has_content asked) (asks_for_range asked) both;
+          no_precondition = right_false (has_content asked || asks_for_range asked) (has_precondition asked) (none Bypass);
+        }
+
+    may_be_stored : IsFinal answered → MayBeStored asked answered facts
+    may_be_stored final = record {
+      is_storable = record {
+        method_is_understood = inl is_get;
+        status_is_final = final;
+        status_is_understood = understood;
+        no_no_store = not_forbidden;
+        not_private = none Private;
+        not_authorized = shared_or_unauthorized;
+        allowed = allowed;
+        not_asked_not_to = none RequestNoStore;
+      };
+      is_for_the_store = no_bypass;
+      is_of_use = record { names_its_fields = none VaryStar; keeps_its_fields = none ConnectionField; lasts_or_is_validated = lasts_or_is_validated; not_overtaken = none Overtaken };
+      has_room = record { not_too_large = none TooLarge; has_serial = none Serials };
+    }
+
+  -- ---- and back
+
+  shared_is_allowed : AllowsShared answered → allows_shared (occurrences_of answered.fields) ≡ true
+  shared_is_allowed (inl h) = or_left (says answered directive.MustRevalidate || says answered directive.Public) (says answered directive.SMaxage) (or_left (says answered directive.MustRevalidate) (says answered directive.Public) h)
+  shared_is_allowed (inr (inl h)) = or_left (says answered directive.MustRevalidate || says answered directive.Public) (says answered directive.SMaxage) (or_right (says answered directive.MustRevalidate) (says answered directive.Public) h)
+  shared_is_allowed (inr (inr h)) = or_right (says answered directive.MustRevalidate || says answered directive.Public) (says answered directive.SMaxage) h
+
+  storing_is_allowed : AllowsStoring answered → allows_storing answered ≡ true
+  storing_is_allowed says_so = at says_so
+    where
+      public : Bool
+      public = says answered directive.Public
+
+      expires : Bool
+      expires = has_line answered.fields (codes "Expires")
+
+      max_age : Bool
+      max_age = says answered directive.MaxAge
+
+      shared : Bool
+      shared = says answered directive.SMaxage
+
+      heuristic : Bool
+      heuristic = is_heuristic answered.status
+
+      by_two : public || expires ≡ true → allows_storing answered ≡ true
+      by_two h = or_left (((public || expires) || max_age) || shared) heuristic (or_left ((public || expires) || max_age) shared (or_left (public || expires) max_age h))
+
+      at : AllowsStoring answered → allows_storing answered ≡ true
+      at (inl h) = by_two (or_left public expires h)
+      at (inr (inl h)) = by_two (or_right public expires h)
+      at (inr (inr (inl h))) = or_left (((public || expires) || max_age) || shared) heuristic (or_left ((public || expires) || max_age) shared (or_right (public || expires) max_age h))
+      at (inr (inr (inr (inl h)))) = or_left (((public || expires) || max_age) || shared) heuristic (or_right ((public || expires) || max_age) shared h)
+      at (inr (inr (inr (inr h)))) = or_right (((public || expires) || max_age) || shared) heuristic h
+
+  not_forbidden_stands : IsNotForbidden answered → says answered directive.NoStore && not (says answered directive.MustUnderstand) ≡ false
+  not_forbidden_stands (inl absent) = first_absent (says answered directive.NoStore) (not (says answered directive.MustUnderstand)) absent
+  not_forbidden_stands (inr lifted) = last_absent (says answered directive.NoStore) (not (says answered directive.MustUnderstand)) (not_true (says answered directive.MustUnderstand) lifted.0)
+
+  authorization_stands : (has_line asked.fields (codes "Authorization") ≡ false) ⊎ AllowsShared answered → has_line asked.fields (codes "Authorization") && not (allows_shared (occurrences_of answered.fields)) ≡ false
+  authorization_stands (inl absent) = first_absent (has_line asked.fields (codes "Authorization")) (not (allows_shared (occurrences_of answered.fields))) absent
+  authorization_stands (inr shared) = last_absent (has_line asked.fields (codes "Authorization")) (not (allows_shared (occurrences_of answered.fields))) (not_true (allows_shared (occurrences_of answered.fields)) (shared_is_allowed shared))
+
+  of_use_stands : (facts.explicit ≡ true) ⊎ (facts.validator ≡ true) → not facts.explicit && not facts.validator ≡ false
+  of_use_stands (inl h) = first_absent (not facts.explicit) (not facts.validator) (not_true facts.explicit h)
+  of_use_stands (inr h) = last_absent (not facts.explicit) (not facts.validator) (not_true facts.validator h)
+
+  module _ (may : MayBeStored asked answered facts) where
+    none_stands : (any : StoreRule) → stands any asked answered facts ≡ false
+    none_stands Method = get_is_method asked.method may.is_for_the_store.is_get
+    none_stands Bypass =
+        neither (has_content asked || asks_for_range asked) (has_precondition asked)
+        (neither (has_content asked) (asks_for_range asked) may.is_for_the_store.no_content may.is_for_the_store.no_range) may.is_for_the_store.no_precondition
+    none_stands Status =
+        neither (answered.status == 206) (answered.status == 304)
+        (not_equal answered.status 206 (λ e. part_is_not_understood answered.status e (may.is_storable.status_is_understood (inl e))))
+        (not_equal answered.status 304 (λ e. not_modified_is_not_understood answered.status e (may.is_storable.status_is_understood (inr (inl e)))))
+    none_stands MustUnderstand = implied (says answered directive.MustUnderstand) (is_understood answered.status) (λ must. may.is_storable.status_is_understood (inr (inr must)))
+    none_stands ResponseNoStore = not_forbidden_stands may.is_storable.no_no_store
+    none_stands RequestNoStore = may.is_storable.not_asked_not_to
+    none_stands Private = may.is_storable.not_private
+    none_stands Authorization = authorization_stands may.is_storable.not_authorized
+    none_stands NothingAllows = not_true (allows_storing answered) (storing_is_allowed may.is_storable.allowed)
+    none_stands VaryStar = may.is_of_use.names_its_fields
+    none_stands ConnectionField = may.is_of_use.keeps_its_fields
+    none_stands NothingToReuse = of_use_stands may.is_of_use.lasts_or_is_validated
+    none_stands TooLarge = may.has_room.not_too_large
+    none_stands Overtaken = may.is_of_use.not_overtaken
+    none_stands Serials = may.has_room.has_serial
+
+    pub is_stored : IsStored asked answered facts
+    is_stored = no_rule_found asked answered facts none_stands
+
+  -- ---- what is never stored
+
+  pub stored_may_be : IsFinal answered → IsStored asked answered facts → MayBeStored asked answered facts
+  stored_may_be final h = may_be_stored (λ any. no_rule_stands asked answered facts any h) final
+
+  forbids : (says answered directive.NoStore ≡ true) → (says answered directive.MustUnderstand ≡ true → is_understood answered.status ≡ true → ⊥) → IsStored asked answered facts → ⊥
+  forbids no_store not_lifted h = at (not_forbidden (λ any. no_rule_stands asked answered facts any h))
+    where
+      at : IsNotForbidden answered → ⊥
+      at (inl absent) = never (sym no_store ∙ absent)
+      at (inr lifted) = not_lifted lifted.0 lifted.1
+
+  pub no_store_forbids : (says answered directive.NoStore ≡ true) × (says answered directive.MustUnderstand ≡ false) → IsStored asked answered facts → ⊥
+  no_store_forbids p h = forbids p.0 (λ must understood. never (sym must ∙ p.1)) h
+
+  pub no_store_forbids_unless_understood : (says answered directive.NoStore ≡ true) × (is_understood answered.status ≡ false) → IsStored asked answered facts → ⊥
+  no_store_forbids_unless_understood p h = forbids p.0 (λ must understood. never (sym understood ∙ p.1)) h
+
+  pub requests_no_store_forbids : asks asked directive.NoStore ≡ true → IsStored asked answered facts → ⊥
+  requests_no_store_forbids p h = never (sym p ∙ no_rule_stands asked answered facts RequestNoStore h)
+
+  pub private_forbids : says answered directive.Private ≡ true → IsStored asked answered facts → ⊥
+  private_forbids p h = never (sym p ∙ no_rule_stands asked answered facts Private h)
+
+  pub authorization_forbids : (has_line asked.fields (codes "Authorization") ≡ true) × (says answered directive.MustRevalidate ≡ false) × (says answered directive.Public ≡ false) × (says answered directive.SMaxage ≡ false)
+      → IsStored asked answered facts → ⊥
+  authorization_forbids p h = at (shared_or_unauthorized (λ any. no_rule_stands asked answered facts any h))
+    where
+      at : (has_line asked.fields (codes "Authorization") ≡ false) ⊎ AllowsShared answered → ⊥
+      at (inl absent) = never (sym p.0 ∙ absent)
+      at (inr (inl must)) = never (sym must ∙ p.1)
+      at (inr (inr (inl public))) = never (sym public ∙ p.2)
+      at (inr (inr (inr shared))) = never (sym shared ∙ p.3)
+
+  pub parts_forbid : (answered.status ≡ 206) ⊎ (answered.status ≡ 304) → IsStored asked answered facts → ⊥
+  parts_forbid (inl e) h = not_a_part (λ any. no_rule_stands asked answered facts any h) e
+  parts_forbid (inr e) h = not_a_304 (λ any. no_rule_stands asked answered facts any h) e
+
+  pub other_methods_forbid : ((asked.method ≡ codes "GET") → ⊥) → IsStored asked answered facts → ⊥
+  other_methods_forbid p h = p (is_get (λ any. no_rule_stands asked answered facts any h))

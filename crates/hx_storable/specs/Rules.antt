@@ -1,0 +1,112 @@
+-- Which rules keep a response from being stored (RFC 9111, sections 3 and 3.5), and which is the first.
+-- A cache may always store less (RFC 9111, section 2); the rules that do so are marked "own".
+--
+-- is_heuristic, is_understood: statuses     allows_storing, allows_shared: what a response says of it
+-- stands: the condition of each rule        storage_rules, number_of: the rules by their numbers
+-- storage_rule_of: the least that stands
+use Rattle.std.specs.Prelude.{ℕ, ◌==◌, Bool, not, ◌&&◌, ◌||◌, List, [], ◌∷◌, find, codes, bytes_eq, Option}
+use Rattle.std.specs.List.{list_any}
+use Rattle.hx_fields.specs.Lines.{has as has_line}
+use Rattle.hx_directives.specs.Occurrences.{occurrences_of}
+use Rattle.hx_directives.specs.Answers.{has}
+use Rattle.hx_directives.specs.declared.names.Directive.{Directive}
+use Rattle.hx_directives.specs.declared.occurrences.Occurrence.{Occurrence}
+use Rattle.hx_directives.specs.declared.names.Directive.TheVariants as directive
+use Rattle.hx_hop.specs.declared.asked_for.Asked.{Asked}
+use Rattle.hx_hop.specs.declared.answered_with.Answered.{Answered}
+use Rattle.hx_hop.specs.Bypass.{has_content, asks_for_range, has_precondition}
+use Rattle.hx_storable.specs.declared.known_facts.Facts.{Facts}
+use Rattle.hx_storable.specs.declared.rule.StoreRule.{StoreRule}
+use Rattle.hx_storable.specs.declared.rule.StoreRule.TheVariants.{Method, Bypass, Status, MustUnderstand, ResponseNoStore, RequestNoStore, Private, Authorization, NothingAllows, VaryStar, ConnectionField, NothingToReuse, TooLarge, Overtaken, Serials}
+
+-- the statuses that are heuristically cacheable (RFC 9110, section 15.1)
+abbrev pub heuristic_statuses : List ℕ
+heuristic_statuses = 200 ∷ 203 ∷ 204 ∷ 206 ∷ 300 ∷ 301 ∷ 308 ∷ 404 ∷ 405 ∷ 410 ∷ 414 ∷ 501 ∷ []
+
+abbrev pub is_heuristic : ℕ → Bool
+is_heuristic status = list_any (λ s. s == status) heuristic_statuses
+
+-- the statuses whose caching this cache understands (RFC 9111, section 5.2.2.3)
+-- own: those of the standard's list but 206, for no incomplete response is stored
+abbrev pub is_understood : ℕ → Bool
+is_understood status = is_heuristic status && not (status == 206)
+
+-- a directive occurs in the request, and in the response
+abbrev pub asks : Asked → Directive → Bool
+asks asked d = has (occurrences_of asked.fields) d
+
+abbrev pub says : Answered → Directive → Bool
+says answered d = has (occurrences_of answered.fields) d
+
+-- a directive lets a shared cache store what was asked for with Authorization (RFC 9111, section 3.5)
+abbrev pub allows_shared : List Occurrence → Bool
+allows_shared found = (has found directive.MustRevalidate || has found directive.Public) || has found directive.SMaxage
+
+-- something in the response allows it to be stored, whether or not its seconds can be read (RFC 9111, section 3)
+abbrev pub allows_storing : Answered → Bool
+allows_storing answered =
+    (((says answered directive.Public || has_line answered.fields (codes "Expires")) || says answered directive.MaxAge)
+    || says answered directive.SMaxage) || is_heuristic answered.status
+
+-- the condition of each rule
+abbrev pub stands : StoreRule → Asked → Answered → Facts → Bool
+-- own: of all methods that it understands this cache stores answers to GET alone
+stands Method asked answered facts = not (bytes_eq asked.method (codes "GET"))
+-- own: such a request goes past the cache, in both directions
+stands Bypass asked answered facts = (has_content asked || asks_for_range asked) || has_precondition asked
+-- RFC 9111, sections 3 and 3.3
+stands Status asked answered facts = (answered.status == 206) || (answered.status == 304)
+-- RFC 9111, section 5.2.2.3
+stands MustUnderstand asked answered facts = says answered directive.MustUnderstand && not (is_understood answered.status)
+-- RFC 9111, sections 5.2.2.3 and 5.2.2.5
+stands ResponseNoStore asked answered facts = says answered directive.NoStore && not (says answered directive.MustUnderstand)
+-- RFC 9111, section 5.2.1.5
+stands RequestNoStore asked answered facts = asks asked directive.NoStore
+-- RFC 9111, section 5.2.2.7; own: also where it names fields
+stands Private asked answered facts = says answered directive.Private
+-- RFC 9111, section 3.5
+stands Authorization asked answered facts = has_line asked.fields (codes "Authorization") && not (allows_shared (occurrences_of answered.fields))
+-- RFC 9111, section 3
+stands NothingAllows asked answered facts = not (allows_storing answered)
+-- own: such a response answers no other request (RFC 9111, section 4.1)
+stands VaryStar asked answered facts = facts.vary_star
+-- own: a cache field that was meant for one connection isn't there to be kept (RFC 9110, section 7.6.1)
+stands ConnectionField asked answered facts = facts.listed
+-- own: it could never be sent, nor validated (RFC 9111, section 4.2.2 lets a lifetime be guessed)
+stands NothingToReuse asked answered facts = not facts.explicit && not facts.validator
+-- own: the operator's limit
+stands TooLarge asked answered facts = facts.too_large
+-- own: it may be what the invalidation was to drop (RFC 9111, section 4.4)
+stands Overtaken asked answered facts = facts.overtaken
+-- own: each stored response has a number that no other ever has
+stands Serials asked answered facts = facts.no_serial
+
+-- the rules by their numbers; the last six ask for nothing but the facts
+abbrev pub rules_on_facts : List StoreRule
+rules_on_facts = VaryStar ∷ ConnectionField ∷ NothingToReuse ∷ TooLarge ∷ Overtaken ∷ Serials ∷ []
+
+abbrev pub storage_rules : List StoreRule
+storage_rules =
+    Method ∷ Bypass ∷ Status ∷ MustUnderstand ∷ ResponseNoStore ∷ RequestNoStore ∷ Private ∷ Authorization
+    ∷ NothingAllows ∷ rules_on_facts
+
+abbrev pub number_of : StoreRule → ℕ
+number_of Method = 1
+number_of Bypass = 2
+number_of Status = 3
+number_of MustUnderstand = 4
+number_of ResponseNoStore = 5
+number_of RequestNoStore = 6
+number_of Private = 7
+number_of Authorization = 8
+number_of NothingAllows = 9
+number_of VaryStar = 10
+number_of ConnectionField = 11
+number_of NothingToReuse = 12
+number_of TooLarge = 13
+number_of Overtaken = 14
+number_of Serials = 15
+
+-- the least rule that stands
+unfoldable pub storage_rule_of : Asked → Answered → Facts → Option StoreRule
+storage_rule_of asked answered facts = find (λ rule. stands rule asked answered facts) storage_rules

@@ -1,0 +1,69 @@
+//! What the definitions that `first_rule_against` is held to say of every request and response, and what they give on
+//! worked cases: each function's contract is a law, and its body is empty.
+ghost use Rattle.std.specs.Prelude.{◌≡◌, ◌∷◌, [], codes, Some, None};
+ghost use Rattle.hx_fields.specs.Examples.{line};
+ghost use Rattle.hx_storable.specs.Rules.{storage_rule_of};
+ghost use Rattle.hx_storable.specs.Storable.{StoresNothingElse, StoresWhatMayBeStored, NamesTheLeast, NamesOneThatStands, StoresWhereNoneStands, NoStoreForbids, NoStoreForbidsUnlessUnderstood, RequestsNoStoreForbids, PrivateForbids, AuthorizationForbids, PartsAreNeverStored, OnlyGetIsStored};
+ghost use Rattle.hx_storable.specs.Cases.{control, get, authorized, answer, lasting, starred, starred_and_listed};
+
+use crate::{Facts, StoreRule};
+
+/// A response is stored exactly where RFC 9111, section 3 lets a shared cache store it, and this cache has a use and
+/// room for it.
+pub fn stored_where_it_may_be_stored()
+    ensures every { StoresWhatMayBeStored }
+    ensures only { StoresNothingElse }
+{}
+
+/// The rule that is named stands, and none of a smaller number does; where none is named none stands.
+pub fn the_least_storage_rule_is_named()
+    ensures least { NamesTheLeast }
+    ensures every { NamesOneThatStands }
+    ensures none { StoresWhereNoneStands }
+{}
+
+/// no-store forbids storing, whether the response has it (where must-understand doesn't lift it) or the request.
+pub fn what_is_told_not_to_be_stored_never_is()
+    ensures response { NoStoreForbids }
+    ensures not_understood { NoStoreForbidsUnlessUnderstood }
+    ensures request { RequestsNoStoreForbids }
+{}
+
+/// What is for one user alone is never stored.
+pub fn nothing_private_is_stored()
+    ensures private { PrivateForbids }
+    ensures authorized { AuthorizationForbids }
+{}
+
+/// No part of a representation is stored, and nothing that another method than GET asked for.
+pub fn only_whole_answers_to_get_are_stored()
+    ensures part { PartsAreNeverStored }
+    ensures method { OnlyGetIsStored }
+{}
+
+/// The least number, where several rules stand.
+#[tactic(auto, unfolding(crate::specs::Rules::storage_rule_of))]
+pub fn least_storage_rule(facts: Facts)
+    ensures status { storage_rule_of (get []) (answer 206 (control (codes "must-understand"))) facts ≡ Some StoreRule.Status }
+    ensures must_understand { storage_rule_of (get (control (codes "no-store"))) (answer 299 (control (codes "must-understand"))) facts ≡ Some StoreRule.MustUnderstand }
+    ensures response_no_store { storage_rule_of (get (control (codes "no-store"))) (answer 200 (control (codes "no-store"))) facts ≡ Some StoreRule.ResponseNoStore }
+    ensures request_no_store { storage_rule_of (get (control (codes "no-store"))) (answer 200 (control (codes "private"))) facts ≡ Some StoreRule.RequestNoStore }
+    ensures private { storage_rule_of authorized (answer 200 (control (codes "private"))) facts ≡ Some StoreRule.Private }
+    ensures authorization { storage_rule_of authorized (answer 299 []) facts ≡ Some StoreRule.Authorization }
+    ensures nothing_allows { storage_rule_of (get []) (answer 299 (line (codes "Vary") (codes "*") ∷ [])) starred ≡ Some StoreRule.NothingAllows }
+    ensures vary_star { storage_rule_of (get []) (answer 200 (line (codes "Vary") (codes "*") ∷ [])) starred_and_listed ≡ Some StoreRule.VaryStar }
+{}
+
+/// With a status that is understood, must-understand lifts no-store.
+#[tactic(auto, unfolding(crate::specs::Rules::storage_rule_of))]
+pub fn must_understand_overrides_no_store()
+    ensures { storage_rule_of (get []) (answer 200 (control (codes "must-understand, no-store, max-age=60"))) lasting ≡ None }
+{}
+
+/// For a request with Authorization max-age isn't enough, and public is. A qualified private is a private.
+#[tactic(auto, unfolding(crate::specs::Rules::storage_rule_of))]
+pub fn authorization_and_private()
+    ensures max_age { storage_rule_of authorized (answer 200 (control (codes "max-age=60"))) lasting ≡ Some StoreRule.Authorization }
+    ensures public { storage_rule_of authorized (answer 200 (control (codes "public, max-age=60"))) lasting ≡ None }
+    ensures private { storage_rule_of (get []) (answer 200 (control (codes "private=\"Set-Cookie, X\", max-age=60"))) lasting ≡ Some StoreRule.Private }
+{}

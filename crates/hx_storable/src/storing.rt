@@ -1,0 +1,152 @@
+//! The least rule against storing a response.
+ghost use Rattle.std.specs.Prelude.{◌≡◌, ◌==◌, ◌||◌, ◌&&◌, not, codes, bytes_eq, find, ◌∷◌, []};
+ghost use Rattle.hx_fields.specs.Lines.{has as has_line};
+ghost use Rattle.hx_directives.specs.Occurrences.{occurrences_of};
+ghost use Rattle.hx_directives.specs.Answers.{has};
+ghost use Rattle.hx_directives.specs.declared.names.Directive.TheVariants as directive;
+ghost use Rattle.hx_hop.specs.declared.asked_for.Asked.{Asked as AskedFor};
+ghost use Rattle.hx_hop.specs.declared.answered_with.Answered.{Answered as AnsweredWith};
+ghost use Rattle.hx_hop.specs.Bypass.{has_content, asks_for_range, has_precondition};
+ghost use Rattle.hx_storable.specs.Rules.{is_heuristic, is_understood, allows_shared, allows_storing, stands, rules_on_facts, storage_rule_of};
+
+use crate::{Facts, StoreRule};
+use hx_directives::{Directive, Directives};
+use hx_hop::{Answered, Asked};
+
+fn is_get(asked: &Asked) -> bool
+    ensures { result ≡ bytes_eq asked.now.method (codes "GET") }
+{
+    asked.method.as_str() == "GET"
+}
+
+fn goes_past_the_cache(asked: &Asked) -> bool
+    ensures { result ≡ ((has_content asked.now || asks_for_range asked.now) || has_precondition asked.now) }
+{
+    asked.has_content() || asked.asks_for_range() || asked.has_precondition()
+}
+
+/// Neither a part of a representation nor a 304 is stored.
+fn is_not_whole(status: u16) -> bool
+    ensures { result ≡ ((status == 206) || (status == 304)) }
+{
+    status == 206 || status == 304
+}
+
+/// Whether a status is heuristically cacheable.
+fn is_heuristic(status: u16) -> bool
+    ensures { result ≡ is_heuristic status }
+{
+    matches!(
+        status,
+        200 | 203 | 204 | 206 | 300 | 301 | 308 | 404 | 405 | 410 | 414 | 501
+    )
+}
+
+fn is_understood(status: u16) -> bool
+    ensures { result ≡ is_understood status }
+{
+    is_heuristic(status) && status != 206
+}
+
+fn is_not_understood(status: u16, directives: &Directives) -> bool
+    ensures { result ≡ (has directives.now directive.MustUnderstand && not (is_understood status)) }
+{
+    directives.has(Directive::MustUnderstand) && !is_understood(status)
+}
+
+fn forbids_storing(directives: &Directives) -> bool
+    ensures { result ≡ (has directives.now directive.NoStore && not (has directives.now directive.MustUnderstand)) }
+{
+    directives.has(Directive::NoStore) && !directives.has(Directive::MustUnderstand)
+}
+
+/// Whether a directive lets a shared cache store what was asked for with Authorization.
+fn allows_shared(directives: &Directives) -> bool
+    ensures { result ≡ allows_shared directives.now }
+{
+    directives.has(Directive::MustRevalidate)
+        || directives.has(Directive::Public)
+        || directives.has(Directive::SMaxage)
+}
+
+fn is_authorized_alone(asked: &Asked, directives: &Directives) -> bool
+    ensures { result ≡ (has_line asked.now.fields (codes "Authorization") && not (allows_shared directives.now)) }
+{
+    asked.fields.has(b"Authorization") && !allows_shared(directives)
+}
+
+/// Whether something in the response allows it to be stored.
+fn allows_storing(answered: &Answered, directives: &Directives) -> bool
+    requires { directives.now ≡ occurrences_of answered.now.fields }
+    ensures { result ≡ allows_storing answered.now }
+{
+    directives.has(Directive::Public)
+        || answered.fields.has(b"Expires")
+        || directives.has(Directive::MaxAge)
+        || directives.has(Directive::SMaxage)
+        || is_heuristic(answered.status)
+}
+
+fn is_of_no_use(facts: Facts) -> bool
+    ensures { result ≡ (not facts.explicit && not facts.validator) }
+{
+    !facts.explicit && !facts.validator
+}
+
+/// The least rule against storing the response to a request, or None where it is stored. The directives of both are
+/// handed in. No memory is taken.
+#[tactic(auto, unfolding(crate::specs::Rules::storage_rule_of))]
+pub fn first_rule_against(
+    asked: &Asked,
+    asked_directives: &Directives,
+    answered: &Answered,
+    directives: &Directives,
+    facts: Facts,
+) -> Option<StoreRule>
+    requires request { asked_directives.now ≡ occurrences_of asked.now.fields }
+    requires response { directives.now ≡ occurrences_of answered.now.fields }
+    ensures { result ≡ storage_rule_of asked.now answered.now facts }
+{
+    if !is_get(asked) {
+        Some(StoreRule::Method)
+    } else if goes_past_the_cache(asked) {
+        Some(StoreRule::Bypass)
+    } else if is_not_whole(answered.status) {
+        Some(StoreRule::Status)
+    } else if is_not_understood(answered.status, directives) {
+        Some(StoreRule::MustUnderstand)
+    } else if forbids_storing(directives) {
+        Some(StoreRule::ResponseNoStore)
+    } else if asked_directives.has(Directive::NoStore) {
+        Some(StoreRule::RequestNoStore)
+    } else if directives.has(Directive::Private) {
+        Some(StoreRule::Private)
+    } else if is_authorized_alone(asked, directives) {
+        Some(StoreRule::Authorization)
+    } else if !allows_storing(answered, directives) {
+        Some(StoreRule::NothingAllows)
+    } else {
+        rule_on_facts(facts)
+    }
+}
+
+/// The least of the rules that ask for nothing but what is known besides the head.
+fn rule_on_facts(facts: Facts) -> Option<StoreRule>
+    ensures { (asked : AskedFor) (answered : AnsweredWith) → result ≡ find (λ r. stands r asked answered facts) rules_on_facts }
+{
+    if facts.vary_star {
+        Some(StoreRule::VaryStar)
+    } else if facts.listed {
+        Some(StoreRule::ConnectionField)
+    } else if is_of_no_use(facts) {
+        Some(StoreRule::NothingToReuse)
+    } else if facts.too_large {
+        Some(StoreRule::TooLarge)
+    } else if facts.overtaken {
+        Some(StoreRule::Overtaken)
+    } else if facts.no_serial {
+        Some(StoreRule::Serials)
+    } else {
+        None
+    }
+}

@@ -1,0 +1,4 @@
+pub mod Lines
+pub mod Tags
+pub mod Replaced
+pub mod Echoes

@@ -1,0 +1,86 @@
+-- Which stored response a 304 answers, and what it makes of it (RFC 9111, sections 4.3.3 and 4.3.4).
+--
+-- answers304: the 304 says that the stored response is the one that was asked about
+-- freshened_of: the stored response with the lines of the 304
+use Rattle.std.specs.Prelude.{ℕ, if◌then◌else◌, Bool, true, false, not, ◌&&◌, ◌||◌, List, [], ◌++◌, filter, bytes_eq, codes, Option, Some, None}
+use Rattle.hx_fields.specs.declared.field_line.Field.{Field}
+use Rattle.hx_fields.specs.Lines.{has, is_named}
+use Rattle.hx_age.specs.declared.moments.Times.{Times}
+use Rattle.hx_vary.specs.Vary.{is_same_value, nominated_of}
+use Rattle.hx_vary.specs.declared.nominated_values.NominatedValue.{NominatedValue}
+use Rattle.hx_vary.specs.declared.nominations.Nomination.{Nomination}
+use Rattle.hx_vary.specs.declared.nominations.Nomination.TheVariants.{Star, Names}
+use Rattle.hx_store.specs.Stored.{Stored}
+use Rattle.hx_hop.specs.declared.asked_for.Asked.{Asked}
+use Rattle.hx_hop.specs.declared.answered_with.Answered.{Answered}
+use Rattle.hx_hop.specs.declared.validators.Conditions.{Conditions}
+use Rattle.hx_validate.specs.EntityTags.{Tag, strong_eq, tag_of, weak_eq}
+use Rattle.hx_validate.specs.Validators.{conditions_of, only_value}
+
+-- what was sent is what the stored response has now
+abbrev pub same_conditions : Conditions → Conditions → Bool
+same_conditions held sent = is_same_value held.etag sent.etag && is_same_value held.modified sent.modified
+
+-- a strong entity tag asks for strong equality, a weak one for weak, and what is none equals nothing
+abbrev pub agrees_by : Option Tag → List ℕ → List ℕ → Bool
+agrees_by None held given = false
+agrees_by (Some tag) held given = if tag.weak then weak_eq held given else strong_eq held given
+
+-- an ETag that agrees with the entity tag that was sent
+abbrev pub tag_agrees : Option (List ℕ) → Option (List ℕ) → Bool
+tag_agrees (Some held) (Some given) = agrees_by (tag_of given) held given
+tag_agrees (Some held) None = false
+tag_agrees None given = false
+
+-- a Last-Modified of the bytes that were sent
+abbrev pub modified_agrees : Option (List ℕ) → Option (List ℕ) → Bool
+modified_agrees (Some held) (Some given) = bytes_eq held given
+modified_agrees (Some held) None = false
+modified_agrees None given = false
+
+-- The validators of the 304 are those that were sent: its ETag if it has one, else its Last-Modified. Two lines of
+-- a name agree with nothing.
+-- own: without any it answers, though the standard says so only of a single stored response without validators
+-- ("A 304 without validators answers")
+abbrev pub agrees : Conditions → List Field → Bool
+agrees sent fields =
+    if has fields (codes "ETag") then tag_agrees sent.etag (only_value fields (codes "ETag"))
+    else if has fields (codes "Last-Modified") then modified_agrees sent.modified (only_value fields (codes "Last-Modified"))
+    else true
+
+-- whether a 304 to these conditions answers a stored response
+abbrev pub answers304 : Stored → Conditions → Answered → Bool
+answers304 entry sent answered = same_conditions (conditions_of entry.fields) sent && agrees sent answered.fields
+
+-- a line that a 304 can bring: the length is that of the stored content, and an age is counted anew
+-- (RFC 9111, section 3.2)
+abbrev pub is_brought : Field → Bool
+is_brought line = not (is_named (codes "Content-Length") line || is_named (codes "Age") line)
+
+-- a stored line of a name that the 304 brings
+abbrev pub is_replaced : List Field → Field → Bool
+is_replaced fields line = is_brought line && has fields line.name
+
+-- the stored lines of other names, then those of the 304
+abbrev pub freshened_fields : List Field → List Field → List Field
+freshened_fields stored fields = filter (λ line. not (is_replaced fields line)) stored ++ filter is_brought fields
+
+-- own: where the new lines nominate everything, nothing is kept of the request, since the entry isn't kept
+-- ("What a star nominates is not kept")
+abbrev pub names_or_none : Nomination → List NominatedValue
+names_or_none Star = []
+names_or_none (Names values) = values
+
+-- the stored response as a 304 to this request leaves it, with the moments of the 304
+unfoldable pub freshened_of : Stored → Answered → Asked → Times → Stored
+freshened_of entry answered asked times =
+    let fields = freshened_fields entry.fields answered.fields in
+    record {
+      serial = entry.serial;
+      key = entry.key;
+      nominated = names_or_none (nominated_of fields asked.fields);
+      status = entry.status;
+      fields = fields;
+      content = entry.content;
+      times = times;
+    }

@@ -1,0 +1,76 @@
+-- The messages and stored responses that the laws of worked cases speak of.
+use Rattle.std.specs.Prelude.{ℕ, Bool, false, List, [], ◌∷◌, codes, None}
+use Rattle.hx_fields.specs.declared.field_line.Field.{Field}
+use Rattle.hx_fields.specs.Examples.{line}
+use Rattle.hx_hop.specs.declared.answered_with.Answered.{Answered}
+use Rattle.hx_hop.specs.declared.asked_for.Asked.{Asked}
+use Rattle.hx_store.specs.Stored.{Stored}
+use Rattle.hx_validate.specs.Answering.{answers304}
+use Rattle.hx_validate.specs.NotModified.{wants_304}
+use Rattle.hx_validate.specs.Validators.{conditions_of}
+
+abbrev pub tag_line : List ℕ → Field
+tag_line value = line (codes "ETag") value
+
+abbrev pub modified_line : List ℕ → Field
+modified_line value = line (codes "Last-Modified") value
+
+-- a stored response of these lines, made at 100
+abbrev pub stored_with : List Field → Stored
+stored_with fields =
+    record {
+      serial = 1;
+      key = record { host = codes "h"; port = 80; path_query = codes "/a" };
+      nominated = [];
+      status = 200;
+      fields = fields;
+      content = codes "hi";
+      times = record { date = 100; age_value = 0; request_time = 100; response_time = 101 };
+    }
+
+-- a 304 of these lines
+abbrev pub answered_with : List Field → Answered
+answered_with fields = record { status = 304; fields = fields }
+
+-- a request of these lines
+abbrev pub asked_with : List Field → Asked
+asked_with fields =
+    record {
+      method = codes "GET";
+      minor = 1;
+      target = record { key = record { host = codes "h"; port = 80; path_query = codes "/a" }; table_path = codes "/a" };
+      fields = fields;
+      content = None;
+      close = false;
+    }
+
+-- whether a 304 of these lines answers a stored response of those, of which both validators were sent
+abbrev pub is_answered : List Field → List Field → Bool
+is_answered stored given = answers304 (stored_with stored) (conditions_of stored) (answered_with given)
+
+-- the stored response of the first example, and a 304 to it at 160
+abbrev pub first_stored : List Field
+first_stored =
+    line (codes "Date") (codes "Thu, 01 Jan 1970 00:01:41 GMT") ∷ line (codes "Cache-Control") (codes "max-age=60") ∷ tag_line (codes "\"v1\"") ∷ []
+
+abbrev pub first_304 : List Field
+first_304 =
+    line (codes "Date") (codes "Thu, 01 Jan 1970 00:02:40 GMT") ∷ line (codes "Cache-Control") (codes "max-age=60") ∷ tag_line (codes "\"v1\"") ∷ []
+
+-- of two lines each of a name, and a name that only one has
+abbrev pub old_lines : List Field
+old_lines =
+    line (codes "Foo") (codes "1") ∷ line (codes "X") (codes "2") ∷ line (codes "Age") (codes "3") ∷ line (codes "fOO") (codes "4") ∷ line (codes "Content-Length") (codes "5") ∷ []
+
+abbrev pub new_lines : List Field
+new_lines = line (codes "Content-Length") (codes "0") ∷ line (codes "foo") (codes "6") ∷ line (codes "Age") (codes "7") ∷ line (codes "Foo") (codes "8") ∷ line (codes "Y") (codes "9") ∷ []
+
+abbrev pub none_match : List ℕ → Field
+none_match value = line (codes "If-None-Match") value
+
+abbrev pub since : List ℕ → Field
+since value = line (codes "If-Modified-Since") value
+
+-- whether a client that asks with these lines gets a 304 for a stored response of those
+abbrev pub wants_by : List Field → List Field → Bool
+wants_by asked stored = wants_304 (asked_with asked) (stored_with stored)

@@ -1,0 +1,6 @@
+pub mod Answering
+pub mod Cases
+pub mod EntityTags
+pub mod Meaning
+pub mod NotModified
+pub mod Validators

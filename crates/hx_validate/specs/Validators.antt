@@ -1,0 +1,46 @@
+-- The validators of a response, and what the proxy sends of them (RFC 9110, section 8.8; RFC 9111, section 4.3.1).
+--
+-- only_value: of a name that has one line      tag_value, modified_value: the value that is a validator
+-- has_validator: one stands                    conditions_of: both
+use Rattle.std.specs.Prelude.{ℕ, if◌then◌else◌, Bool, ◌||◌, List, [], ◌∷◌, codes, Option, Some, None, is_some}
+use Rattle.httpdate.specs.Date.{parse_secs}
+use Rattle.hx_fields.specs.declared.field_line.Field.{Field}
+use Rattle.hx_fields.specs.Lines.{values_of}
+use Rattle.hx_hop.specs.declared.validators.Conditions.{Conditions}
+use Rattle.hx_validate.specs.EntityTags.{tag_of}
+
+-- the value of a name that has one line
+abbrev pub only : List (List ℕ) → Option (List ℕ)
+only [] = None
+only (value ∷ []) = Some value
+only (value ∷ other ∷ more) = None
+
+abbrev pub only_value : List Field → List ℕ → Option (List ℕ)
+only_value fields name = only (values_of fields name)
+
+-- a value, if it passes
+abbrev pub passing : (List ℕ → Bool) → Option (List ℕ) → Option (List ℕ)
+passing passes None = None
+passing passes (Some value) = if passes value then Some value else None
+
+abbrev pub is_entity_tag : List ℕ → Bool
+is_entity_tag value = is_some (tag_of value)
+
+-- one line, and it is an entity tag (RFC 9110, section 8.8.3)
+abbrev pub tag_value : List Field → Option (List ℕ)
+tag_value fields = passing is_entity_tag (only_value fields (codes "ETag"))
+
+-- HTTP-date (RFC 9110, section 5.6.7)
+abbrev pub is_date : List ℕ → Bool
+is_date value = is_some (parse_secs value)
+
+-- one line, and it is a date (RFC 9110, section 8.8.2)
+abbrev pub modified_value : List Field → Option (List ℕ)
+modified_value fields = passing is_date (only_value fields (codes "Last-Modified"))
+
+abbrev pub has_validator : List Field → Bool
+has_validator fields = is_some (tag_value fields) || is_some (modified_value fields)
+
+-- the conditions that ask whether a stored response is still the selected representation (RFC 9110, sections 13.1.2 and 13.1.3)
+abbrev pub conditions_of : List Field → Conditions
+conditions_of fields = record { etag = tag_value fields; modified = modified_value fields }

@@ -1,0 +1,150 @@
+//! Conditions of clients, judged against a stored response (RFC 9110, sections 13.1.2, 13.1.3 and 15.4.5).
+//!
+//! The definitions are in `specs/NotModified.antt`. Whether a stored response may be sent at all is decided before.
+ghost use Rattle.std.specs.Prelude.{◌≡◌, codes, IfOk, Some, option_map};
+ghost use Rattle.std.specs.List.{list_any};
+ghost use Rattle.hx_fields.specs.Lines.{members_of};
+ghost use Rattle.hx_fields.specs.Names.{members_of_value};
+ghost use Rattle.hx_validate.specs.EntityTags.{tagged};
+ghost use Rattle.hx_validate.specs.NotModified.{changed_at, held_tag, is_carried, is_since, is_tag_of, lists_it, names_it, not_modified_of, unchanged, wants_304};
+
+use crate::entity_tags::EntityTag;
+use crate::validators::{only_value, single_date, tag_value};
+use hx_fields::{Field, Fields, is_same_name, next_member};
+use hx_hop::Asked;
+use hx_store::Entry;
+use std::alloc::{AllocError, Global};
+
+/// The status of a response that a 304 can stand for.
+const OK: u16 = 200;
+
+/// The entity tag of a stored response, if it has one.
+fn held_tag(fields: &Fields) -> Option<EntityTag<'_>>
+    ensures { option_map (λ tag. tagged tag.weak tag.opaque.now) result ≡ held_tag fields.now }
+{
+    match tag_value(fields) {
+        Some(value) => EntityTag::of(value),
+        None => None,
+    }
+}
+
+fn is_tag_of(held: EntityTag, member: &[u8]) -> bool
+    ensures { result ≡ is_tag_of (tagged held.entry.weak held.entry.opaque.now) member.now }
+{
+    match EntityTag::of(member) {
+        Some(tag) => held.opaque == tag.opaque,
+        None => false,
+    }
+}
+
+/// Whether a member of this value is the entity tag that is held.
+fn value_lists(value: &[u8], held: EntityTag) -> bool
+    ensures { result ≡ list_any (is_tag_of (tagged held.entry.weak held.entry.opaque.now)) (members_of_value value.now) }
+{
+    let mut rest = value;
+    while let Some((member, behind)) = next_member(rest) {
+        if is_tag_of(held, member) {
+            return true;
+        }
+        rest = behind;
+    }
+    false
+}
+
+/// Whether a member of If-None-Match is the entity tag that is held.
+fn lists_it(request: &Fields, held: EntityTag) -> bool
+    ensures { result ≡ lists_it request.now (Some (tagged held.entry.weak held.entry.opaque.now)) }
+{
+    for line in request.as_slice() {
+        if is_same_name(line.name.as_slice(), b"If-None-Match")
+            && value_lists(line.value.as_slice(), held)
+        {
+            return true;
+        }
+    }
+    false
+}
+
+/// Whether a member of If-None-Match is the entity tag of a stored response.
+fn lists_tag_of(request: &Fields, fields: &Fields) -> bool
+    ensures { result ≡ lists_it request.now (held_tag fields.now) }
+{
+    match held_tag(fields) {
+        Some(held) => lists_it(request, held),
+        None => false,
+    }
+}
+
+/// Whether If-None-Match names a stored response.
+fn names_it(request: &Fields, fields: &Fields) -> bool
+    ensures { result ≡ names_it request.now fields.now }
+{
+    only_value(request, b"If-None-Match") == Some(b"*".as_slice()) || lists_tag_of(request, fields)
+}
+
+/// When a stored response last changed, in Unix seconds.
+fn changed_at(entry: &Entry) -> u64
+    ensures { result ≡ changed_at entry.now }
+{
+    single_date(&entry.fields, b"Last-Modified").unwrap_or(entry.times.date)
+}
+
+fn is_since(moment: Option<u64>, changed: u64) -> bool
+    ensures { result ≡ is_since moment changed }
+{
+    match moment {
+        Some(moment) => changed <= moment,
+        None => false,
+    }
+}
+
+/// Whether If-Modified-Since finds a stored response unchanged.
+fn unchanged(request: &Fields, entry: &Entry) -> bool
+    ensures { result ≡ unchanged request.now entry.now }
+{
+    is_since(
+        single_date(request, b"If-Modified-Since"),
+        changed_at(entry),
+    )
+}
+
+/// Whether a client has a stored response already, so that a 304 is sent in its place. No memory is taken.
+pub fn client_wants_304(asked: &Asked, entry: &Entry) -> bool
+    ensures { result ≡ wants_304 asked.now entry.now }
+{
+    if entry.status != OK {
+        false
+    } else if asked.fields.has(b"If-None-Match") {
+        names_it(&asked.fields, &entry.fields)
+    } else {
+        unchanged(&asked.fields, entry)
+    }
+}
+
+/// Whether a 304 carries a line of a stored response, which has an ETag line or not.
+fn is_carried(line: &Field, tagged: bool) -> bool
+    ensures { result ≡ is_carried tagged line.now }
+{
+    let name = line.name.as_slice();
+    is_same_name(name, b"Cache-Control")
+        || is_same_name(name, b"Content-Location")
+        || is_same_name(name, b"Date")
+        || is_same_name(name, b"ETag")
+        || is_same_name(name, b"Expires")
+        || is_same_name(name, b"Vary")
+        || (!tagged && is_same_name(name, b"Last-Modified"))
+}
+
+/// The lines of the 304 that stands for a stored response. Its only error is want of memory.
+pub fn not_modified(alloc: Global, entry: &Entry) -> Result<Fields, AllocError>
+    ensures { IfOk result (λ fields. fields ≡ not_modified_of entry.now.fields) }
+{
+    let tagged = entry.fields.has(b"ETag");
+    let mut carried = Fields::new(alloc);
+    for line in entry.fields.as_slice() {
+        if is_carried(line, tagged) {
+            carried.push(line.name.as_slice(), line.value.as_slice())?;
+        }
+    }
+    Ok(carried)
+}

@@ -1,0 +1,108 @@
+//! What a 304 makes of the stored response that it answers (RFC 9111, section 4.3.4).
+//!
+//! The definition is in `specs/Answering.antt`.
+ghost use Rattle.std.specs.Prelude.{◌≡◌, ◌++◌, [], filter, not, IfOk, OnOk};
+ghost use Rattle.hx_vary.specs.Vary.{nominated_of};
+ghost use Rattle.hx_validate.specs.Answering.{freshened_fields, freshened_of, is_brought, is_replaced, names_or_none};
+
+use hx_age::Times;
+use hx_directives::Directives;
+use hx_fields::{Field, Fields, is_same_name};
+use hx_hop::{Answered, Asked};
+use hx_store::Entry;
+use hx_vary::{Nominated, Nomination};
+use std::alloc::{AllocError, Global};
+
+/// Whether a 304 can bring this line.
+fn is_brought(line: &Field) -> bool
+    ensures { result ≡ is_brought line.now }
+{
+    !is_same_name(line.name.as_slice(), b"Content-Length")
+        && !is_same_name(line.name.as_slice(), b"Age")
+}
+
+fn is_replaced(fields: &Fields, line: &Field) -> bool
+    ensures { result ≡ is_replaced fields.now line.now }
+{
+    is_brought(line) && fields.has(line.name.as_slice())
+}
+
+/// Puts the stored lines that stay at the end.
+fn push_stored(fields: &mut Fields, stored: &[Field], answered: &Fields) -> Result<(), AllocError>
+    ensures { OnOk result (fields.new ≡ fields.old ++ filter (λ line. not (is_replaced answered.now line)) stored.now) }
+{
+    for line in stored {
+        if !is_replaced(answered, line) {
+            fields.push(line.name.as_slice(), line.value.as_slice())?;
+        }
+    }
+    Ok(())
+}
+
+/// Puts the lines that a 304 brings at the end.
+fn push_brought(fields: &mut Fields, lines: &[Field]) -> Result<(), AllocError>
+    ensures { OnOk result (fields.new ≡ fields.old ++ filter is_brought lines.now) }
+{
+    for line in lines {
+        if is_brought(line) {
+            fields.push(line.name.as_slice(), line.value.as_slice())?;
+        }
+    }
+    Ok(())
+}
+
+fn freshened_fields(alloc: Global, stored: &Fields, answered: &Fields) -> Result<Fields, AllocError>
+    ensures { IfOk result (λ fields. fields ≡ freshened_fields stored.now answered.now) }
+{
+    let mut fields = Fields::new(alloc);
+    push_stored(&mut fields, stored.as_slice(), answered)?;
+    push_brought(&mut fields, answered.as_slice())?;
+    Ok(fields)
+}
+
+/// A nomination of no field.
+fn no_names(alloc: Global) -> Result<Nominated, AllocError>
+    ensures { IfOk result (λ nominated. nominated ≡ []) }
+{
+    let nothing = Fields::new(alloc);
+    match Nominated::of(alloc, &nothing, &nothing)? {
+        Nomination::Names(nominated) => Ok(nominated),
+        Nomination::Star => unreachable!(),
+    }
+}
+
+/// What the new lines nominate of the request, which is nothing where they nominate everything.
+fn names_or_none(alloc: Global, fields: &Fields, request: &Fields) -> Result<Nominated, AllocError>
+    ensures { IfOk result (λ nominated. nominated ≡ names_or_none (nominated_of fields.now request.now)) }
+{
+    match Nominated::of(alloc, fields, request)? {
+        Nomination::Names(nominated) => Ok(nominated),
+        Nomination::Star => no_names(alloc),
+    }
+}
+
+/// The stored response as a 304 to this request leaves it: the 304's lines take the place of stored ones of their
+/// names, except Content-Length and Age, and the request becomes this one. `times` are those of the 304. Its only
+/// error is want of memory.
+#[tactic(auto, unfolding(crate::specs::Answering::freshened_of))]
+pub fn freshened(
+    alloc: Global,
+    entry: &Entry,
+    answered: &Answered,
+    asked: &Asked,
+    times: Times,
+) -> Result<Entry, AllocError>
+    ensures { IfOk result (λ freshened. freshened ≡ freshened_of entry.now answered.now asked.now times) }
+{
+    let fields = freshened_fields(alloc, &entry.fields, &answered.fields)?;
+    Ok(Entry {
+        serial: entry.serial,
+        key: entry.key.copy(alloc)?,
+        nominated: names_or_none(alloc, &fields, &asked.fields)?,
+        status: entry.status,
+        directives: Directives::of(alloc, &fields)?,
+        fields,
+        content: entry.content.copy(alloc)?,
+        times,
+    })
+}

@@ -1,0 +1,25 @@
+//! Validation: which conditions ask an origin about a stored response, whether a 304 answers it and what it makes of
+//! it, and when a client gets a 304 itself (RFC 9111, section 4.3; RFC 9110, sections 8.8 and 13).
+//!
+//! The definitions are in `specs/EntityTags.antt`, `specs/Validators.antt`, `specs/Answering.antt` and
+//! `specs/NotModified.antt`. Nothing here knows whether an entry is held, or which rule forwarded a request.
+#![tactic(auto)]
+
+mod answering;
+mod client_conditions;
+mod entity_tags;
+mod freshening;
+mod laws;
+mod validators;
+
+pub use answering::answers;
+pub use client_conditions::{client_wants_304, not_modified};
+pub use entity_tags::{strong_eq, weak_eq};
+pub use freshening::freshened;
+pub use laws::{
+    client_304_after_validation, entity_tags_are_spelled_so, equality_goes_both_ways,
+    if_modified_since_compares_dates, if_none_match_decides_alone, lines_are_replaced_by_name,
+    names_of_a_304_are_replaced, tags_are_compared, the_same_tag_answers, validators_stand_once,
+    which_304_answers,
+};
+pub use validators::{conditions, has_validator};
