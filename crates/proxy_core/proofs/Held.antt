@@ -2,10 +2,14 @@
 use Rattle.std.proofs.Common.{◌≡◌, ℕ, ◌+◌, Bool, true, false, not, cond, ◌||◌, eqb, ltb, ◌^◌, Option, None, Some, List, [], ◌∷◌, take, refl, sym, ◌∙◌, ap, subst, arith}
 use Rattle.std.specs.List.{filter}
 use Rattle.std.proofs.lemmas.Bool.{false≢true, eqb-true, ne_eqb, false_from_ne_true}
+use Rattle.std.proofs.lemmas.Option.{same_Some}
 use Rattle.hx_store.specs.Stored.{Stored}
 use Rattle.hx_store.specs.Shelf.{holds, find_entry, without, promoted, in_front}
 use Rattle.hx_store.proofs.EntryLists.{filter_keeps, take_keeps, find_holds}
-use Rattle.proxy_core.specs.State.{NoneFrom, next_of}
+use Rattle.proxy_core.specs.declared.turns.Change.{Change}
+use Rattle.proxy_core.specs.declared.turns.Change.TheVariants.{Keep, Use, Freshen, LetGo, Store}
+use Rattle.proxy_core.specs.State.{NoneFrom, taken, next_of, next_after}
+use Rattle.proxy_core.specs.Turns.{stored_by, entries_by, IsNext, IsNew, IsHeld}
 
 front_none : (s : ℕ) (o : Option Stored) (es rest : List Stored) → ((x : Stored) → o ≡ Some x → holds x.serial es ≡ true) →
     holds s es ≡ false → holds s rest ≡ false → holds s (in_front o rest) ≡ false
@@ -31,3 +35,31 @@ NoneFrom-next limit n gone es zs x last next m e k l h =
     let some : NoneFrom (Some (n + 1)) zs = NoneFrom-put limit n gone es zs x e k (subst (λ o. NoneFrom o es) l h) in
     let P : Option ℕ → Type 0 = λ o. NoneFrom o zs in
     subst P (sym m) (elim (ltb (n + 1) (2 ^ 64)) as (λ b. P (cond b (Some (n + 1)) None)) [ true ↦ some | false ↦ tt ])
+
+NoneFrom-taken : (next : Option ℕ) (gone : List ℕ) (es : List Stored) → NoneFrom next es → NoneFrom next (taken gone es)
+NoneFrom-taken next [] es h = h
+NoneFrom-taken None (s ∷ gone) es h = tt
+NoneFrom-taken (Some n) (s ∷ gone) es h = λ t l. filter_keeps _ t es (h t l)
+
+-- what takes the place of a held response has its serial
+NoneFrom-fresh : (next : Option ℕ) (e : Stored) (es : List Stored) → holds e.serial es ≡ true → NoneFrom next es → NoneFrom next (e ∷ without (e.serial ∷ []) es)
+NoneFrom-fresh None e es held h = tt
+NoneFrom-fresh (Some n) e es held h = λ t l.
+    front_none t (Some e) es (without (e.serial ∷ []) es) (λ x g. ap (λ (z : Stored). holds z.serial es) (sym (same_Some e x g)) ∙ held) (h t l) (filter_keeps _ t es (h t l))
+
+-- a turn leaves no serial held from the next one on
+pub NoneFrom-turned : (limit : ℕ) (next : Option ℕ) (removed : List ℕ) (c : Change) (es : List Stored) → IsNext next c → IsHeld c es → NoneFrom next es
+    → NoneFrom (next_after next (stored_by c)) (entries_by limit removed c es)
+NoneFrom-turned limit next removed Keep es is held h = NoneFrom-taken next removed es h
+NoneFrom-turned limit next removed (Use serial) es is held h = NoneFrom-taken next removed (promoted serial es) (NoneFrom-promoted next serial es _ refl h)
+NoneFrom-turned limit next removed (Freshen e) es is held h = NoneFrom-taken next removed _ (NoneFrom-fresh next e es held.0 h)
+NoneFrom-turned limit next removed (LetGo serial) es is held h = NoneFrom-taken next removed _ (NoneFrom-taken next (serial ∷ []) es h)
+NoneFrom-turned limit next removed (Store e) es is held h = NoneFrom-next limit e.serial removed es _ e next _ refl refl refl is h
+
+-- what has the next serial isn't held
+pub next_is_new : (next : Option ℕ) (c : Change) (es : List Stored) → IsNext next c → NoneFrom next es → IsNew c es
+next_is_new next Keep es is h = tt
+next_is_new next (Use serial) es is h = tt
+next_is_new next (Freshen e) es is h = tt
+next_is_new next (LetGo serial) es is h = tt
+next_is_new next (Store e) es is h = subst (λ o. NoneFrom o es) is h e.serial (omega arith)

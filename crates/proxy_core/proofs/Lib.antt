@@ -1,3 +1,5 @@
 pub mod Held
+pub mod Leaving
 pub mod Stepping
+pub mod Storable
 pub mod Tracing

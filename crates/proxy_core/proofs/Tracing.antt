@@ -44,7 +44,7 @@ good-push start events outcomes e o s t h l k g =
     let here = subst (λ (u : State). Steps u e o t) l k in
     let accepts : Accepts start.table (left start past).entries (left start past).exchanges (left start past).next (record { event = e; outcome = o }) =
     subst (λ (table : Table). Accepts table (left start past).entries (left start past).exchanges (left start past).next (record { event = e; outcome = o })) (same_table start past)
-    record { date = here.date; stamp = here.stamp; allowed = here.allowed; outcome_is = here.outcome_is } in
+    record { allowed = here.allowed; outcome_is = here.outcome_is } in
     subst (IsGood start) (sym (trace_on-push [] outcomes events e o h)) (accepts, g)
 
 pub at_index : (events : List Event) (outcomes : List Outcome) (i : ℕ) (e : Event) → length outcomes ≡ i → i < length events → e ≡ get_or events i e → slice_get events (length outcomes) ≡ Some e
@@ -66,13 +66,13 @@ same_good start events outcomes more m g = subst (λ (os : List Outcome). IsGood
 
 -- ---- a denied request leaves no trace
 
-denied_by : (table : Table) (date : List ℕ) (es : List Stored) (now : ℕ) (asked : Asked) (v : Verdict) → ((line : ℕ) → v ≢ Allowed line) → LeavesNoTrace (arrived table date es now asked v)
-denied_by table date es now asked (Allowed line) n = absurd (n line refl)
-denied_by table date es now asked (DeniedBy line) n = (refl, refl, refl)
-denied_by table date es now asked NoLine n = (refl, refl, refl)
+denied_by : (table : Table) (es : List Stored) (now : ℕ) (asked : Asked) (v : Verdict) → ((line : ℕ) → v ≢ Allowed line) → LeavesNoTrace (arrived table es now asked v)
+denied_by table es now asked (Allowed line) n = absurd (n line refl)
+denied_by table es now asked (DeniedBy line) n = (refl, refl, refl)
+denied_by table es now asked NoLine n = (refl, refl, refl)
 
 denied_item : (table : Table) (s : State) (event : Event) (outcome : Outcome) → Accepts table s.entries s.exchanges s.next (record { event = event; outcome = outcome }) → IsDenied table event → LeavesNoTrace outcome
-denied_item table s (Arrive now id asked) outcome a d = subst LeavesNoTrace (sym a.outcome_is) (denied_by table a.date s.entries now asked (verdict_of table.lines asked.method asked.target) d)
+denied_item table s (Arrive now id asked) outcome a d = subst LeavesNoTrace (sym a.outcome_is) (denied_by table s.entries now asked (verdict_of table.lines asked.method asked.target) d)
 denied_item table s (Answer now id r) outcome a d = absurd d
 denied_item table s (Fail now id kind) outcome a d = absurd d
 denied_item table s (Abandon id) outcome a d = absurd d

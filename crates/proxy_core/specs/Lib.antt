@@ -4,3 +4,5 @@ pub mod Storing
 pub mod Outcomes
 pub mod State
 pub mod Traces
+pub mod Turns
+pub mod Validating

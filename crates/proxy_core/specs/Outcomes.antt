@@ -1,13 +1,19 @@
 -- What a step gives: the cases, over the held responses, the open exchanges and the next serial.
 --
 -- find_exchange: the open exchange of an id     id_of: of an event
--- arrived, answered, failed: the cases          outcome_of, outcome_by: of an event
+-- rescue_of: what is held instead of an answer  arrived, answered, failed: the cases
+-- outcome_of, outcome_by: of an event
 -- fault_by: the least fault that stands, want of memory aside
-use Rattle.std.specs.Prelude.{ℕ, ◌==◌, Bool, true, false, ◌&&◌, List, [], ◌∷◌, Option, Some, None, cond, is_some}
+use Rattle.std.specs.Prelude.{ℕ, ◌==◌, Bool, true, false, ◌||◌, List, [], ◌∷◌, Option, Some, None, cond, is_some}
+use Rattle.hx_directives.specs.Occurrences.{occurrences_of}
+use Rattle.hx_directives.specs.Answers.{has as has_directive}
+use Rattle.hx_directives.specs.declared.names.Directive.TheVariants.{OnlyIfCached as OnlyIfHeld}
 use Rattle.hx_framing.specs.Text.{request_text}
 use Rattle.hx_framing.specs.declared.responses.Response.{Response}
+use Rattle.std.specs.Option.{option_and_then}
 use Rattle.hx_hop.specs.declared.asked_for.Asked.{Asked}
 use Rattle.hx_hop.specs.Forwarding.{forwarded_of}
+use Rattle.hx_hop.specs.Moments.{date_text_of}
 use Rattle.hx_allow.specs.Lines.{Table}
 use Rattle.hx_allow.specs.Matching.{verdict_of}
 use Rattle.hx_allow.specs.declared.verdicts.Verdict.{Verdict}
@@ -15,16 +21,23 @@ use Rattle.hx_allow.specs.declared.verdicts.Verdict.TheVariants as verdict
 use Rattle.hx_store.specs.Stored.{Stored}
 use Rattle.hx_store.specs.Shelf.{find_entry, serials_of}
 use Rattle.hx_reuse.specs.Rules.{decision_of}
+use Rattle.hx_reuse.specs.ErrorRules.{error_rule_on}
+use Rattle.hx_reuse.specs.declared.rule.ReuseRule.{ReuseRule}
+use Rattle.hx_reuse.specs.declared.rule.ErrorRule.{ErrorRule}
 use Rattle.hx_reuse.specs.declared.decision.Decision.{Decision}
 use Rattle.hx_reuse.specs.declared.decision.Decision.TheVariants as decision
-use Rattle.hx_status.specs.declared.status.How.{How}
 use Rattle.hx_status.specs.declared.status.How.TheVariants.{Hit, Fwd}
 use Rattle.hx_status.specs.declared.status.Detail.{Detail}
-use Rattle.hx_status.specs.declared.status.Detail.TheVariants.{ReuseAfterError}
+use Rattle.hx_status.specs.declared.status.Detail.TheVariants.{StaleIfError, ReuseAfterError, ReuseAfter304}
 use Rattle.hx_status.specs.declared.cause.FailKind.{FailKind}
+use Rattle.hx_status.specs.declared.cause.FailKind.TheVariants.{BadAnswer}
 use Rattle.hx_status.specs.declared.cause.Cause.{Cause}
-use Rattle.hx_status.specs.declared.cause.Cause.TheVariants.{Denied, NoLine, Origin}
+use Rattle.hx_status.specs.declared.cause.Cause.TheVariants.{Denied, NoLine, OnlyIfCached, Origin}
+use Rattle.proxy_core.specs.declared.condition.Condition.{Condition}
 use Rattle.proxy_core.specs.declared.exchange.Exchange.{Exchange}
+use Rattle.proxy_core.specs.declared.rescue.Rescue.{Rescue}
+use Rattle.proxy_core.specs.declared.rescue.Rescue.TheVariants.{Sends, Refuses}
+use Rattle.proxy_core.specs.declared.handling.Handling.{Handling}
 use Rattle.proxy_core.specs.declared.outcome.Outcome.{Outcome}
 use Rattle.proxy_core.specs.declared.outcome.Outcome.TheVariants.{Reply, Forward, Ended}
 use Rattle.proxy_core.specs.declared.event.Event.{Event}
@@ -33,7 +46,8 @@ use Rattle.proxy_core.specs.declared.fault.CoreFault.{CoreFault}
 use Rattle.proxy_core.specs.declared.fault.CoreFault.TheVariants.{IdTaken, UnknownId}
 use Rattle.proxy_core.specs.Moments.{too_late}
 use Rattle.proxy_core.specs.Replies.{stored_text, passed_text, refused_text, is_head}
-use Rattle.proxy_core.specs.Storing.{is_storable}
+use Rattle.proxy_core.specs.Validating.{sent_with, condition_at, is_validation, validated, refreshed, is_kept}
+use Rattle.proxy_core.specs.Storing.{is_storable, replaced_by, is_unasked, invalidates}
 
 -- the open exchange of an id
 abbrev pub find_exchange : ℕ → List Exchange → Option Exchange
@@ -41,55 +55,120 @@ find_exchange id [] = None
 find_exchange id (x ∷ xs) = cond (x.id == id) (Some x) (find_exchange id xs)
 
 -- the bytes of a held response, sent
-abbrev pub sent_text : List ℕ → Option Stored → ℕ → How → Option Detail → Asked → List ℕ
-sent_text name None now how detail asked = []
-sent_text name (Some e) now how detail asked = stored_text name e now how detail asked
+abbrev pub sent_text : List ℕ → Option Stored → ℕ → Handling → Asked → List ℕ
+sent_text name None now handling asked = []
+sent_text name (Some e) now handling asked = stored_text name e now handling asked
 
 -- the stored response of a serial is sent
-abbrev pub sent : Table → List Stored → ℕ → ℕ → How → Option Detail → Asked → Outcome
-sent table es serial now how detail asked =
-    Reply (record { bytes = sent_text table.name (find_entry serial es) now how detail asked; close = asked.close; stored = None; used = Some serial; removed = [] })
+abbrev pub sent : Table → List Stored → ℕ → ℕ → Handling → Asked → Outcome
+sent table es serial now handling asked =
+    Reply (record { bytes = sent_text table.name (find_entry serial es) now handling asked; close = asked.close; stored = None; used = Some serial; removed = [] })
 
 -- the proxy answers by itself
-abbrev pub refused : List ℕ → Cause → Asked → Outcome
-refused date cause asked =
-    Reply (record { bytes = refused_text date cause asked.close (is_head asked); close = asked.close; stored = None; used = None; removed = [] })
+abbrev pub refused : ℕ → Cause → Asked → Outcome
+refused now cause asked =
+    Reply (record { bytes = refused_text (date_text_of now) cause asked.close (is_head asked); close = asked.close; stored = None; used = None; removed = [] })
 
 -- the bytes of a request that goes forward
-abbrev pub forward_text : Table → Asked → List ℕ
-forward_text table asked = request_text (forwarded_of asked table.name None)
+abbrev pub forward_text : Table → Asked → Option Condition → List ℕ
+forward_text table asked condition = request_text (forwarded_of asked table.name (sent_with condition))
+
+-- the request takes no response but a stored one (RFC 9111, section 5.2.1.7)
+abbrev pub is_only_if_cached : Asked → Bool
+is_only_if_cached asked = has_directive (occurrences_of asked.fields) OnlyIfHeld
+
+-- a rule keeps each stored response back
+abbrev pub unanswered : Table → ℕ → ℕ → Asked → ReuseRule → Option Condition → Bool → Outcome
+unanswered table line now asked rule condition true = refused now (OnlyIfCached rule) asked
+unanswered table line now asked rule condition false = Forward line (forward_text table asked condition)
+
+abbrev pub as_hit : Handling
+as_hit = record { how = Hit; came = None; detail = None }
 
 -- an allowed request: the stored response that no rule keeps back is sent, else the request goes forward
 abbrev pub allowed : Table → List Stored → ℕ → ℕ → Asked → Decision → Outcome
-allowed table es line now asked (decision.Hit serial) = sent table es serial now Hit None asked
-allowed table es line now asked (decision.Forward rule against) = Forward line (forward_text table asked)
+allowed table es line now asked (decision.Hit serial) = sent table es serial now as_hit asked
+allowed table es line now asked (decision.Forward rule against) =
+    unanswered table line now asked rule (condition_at es against) (is_only_if_cached asked)
 
-abbrev pub arrived : Table → List ℕ → List Stored → ℕ → Asked → Verdict → Outcome
-arrived table date es now asked (verdict.Allowed line) = allowed table es line now asked (decision_of es asked now)
-arrived table date es now asked (verdict.DeniedBy line) = refused date (Denied line) asked
-arrived table date es now asked verdict.NoLine = refused date NoLine asked
+abbrev pub arrived : Table → List Stored → ℕ → Asked → Verdict → Outcome
+arrived table es now asked (verdict.Allowed line) = allowed table es line now asked (decision_of es asked now)
+arrived table es now asked (verdict.DeniedBy line) = refused now (Denied line) asked
+arrived table es now asked verdict.NoLine = refused now NoLine asked
 
--- the serial under which the answer is stored, if it is
-abbrev pub stored_serial : Table → Exchange → Response → Option ℕ → Option ℕ
-stored_serial table x r next = cond (is_storable table.max_stored x.asked r) next None
+-- what is told of a stored response that is sent after going forward: the rule at arrival, the status of an answer
+-- that came, and the word of the step
+abbrev pub told_after : Exchange → Option ℕ → Option Detail → Handling
+told_after x came detail = record { how = Fwd x.rule; came = came; detail = detail }
 
--- the held responses that a stored one replaces
-abbrev pub replaced : List Stored → Exchange → Option ℕ → List ℕ
-replaced es x None = []
-replaced es x (Some serial) = serials_of x.asked.target.key es
+-- the error rule against the held response of a serial
+abbrev pub error_rule_at : List Stored → ℕ → Asked → ℕ → Option ErrorRule
+error_rule_at es serial asked now = option_and_then (λ e. error_rule_on e (occurrences_of asked.fields) now) (find_entry serial es)
+
+abbrev pub rescue_by : ReuseRule → ℕ → Option ErrorRule → Rescue
+rescue_by rule serial None = Sends serial StaleIfError
+rescue_by rule serial (Some error) = Refuses rule (Some error)
+
+-- what is held instead of an answer: the response that no reuse rule keeps back, or the one that a rule names and no
+-- error rule keeps back (RFC 5861, section 4)
+abbrev pub rescue_of : List Stored → Asked → ℕ → Decision → Rescue
+rescue_of es asked now (decision.Hit serial) = Sends serial ReuseAfterError
+rescue_of es asked now (decision.Forward rule None) = Refuses rule None
+rescue_of es asked now (decision.Forward rule (Some serial)) = rescue_by rule serial (error_rule_at es serial asked now)
+
+-- a failure sends such a response, else it is named with the rules that keep it back
+abbrev pub failed : Table → List Stored → ℕ → Exchange → FailKind → Option ℕ → Rescue → Outcome
+failed table es now x kind came (Sends serial detail) = sent table es serial now (told_after x came (Some detail)) x.asked
+failed table es now x kind came (Refuses rule error) = refused now (Origin kind rule error) x.asked
+
+-- the serial under which an answer is stored, if it is
+abbrev pub stored_serial : Table → Exchange → Response → ℕ → Option ℕ → Option ℕ
+stored_serial table x r now next = cond (is_storable table.max_stored x r now next) next None
+
+-- what is held no longer, ascending: what the stored answer takes the place of, or all of an invalidated key
+abbrev pub removed_by : List Stored → Exchange → Response → Option ℕ → List ℕ
+removed_by es x r (Some serial) = replaced_by es x.asked
+removed_by es x r None = cond (invalidates x r) (serials_of x.asked.target.key es) []
 
 abbrev pub passed : Table → List Stored → ℕ → Exchange → Response → Option ℕ → Outcome
 passed table es now x r stored =
-    Reply (record { bytes = passed_text table.name x r now (is_some stored); close = x.asked.close; stored = stored; used = None; removed = replaced es x stored })
+    Reply (record { bytes = passed_text table.name x r now (is_some stored); close = x.asked.close; stored = stored; used = None; removed = removed_by es x r stored })
 
--- an answer of the origin is passed on, and stored where it may be
-abbrev pub answered : Table → List Stored → ℕ → Exchange → Response → Option ℕ → Outcome
-answered table es now x r next = passed table es now x r (stored_serial table x r next)
+-- the statuses in whose place a stored response may be sent (RFC 5861, section 4)
+abbrev pub is_error_status : ℕ → Bool
+is_error_status status = (status == 500) || (status == 502) || (status == 503) || (status == 504)
 
--- a failure sends the stored response that no rule keeps back, else it is named with the rule that does
-abbrev pub failed : Table → List ℕ → List Stored → ℕ → Exchange → FailKind → Decision → Outcome
-failed table date es now x kind (decision.Hit serial) = sent table es serial now (Fwd x.rule) (Some ReuseAfterError) x.asked
-failed table date es now x kind (decision.Forward rule against) = refused date (Origin kind rule None) x.asked
+-- an answer of the origin is passed on, but for such a status where a stored response may be sent
+abbrev pub passed_unless : Table → List Stored → ℕ → Exchange → Response → Option ℕ → Bool → Rescue → Outcome
+passed_unless table es now x r next true (Sends serial detail) = sent table es serial now (told_after x (Some r.status) (Some detail)) x.asked
+passed_unless table es now x r next true (Refuses rule error) = passed table es now x r (stored_serial table x r now next)
+passed_unless table es now x r next false rescue = passed table es now x r (stored_serial table x r now next)
+
+-- a freshened response is sent, and kept where no storing rule stands
+abbrev pub sent_refreshed : Table → Exchange → Response → ℕ → Stored → Outcome
+sent_refreshed table x r now e =
+    Reply (record {
+      bytes = stored_text table.name e now (told_after x (Some r.status) None) x.asked;
+      close = x.asked.close;
+      stored = None;
+      used = Some e.serial;
+      removed = cond (is_kept table.max_stored x r e) [] (e.serial ∷ []);
+    })
+
+-- a 304 to the proxy's conditions sends the response that it answers, and keeps it where no storing rule stands. Where
+-- it answers none, a response that no rule keeps back is sent, else the client's own request goes forward.
+abbrev pub revalidated : Table → List Stored → ℕ → Exchange → Response → Option Stored → Decision → Outcome
+revalidated table es now x r (Some e) d = sent_refreshed table x r now (refreshed x r now e)
+revalidated table es now x r None (decision.Hit serial) = sent table es serial now (told_after x (Some r.status) (Some ReuseAfter304)) x.asked
+revalidated table es now x r None (decision.Forward rule against) = Forward x.line (forward_text table x.asked None)
+
+-- an answer of the origin: a 304 to the proxy's conditions validates; one that nobody asked for is a failure; any other
+-- answer is passed on, and stored where no rule stands, unless a stored response is sent in its place
+abbrev pub answered : Table → List Stored → ℕ → Exchange → Response → Option ℕ → Decision → Outcome
+answered table es now x r next d =
+    cond (is_validation x r) (revalidated table es now x r (validated es x r now) d)
+    (cond (is_unasked x.asked r) (failed table es now x BadAnswer (Some r.status) (rescue_of es x.asked now d))
+    (passed_unless table es now x r next (is_error_status r.status) (rescue_of es x.asked now d)))
 
 abbrev pub id_of : Event → ℕ
 id_of (Arrive now id asked) = id
@@ -97,18 +176,18 @@ id_of (Answer now id r) = id
 id_of (Fail now id kind) = id
 id_of (Abandon id) = id
 
--- the outcome of an event, by cases; x is the open exchange of its id, date the text of its moment
-abbrev pub outcome_of : Table → List ℕ → List Stored → List Exchange → Option Exchange → Option ℕ → Event → Outcome
-outcome_of table date es xs x next (Arrive now id asked) = arrived table date es now asked (verdict_of table.lines asked.method asked.target)
-outcome_of table date es xs (Some x) next (Answer now id r) = answered table es now x r next
-outcome_of table date es xs None next (Answer now id r) = Ended
-outcome_of table date es xs (Some x) next (Fail now id kind) = failed table date es now x kind (decision_of es x.asked now)
-outcome_of table date es xs None next (Fail now id kind) = Ended
-outcome_of table date es xs x next (Abandon id) = Ended
+-- the outcome of an event, by cases; x is the open exchange of its id
+abbrev pub outcome_of : Table → List Stored → List Exchange → Option Exchange → Option ℕ → Event → Outcome
+outcome_of table es xs x next (Arrive now id asked) = arrived table es now asked (verdict_of table.lines asked.method asked.target)
+outcome_of table es xs (Some x) next (Answer now id r) = answered table es now x r next (decision_of es x.asked now)
+outcome_of table es xs None next (Answer now id r) = Ended
+outcome_of table es xs (Some x) next (Fail now id kind) = failed table es now x kind None (rescue_of es x.asked now (decision_of es x.asked now))
+outcome_of table es xs None next (Fail now id kind) = Ended
+outcome_of table es xs x next (Abandon id) = Ended
 
 -- over the held responses, all open exchanges in the order of arrival, and the next serial
-abbrev pub outcome_by : Table → List ℕ → List Stored → List Exchange → Option ℕ → Event → Outcome
-outcome_by table date es xs next event = outcome_of table date es xs (find_exchange (id_of event) xs) next event
+abbrev pub outcome_by : Table → List Stored → List Exchange → Option ℕ → Event → Outcome
+outcome_by table es xs next event = outcome_of table es xs (find_exchange (id_of event) xs) next event
 
 -- the least fault that stands, want of memory aside
 abbrev pub fault_of : Option Exchange → Event → Option CoreFault

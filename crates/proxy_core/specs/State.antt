@@ -1,13 +1,15 @@
 -- What an event with its outcome leaves of the core.
 --
--- State: what contracts see of a core     after: what a step leaves
+-- State: what contracts see of a core     left_open: the exchanges that an end leaves     after: what a step leaves
 -- Steps: a step that was done             Refuses: one that wasn't
-use Rattle.std.specs.Prelude.{◌≡◌, ◌⊎◌, ℕ, ◌+◌, ◌^◌, ◌≤◌, ◌==◌, nat_lt, not, Bool, false, List, [], ◌∷◌, ◌++◌, take, filter, Option, Some, None, cond}
+use Rattle.std.specs.Prelude.{◌≡◌, ◌⊎◌, ℕ, ◌+◌, ◌^◌, ◌≤◌, ◌==◌, nat_lt, not, Bool, true, false, List, [], ◌∷◌, ◌++◌, take, filter, map, Option, Some, None, option_map, cond}
+use Rattle.hx_target.specs.declared.keys.Key.{Key}
+use Rattle.hx_target.specs.Keys.{same_key}
 use Rattle.hx_framing.specs.declared.responses.Response.{Response}
 use Rattle.hx_hop.specs.declared.asked_for.Asked.{Asked}
 use Rattle.hx_allow.specs.Lines.{Table}
 use Rattle.hx_store.specs.Stored.{Stored}
-use Rattle.hx_store.specs.Shelf.{holds, find_entry, without, in_front, promoted}
+use Rattle.hx_store.specs.Shelf.{holds, find_entry, without, in_front}
 use Rattle.hx_reuse.specs.Rules.{decision_of}
 use Rattle.hx_reuse.specs.declared.decision.Decision.{Decision}
 use Rattle.hx_reuse.specs.declared.decision.Decision.TheVariants as decision
@@ -20,9 +22,9 @@ use Rattle.proxy_core.specs.declared.event.Event.{Event}
 use Rattle.proxy_core.specs.declared.event.Event.TheVariants.{Arrive, Answer, Fail, Abandon}
 use Rattle.proxy_core.specs.declared.fault.CoreFault.{CoreFault}
 use Rattle.proxy_core.specs.declared.fault.CoreFault.TheVariants.{OutOfMemory}
-use Rattle.proxy_core.specs.Moments.{IsDateOf}
 use Rattle.proxy_core.specs.Outcomes.{find_exchange, id_of, outcome_by, fault_by}
-use Rattle.proxy_core.specs.Storing.{made}
+use Rattle.proxy_core.specs.Storing.{made, key_invalidated}
+use Rattle.proxy_core.specs.Validating.{condition_at, is_answered, refreshed}
 
 -- the operator's table, the most responses that are held, those held, the latest stored or used first, the open
 -- exchanges in the order of arrival, and the next serial if one is left
@@ -48,10 +50,18 @@ removed_in (Reply r) = r.removed
 removed_in (Forward line bytes) = []
 removed_in Ended = []
 
+-- what a step makes of a held response that it sends: one that a 304 answers is freshened
+abbrev pub used_form : Option Exchange → Event → Stored → Stored
+used_form (Some x) (Answer now id r) e = cond (is_answered x r now e) (refreshed x r now e) e
+used_form (Some x) (Arrive now id asked) e = e
+used_form (Some x) (Fail now id kind) e = e
+used_form (Some x) (Abandon id) e = e
+used_form None event e = e
+
 -- what is used comes first
-abbrev pub used_list : Option ℕ → List Stored → List Stored
-used_list None es = es
-used_list (Some serial) es = promoted serial es
+abbrev pub used_list : Option Exchange → Event → Option ℕ → List Stored → List Stored
+used_list x event None es = es
+used_list x event (Some serial) es = in_front (option_map (used_form x event) (find_entry serial es)) (without (serial ∷ []) es)
 
 -- the response that an answer makes
 abbrev pub stored_form : Option Exchange → Event → ℕ → Option Stored
@@ -71,26 +81,59 @@ stored_list x event None removed limit es = taken removed es
 stored_list x event (Some serial) removed limit es = take limit (in_front (stored_form x event serial) (without removed es))
 
 abbrev pub entries_after : ℕ → List Stored → Option Exchange → Event → Outcome → List Stored
-entries_after limit es x event o = stored_list x event (stored_in o) (removed_in o) limit (used_list (used_in o) es)
+entries_after limit es x event o = stored_list x event (stored_in o) (removed_in o) limit (used_list x event (used_in o) es)
 
 -- an exchange ends
 abbrev pub closed : ℕ → List Exchange → List Exchange
 closed id xs = filter (λ x. not (x.id == id)) xs
+
+-- what an exchange of this key will be answered may be what an invalidation was to drop (RFC 9111, section 4.4)
+abbrev pub overtake : Key → Exchange → Exchange
+overtake key x = cond (same_key x.asked.target.key key) (record x { overtaken = true }) x
+
+-- an exchange ends, by an answer that invalidates what is held for a key, or by one that doesn't
+abbrev pub left_open : Option Key → ℕ → List Exchange → List Exchange
+left_open None id xs = closed id xs
+left_open (Some key) id xs = map (overtake key) (closed id xs)
+
+-- the key that an answer to an exchange invalidates
+abbrev pub invalidated_by : Option Exchange → Response → Option Key
+invalidated_by None r = None
+invalidated_by (Some x) r = key_invalidated x r
 
 -- the rule that is kept from the arrival on
 abbrev pub rule_of : Decision → ReuseRule
 rule_of (decision.Hit serial) = UriMiss
 rule_of (decision.Forward rule against) = rule
 
-abbrev pub opened : List Stored → ℕ → ℕ → Asked → Exchange
-opened es now id asked = record { id = id; asked = asked; rule = rule_of (decision_of es asked now); request_time = now }
+-- the serial that a rule names
+abbrev pub named_by : Decision → Option ℕ
+named_by (decision.Hit serial) = None
+named_by (decision.Forward rule against) = against
+
+abbrev pub opened : List Stored → ℕ → ℕ → Asked → ℕ → Exchange
+opened es now id asked line = record {
+  id = id;
+  asked = asked;
+  line = line;
+  rule = rule_of (decision_of es asked now);
+  request_time = now;
+  condition = condition_at es (named_by (decision_of es asked now));
+  overtaken = false;
+}
+
+-- an exchange goes forward once more, with the client's own request
+abbrev pub gone_out : ℕ → ℕ → Exchange → Exchange
+gone_out id now x = cond (x.id == id) (record x { request_time = now; condition = None; overtaken = false }) x
 
 -- the open exchanges after an event, in the order of arrival
 abbrev pub open_after : List Stored → List Exchange → Event → Outcome → List Exchange
-open_after es xs (Arrive now id asked) (Forward line bytes) = xs ++ opened es now id asked ∷ []
+open_after es xs (Arrive now id asked) (Forward line bytes) = xs ++ opened es now id asked line ∷ []
 open_after es xs (Arrive now id asked) (Reply r) = xs
 open_after es xs (Arrive now id asked) Ended = xs
-open_after es xs (Answer now id r) outcome = closed id xs
+open_after es xs (Answer now id r) (Forward line bytes) = map (gone_out id now) xs
+open_after es xs (Answer now id r) (Reply reply) = left_open (invalidated_by (find_exchange id xs) r) id xs
+open_after es xs (Answer now id r) Ended = left_open (invalidated_by (find_exchange id xs) r) id xs
 open_after es xs (Fail now id kind) outcome = closed id xs
 open_after es xs (Abandon id) outcome = closed id xs
 
@@ -116,19 +159,10 @@ abbrev pub NoneFrom : Option ℕ → List Stored → Type 0
 NoneFrom None es = Unit {0}
 NoneFrom (Some next) es = (serial : ℕ) → next ≤ serial → holds serial es ≡ false
 
--- the text is the date of the event's moment
-abbrev pub IsStamp : Event → List ℕ → Type 0
-IsStamp (Arrive now id asked) date = IsDateOf now date
-IsStamp (Answer now id r) date = IsDateOf now date
-IsStamp (Fail now id kind) date = IsDateOf now date
-IsStamp (Abandon id) date = Unit {0}
-
 -- one accepted step: no fault stands, the outcome is that of its case, and the core is as the case leaves it
 pub record Steps (s : State) (event : Event) (outcome : Outcome) (t : State) : Type 0 where
-  pub date : List ℕ
-  pub stamp : IsStamp event date
   pub allowed : fault_by s.exchanges event ≡ None
-  pub outcome_is : outcome ≡ outcome_by s.table date s.entries s.exchanges s.next event
+  pub outcome_is : outcome ≡ outcome_by s.table s.entries s.exchanges s.next event
   pub leaves : t ≡ after s event outcome
 
 -- a step is refused by the least fault that stands, or where none does by want of memory

@@ -1,50 +1,83 @@
--- Whether an answer is stored. For now this is narrower than RFC 9111, section 3, allows, since the reader lets no
--- request through that has Authorization or no-store: the storing rules in full take the place of `is_storable` here.
+-- Whether an answer is stored (RFC 9111, section 3), what it makes and what it takes the place of.
 --
--- is_storable: the answer may be stored     made: the stored response that it makes
-use Rattle.std.specs.Prelude.{ℕ, ◌==◌, nat_lt, nat_le, ◌&&◌, ◌||◌, not, List, [], ◌∷◌, length, take, drop, slice_get, codes, bytes_eq, Bool, true, false, Option, Some, None}
-use Rattle.std.specs.List.{list_all}
-use Rattle.std.specs.Char.{is_ascii_digit}
-use Rattle.hx_fields.specs.declared.field_line.Field.{Field}
-use Rattle.hx_fields.specs.Lines.{values_of, count_of}
+-- facts_of: what the storing rules ask beside the two heads     is_storable: no storing rule stands
+-- made: the stored response                                     replaced_by: those that it takes the place of
+-- is_unasked: a 304 that answers nothing                        invalidates: what is held for its key goes
+use Rattle.std.specs.Prelude.{ℕ, ◌==◌, nat_lt, nat_le, ◌&&◌, ◌||◌, not, List, [], ◌∷◌, filter, length, codes, Bool, true, false, Option, Some, None, is_none, cond}
+use Rattle.http.specs.Method.{safe_methods, is_among}
+use Rattle.hx_fields.specs.Lines.{has, without_named}
 use Rattle.hx_framing.specs.declared.responses.Response.{Response}
+use Rattle.hx_target.specs.declared.keys.Key.{Key}
 use Rattle.hx_age.specs.Age.{times_of}
-use Rattle.hx_vary.specs.Vary.{kept_values, is_star}
+use Rattle.hx_age.specs.Lifetime.{lifetime_of}
+use Rattle.hx_vary.specs.Vary.{kept_values, is_star, vary_matches}
+use Rattle.hx_vary.specs.declared.nominations.Nomination.{Nomination}
+use Rattle.hx_vary.specs.declared.nominations.Nomination.TheVariants.{Star, Names}
+use Rattle.hx_hop.specs.Answering.{answered_of}
+use Rattle.hx_hop.specs.Stripping.{lists_cache_field}
 use Rattle.hx_hop.specs.declared.asked_for.Asked.{Asked}
 use Rattle.hx_store.specs.Stored.{Stored}
+use Rattle.hx_store.specs.Shelf.{find_entry, serials_of}
+use Rattle.hx_storable.specs.Rules.{storage_rule_of}
+use Rattle.hx_storable.specs.declared.known_facts.Facts.{Facts}
+use Rattle.hx_validate.specs.Validators.{has_validator}
 use Rattle.proxy_core.specs.declared.exchange.Exchange.{Exchange}
+use Rattle.proxy_core.specs.Validating.{is_validation}
 
--- max-age=1*DIGIT (RFC 9111, sections 1.2.2 and 5.2.2.1)
-abbrev pub is_max_age : List ℕ → Bool
-is_max_age value =
-    nat_lt 8 (length value) && (bytes_eq (take 8 value) (codes "max-age=") && list_all is_ascii_digit (drop 8 value))
+-- no request may be answered by the response but the one that it answered
+abbrev pub names_nothing : Nomination → Bool
+names_nothing Star = true
+names_nothing (Names values) = false
 
-abbrev pub is_first_max_age : Option (List ℕ) → Bool
-is_first_max_age None = false
-is_first_max_age (Some value) = is_max_age value
+-- what the storing rules ask of an answer beside the heads of request and answer
+abbrev pub facts_of : ℕ → Exchange → Response → ℕ → Option ℕ → Facts
+facts_of max_stored x r now next = record {
+  vary_star = is_star (answered_of r now).fields;
+  listed = lists_cache_field r.fields;
+  explicit = (lifetime_of (answered_of r now).fields).explicit;
+  validator = has_validator (answered_of r now).fields;
+  too_large = nat_lt max_stored (length r.content);
+  overtaken = x.overtaken;
+  no_serial = is_none next;
+}
 
--- Cache-Control is one line, and that is max-age alone
-abbrev pub has_only_max_age : List Field → Bool
-has_only_max_age fields =
-    (count_of fields (codes "Cache-Control") == 1) && is_first_max_age (slice_get (values_of fields (codes "Cache-Control")) 0)
+-- no storing rule stands
+abbrev pub is_storable : ℕ → Exchange → Response → ℕ → Option ℕ → Bool
+is_storable max_stored x r now next = is_none (storage_rule_of x.asked (answered_of r now) (facts_of max_stored x r now next))
 
--- a GET was answered with 200, by a response that states its lifetime by max-age alone and isn't too long
-abbrev pub is_plainly_storable : ℕ → Asked → Response → Bool
-is_plainly_storable max_stored asked r =
-    ((bytes_eq asked.method (codes "GET") && (r.status == 200)) && has_only_max_age r.fields) && nat_le (length r.content) max_stored
-
--- and that nominates nothing that can't be compared
-abbrev pub is_storable : ℕ → Asked → Response → Bool
-is_storable max_stored asked r = is_plainly_storable max_stored asked r && not (is_star r.fields)
-
--- the stored response that an answer to an exchange makes (RFC 9111, sections 3 and 4.2.3)
+-- the stored response that an answer to an exchange makes (RFC 9111, sections 3, 3.1 and 4.2.3); its age is told anew
+-- each time that it is sent
 abbrev pub made : ℕ → Exchange → Response → ℕ → Stored
 made serial x r now = record {
   serial = serial;
   key = x.asked.target.key;
-  nominated = kept_values r.fields x.asked.fields;
+  nominated = kept_values (answered_of r now).fields x.asked.fields;
   status = r.status;
-  fields = r.fields;
+  fields = without_named (answered_of r now).fields (codes "Age");
   content = r.content;
-  times = times_of r.fields x.request_time now;
+  times = times_of (answered_of r now).fields x.request_time now;
 }
+
+-- the held response of this serial nominates what the request has
+abbrev pub nominates : List Stored → Asked → Option Stored → Bool
+nominates es asked None = false
+nominates es asked (Some e) = vary_matches e.nominated asked.fields
+
+-- the serials, ascending, of the held responses that a stored one takes the place of: those of its key that would
+-- answer the same request (RFC 9111, section 4.1)
+abbrev pub replaced_by : List Stored → Asked → List ℕ
+replaced_by es asked = filter (λ serial. nominates es asked (find_entry serial es)) (serials_of asked.target.key es)
+
+-- a 304 to a client that set no condition (RFC 9110, section 15.4.5)
+abbrev pub is_unasked : Asked → Response → Bool
+is_unasked asked r = (r.status == 304) && not (has asked.fields (codes "If-None-Match") || has asked.fields (codes "If-Modified-Since"))
+
+-- the answer to an unsafe request is passed on, and wasn't an error (RFC 9111, section 4.4)
+abbrev pub invalidates : Exchange → Response → Bool
+invalidates x r =
+    not (is_among safe_methods x.asked.method) && (nat_le 200 r.status && nat_le r.status 399)
+    && not (is_validation x r || is_unasked x.asked r)
+
+-- the key of which nothing is kept
+abbrev pub key_invalidated : Exchange → Response → Option Key
+key_invalidated x r = cond (invalidates x r) (Some x.asked.target.key) None

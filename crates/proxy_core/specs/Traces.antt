@@ -16,7 +16,7 @@ use Rattle.proxy_core.specs.declared.fault.CoreFault.{CoreFault}
 use Rattle.proxy_core.specs.declared.exchange.Exchange.{Exchange}
 use Rattle.hx_store.specs.Stored.{Stored}
 use Rattle.proxy_core.specs.Outcomes.{outcome_by, fault_by}
-use Rattle.proxy_core.specs.State.{State, IsStamp, Refuses, after}
+use Rattle.proxy_core.specs.State.{State, Refuses, after}
 
 pub record Item : Type 0 where
   pub event : Event
@@ -43,10 +43,8 @@ left start (item ∷ past) = after (left start past) item.event item.outcome
 -- An item is what its case gives, over the responses that are held, the exchanges that are open and the next serial:
 -- no fault stood at the event, and its outcome is that of its case.
 pub record Accepts (table : Table) (held : List Stored) (exchanges : List Exchange) (next : Option ℕ) (item : Item) : Type 0 where
-  pub date : List ℕ
-  pub stamp : IsStamp item.event date
   pub allowed : fault_by exchanges item.event ≡ None
-  pub outcome_is : item.outcome ≡ outcome_by table date held exchanges next item.event
+  pub outcome_is : item.outcome ≡ outcome_by table held exchanges next item.event
 
 -- each item is what its case gives, over what the items before it leave
 abbrev pub IsGood : State → List Item → Type 0

@@ -1,5 +1,6 @@
 //! What the reuse rules say of a request over a shelf.
 ghost use Rattle.std.specs.Prelude.{◌≡◌, IfOk};
+ghost use Rattle.hx_directives.specs.Occurrences.{occurrences_of};
 ghost use Rattle.hx_reuse.specs.Rules.{decision_of};
 
 use hx_directives::Directives;
@@ -8,7 +9,30 @@ use hx_reuse::{Decision, decide};
 use hx_store::Shelf;
 use std::alloc::{AllocError, Global};
 
-/// Whether a held response may be sent, and which, or the first rule against it.
+/// Whether a held response may be sent, and which, or the first rule against it. The request's directives are
+/// handed in.
+pub(crate) fn judge_by<S: Shelf>(
+    alloc: Global,
+    shelf: &S,
+    asked: &Asked,
+    asked_directives: &Directives,
+    now: u64,
+) -> Result<Decision, AllocError>
+    requires { asked_directives.now ≡ occurrences_of asked.now.fields }
+    ensures { IfOk result (λ decision. decision ≡ decision_of (S.entries shelf.now) asked.now now) }
+{
+    let serials = shelf.find(alloc, &asked.target.key)?;
+    decide(
+        alloc,
+        asked,
+        asked_directives,
+        shelf,
+        serials.as_slice(),
+        now,
+    )
+}
+
+/// The same, where the directives aren't read yet.
 pub(crate) fn judge<S: Shelf>(
     alloc: Global,
     shelf: &S,
@@ -17,7 +41,6 @@ pub(crate) fn judge<S: Shelf>(
 ) -> Result<Decision, AllocError>
     ensures { IfOk result (λ decision. decision ≡ decision_of (S.entries shelf.now) asked.now now) }
 {
-    let serials = shelf.find(alloc, &asked.target.key)?;
     let directives = Directives::of(alloc, &asked.fields)?;
-    decide(alloc, asked, &directives, shelf, serials.as_slice(), now)
+    judge_by(alloc, shelf, asked, &directives, now)
 }

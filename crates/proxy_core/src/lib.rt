@@ -11,26 +11,32 @@
 
 mod answering;
 mod arriving;
+mod condition;
 mod event;
 mod exchange;
 mod exchange_list;
 mod failing;
 mod fault;
+mod finishing;
+mod handling;
 mod judging;
 mod moments;
 mod outcome;
 mod proxy;
 mod reply_text;
+mod rescue;
 mod runs;
 mod serial_numbers;
 mod storing;
-#[cfg(test)]
-mod tests;
+mod turns;
+mod validating;
 
+pub use crate::condition::Condition;
 pub use crate::event::Event;
 pub use crate::exchange::Exchange;
 pub use crate::fault::CoreFault;
 pub use crate::outcome::{Outcome, Reply, Run};
 pub use crate::proxy::Core;
 pub use crate::reply_text::refused;
+pub use crate::rescue::Rescue;
 pub use crate::runs::run;

@@ -1,18 +1,20 @@
 //! The bytes of answers.
-ghost use Rattle.std.specs.Prelude.{◌≡◌, length, IfOk, Some, None};
+ghost use Rattle.std.specs.Prelude.{◌≡◌, ◌<◌, length, IfOk, Some, None};
 ghost use Rattle.hx_framing.specs.Text.{response_text};
-ghost use Rattle.httpdate.specs.Date.{date_text};
-ghost use Rattle.proxy_core.specs.Replies.{stored_text, lines_sent, passed_text, lines_passed, length_passed, ttl_passed, refused_text, lines_refused, content_sent, is_head, status_sent, ttl_at};
+ghost use Rattle.hx_hop.specs.Answering.{answered_of};
+ghost use Rattle.hx_hop.specs.Moments.{date_text_of};
+ghost use Rattle.proxy_core.specs.Replies.{stored_text, whole_text, not_modified_text, lines_sent, passed_text, lines_passed, length_passed, ttl_passed, refused_text, lines_refused, content_sent, is_head, status_sent, ttl_at, fwd_status_of, length_told};
 
 use crate::exchange::Exchange;
-use httpdate::HttpDate;
+use crate::handling::Handling;
 use hx_age::{Lifetime, Times, current_age, ttl};
 use hx_directives::Directives;
 use hx_fields::{Bytes, Fields};
 use hx_framing::{Response, write_response};
-use hx_hop::Asked;
-use hx_status::{Cause, Detail, How, Status, member, refusal};
+use hx_hop::{Answered, Asked, date_text};
+use hx_status::{Cause, How, Status, member, refusal};
 use hx_store::Entry;
+use hx_validate::{client_wants_304, not_modified};
 use std::alloc::{AllocError, Global};
 
 pub(crate) fn is_head(asked: &Asked) -> bool
@@ -28,48 +30,88 @@ fn content_sent(head: bool, content: &[u8]) -> &[u8]
     if head { &[] } else { content }
 }
 
-/// The lines of a stored response that is sent.
+/// The status of the origin's answer, where another one is sent (RFC 9211, section 2.3).
+fn fwd_status_of(came: Option<u16>, sent: u16) -> Option<u16>
+    ensures { result ≡ fwd_status_of came sent }
+{
+    match came {
+        Some(status) if status != sent => Some(status),
+        _ => None,
+    }
+}
+
+/// No length where the status has none (RFC 9110, section 8.6).
+fn length_told(status: u16, length: Option<u64>) -> Option<u64>
+    ensures { result ≡ length_told status length }
+{
+    if status == 204 || status == 304 {
+        None
+    } else {
+        length
+    }
+}
+
+/// The lines of a stored response that is sent with a status: these of its own, then Age and Cache-Status.
 fn lines_sent(
     alloc: Global,
     name: &str,
+    status: u16,
+    fields: Fields,
     entry: &Entry,
     now: u64,
-    how: How,
-    detail: Option<Detail>,
+    handling: Handling,
 ) -> Result<Fields, AllocError>
-    ensures { IfOk result (λ lines. lines ≡ lines_sent name.now entry.now now how detail) }
+    ensures { IfOk result (λ lines. lines ≡ lines_sent name.now status fields entry.now now handling) }
 {
     let age = current_age(&entry.times, now);
-    let status = Status {
-        how,
-        fwd_status: None,
+    let told = Status {
+        how: handling.how,
+        fwd_status: fwd_status_of(handling.came, status),
         ttl: Some(ttl(Lifetime::of(&entry.fields, &entry.directives), age)),
         stored: false,
         collapsed: false,
-        detail,
+        detail: handling.detail,
     };
     let digits = age.to_string(alloc)?;
-    let member = member(alloc, name, &status)?;
-    let mut lines = entry.fields.copy(alloc)?;
+    let member = member(alloc, name, &told)?;
+    let mut lines = fields;
     lines.push(b"Age", digits.as_str().as_bytes())?;
     lines.push(b"Cache-Status", member.as_slice())?;
     Ok(lines)
 }
 
-/// A message with these lines, as an answer to a request.
-fn write_answer(
+/// A stored response, whole.
+fn whole_text(
     alloc: Global,
-    status: u16,
-    lines: &Fields,
-    content: &[u8],
+    name: &str,
+    entry: &Entry,
+    now: u64,
+    handling: Handling,
     asked: &Asked,
 ) -> Result<Bytes, AllocError>
-    ensures { IfOk result (λ text. text ≡ response_text status lines.now (Some (length content.now)) asked.now.close (content_sent (is_head asked.now) content.now)) }
+    ensures { IfOk result (λ text. text ≡ whole_text name.now entry.now now handling asked.now) }
 {
-    let length = content.len() as u64;
-    let sent = content_sent(is_head(asked), content);
-    let text = write_response(alloc, status, lines, Some(length), asked.close, sent)?;
-    Ok(text)
+    let fields = entry.fields.copy(alloc)?;
+    let lines = lines_sent(alloc, name, entry.status, fields, entry, now, handling)?;
+    let length = length_told(entry.status, Some(entry.content.len() as u64));
+    let content = content_sent(is_head(asked), entry.content.as_slice());
+    write_response(alloc, entry.status, &lines, length, asked.close, content)
+}
+
+/// A 304 to a client that has a stored response already.
+fn not_modified_text(
+    alloc: Global,
+    name: &str,
+    entry: &Entry,
+    now: u64,
+    handling: Handling,
+    asked: &Asked,
+) -> Result<Bytes, AllocError>
+    ensures { IfOk result (λ text. text ≡ not_modified_text name.now entry.now now handling asked.now) }
+{
+    let fields = not_modified(alloc, entry)?;
+    let lines = lines_sent(alloc, name, 304, fields, entry, now, handling)?;
+    write_response(alloc, 304, &lines, None, asked.close, &[])
 }
 
 /// A stored response, as it is sent.
@@ -78,34 +120,35 @@ pub(crate) fn stored_text(
     name: &str,
     entry: &Entry,
     now: u64,
-    how: How,
-    detail: Option<Detail>,
+    handling: Handling,
     asked: &Asked,
 ) -> Result<Bytes, AllocError>
-    ensures { IfOk result (λ text. text ≡ stored_text name.now entry.now now how detail asked.now) }
+    ensures { IfOk result (λ text. text ≡ stored_text name.now entry.now now handling asked.now) }
 {
-    let lines = lines_sent(alloc, name, entry, now, how, detail)?;
-    let text = write_answer(alloc, entry.status, &lines, entry.content.as_slice(), asked)?;
-    Ok(text)
+    if client_wants_304(asked, entry) {
+        not_modified_text(alloc, name, entry, now, handling, asked)
+    } else {
+        whole_text(alloc, name, entry, now, handling, asked)
+    }
 }
 
 /// The seconds of freshness that an answer has left, where it was stored.
 fn ttl_passed(
     alloc: Global,
     exchange: &Exchange,
-    response: &Response,
+    head: &Answered,
     now: u64,
     stored: bool,
 ) -> Result<Option<i64>, AllocError>
-    ensures { IfOk result (λ left. left ≡ ttl_passed exchange.now response.now now stored) }
+    ensures { IfOk result (λ left. left ≡ ttl_passed exchange.now head.now.fields now stored) }
 {
     if !stored {
         return Ok(None);
     }
-    let directives = Directives::of(alloc, &response.fields)?;
-    let times = Times::of(&response.fields, exchange.request_time, now);
+    let directives = Directives::of(alloc, &head.fields)?;
+    let times = Times::of(&head.fields, exchange.request_time, now);
     let age = current_age(&times, now);
-    Ok(Some(ttl(Lifetime::of(&response.fields, &directives), age)))
+    Ok(Some(ttl(Lifetime::of(&head.fields, &directives), age)))
 }
 
 /// The lines of an answer that is passed on.
@@ -113,22 +156,22 @@ fn lines_passed(
     alloc: Global,
     name: &str,
     exchange: &Exchange,
-    response: &Response,
+    head: &Answered,
     now: u64,
     stored: bool,
 ) -> Result<Fields, AllocError>
-    ensures { IfOk result (λ lines. lines ≡ lines_passed name.now exchange.now response.now now stored) }
+    ensures { IfOk result (λ lines. lines ≡ lines_passed name.now exchange.now head.now.fields now stored) }
 {
     let status = Status {
         how: How::Fwd(exchange.rule),
         fwd_status: None,
-        ttl: ttl_passed(alloc, exchange, response, now, stored)?,
+        ttl: ttl_passed(alloc, exchange, head, now, stored)?,
         stored,
         collapsed: false,
         detail: None,
     };
     let member = member(alloc, name, &status)?;
-    let mut lines = response.fields.copy(alloc)?;
+    let mut lines = head.fields.copy(alloc)?;
     lines.push(b"Cache-Status", member.as_slice())?;
     Ok(lines)
 }
@@ -137,30 +180,30 @@ fn lines_passed(
 fn length_passed(head: bool, response: &Response) -> Option<u64>
     ensures { result ≡ length_passed head response.now }
 {
-    if response.status == 204 || response.status == 304 {
-        None
-    } else if head {
-        response.announced
+    if head {
+        length_told(response.status, response.announced)
     } else {
-        Some(response.content.len() as u64)
+        length_told(response.status, Some(response.content.len() as u64))
     }
 }
 
-/// An answer of the origin, as it is passed on.
+/// An answer of the origin, as it is passed on: its head is handed in as rules see it.
 pub(crate) fn passed_text(
     alloc: Global,
     name: &str,
     exchange: &Exchange,
     response: &Response,
+    head: &Answered,
     now: u64,
     stored: bool,
 ) -> Result<Bytes, AllocError>
+    requires { head.now ≡ answered_of response.now now }
     ensures { IfOk result (λ text. text ≡ passed_text name.now exchange.now response.now now stored) }
 {
-    let head = is_head(&exchange.asked);
-    let lines = lines_passed(alloc, name, exchange, response, now, stored)?;
-    let length = length_passed(head, response);
-    let content = content_sent(head, response.content.as_slice());
+    let to_head = is_head(&exchange.asked);
+    let lines = lines_passed(alloc, name, exchange, head, now, stored)?;
+    let length = length_passed(to_head, response);
+    let content = content_sent(to_head, response.content.as_slice());
     write_response(
         alloc,
         response.status,
@@ -171,28 +214,30 @@ pub(crate) fn passed_text(
     )
 }
 
-fn lines_refused(alloc: Global, date: HttpDate, text: &[u8]) -> Result<Fields, AllocError>
-    ensures { IfOk result (λ lines. lines ≡ lines_refused (date_text date) text.now) }
+fn lines_refused(alloc: Global, now: u64, text: &[u8]) -> Result<Fields, AllocError>
+    requires { now < 253_402_300_800 }
+    ensures { IfOk result (λ lines. lines ≡ lines_refused (date_text_of now) text.now) }
 {
     let mut lines = Fields::new(alloc);
-    lines.push(b"Date", date.to_bytes().as_slice())?;
+    lines.push(b"Date", &date_text(now))?;
     lines.push(b"Content-Type", b"text/plain")?;
     lines.push(b"Refusal", text)?;
     Ok(lines)
 }
 
-/// The proxy's own answer to a cause, with the date of its moment. HEAD gets the head alone.
+/// The proxy's own answer to a cause at a moment, in Unix seconds below the year 10000. HEAD gets the head alone.
 pub fn refused(
     alloc: Global,
-    date: HttpDate,
+    now: u64,
     cause: Cause,
     close: bool,
     head: bool,
 ) -> Result<Bytes, AllocError>
-    ensures { IfOk result (λ text. text ≡ refused_text (date_text date) cause close head) }
+    requires { now < 253_402_300_800 }
+    ensures { IfOk result (λ text. text ≡ refused_text (date_text_of now) cause close head) }
 {
     let (status, text) = refusal(alloc, cause)?;
-    let lines = lines_refused(alloc, date, text.as_slice())?;
+    let lines = lines_refused(alloc, now, text.as_slice())?;
     let content = content_sent(head, text.as_slice());
     let length = text.len() as u64;
     let message = write_response(alloc, status, &lines, Some(length), close, content)?;

@@ -1,72 +1,99 @@
-//! Whether an answer is stored, and the stored response that it makes.
-ghost use Rattle.std.specs.Prelude.{◌≡◌, ◌∷◌, take, true, false, IfOk, IfSome, OnOk, OnErr, option_map, option_copied};
-ghost use Rattle.std.specs.List.{list_all};
-ghost use Rattle.std.specs.Char.{is_ascii_digit};
-ghost use Rattle.hx_store.specs.Shelf.{holds, without, serials_of};
-ghost use Rattle.hx_vary.specs.Vary.{kept_values};
-ghost use Rattle.proxy_core.specs.Storing.{is_max_age, is_first_max_age, has_only_max_age, is_plainly_storable, made};
-ghost use Rattle.proxy_core.specs.Outcomes.{stored_serial};
-ghost use Rattle.proxy_core.specs.Replies.{passed_text};
+//! Whether an answer is stored, the stored response that it makes, and what goes for it.
+ghost use Rattle.std.specs.Prelude.{◌≡◌, ◌<◌, Some, None, IfOk, IfSome, option_map, option_copied, [], drop, filter, cond, ◌++◌};
+ghost use Rattle.hx_directives.specs.Occurrences.{occurrences_of};
+ghost use Rattle.hx_hop.specs.Answering.{answered_of};
+ghost use Rattle.hx_vary.specs.Vary.{kept_values, nominated_of};
+ghost use Rattle.hx_store.specs.Shelf.{find_entry, serials_of};
+ghost use Rattle.proxy_core.specs.Storing.{names_nothing, facts_of, is_storable, made, nominates, replaced_by, is_unasked, invalidates, key_invalidated};
+ghost use Rattle.proxy_core.specs.Outcomes.{stored_serial, removed_by};
 
 use crate::exchange::Exchange;
-use crate::reply_text::passed_text;
-use hx_age::Times;
+use crate::validating::is_validation;
+use hx_age::{Lifetime, Times};
 use hx_allow::Config;
 use hx_directives::Directives;
-use hx_fields::{Bytes, Fields};
 use hx_framing::Response;
-use hx_hop::Asked;
+use hx_hop::{Answered, Asked, lists_cache_field};
+use hx_storable::{Facts, first_rule_against, the_least_storage_rule_is_named};
 use hx_store::{Entry, Serials, Shelf};
-use hx_vary::{Nominated, Nomination};
+use hx_target::Key;
+use hx_validate::has_validator;
+use hx_vary::{Nominated, Nomination, matches};
 use std::alloc::{AllocError, Global};
-
-fn are_digits(text: &[u8]) -> bool
-    ensures { result ≡ list_all is_ascii_digit text.now }
-{
-    text.iter().all(|b| b.is_ascii_digit())
-}
-
-fn is_max_age(value: &[u8]) -> bool
-    ensures { result ≡ is_max_age value.now }
-{
-    if value.len() <= 8 {
-        return false;
-    }
-    let (name, digits) = value.split_at(8);
-    name == b"max-age=".as_slice() && are_digits(digits)
-}
-
-fn is_first_max_age(value: Option<&[u8]>) -> bool
-    ensures { result ≡ is_first_max_age (option_copied value.entry) }
-{
-    match value {
-        Some(value) => is_max_age(value),
-        None => false,
-    }
-}
-
-/// Whether Cache-Control is one line of max-age alone.
-fn has_only_max_age(fields: &Fields) -> bool
-    ensures { result ≡ has_only_max_age fields.now }
-{
-    fields.count(b"Cache-Control") == 1 && is_first_max_age(fields.value(b"Cache-Control"))
-}
-
-/// Whether an answer may be stored, but for what it nominates.
-fn is_plainly_storable(max_stored: u64, asked: &Asked, response: &Response) -> bool
-    ensures { result ≡ is_plainly_storable max_stored asked.now response.now }
-{
-    asked.method.as_str().as_bytes() == b"GET".as_slice()
-        && response.status == 200
-        && has_only_max_age(&response.fields)
-        && response.content.len() as u64 <= max_stored
-}
 
 /// The serial of a response that is to be stored, and what it nominates.
 #[derive(Drop)]
 pub(crate) struct Place {
     pub(crate) serial: u64,
     pub(crate) nominated: Nominated,
+}
+
+/// Whether no request but its own may be answered by the response (RFC 9111, section 4.1).
+fn is_star(nomination: &Nomination) -> bool
+    ensures { result ≡ names_nothing nomination.now }
+{
+    match nomination {
+        Nomination::Star => true,
+        Nomination::Names(_) => false,
+    }
+}
+
+/// What the storing rules ask of an answer beside the heads. What it nominates is handed in.
+fn facts(
+    config: &Config,
+    next: Option<u64>,
+    exchange: &Exchange,
+    response: &Response,
+    head: &Answered,
+    directives: &Directives,
+    nomination: &Nomination,
+    now: u64,
+) -> Facts
+    requires head { head.now ≡ answered_of response.now now }
+    requires directives { directives.now ≡ occurrences_of head.now.fields }
+    requires nomination { nomination.now ≡ nominated_of head.now.fields exchange.now.asked.fields }
+    ensures { result ≡ facts_of config.now.max_stored exchange.now response.now now next }
+{
+    Facts {
+        vary_star: is_star(nomination),
+        listed: lists_cache_field(&response.fields),
+        explicit: Lifetime::of(&head.fields, directives).explicit,
+        validator: has_validator(&head.fields),
+        too_large: response.content.len() as u64 > config.max_stored(),
+        overtaken: exchange.overtaken,
+        no_serial: next.is_none(),
+    }
+}
+
+/// Whether no storing rule stands.
+fn is_storable(
+    alloc: Global,
+    config: &Config,
+    next: Option<u64>,
+    exchange: &Exchange,
+    response: &Response,
+    head: &Answered,
+    nomination: &Nomination,
+    now: u64,
+) -> Result<bool, AllocError>
+    requires head { head.now ≡ answered_of response.now now }
+    requires nomination { nomination.now ≡ nominated_of head.now.fields exchange.now.asked.fields }
+    ensures { IfOk result (λ is. is ≡ is_storable config.now.max_stored exchange.now response.now now next) }
+{
+    let directives = Directives::of(alloc, &head.fields)?;
+    let asked_directives = Directives::of(alloc, &exchange.asked.fields)?;
+    let facts = facts(
+        config,
+        next,
+        exchange,
+        response,
+        head,
+        &directives,
+        nomination,
+        now,
+    );
+    let rule = first_rule_against(&exchange.asked, &asked_directives, head, &directives, facts);
+    Ok(rule.is_none())
 }
 
 /// Where an answer is stored, if it is.
@@ -76,45 +103,62 @@ pub(crate) fn place_for(
     next: Option<u64>,
     exchange: &Exchange,
     response: &Response,
+    head: &Answered,
+    now: u64,
 ) -> Result<Option<Place>, AllocError>
-    ensures serial { IfOk result (λ place. option_map (λ p. p.serial) place ≡ stored_serial config.now exchange.now response.now next) }
-    ensures nominated { IfOk result (λ place. IfSome place (λ p. p.nominated ≡ kept_values response.now.fields exchange.now.asked.fields)) }
+    requires { head.now ≡ answered_of response.now now }
+    ensures serial { IfOk result (λ place. option_map (λ p. p.serial) place ≡ stored_serial config.now exchange.now response.now now next) }
+    ensures nominated { IfOk result (λ place. IfSome place (λ p. p.nominated ≡ kept_values head.now.fields exchange.now.asked.fields)) }
 {
+    let nomination = Nominated::of(alloc, &head.fields, &exchange.asked.fields)?;
+    if !is_storable(
+        alloc,
+        config,
+        next,
+        exchange,
+        response,
+        head,
+        &nomination,
+        now,
+    )? {
+        return Ok(None);
+    }
+    the_least_storage_rule_is_named();
     let serial = match next {
         Some(serial) => serial,
         None => return Ok(None),
     };
-    if !is_plainly_storable(config.max_stored(), &exchange.asked, response) {
-        return Ok(None);
-    }
-    match Nominated::of(alloc, &response.fields, &exchange.asked.fields)? {
+    match nomination {
         Nomination::Names(nominated) => Ok(Some(Place { serial, nominated })),
         Nomination::Star => Ok(None),
     }
 }
 
 /// The stored response that an answer makes.
-fn entry_for(
+pub(crate) fn entry_for(
     alloc: Global,
     place: Place,
     exchange: &Exchange,
     response: &Response,
+    head: Answered,
     now: u64,
 ) -> Result<Entry, AllocError>
-    requires { place.nominated ≡ kept_values response.now.fields exchange.now.asked.fields }
+    requires head { head ≡ answered_of response.now now }
+    requires nominated { place.nominated ≡ kept_values head.fields exchange.now.asked.fields }
     ensures { IfOk result (λ entry. entry ≡ made place.serial exchange.now response.now now) }
 {
     let Place { serial, nominated } = place;
+    let Answered { status, mut fields } = head;
     let key = exchange.asked.target.key.copy(alloc)?;
     let content = response.content.copy(alloc)?;
-    let times = Times::of(&response.fields, exchange.request_time, now);
-    let fields = response.fields.copy(alloc)?;
+    let times = Times::of(&fields, exchange.request_time, now);
+    fields.remove_named(b"Age");
     let directives = Directives::of(alloc, &fields)?;
     Ok(Entry {
         serial,
         key,
         nominated,
-        status: response.status,
+        status,
         fields,
         directives,
         content,
@@ -122,55 +166,83 @@ fn entry_for(
     })
 }
 
-/// A stored response, what it replaces, and the answer that tells of it.
-#[derive(Drop)]
-pub(crate) struct Prepared {
-    pub(crate) entry: Entry,
-    pub(crate) removed: Serials,
-    pub(crate) bytes: Bytes,
-    pub(crate) close: bool,
+/// Whether a held response nominates what the request has.
+fn nominates<S: Shelf>(
+    alloc: Global,
+    shelf: &S,
+    asked: &Asked,
+    serial: u64,
+) -> Result<bool, AllocError>
+    ensures { IfOk result (λ is. is ≡ nominates (S.entries shelf.now) asked.now (find_entry serial (S.entries shelf.now))) }
+{
+    match shelf.peek(serial) {
+        Some(entry) => matches(alloc, &entry.nominated, &asked.fields),
+        None => Ok(false),
+    }
 }
 
-/// All that storing an answer needs. Nothing is stored yet.
-pub(crate) fn prepare<S: Shelf>(
+/// The serials of the held responses that a stored one takes the place of.
+pub(crate) fn replaced_by<S: Shelf>(
     alloc: Global,
-    config: &Config,
+    shelf: &S,
+    asked: &Asked,
+) -> Result<Serials, AllocError>
+    ensures { IfOk result (λ replaced. replaced ≡ replaced_by (S.entries shelf.now) asked.now) }
+{
+    let serials = shelf.find(alloc, &asked.target.key)?;
+    let mut replaced = Serials::new(alloc);
+    for serial in serials.as_slice() {
+        if nominates(alloc, shelf, asked, *serial)? {
+            replaced.push(*serial)?;
+        }
+    }
+    Ok(replaced)
+}
+
+/// Whether an answer is a 304 to a client that set no condition.
+pub(crate) fn is_unasked(asked: &Asked, response: &Response) -> bool
+    ensures { result ≡ is_unasked asked.now response.now }
+{
+    response.status == 304
+        && !(asked.fields.has(b"If-None-Match") || asked.fields.has(b"If-Modified-Since"))
+}
+
+/// Whether an answer invalidates what is held for the request's key.
+fn invalidates(exchange: &Exchange, response: &Response) -> bool
+    ensures { result ≡ invalidates exchange.now response.now }
+{
+    !exchange.asked.method.is_safe()
+        && (200 <= response.status && response.status <= 399)
+        && !(is_validation(exchange, response) || is_unasked(&exchange.asked, response))
+}
+
+/// The key that an answer invalidates.
+pub(crate) fn key_invalidated(
+    alloc: Global,
+    exchange: &Exchange,
+    response: &Response,
+) -> Result<Option<Key>, AllocError>
+    ensures { IfOk result (λ key. key ≡ key_invalidated exchange.now response.now) }
+{
+    if invalidates(exchange, response) {
+        Ok(Some(exchange.asked.target.key.copy(alloc)?))
+    } else {
+        Ok(None)
+    }
+}
+
+/// What goes for an answer that isn't stored.
+pub(crate) fn removed_unstored<S: Shelf>(
+    alloc: Global,
     shelf: &S,
     exchange: &Exchange,
     response: &Response,
-    now: u64,
-    place: Place,
-) -> Result<Prepared, AllocError>
-    requires { place.nominated ≡ kept_values response.now.fields exchange.now.asked.fields }
-    ensures entry { IfOk result (λ p. p.entry ≡ made place.serial exchange.now response.now now) }
-    ensures removed { IfOk result (λ p. p.removed ≡ serials_of exchange.now.asked.target.key (S.entries shelf.now)) }
-    ensures bytes { IfOk result (λ p. p.bytes ≡ passed_text config.now.name exchange.now response.now now true) }
-    ensures close { IfOk result (λ p. p.close ≡ exchange.now.asked.close) }
+) -> Result<Serials, AllocError>
+    ensures { IfOk result (λ removed. removed ≡ removed_by (S.entries shelf.now) exchange.now response.now None) }
 {
-    let removed = shelf.find(alloc, &exchange.asked.target.key)?;
-    let bytes = passed_text(alloc, config.name(), exchange, response, now, true)?;
-    let entry = entry_for(alloc, place, exchange, response, now)?;
-    Ok(Prepared {
-        entry,
-        removed,
-        bytes,
-        close: exchange.asked.close,
-    })
-}
-
-/// Stores an entry. What is evicted is let go.
-pub(crate) fn put_in<S: Shelf>(
-    shelf: &mut S,
-    entry: Entry,
-    replaced: &Serials,
-) -> Result<(), AllocError>
-    requires { holds entry.serial (S.entries shelf.old) ≡ false }
-    ensures ok { OnOk result (S.entries shelf.new ≡ take (S.limit shelf.old) (entry ∷ without replaced.now (S.entries shelf.old))) }
-    ensures err { OnErr result (S.entries shelf.new ≡ S.entries shelf.old) }
-    ensures limit { S.limit shelf.new ≡ S.limit shelf.old }
-{
-    match shelf.put(entry, replaced.as_slice()) {
-        Ok(_) => Ok(()),
-        Err(_) => Err(AllocError),
+    if invalidates(exchange, response) {
+        shelf.find(alloc, &exchange.asked.target.key)
+    } else {
+        Ok(Serials::new(alloc))
     }
 }

@@ -17,6 +17,7 @@ use Rattle.hx_reuse.specs.declared.decision.Decision.{Decision}
 use Rattle.hx_reuse.specs.declared.decision.Decision.TheVariants as decision
 use Rattle.hx_status.specs.declared.cause.Cause.{Cause}
 use Rattle.hx_status.specs.declared.cause.FailKind.{FailKind}
+use Rattle.hx_target.specs.declared.keys.Key.{Key}
 use Rattle.hx_store.specs.Stored.{Stored}
 use Rattle.proxy_core.specs.declared.exchange.Exchange.{Exchange}
 use Rattle.proxy_core.specs.declared.event.Event.TheVariants as events
@@ -24,7 +25,7 @@ use Rattle.proxy_core.specs.declared.outcome.Outcome.{Outcome}
 use Rattle.proxy_core.specs.declared.outcome.Outcome.TheVariants as outcomes
 use Rattle.proxy_core.specs.Outcomes.{find_exchange, outcome_of, failed}
 use Rattle.proxy_core.specs.Replies.{is_head}
-use Rattle.proxy_core.specs.State.{State as CoreState, Steps, closed, opened as opened_exchange}
+use Rattle.proxy_core.specs.State.{State as CoreState, Steps, closed, left_open, invalidated_by, opened as opened_exchange}
 use Rattle.proxy_script.specs.declared.effect_list.Effect.{Effect}
 use Rattle.proxy_script.specs.declared.effect_list.Effect.TheVariants as effects
 use Rattle.proxy_engine.specs.Happenings.{Accepts, Sends, Hears, Ends, Leaves, Shuts, Fails}
@@ -33,7 +34,8 @@ use Rattle.proxy_engine.specs.Due.{Abandons, Finishes, Serves, Finish, Gives, Br
 use Rattle.proxy_engine.specs.Acts.{Does, Served, Finished, Arrives, Refuses, Closes, Replies, came, effects_on, after_on, freed, linked, closing, dropping, passing, next_number}
 use Rattle.proxy_engine.specs.Wiring.{Wired, at}
 use Rattle.proxy_engine.specs.Orderly.{IsOrderly, IsOpen, NamesOpen, link_told, owner_told, BeginsOrderly, TakesInOrder, ActsInOrder}
-use Rattle.proxy_engine.proofs.Wires.{within, wired_more, wired_freed, wired_opened}
+use Rattle.proxy_engine.proofs.TakenLemmas.{taken_when_stood, is_reply, answer_replies, failure_replies, answer_leaves}
+use Rattle.proxy_engine.proofs.Wires.{within, wired_more, wired_freed, wired_opened, wired_left}
 
 -- what stands at a place of either list
 links_here : (cs : List ConnStory) (i : ℕ) → at (map link_told cs) i ≡ (get_or cs i no_connection).link
@@ -150,6 +152,10 @@ freed_order cs ks xs i j c k here h = (
   free_set cs i (linked None c) (λ e. refl) h.1,
 )
 
+-- the exchanges that an invalidation marks stay open
+left_order : (cs : List ConnStory) (ks : List LinkStory) (xs : List Exchange) (key : Option Key) (id : ℕ) → Order cs ks (closed id xs) → Order cs ks (left_open key id xs)
+left_order cs ks xs key id h = (wired_left (map link_told cs) (map owner_told ks) xs key id h.0, h.1)
+
 closing_order : (cs : List ConnStory) (ks : List LinkStory) (xs : List Exchange) (i : ℕ) (close : Bool) → (get_or cs i no_connection).link ≡ None → Order cs ks xs → Order (set cs i (closing close (get_or cs i no_connection))) ks xs
 closing_order cs ks xs i close none h = connection_changed cs ks xs i (closing close (get_or cs i no_connection)) refl (λ e. none) h
 
@@ -182,41 +188,24 @@ both_moved : (s now after : Story) (told said : List Effect) → after ≡ now �
 both_moved s now after told said a t h names =
     (subst (λ (x : Story). IsOrderly x) (sym a) h, subst (λ (x : Story). NamesOpen s x told) (sym a) (subst (λ (es : List Effect). NamesOpen s now es) (sym t) names))
 
-abbrev is_reply : Outcome → Bool
-is_reply (outcomes.Reply r) = true
-is_reply (outcomes.Forward line bytes) = false
-is_reply outcomes.Ended = false
-
-answer_replies : (table : Table) (date : List ℕ) (es : List Stored) (xs : List Exchange) (x : Option Exchange) (o : Option ℕ) (now id : ℕ) (r : Response) → is_some x ≡ true → is_reply (outcome_of table date es xs x o (events.Answer now id r)) ≡ true
-answer_replies table date es xs (Some x) o now id r e = refl
-answer_replies table date es xs None o now id r e = cc
-
-failed_replies : (table : Table) (date : List ℕ) (es : List Stored) (now : ℕ) (x : Exchange) (kind : FailKind) (d : Decision) → is_reply (failed table date es now x kind d) ≡ true
-failed_replies table date es now x kind (decision.Hit serial) = refl
-failed_replies table date es now x kind (decision.Forward rule against) = refl
-
-failure_replies : (table : Table) (date : List ℕ) (es : List Stored) (xs : List Exchange) (x : Option Exchange) (o : Option ℕ) (now id : ℕ) (kind : FailKind) → is_some x ≡ true → is_reply (outcome_of table date es xs x o (events.Fail now id kind)) ≡ true
-failure_replies table date es xs (Some x) o now id kind e = failed_replies table date es now x kind (decision_of es x.asked now)
-failure_replies table date es xs None o now id kind e = cc
-
 finished_order : (s : Story) (i j : ℕ) (o : Outcome) (core : CoreState) (to_head : Bool) (told : List Effect) (after : Story) → IsOrderly s → j < length s.links → at (map link_told s.connections) i ≡ Some j → (link_at s j).dropped ≡ false → IsOpen s (i + 1)
-    → core.exchanges ≡ closed (i + 1) s.core.exchanges → is_reply o ≡ true → told ≡ effects.Drop (s.first + j) ∷ effects_on i (next_number s) (came s.core.table o) → after ≡ after_on i to_head (came s.core.table o) (with_core (freed s j i) core)
+    → (key : Option Key) → core.exchanges ≡ left_open key (i + 1) s.core.exchanges → is_reply o ≡ true → told ≡ effects.Drop (s.first + j) ∷ effects_on i (next_number s) (came s.core.table o) → after ≡ after_on i to_head (came s.core.table o) (with_core (freed s j i) core)
     → IsOrderly after × NamesOpen s after told
-finished_order s i j (outcomes.Reply r) core to_head told after h within_links here link_open unshut xs e told_is after_is =
+finished_order s i j (outcomes.Reply r) core to_head told after h within_links here link_open unshut key xs e told_is after_is =
     let cs = set s.connections i (linked None (connection_at s i)) in
     let ks = set s.links j (dropping (link_at s j)) in
     let inside : i < length s.connections = subst (λ n. i < n) (length-map s.connections link_told) (within (map link_told s.connections) i j here) in
     let inside_now : i < length cs = subst (λ n. i < n) (sym (length-set s.connections i (linked None (connection_at s i)))) inside in
     let none : (get_or cs i no_connection).link ≡ None = ap (λ (c : ConnStory). c.link) (get_or-set_same s.connections i (linked None (connection_at s i)) no_connection inside) in
-    let free : Order cs ks core.exchanges = subst (λ (xs : List Exchange). Order cs ks xs) (sym xs) (freed_order s.connections s.links s.core.exchanges i j (connection_at s i) (link_at s j) here (order_of s h)) in
+    let free : Order cs ks core.exchanges = subst (λ (xs : List Exchange). Order cs ks xs) (sym xs) (left_order cs ks s.core.exchanges key (i + 1) (freed_order s.connections s.links s.core.exchanges i j (connection_at s i) (link_at s j) here (order_of s h))) in
     let now = with_connection (with_core (freed s j i) core) i (closing r.close) in
     both_moved s now after told (effects.Drop (s.first + j) ∷ effects_on i (next_number s) (Replies r.bytes r.close)) after_is told_is
     (orderly now (closing_order cs ks core.exchanges i r.close none free)) (
       record { place = j; number = refl; still = link_open; dropped = ap (λ (k : LinkStory). k.dropped) (get_or-set_same s.links j (dropping (link_at s j)) no_link within_links) },
       names_reply s now i (next_number s) r.bytes r.close unshut (λ shut. shut_there cs i (get_or cs i no_connection) r.close inside_now shut),
     )
-finished_order s i j (outcomes.Forward line bytes) core to_head told after h within_links here link_open unshut xs e told_is after_is = cc
-finished_order s i j outcomes.Ended core to_head told after h within_links here link_open unshut xs e told_is after_is = cc
+finished_order s i j (outcomes.Forward line bytes) core to_head told after h within_links here link_open unshut key xs e told_is after_is = cc
+finished_order s i j outcomes.Ended core to_head told after h within_links here link_open unshut key xs e told_is after_is = cc
 
 -- ---- what is known where an act is due
 
@@ -256,7 +245,7 @@ lost_parts false o l e = cc
 
 -- the exchange on the link at j is finished
 finishes_order : (s : Story) (now j : ℕ) (f : Finish) (told : List Effect) (after : Story) → IsOrderly s → IsDueFirst s (Some (Finishes j f)) → Finished s now j (link_at s j).connection f told after → IsOrderly after × NamesOpen s after told
-finishes_order s now j f told after h due done = by_finish f done
+finishes_order s now j f told after h due done = by_finish f due.1.1 done
   where
     i : ℕ
     i = (link_at s j).connection
@@ -282,13 +271,16 @@ finishes_order s now j f told after h due done = by_finish f done
     is_there : is_some (find_exchange (i + 1) xs) ≡ true
     is_there = h.wired.opened i ∙ ap is_some here
 
-    by_finish : (f : Finish) → Finished s now j i f told after → IsOrderly after × NamesOpen s after told
-    by_finish (Gives r) d =
-        finished_order s i j d.1.outcome d.1.core (link_at s j).progress.to_head told after h due.1.0 here link_open unshut (ap (λ (k : CoreState). k.exchanges) d.1.steps.leaves)
-        (ap is_reply d.1.steps.outcome_is ∙ answer_replies s.core.table d.1.steps.date s.core.entries xs (find_exchange (i + 1) xs) s.core.next now (i + 1) r is_there) d.1.told_is d.1.after_is
-    by_finish (Breaks kind) d =
-        finished_order s i j d.outcome d.core (link_at s j).progress.to_head told after h due.1.0 here link_open unshut (ap (λ (k : CoreState). k.exchanges) d.steps.leaves)
-        (ap is_reply d.steps.outcome_is ∙ failure_replies s.core.table d.steps.date s.core.entries xs (find_exchange (i + 1) xs) s.core.next now (i + 1) kind is_there) d.told_is d.after_is
+    by_finish : (f : Finish) → FinishBy (link_at s j).dropped (link_at s j) (Some f) → Finished s now j i f told after → IsOrderly after × NamesOpen s after told
+    by_finish (Gives r) stood d =
+        let replies : is_reply d.1.outcome ≡ true =
+        ap is_reply d.1.steps.outcome_is
+        ∙ answer_replies s.core.table s.core.entries xs (find_exchange (i + 1) xs) s.core.next now (i + 1) r is_there (taken_when_stood (link_at s j).dropped (link_at s j) r stood) in
+        finished_order s i j d.1.outcome d.1.core (link_at s j).progress.to_head told after h due.1.0 here link_open unshut (invalidated_by (find_exchange (i + 1) xs) r)
+        (ap (λ (k : CoreState). k.exchanges) d.1.steps.leaves ∙ answer_leaves s.core.entries xs now (i + 1) r d.1.outcome replies) replies d.1.told_is d.1.after_is
+    by_finish (Breaks kind) stood d =
+        finished_order s i j d.outcome d.core (link_at s j).progress.to_head told after h due.1.0 here link_open unshut None (ap (λ (k : CoreState). k.exchanges) d.steps.leaves)
+        (ap is_reply d.steps.outcome_is ∙ failure_replies s.core.table s.core.entries xs (find_exchange (i + 1) xs) s.core.next now (i + 1) kind is_there) d.told_is d.after_is
 
 -- the exchange of the connection at i is abandoned
 abandons_order : (s : Story) (now i l : ℕ) (told : List Effect) (after : Story) → IsOrderly s → IsDueFirst s (Some (Abandons i l)) → Does s now (Abandons i l) told after → IsOrderly after × NamesOpen s after told
@@ -343,7 +335,7 @@ arrived_order s now i m asked o core to_head told after h inside unshut unclosed
         (orderly (with_connection base i (closing r.close)) (closing_order cs s.links core.exchanges i r.close none_now (subst (λ (xs : List Exchange). Order cs s.links xs) (sym same) passed)))
         (names_reply s (with_connection base i (closing r.close)) i (next_number s) r.bytes r.close unshut (λ shut. shut_there cs i (get_or cs i no_connection) r.close inside_now shut))
     by_outcome (outcomes.Forward line bytes) steps told_is after_is =
-        let x = opened_exchange s.core.entries now (i + 1) asked in
+        let x = opened_exchange s.core.entries now (i + 1) asked line in
         let more : core.exchanges ≡ s.core.exchanges ++ x ∷ [] = ap (λ (k : CoreState). k.exchanges) steps.leaves in
         let behind = after_on i to_head (came s.core.table (outcomes.Forward line bytes)) base in
         both_moved s behind after told (effects_on i (next_number s) (came s.core.table (outcomes.Forward line bytes))) after_is told_is

@@ -13,7 +13,10 @@ use Rattle.hx_reuse.specs.Rules.{decision_of}
 use Rattle.hx_reuse.specs.declared.decision.Decision.{Decision}
 use Rattle.hx_reuse.specs.declared.decision.Decision.TheVariants as decision
 use Rattle.hx_store.specs.Stored.{Stored}
-use Rattle.proxy_core.specs.Outcomes.{allowed, arrived, outcome_of, find_exchange}
+use Rattle.hx_reuse.specs.declared.rule.ReuseRule.{ReuseRule}
+use Rattle.proxy_core.specs.declared.condition.Condition.{Condition}
+use Rattle.proxy_core.specs.Validating.{condition_at}
+use Rattle.proxy_core.specs.Outcomes.{allowed, unanswered, is_only_if_cached, arrived, outcome_of, find_exchange}
 use Rattle.proxy_core.specs.declared.exchange.Exchange.{Exchange}
 use Rattle.proxy_core.specs.declared.outcome.Reply.{Reply}
 use Rattle.proxy_core.specs.declared.event.Event.{Event}
@@ -38,15 +41,19 @@ use Rattle.proxy_engine.proofs.Parts.{both_length}
 use Rattle.proxy_engine.proofs.Changes.{changed_connection, changed_core}
 use Rattle.proxy_engine.proofs.Wishing.{same_place}
 
+line_of_unanswered : (table : Table) (n now : ℕ) (asked : Asked) (rule : ReuseRule) (condition : Option Condition) (only : Bool) (line : ℕ) (bytes : List ℕ) → unanswered table n now asked rule condition only ≡ outcomes.Forward line bytes → n ≡ line
+line_of_unanswered table n now asked rule condition true line bytes e = absurd (cc)
+line_of_unanswered table n now asked rule condition false line bytes e = cc
+
 line_of_allowed : (table : Table) (es : List Stored) (n now : ℕ) (asked : Asked) (d : Decision) (line : ℕ) (bytes : List ℕ) → allowed table es n now asked d ≡ outcomes.Forward line bytes → n ≡ line
 line_of_allowed table es n now asked (decision.Hit serial) line bytes e = cc
-line_of_allowed table es n now asked (decision.Forward rule against) line bytes e = cc
+line_of_allowed table es n now asked (decision.Forward rule against) line bytes e = line_of_unanswered table n now asked rule (condition_at es against) (is_only_if_cached asked) line bytes e
 
 -- a request goes forward to the origin of the line that the verdict names
-forward_address : (table : Table) (date : List ℕ) (es : List Stored) (now : ℕ) (asked : Asked) (v : Verdict) (line : ℕ) (bytes : List ℕ) → arrived table date es now asked v ≡ outcomes.Forward line bytes → verdict_address table v ≡ address_of table line
-forward_address table date es now asked (verdict.Allowed n) line bytes e = ap (address_of table) (line_of_allowed table es n now asked (decision_of es asked now) line bytes e)
-forward_address table date es now asked (verdict.DeniedBy n) line bytes e = cc
-forward_address table date es now asked verdict.NoLine line bytes e = cc
+forward_address : (table : Table) (es : List Stored) (now : ℕ) (asked : Asked) (v : Verdict) (line : ℕ) (bytes : List ℕ) → arrived table es now asked v ≡ outcomes.Forward line bytes → verdict_address table v ≡ address_of table line
+forward_address table es now asked (verdict.Allowed n) line bytes e = ap (address_of table) (line_of_allowed table es n now asked (decision_of es asked now) line bytes e)
+forward_address table es now asked (verdict.DeniedBy n) line bytes e = cc
+forward_address table es now asked verdict.NoLine line bytes e = cc
 
 same_way : (address : List ℕ) (table : Table) (o : Outcome) → ((line : ℕ) (bytes : List ℕ) → o ≡ outcomes.Forward line bytes → address ≡ address_of table line) → came_at address o ≡ came table o
 same_way address table (outcomes.Reply r) h = refl
@@ -55,7 +62,7 @@ same_way address table outcomes.Ended h = refl
 
 arrival_way : (core core1 : CoreState) (now id : ℕ) (asked : Asked) (o : Outcome) (address : List ℕ) → Steps core (events.Arrive now id asked) o core1 → address ≡ verdict_address core.table (verdict_of core.table.lines asked.method asked.target) → came_at address o ≡ came core.table o
 arrival_way core core1 now id asked o address steps e =
-    same_way address core.table o (λ line bytes f. e ∙ forward_address core.table steps.date core.entries now asked (verdict_of core.table.lines asked.method asked.target) line bytes (sym steps.outcome_is ∙ f))
+    same_way address core.table o (λ line bytes f. e ∙ forward_address core.table core.entries now asked (verdict_of core.table.lines asked.method asked.target) line bytes (sym steps.outcome_is ∙ f))
 
 -- a request has arrived
 pub arrived_done : (s : Story) (cs cs2 : List Connection) (ks ks1 ks2 : List Link) (core core1 : CoreState) (first now i max_body : ℕ) (r : Request) (asked : Asked) (o : Outcome) (address : List ℕ) (to_head : Bool) (x y d : Connection) (told : List Effect)
@@ -97,15 +104,15 @@ arrived_done s cs cs2 ks ks1 ks2 core core1 first now i max_body r asked o addre
           (subst (λ (q : Came). Stands (state cs2 ks2 core1 first) (after_on i to_head q (with_core passed core1))) coming done);
     }
 
-abandoned_by : (table : Table) (date : List ℕ) (es : List Stored) (xs : List Exchange) (x : Option Exchange) (next : Option ℕ) (id : ℕ) → outcome_of table date es xs x next (events.Abandon id) ≡ outcomes.Ended
-abandoned_by table date es xs None next id = refl
-abandoned_by table date es xs (Some x) next id = refl
+abandoned_by : (table : Table) (es : List Stored) (xs : List Exchange) (x : Option Exchange) (next : Option ℕ) (id : ℕ) → outcome_of table es xs x next (events.Abandon id) ≡ outcomes.Ended
+abandoned_by table es xs None next id = refl
+abandoned_by table es xs (Some x) next id = refl
 
 -- a link whose connection is gone is dropped
 pub abandoned_done : (s : Story) (cs1 : List Connection) (ks1 : List Link) (core core1 : CoreState) (first now i l : ℕ) (o : Outcome) (told : List Effect) → Steps core (events.Abandon (i + 1)) o core1
     → told ≡ effects.Drop (first + l) ∷ [] → first ≡ s.first → core ≡ s.core → Stands (state cs1 ks1 core first) (freed s l i) → Done s now (Abandons i l) told (state cs1 ks1 core1 first)
 abandoned_done s cs1 ks1 core core1 first now i l o told steps is first_is core_is h =
-    let ends : o ≡ outcomes.Ended = steps.outcome_is ∙ abandoned_by core.table steps.date core.entries core.exchanges (find_exchange (i + 1) core.exchanges) core.next (i + 1) in
+    let ends : o ≡ outcomes.Ended = steps.outcome_is ∙ abandoned_by core.table core.entries core.exchanges (find_exchange (i + 1) core.exchanges) core.next (i + 1) in
     record {
       after = after_on i false (came s.core.table o) (with_core (freed s l i) core1);
       does = record {

@@ -11,7 +11,10 @@ use Rattle.proxy_core.specs.declared.fault.CoreFault.{CoreFault}
 use Rattle.proxy_core.specs.declared.fault.CoreFault.TheVariants.{MomentTooLate, OutOfMemory}
 use Rattle.hx_hop.specs.declared.asked_for.Asked.{Asked}
 use Rattle.hx_store.specs.Stored.{Stored}
-use Rattle.proxy_core.specs.State.{State as CoreState, closed, opened, open_after}
+use Rattle.hx_target.specs.declared.keys.Key.{Key}
+use Rattle.hx_target.specs.Keys.{same_key}
+use Rattle.proxy_engine.proofs.TakenLemmas.{is_reply, answer_leaves}
+use Rattle.proxy_core.specs.State.{State as CoreState, closed, opened, open_after, overtake, left_open, invalidated_by}
 use Rattle.proxy_core.specs.declared.outcome.Outcome.{Outcome}
 use Rattle.proxy_core.specs.declared.event.Event.TheVariants.{Arrive}
 use Rattle.proxy_core.specs.declared.outcome.Outcome.TheVariants.{Forward}
@@ -150,6 +153,33 @@ wired_freed links owners xs i j here h = record {
     opened_by k (inr other) =
         ap is_some (find_kept (i + 1) (k + 1) xs (λ q. other (omega (arith, q)))) ∙ (h.opened k ∙ sym (ap is_some (get_or-set_other links i k None None other)))
 
+-- ---- others are overtaken
+
+overtaken_by : (b : Bool) (x : Exchange) (id : ℕ) (o p : Option Exchange) → is_some o ≡ is_some p
+    → is_some (cond ((cond b (record x { overtaken = true }) x).id == id) (Some (cond b (record x { overtaken = true }) x)) o) ≡ is_some (cond (x.id == id) (Some x) p)
+overtaken_by true x id o p h = open_by (x.id == id)
+  where
+    open_by : (b : Bool) → is_some (cond b (Some (record x { overtaken = true })) o) ≡ is_some (cond b (Some x) p)
+    open_by true = refl
+    open_by false = h
+overtaken_by false x id o p h = is_some_by (x.id == id) x o p h
+
+find_overtaken : (key : Key) (id : ℕ) (xs : List Exchange) → is_some (find_exchange id (map (overtake key) xs)) ≡ is_some (find_exchange id xs)
+find_overtaken key id [] = refl
+find_overtaken key id (x ∷ xs) = overtaken_by (same_key x.asked.target.key key) x id (find_exchange id (map (overtake key) xs)) (find_exchange id xs) (find_overtaken key id xs)
+
+-- what is marked stays open
+find_left : (key : Option Key) (id other : ℕ) (xs : List Exchange) → is_some (find_exchange other (left_open key id xs)) ≡ is_some (find_exchange other (closed id xs))
+find_left None id other xs = refl
+find_left (Some key) id other xs = find_overtaken key other (closed id xs)
+
+pub wired_left : (links owners : List (Option ℕ)) (xs : List Exchange) (key : Option Key) (id : ℕ) → Wired links owners (closed id xs) → Wired links owners (left_open key id xs)
+wired_left links owners xs key id h = record {
+  owned = h.owned;
+  linked = h.linked;
+  opened = λ i. find_left key id (i + 1) xs ∙ h.opened i;
+}
+
 -- ---- one opens
 
 pub wired_opened : (links owners : List (Option ℕ)) (xs : List Exchange) (x : Exchange) (i : ℕ) → i < length links → at links i ≡ None → x.id ≡ i + 1 → Wired links owners xs
@@ -195,9 +225,9 @@ pub wired_stepped : (cs cs1 : List Connection) (ks ks1 : List Link) (held : List
 wired_stepped cs cs1 ks ks1 held xs now i line asked bytes here links owners free h =
     let size : length (owners_of ks) ≡ length ks = length-map ks owner_of in
     let wires : length (links_of cs) ≡ length cs = length-map cs link_of in
-    let opens = wired_opened (links_of cs) (owners_of ks) xs (opened held now (i + 1) asked) i (omega (arith, here, wires)) free refl h in
-    subst (λ (ls : List (Option ℕ)). Wired ls (owners_of ks1) (xs ++ opened held now (i + 1) asked ∷ [])) (sym (links ∙ ap (λ n. set (links_of cs) i (Some n)) (sym size)))
-    (subst (λ (os : List (Option ℕ)). Wired (set (links_of cs) i (Some (length (owners_of ks)))) os (xs ++ opened held now (i + 1) asked ∷ [])) (sym owners) opens)
+    let opens = wired_opened (links_of cs) (owners_of ks) xs (opened held now (i + 1) asked line) i (omega (arith, here, wires)) free refl h in
+    subst (λ (ls : List (Option ℕ)). Wired ls (owners_of ks1) (xs ++ opened held now (i + 1) asked line ∷ [])) (sym (links ∙ ap (λ n. set (links_of cs) i (Some n)) (sym size)))
+    (subst (λ (os : List (Option ℕ)). Wired (set (links_of cs) i (Some (length (owners_of ks)))) os (xs ++ opened held now (i + 1) asked line ∷ [])) (sym owners) opens)
 
 -- ---- on both sides
 
@@ -237,16 +267,21 @@ is_free cs ks xs i x l e free w =
     (none, w.opened i ∙ ap is_some none)
 
 -- an exchange has ended, on all sides
-pub wired_ended : (cs cs1 : List Connection) (ks ks1 : List Link) (xs xs1 : List Exchange) (i j : ℕ) → at (links_of cs) i ≡ Some j → links_of cs1 ≡ set (links_of cs) i None → owners_of ks1 ≡ set (owners_of ks) j None → xs1 ≡ closed (i + 1) xs
+pub wired_ended : (cs cs1 : List Connection) (ks ks1 : List Link) (xs xs1 : List Exchange) (i j : ℕ) → at (links_of cs) i ≡ Some j → links_of cs1 ≡ set (links_of cs) i None → owners_of ks1 ≡ set (owners_of ks) j None → (key : Option Key) → xs1 ≡ left_open key (i + 1) xs
     → Wired (links_of cs) (owners_of ks) xs → Wired (links_of cs1) (owners_of ks1) xs1
-wired_ended cs cs1 ks ks1 xs xs1 i j h links owners exchanges w =
+wired_ended cs cs1 ks ks1 xs xs1 i j h links owners key exchanges w =
     subst (λ (ls : List (Option ℕ)). Wired ls (owners_of ks1) xs1) (sym links)
     (subst (λ (os : List (Option ℕ)). Wired (set (links_of cs) i None) os xs1) (sym owners)
-    (subst (λ (es : List Exchange). Wired (set (links_of cs) i None) (set (owners_of ks) j None) es) (sym exchanges) (wired_freed (links_of cs) (owners_of ks) xs i j h w)))
+    (subst (λ (es : List Exchange). Wired (set (links_of cs) i None) (set (owners_of ks) j None) es) (sym exchanges) (wired_left (set (links_of cs) i None) (set (owners_of ks) j None) xs key (i + 1) (wired_freed (links_of cs) (owners_of ks) xs i j h w))))
 
-pub ended_exchanges : (core core1 : CoreState) (now id : ℕ) (f : Finish) (o : Outcome) → Ends core now id f o core1 → core1.exchanges ≡ closed id core.exchanges
-ended_exchanges core core1 now id (Gives r) o h = ap (λ (k : CoreState). k.exchanges) h.leaves
-ended_exchanges core core1 now id (Breaks kind) o h = ap (λ (k : CoreState). k.exchanges) h.leaves
+-- the key that the end of an exchange invalidates
+abbrev pub key_of : CoreState → ℕ → Finish → Option Key
+key_of core id (Gives r) = invalidated_by (find_exchange id core.exchanges) r
+key_of core id (Breaks kind) = None
+
+pub ended_exchanges : (core core1 : CoreState) (now id : ℕ) (f : Finish) (o : Outcome) → is_reply o ≡ true → Ends core now id f o core1 → core1.exchanges ≡ left_open (key_of core id f) id core.exchanges
+ended_exchanges core core1 now id (Gives r) o replies h = ap (λ (k : CoreState). k.exchanges) h.leaves ∙ answer_leaves core.entries core.exchanges now id r o replies
+ended_exchanges core core1 now id (Breaks kind) o replies h = ap (λ (k : CoreState). k.exchanges) h.leaves
 
 -- links and connections that read the same
 pub wired_same : (ls ls1 os os1 : List (Option ℕ)) (xs : List Exchange) → ls1 ≡ ls → os1 ≡ os → Wired ls os xs → Wired ls1 os1 xs

@@ -1,7 +1,5 @@
 -- What a client's stream asks for, done on both sides.
 use Rattle.std.proofs.Common.{◌≡◌, ℕ, zero, suc, ◌+◌, ◌<◌, List, [], ◌∷◌, ◌++◌, length, get_or, set, refl, sym, ap, ◌∙◌, subst, arith, Bool, true, false, cond, ◌&&◌, is_some, Option, None, Some, Result, Ok, Err, IfOk, OnOk}
-use Rattle.httpdate.specs.Date.{unix_secs, date_text}
-use Rattle.httpdate.specs.declared.date.HttpDate.{HttpDate}
 use Rattle.hx_framing.specs.declared.requests.Request.{Request}
 use Rattle.hx_framing.specs.declared.fault.FrameFault.{FrameFault}
 use Rattle.hx_framing.specs.declared.fault.FrameFault.TheVariants as frame
@@ -10,7 +8,6 @@ use Rattle.hx_framing.specs.declared.answer.Next.TheVariants as next
 use Rattle.hx_hop.specs.declared.asked_for.Asked.{Asked}
 use Rattle.hx_status.specs.declared.cause.Cause.{Cause}
 use Rattle.hx_status.specs.declared.cause.Cause.TheVariants as cause
-use Rattle.proxy_core.specs.Moments.{IsDateOf}
 use Rattle.proxy_core.specs.Replies.{refused_text}
 use Rattle.proxy_core.specs.State.{State as CoreState}
 use Rattle.proxy_script.specs.declared.effect_list.Effect.{Effect}
@@ -37,11 +34,6 @@ same_place (y ∷ xs) (suc i) x d l e = same_place xs i x d (omega arith) e
 -- the only effect
 pub told_one : (before now : List Effect) (e : Effect) → now ≡ before ++ e ∷ [] → before ≡ [] → now ≡ e ∷ []
 told_one before now e is none = is ∙ ap (λ (b : List Effect). b ++ e ∷ []) none
-
-pub stamped : {E : Type 0} (r : Result (List ℕ) E) (d : HttpDate) (now : ℕ) (why : Cause) (head : Bool) → unix_secs d ≡ now → IfOk r (λ text. text ≡ refused_text (date_text d) why true head)
-    → IfOk r (λ text. (date : List ℕ) × IsDateOf now date × (text ≡ refused_text date why true head))
-stamped (Ok t) d now why head e h = (date_text d, record { date = d; seconds = e; shown = refl }, h)
-stamped (Err e) d now why head same h = tt
 
 -- a continue is sent
 pub continued : (s : Story) (cs : List Connection) (ks : List Link) (core : CoreState) (first now i : ℕ) (x y d : Connection) (told : List Effect) → i < length cs → x ≡ get_or cs i x → (get_or cs i d).watch.look ≡ Due next.NeedsContinue

@@ -13,7 +13,7 @@ use Rattle.hx_allow.specs.Lines.{Table}
 use Rattle.hx_allow.specs.Matching.{origin_of}
 use Rattle.hx_status.specs.declared.cause.Cause.{Cause}
 use Rattle.hx_status.specs.declared.cause.Cause.TheVariants as cause
-use Rattle.proxy_core.specs.Moments.{IsDateOf}
+use Rattle.hx_hop.specs.Moments.{date_text_of}
 use Rattle.proxy_core.specs.Replies.{refused_text, is_head}
 use Rattle.proxy_core.specs.State.{State as CoreState, Steps}
 use Rattle.proxy_core.specs.declared.outcome.Outcome.{Outcome}
@@ -103,9 +103,7 @@ continue_text = codes "HTTP/1.1 100 Continue\r\n\r\n"
 
 -- the proxy answers by itself, and closes
 pub record Refuses (s : Story) (now i : ℕ) (why : Cause) (head : Bool) (told : List Effect) (after : Story) : Type 0 where
-  pub date : List ℕ
-  pub stamp : IsDateOf now date
-  pub told_is : told ≡ effects.Client (i + 1) (refused_text date why true head) ∷ effects.Close (i + 1) ∷ []
+  pub told_is : told ≡ effects.Client (i + 1) (refused_text (date_text_of now) why true head) ∷ effects.Close (i + 1) ∷ []
   pub after_is : after ≡ with_connection s i (closing true)
 
 abbrev pub Closes : Story → ℕ → List Effect → Story → Type 0

@@ -20,8 +20,6 @@ mod response_watch;
 mod serving;
 mod taken;
 mod takes;
-#[cfg(test)]
-mod tests;
 mod wishes;
 
 pub use crate::engine::Engine;

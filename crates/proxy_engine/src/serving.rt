@@ -5,7 +5,7 @@ ghost use Rattle.hx_framing.specs.declared.answer.Next.{Next};
 ghost use Rattle.hx_framing.specs.declared.answer.Next.TheVariants as next;
 ghost use Rattle.proxy_engine.specs.Taken.{IsAdmitted};
 ghost use Rattle.hx_allow.specs.Matching.{verdict_of};
-ghost use Rattle.proxy_core.specs.Moments.{IsDateOf};
+ghost use Rattle.hx_hop.specs.Moments.{date_text_of};
 ghost use Rattle.proxy_core.specs.Replies.{refused_text, is_head};
 ghost use Rattle.proxy_core.specs.State.{State as CoreState};
 ghost use Rattle.proxy_engine.specs.Look.{Due};
@@ -22,7 +22,6 @@ use crate::outcomes::{
     Way, carry_out, close_at, is_spent, lacks_memory, put, room, room_for_link, send_reply,
 };
 use crate::wishes::{Wish, wish_of};
-use httpdate::HttpDate;
 use hx_allow::{Config, Verdict};
 use hx_fields::Bytes;
 use hx_hop::Asked;
@@ -55,12 +54,9 @@ fn send_continue(
 /// The proxy's own answer, which closes the connection.
 fn own_answer(alloc: Global, now: u64, why: Cause, head: bool) -> Result<Bytes, AllocError>
     requires { now < 253402300800 }
-    ensures { IfOk result (λ text. (date : List ℕ) × IsDateOf now date × (text ≡ refused_text date why true head)) }
+    ensures { IfOk result (λ text. text ≡ refused_text (date_text_of now) why true head) }
 {
-    match HttpDate::from_unix_secs(now) {
-        Ok(date) => refused(alloc, date, why, true, head),
-        Err(_) => unreachable!(),
-    }
+    refused(alloc, now, why, true, head)
 }
 
 /// The proxy answers by itself, and closes.

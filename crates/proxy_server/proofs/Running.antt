@@ -34,7 +34,7 @@ step_runs table s t event outcome steps run =
     let here = subst (λ (u : CoreState). Steps u event outcome t) run.leaves steps in
     let accepts : Accepts table past.entries past.exchanges past.next step =
     subst (λ (config : Table). Accepts config past.entries past.exchanges past.next step) (same_table (start table) run.trace)
-    record { date = here.date; stamp = here.stamp; allowed = here.allowed; outcome_is = here.outcome_is } in
+    record { allowed = here.allowed; outcome_is = here.outcome_is } in
     let good : IsGood (start table) (step ∷ run.trace) = (accepts, run.good) in
     record {
       trace = step ∷ run.trace;

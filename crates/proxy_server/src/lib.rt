@@ -13,8 +13,6 @@ mod memory;
 mod play;
 pub mod program;
 mod steps;
-#[cfg(test)]
-mod tests;
 
 pub use crate::faults::ReplayFault;
 pub use crate::laws::{a_play_is_a_run, nothing_follows_a_close};

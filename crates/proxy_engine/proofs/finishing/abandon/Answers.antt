@@ -1,5 +1,5 @@
 use Rattle.proxy_core.specs.State.{State as CoreState}
-use Rattle.std.proofs.Common.{◌≡◌, ◌+◌, ◌≤◌, ◌^◌, ◌∙◌, ◌∷◌, [], ℕ, length, ap, arith}
+use Rattle.std.proofs.Common.{None, ◌≡◌, ◌+◌, ◌≤◌, ◌^◌, ◌∙◌, ◌∷◌, [], ℕ, length, ap, arith}
 use Rattle.proxy_script.specs.declared.effect_list.Effect.TheVariants.{Drop}
 use Rattle.proxy_engine.specs.State.{LinkStands}
 use Rattle.proxy_engine.proofs.Parts.{both_length}
@@ -32,5 +32,5 @@ free-requires-clause-link g c = within_links c.args.connections.now.items c.args
 
 pub returns-clause-wired : goal.returns-clause-wired
 returns-clause-wired g c =
-    wired_ended c.args.connections.now.items c.free.new.connections.items c.args.links.now.items c.free.new.links.items c.args.core.now.exchanges c.abandon.new.self.exchanges c.args.i c.args.l c.requires.linked c.free.ensures.wires c.free.ensures.owners
+    wired_ended c.args.connections.now.items c.free.new.connections.items c.args.links.now.items c.free.new.links.items c.args.core.now.exchanges c.abandon.new.self.exchanges c.args.i c.args.l c.requires.linked c.free.ensures.wires c.free.ensures.owners None
     (ap (λ (k : CoreState). k.exchanges) c.in-Ok.ensures.ok.leaves) c.requires.wired

@@ -10,7 +10,8 @@ use Rattle.proxy_engine.specs.Wishes.{EndFault}
 use Rattle.proxy_engine.proofs.Parts.{both_length, both_here}
 use Rattle.proxy_engine.proofs.Searching.{some_part}
 use Rattle.proxy_engine.proofs.Wishing.{finish_known, same_place, told_one}
-use Rattle.proxy_engine.proofs.Wires.{finished_link, within_connections, due_link, is_open, wired_ended, ended_exchanges}
+use Rattle.proxy_engine.proofs.TakenLemmas.{end_replies, finish_is_taken, reply_stays}
+use Rattle.proxy_engine.proofs.Wires.{key_of, finished_link, within_connections, due_link, is_open, wired_ended, ended_exchanges}
 use Rattle.proxy_engine.proofs.Stepping.{finished_done, end_failed, link_counts}
 use Rattle.proxy_engine.proofs.finishing.finish.Goals as goal
 
@@ -90,4 +91,13 @@ returns-in-Some-clause-wired g c =
     let ended = c.in-Ok-end.ensures.ok in
     let link = due_link cs ks core.exchanges c.args.j x c.requires.within c.index.ensures (c.requires.due x) c.requires.wired in
     wired_ended cs c.send_reply.new.connections.items ks c.free.new.links.items core.exchanges c.end.new.core.exchanges x.connection c.args.j link (c.send_reply.ensures.links ∙ c.free.ensures.wires) c.free.ensures.owners
-    (ended_exchanges core c.end.new.core c.args.now (x.connection + 1) ended.0 c.in-Ok-end.outcome ended.3) c.requires.wired
+    (key_of core (x.connection + 1) ended.0) (ended_exchanges core c.end.new.core c.args.now (x.connection + 1) ended.0 c.in-Ok-end.outcome (end_replies core c.end.new.core c.args.now (x.connection + 1) ended.0 c.in-Ok-end.outcome (is_open cs ks core.exchanges x.connection c.args.j link c.requires.wired) (λ r e. finish_is_taken c.index-2.result.now ended.0 r ended.1 e) ended.3) ended.3) c.requires.wired
+
+pub reply_of-requires : goal.reply_of-requires
+reply_of-requires g c =
+    let core = c.args.core.now in
+    let x = c.index.result.now in
+    let ended = c.in-Ok-end.ensures.ok in
+    let link = due_link c.args.connections.now.items c.args.links.now.items core.exchanges c.args.j x c.requires.within c.index.ensures (c.requires.due x) c.requires.wired in
+    reply_stays c.in-Ok-end.outcome
+    (end_replies core c.end.new.core c.args.now (x.connection + 1) ended.0 c.in-Ok-end.outcome (is_open c.args.connections.now.items c.args.links.now.items core.exchanges x.connection c.args.j link c.requires.wired) (λ r e. finish_is_taken c.index-2.result.now ended.0 r ended.1 e) ended.3)

@@ -13,9 +13,7 @@ returns-clause-ok c = λ s links core first a w h.
     record {
       after = with_connection s i (closing true);
       does = refused_served s c.args.now i a c.args.why c.args.head c.send_reply.new.effects.items (with_connection s i (closing true)) w record {
-        date = text.0;
-        stamp = text.1;
-        told_is = c.send_reply.ensures.effects ∙ (ap (λ (b : List Effect). b ++ Client (i + 1) c.in_ok-bytes.bytes ∷ Close (i + 1) ∷ []) c.in_ok-effects.ensures.items ∙ ap (λ (b : List ℕ). Client (i + 1) b ∷ Close (i + 1) ∷ []) text.2);
+        told_is = c.send_reply.ensures.effects ∙ (ap (λ (b : List Effect). b ++ Client (i + 1) c.in_ok-bytes.bytes ∷ Close (i + 1) ∷ []) c.in_ok-effects.ensures.items ∙ ap (λ (b : List ℕ). Client (i + 1) b ∷ Close (i + 1) ∷ []) text);
         after_is = refl;
       };
       stands = c.send_reply.ensures.stands s links core first h;

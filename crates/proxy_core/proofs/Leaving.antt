@@ -1,0 +1,265 @@
+-- What a turn leaves of the held responses is what its step leaves of them.
+use Rattle.std.proofs.Common.{◌≡◌, ◌⊎◌, inl, inr, ℕ, Bool, true, false, not, ◌&&◌, ◌||◌, ◌==◌, eqb, cond, Option, None, Some, is_some, List, [], ◌∷◌, take, refl, sym, ◌∙◌, ap, subst}
+use Rattle.std.specs.Option.{option_and_then}
+use Rattle.hx_target.specs.declared.keys.Key.{Key}
+use Rattle.hx_target.specs.Keys.{same_key}
+use Rattle.std.specs.Prelude.{option_map, Result, Ok, Err, IfOk}
+use Rattle.std.specs.List.{filter}
+use Rattle.std.proofs.lemmas.Bool.{eqb-true, eq-eqb, cases_Bool, false≢true}
+use Rattle.std.proofs.lemmas.Option.{same_Some}
+use Rattle.hx_framing.specs.declared.responses.Response.{Response}
+use Rattle.hx_store.specs.Stored.{Stored}
+use Rattle.hx_store.specs.Shelf.{find_entry, holds, without, in_front, promoted}
+use Rattle.hx_status.specs.declared.cause.FailKind.{FailKind}
+use Rattle.hx_validate.specs.Answering.{answers304, freshened_of}
+use Rattle.hx_hop.specs.Answering.{answered_of}
+use Rattle.proxy_core.specs.declared.condition.Condition.{Condition}
+use Rattle.proxy_core.specs.declared.exchange.Exchange.{Exchange}
+use Rattle.proxy_core.specs.declared.event.Event.{Event}
+use Rattle.proxy_core.specs.declared.event.Event.TheVariants.{Answer, Fail}
+use Rattle.proxy_core.specs.declared.turns.Change.{Change}
+use Rattle.proxy_core.specs.declared.turns.Change.TheVariants.{Keep, Use, Freshen, LetGo, Store}
+use Rattle.proxy_core.specs.declared.turns.Turn.{Turn}
+use Rattle.proxy_core.specs.declared.turns.Course.{Course}
+use Rattle.proxy_core.specs.declared.turns.Course.TheVariants.{Ends, GoesOn}
+use Rattle.proxy_core.specs.Validating.{is_validation, is_answered, is_answered_by, asked_about, if_answered, validated, refreshed}
+use Rattle.proxy_core.specs.State.{State, taken, used_form, used_list, stored_list, entries_after}
+use Rattle.proxy_core.specs.Turns.{stored_by, used_by, reply_of, entries_by, Makes, IsPlain, IsRefresh, IsNext, IsHeld, Leaves, CourseLeaves, CourseFits, IsPlainCourse}
+
+and_left : (a b : Bool) → (a && true) ≡ false → (a && b) ≡ false
+and_left true b h = absurd (cc)
+and_left false b h = refl
+
+-- what isn't a 304 to the proxy's conditions answers no held response
+unanswered_by : (c : Option Condition) (r : Response) (now : ℕ) (e : Stored) → ((r.status == 304) && is_some c) ≡ false → is_answered_by c r now e ≡ false
+unanswered_by None r now e h = refl
+unanswered_by (Some c) r now e h = and_left (r.status == 304) ((c.serial == e.serial) && answers304 e c.sent (answered_of r now)) h
+
+unanswered : (x : Exchange) (r : Response) (now : ℕ) (e : Stored) → is_validation x r ≡ false → is_answered x r now e ≡ false
+unanswered x r now e h = unanswered_by x.condition r now e h
+
+module _ (limit : ℕ) (es : List Stored) (x : Exchange) (now id : ℕ) where
+  same_use : (event : Event) (o : Option Stored) → ((e : Stored) → used_form (Some x) event e ≡ e) → option_map (used_form (Some x) event) o ≡ o
+  same_use event None h = refl
+  same_use event (Some e) h = ap Some (h e)
+
+  same_used : (event : Event) (serial : ℕ) → ((e : Stored) → used_form (Some x) event e ≡ e) → promoted serial es ≡ used_list (Some x) event (Some serial) es
+  same_used event serial h = ap (λ (o : Option Stored). in_front o (without (serial ∷ []) es)) (sym (same_use event (find_entry serial es) h))
+
+  made_by : (r : Response) (removed : List ℕ) (c : Change) → ((e : Stored) → used_form (Some x) (Answer now id r) e ≡ e) → Makes x r now c
+      → entries_by limit removed c es ≡ stored_list (Some x) (Answer now id r) (stored_by c) removed limit (used_list (Some x) (Answer now id r) (used_by c) es)
+  made_by r removed Keep h m = refl
+  made_by r removed (Use serial) h m = ap (taken removed) (same_used (Answer now id r) serial h)
+  made_by r removed (Freshen e) h m = absurd m
+  made_by r removed (LetGo serial) h m = absurd m
+  made_by r removed (Store e) h m = ap (λ (z : Stored). take limit (z ∷ without removed es)) m
+
+  -- an answer that is passed on, or in whose place a held response is sent as it is
+  pub makes_leaves : (r : Response) (t : Turn) → is_validation x r ≡ false → Makes x r now t.change → Leaves limit es x (Answer now id r) t
+  makes_leaves r t h m =
+      made_by r t.removed t.change (λ e. ap (λ b. cond b (refreshed x r now e) e) (unanswered x r now e h)) m
+
+  plain_by : (kind : FailKind) (removed : List ℕ) (c : Change) → IsPlain c
+      → entries_by limit removed c es ≡ stored_list (Some x) (Fail now id kind) (stored_by c) removed limit (used_list (Some x) (Fail now id kind) (used_by c) es)
+  plain_by kind removed Keep m = refl
+  plain_by kind removed (Use serial) m = ap (taken removed) (same_used (Fail now id kind) serial (λ e. refl))
+  plain_by kind removed (Freshen e) m = absurd m
+  plain_by kind removed (LetGo serial) m = absurd m
+  plain_by kind removed (Store e) m = absurd m
+
+  -- a failure
+  pub fail_leaves : (kind : FailKind) (t : Turn) → IsPlain t.change → Leaves limit es x (Fail now id kind) t
+  fail_leaves kind t m = plain_by kind t.removed t.change m
+
+-- a turn that stores and freshens nothing
+pub plain_makes : (x : Exchange) (r : Response) (now : ℕ) (c : Change) → IsPlain c → Makes x r now c
+plain_makes x r now Keep h = tt
+plain_makes x r now (Use serial) h = tt
+plain_makes x r now (Freshen e) h = h
+plain_makes x r now (LetGo serial) h = h
+plain_makes x r now (Store e) h = absurd h
+
+pub plain_next : (next : Option ℕ) (c : Change) → IsPlain c → IsNext next c
+plain_next next Keep h = tt
+plain_next next (Use serial) h = tt
+plain_next next (Freshen e) h = tt
+plain_next next (LetGo serial) h = tt
+plain_next next (Store e) h = absurd h
+
+pub plain_held : (es : List Stored) (c : Change) → IsPlain c → IsHeld c es
+plain_held es Keep h = tt
+plain_held es (Use serial) h = tt
+plain_held es (Freshen e) h = absurd h
+plain_held es (LetGo serial) h = tt
+plain_held es (Store e) h = tt
+
+-- what an answer makes is held without being freshened
+pub made_held : (x : Exchange) (r : Response) (now : ℕ) (es : List Stored) (c : Change) → Makes x r now c → IsHeld c es
+made_held x r now es Keep h = tt
+made_held x r now es (Use serial) h = tt
+made_held x r now es (Freshen e) h = absurd h
+made_held x r now es (LetGo serial) h = tt
+made_held x r now es (Store e) h = tt
+
+pub plain_is : (serial : ℕ) (c : Change) → c ≡ Use serial → IsPlain c
+plain_is serial c h = subst IsPlain (sym h) tt
+
+pub plain_keep : (c : Change) → c ≡ Keep → IsPlain c
+plain_keep c h = subst IsPlain (sym h) tt
+
+-- ---- a 304 that answers a held response
+
+find_serial : (s : ℕ) (es : List Stored) (e : Stored) → find_entry s es ≡ Some e → e.serial ≡ s
+find_serial s [] e h = absurd (cc)
+find_serial s (f ∷ es) e h = elim (cases_Bool (eqb f.serial s)) [
+  | inl t ↦ (let k : Some f ≡ Some e = sym (ap (λ b. cond b (Some f) (find_entry s es)) t) ∙ h in sym (ap (λ (z : Stored). z.serial) (same_Some f e k)) ∙ eqb-true f.serial s t)
+  | inr n ↦ find_serial s es e (sym (ap (λ b. cond b (Some f) (find_entry s es)) n) ∙ h)
+]
+
+find_holds : (s : ℕ) (es : List Stored) (e : Stored) → find_entry s es ≡ Some e → holds s es ≡ true
+find_holds s [] e h = absurd (cc)
+find_holds s (f ∷ es) e h = elim (cases_Bool (eqb f.serial s)) [
+  | inl t ↦ ap (λ b. b || holds s es) t
+  | inr n ↦ ap (λ b. b || holds s es) n ∙ find_holds s es e (sym (ap (λ b. cond b (Some f) (find_entry s es)) n) ∙ h)
+]
+
+-- the held response that a 304 answers
+pub record IsValidated (es : List Stored) (x : Exchange) (r : Response) (now : ℕ) (e : Stored) : Type 0 where
+  pub found : find_entry e.serial es ≡ Some e
+  pub answered : is_answered x r now e ≡ true
+
+if_parts : (x : Exchange) (r : Response) (now : ℕ) (b : Bool) (f e : Stored) → b ≡ is_answered x r now f → cond b (Some f) None ≡ Some e → (f ≡ e) × (is_answered x r now f ≡ true)
+if_parts x r now true f e b h = (same_Some f e h, sym b)
+if_parts x r now false f e b h = absurd (cc)
+
+asked_parts : (es : List Stored) (x : Exchange) (r : Response) (now : ℕ) (o : Option ℕ) (e : Stored)
+    → if_answered x r now (option_and_then (λ serial. find_entry serial es) o) ≡ Some e → IsValidated es x r now e
+asked_parts es x r now None e h = absurd (cc)
+asked_parts es x r now (Some s) e h = held (find_entry s es) refl h
+  where
+    held : (o : Option Stored) → find_entry s es ≡ o → if_answered x r now o ≡ Some e → IsValidated es x r now e
+    held None f h = absurd (cc)
+    held (Some g) f h =
+        let p = if_parts x r now (is_answered x r now g) g e refl h in
+        let here : find_entry s es ≡ Some e = f ∙ ap Some p.0 in
+        record {
+          found = ap (λ z. find_entry z es) (find_serial s es e here) ∙ here;
+          answered = ap (is_answered x r now) (sym p.0) ∙ p.1;
+        }
+
+pub validated_is : (es : List Stored) (x : Exchange) (r : Response) (now : ℕ) (e : Stored) → validated es x r now ≡ Some e → IsValidated es x r now e
+validated_is es x r now e h = asked_parts es x r now (option_map (λ (c : Condition). c.serial) x.condition) e h
+
+pub serial_stays : (x : Exchange) (r : Response) (now : ℕ) (e : Stored) → (refreshed x r now e).serial ≡ e.serial
+unfolding freshened_of
+serial_stays x r now e = refl
+
+key_stays : (x : Exchange) (r : Response) (now : ℕ) (e : Stored) → (refreshed x r now e).key ≡ e.key
+unfolding freshened_of
+key_stays x r now e = refl
+
+gone_first : (k : ℕ) (f : Stored) (es : List Stored) → k ≡ f.serial → taken (k ∷ []) es ≡ taken (k ∷ []) (f ∷ es)
+gone_first k f es h = ap (λ b. cond (not (b || false)) (f ∷ without (k ∷ []) es) (without (k ∷ []) es)) (sym (eq-eqb k f.serial h))
+
+module _ (limit : ℕ) (es : List Stored) (x : Exchange) (now id : ℕ) (r : Response) (e : Stored) (v : IsValidated es x r now e) where
+  -- the response that is sent comes first, as the 304 makes it
+  comes_first : (s : ℕ) (f : Stored) → s ≡ e.serial → f ≡ refreshed x r now e → f ∷ without (s ∷ []) es ≡ used_list (Some x) (Answer now id r) (Some s) es
+  comes_first s f h k =
+      let uf = used_form (Some x) (Answer now id r) in
+      let used : option_map uf (find_entry s es) ≡ Some f =
+      ap (option_map uf) (ap (λ z. find_entry z es) h ∙ v.found) ∙ (ap (λ b. Some (cond b (refreshed x r now e) e)) v.answered ∙ ap Some (sym k)) in
+      ap (λ (o : Option Stored). in_front o (without (s ∷ []) es)) (sym used)
+
+  refresh_by : (removed : List ℕ) (kept : Bool) (f : Stored) (c : Change) → f ≡ refreshed x r now e → IsRefresh kept f c → removed ≡ cond kept [] (f.serial ∷ [])
+      → entries_by limit removed c es ≡ stored_list (Some x) (Answer now id r) (stored_by c) removed limit (used_list (Some x) (Answer now id r) (used_by c) es)
+  refresh_by removed kept f Keep k h gone = absurd h
+  refresh_by removed kept f (Use serial) k h gone = absurd h
+  refresh_by removed kept f (Freshen g) k h gone =
+      ap (taken removed) (comes_first g.serial g (ap (λ (z : Stored). z.serial) (h.0 ∙ k) ∙ serial_stays x r now e) (h.0 ∙ k))
+  refresh_by removed kept f (LetGo s) k h gone =
+      let only : removed ≡ f.serial ∷ [] = gone ∙ ap (λ b. cond b [] (f.serial ∷ [])) h.1 in
+      let w = without (s ∷ []) es in
+      ap (λ zs. taken zs w) only
+      ∙ (gone_first f.serial f w refl
+      ∙ (ap (taken (f.serial ∷ [])) (comes_first s f (h.0 ∙ (ap (λ (z : Stored). z.serial) k ∙ serial_stays x r now e)) k)
+      ∙ ap (λ zs. taken zs (used_list (Some x) (Answer now id r) (Some s) es)) (sym only)))
+  refresh_by removed kept f (Store g) k h gone = absurd h
+
+  -- a 304 that answers a held response
+  pub refresh_leaves : (kept : Bool) (f : Stored) (t : Turn) → f ≡ refreshed x r now e → IsRefresh kept f t.change → t.removed ≡ cond kept [] (f.serial ∷ []) → Leaves limit es x (Answer now id r) t
+  refresh_leaves kept f t k h gone = refresh_by t.removed kept f t.change k h gone
+
+  held_as : ((key : Key) → same_key key key ≡ true) → (g : Stored) → g ≡ refreshed x r now e → IsHeld (Freshen g) es
+  held_as itself g k =
+      let here : find_entry g.serial es ≡ Some e = ap (λ z. find_entry z es) (ap (λ (z : Stored). z.serial) k ∙ serial_stays x r now e) ∙ v.found in
+      let key_is : g.key ≡ e.key = ap (λ (z : Stored). z.key) k ∙ key_stays x r now e in
+      let same : same_key e.key g.key ≡ true = ap (λ (key : Key). same_key e.key key) key_is ∙ itself e.key in
+      (find_holds g.serial es e here, λ old k. subst (λ (z : Stored). same_key z.key g.key ≡ true) (same_Some e old (sym here ∙ k)) same)
+
+  fits_by : ((key : Key) → same_key key key ≡ true) → (next : Option ℕ) (kept : Bool) (f : Stored) (c : Change) → f ≡ refreshed x r now e → IsRefresh kept f c → IsNext next c × IsHeld c es
+  fits_by itself next kept f Keep k h = absurd h
+  fits_by itself next kept f (Use serial) k h = absurd h
+  fits_by itself next kept f (Freshen g) k h = (tt, held_as itself g (h.0 ∙ k))
+  fits_by itself next kept f (LetGo s) k h = (tt, tt)
+  fits_by itself next kept f (Store g) k h = absurd h
+
+  pub refresh_fits : ((key : Key) → same_key key key ≡ true) → (next : Option ℕ) (kept : Bool) (f : Stored) (t : Turn) → f ≡ refreshed x r now e → IsRefresh kept f t.change → IsNext next t.change × IsHeld t.change es
+  refresh_fits itself next kept f t k h = fits_by itself next kept f t.change k h
+
+-- ---- a 304 that answers none
+
+none_answered : (es : List Stored) (x : Exchange) (r : Response) (now : ℕ) (o : Option Stored) → if_answered x r now o ≡ None → (e : Stored) → o ≡ Some e → is_answered x r now e ≡ false
+none_answered es x r now None h e k = absurd (cc)
+none_answered es x r now (Some f) h e k =
+    let same : f ≡ e = same_Some f e k in
+    elim (cases_Bool (is_answered x r now e)) [
+      | inl t ↦ absurd (false≢true (ap is_some (sym h ∙ ap (λ b. cond b (Some f) None) (ap (is_answered x r now) same ∙ t))))
+      | inr n ↦ n
+    ]
+
+other_serial : (x : Exchange) (c : Option Condition) (r : Response) (now s : ℕ) (es : List Stored) (e : Stored)
+    → ((f : Stored) → option_and_then (λ serial. find_entry serial es) (option_map (λ (k : Condition). k.serial) c) ≡ Some f → is_answered_by c r now f ≡ false)
+    → find_entry s es ≡ Some e → is_answered_by c r now e ≡ false
+other_serial x None r now s es e h found = refl
+other_serial x (Some c) r now s es e h found = elim (cases_Bool (c.serial == e.serial)) [
+  | inl t ↦ h e (ap (λ z. find_entry z es) (eqb-true c.serial e.serial t ∙ find_serial s es e found) ∙ found)
+  | inr n ↦ ap (λ b. (r.status == 304) && (b && answers304 e c.sent (answered_of r now))) n ∙ and_false (r.status == 304)
+]
+  where
+    and_false : (a : Bool) → (a && false) ≡ false
+    and_false true = refl
+    and_false false = refl
+
+module _ (limit : ℕ) (es : List Stored) (x : Exchange) (now id : ℕ) (r : Response) (none : validated es x r now ≡ None) where
+  same_at : (s : ℕ) (e : Stored) → find_entry s es ≡ Some e → used_form (Some x) (Answer now id r) e ≡ e
+  same_at s e found =
+      ap (λ b. cond b (refreshed x r now e) e) (other_serial x x.condition r now s es e (λ f k. none_answered es x r now (asked_about es x) none f k) found)
+
+  same_all : (s : ℕ) (o : Option Stored) → find_entry s es ≡ o → option_map (used_form (Some x) (Answer now id r)) o ≡ o
+  same_all s None h = refl
+  same_all s (Some e) h = ap Some (same_at s e h)
+
+  retry_by : (removed : List ℕ) (c : Change) → IsPlain c
+      → entries_by limit removed c es ≡ stored_list (Some x) (Answer now id r) (stored_by c) removed limit (used_list (Some x) (Answer now id r) (used_by c) es)
+  retry_by removed Keep m = refl
+  retry_by removed (Use s) m = ap (λ (o : Option Stored). taken removed (in_front o (without (s ∷ []) es))) (sym (same_all s (find_entry s es) refl))
+  retry_by removed (Freshen e) m = absurd m
+  retry_by removed (LetGo s) m = absurd m
+  retry_by removed (Store e) m = absurd m
+
+  retry_course : (c : Course) → IsPlainCourse c → CourseLeaves limit es x (Answer now id r) c
+  retry_course (Ends t) m = retry_by t.removed t.change m
+  retry_course (GoesOn bytes) m = tt
+
+  -- a held response is sent as it is, or the request goes forward once more
+  pub retry_leaves : {E : Type 0} (q : Result Course E) → IfOk q IsPlainCourse → IfOk q (λ c. CourseLeaves limit es x (Answer now id r) c)
+  retry_leaves (Ok c) m = retry_course c m
+  retry_leaves (Err error) m = tt
+
+plain_course_fits : (next : Option ℕ) (es : List Stored) (c : Course) → IsPlainCourse c → CourseFits next es c
+plain_course_fits next es (Ends t) m = (plain_next next t.change m, plain_held es t.change m)
+plain_course_fits next es (GoesOn bytes) m = tt
+
+pub retry_fits : {E : Type 0} (next : Option ℕ) (es : List Stored) (q : Result Course E) → IfOk q IsPlainCourse → IfOk q (λ c. CourseFits next es c)
+retry_fits next es (Ok c) m = plain_course_fits next es c m
+retry_fits next es (Err error) m = tt

@@ -1,0 +1,35 @@
+-- What is stored, and under which serial.
+use Rattle.std.proofs.Common.{◌≡◌, ℕ, Bool, true, false, cond, Option, None, Some, is_none, refl, sym, ◌∙◌, ap, subst}
+use Rattle.std.specs.Prelude.{Result, Ok, Err, IfOk}
+use Rattle.hx_framing.specs.declared.responses.Response.{Response}
+use Rattle.hx_vary.specs.Vary.{is_star}
+use Rattle.hx_hop.specs.Answering.{answered_of}
+use Rattle.hx_storable.specs.Rules.{storage_rule_of}
+use Rattle.hx_storable.specs.Storable.{StoresWhereNoneStands}
+use Rattle.hx_storable.specs.declared.rule.StoreRule.{StoreRule}
+use Rattle.hx_storable.specs.declared.rule.StoreRule.TheVariants.{VaryStar}
+use Rattle.proxy_core.specs.declared.exchange.Exchange.{Exchange}
+use Rattle.proxy_core.specs.declared.turns.Turn.{Turn}
+use Rattle.proxy_core.specs.Storing.{facts_of, is_storable}
+use Rattle.proxy_core.specs.Turns.{IsNext}
+
+none_of : (o : Option StoreRule) → is_none o ≡ true → o ≡ None
+none_of None h = refl
+none_of (Some rule) h = cc
+
+-- what nominates nothing that can be compared isn't stored
+pub no_star : StoresWhereNoneStands → (max_stored : ℕ) (x : Exchange) (r : Response) (now : ℕ) (next : Option ℕ) → is_storable max_stored x r now next ≡ true
+    → is_star (answered_of r now).fields ≡ true → ⊥
+no_star law max_stored x r now next storable star =
+    let a = answered_of r now in
+    let facts = facts_of max_stored x r now next in
+    let unstarred : is_star a.fields ≡ false = law x.asked a facts VaryStar (none_of (storage_rule_of x.asked a facts) storable) in
+    cc
+
+-- the serial that is given is the next
+pub given_is_next : (b : Bool) (next : Option ℕ) (n : ℕ) → Some n ≡ cond b next None → next ≡ Some n
+given_is_next true next n h = sym h
+given_is_next false next n h = cc
+
+pub next_of_turn : {E : Type 0} (r : Result Turn E) (next : Option ℕ) (n : ℕ) → next ≡ Some n → IfOk r (λ turn. IsNext (Some n) turn.change) → IfOk r (λ turn. IsNext next turn.change)
+next_of_turn r next n h k = subst (λ (o : Option ℕ). IfOk r (λ turn. IsNext o turn.change)) (sym h) k

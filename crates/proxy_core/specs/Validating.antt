@@ -1,0 +1,96 @@
+-- Going forward to have a held response validated, and what a 304 does for it (RFC 9111, section 4.3).
+--
+-- condition_on, condition_at: what a request carries of a held response     is_validation: a 304 to what it carried
+-- is_answered: the 304 answers a held response     refreshed: what that becomes     is_kept: and whether it is kept
+use Rattle.std.specs.Prelude.{ℕ, ◌==◌, nat_lt, ◌&&◌, Bool, false, List, length, codes, Option, Some, None, option_map, is_some, is_none, cond}
+use Rattle.std.specs.Option.{option_and_then}
+use Rattle.hx_framing.specs.declared.responses.Response.{Response}
+use Rattle.hx_age.specs.Age.{times_of}
+use Rattle.hx_age.specs.Lifetime.{lifetime_of}
+use Rattle.hx_vary.specs.Vary.{is_star}
+use Rattle.hx_hop.specs.Answering.{answered_of}
+use Rattle.hx_hop.specs.Stripping.{lists_cache_field}
+use Rattle.hx_hop.specs.declared.answered_with.Answered.{Answered}
+use Rattle.hx_hop.specs.declared.asked_for.Asked.{Asked}
+use Rattle.hx_hop.specs.declared.validators.Conditions.{Conditions}
+use Rattle.hx_store.specs.Stored.{Stored}
+use Rattle.hx_store.specs.Shelf.{find_entry}
+use Rattle.hx_storable.specs.Rules.{storage_rule_of}
+use Rattle.hx_storable.specs.declared.known_facts.Facts.{Facts}
+use Rattle.hx_validate.specs.Validators.{has_validator, conditions_of}
+use Rattle.hx_validate.specs.Answering.{answers304, freshened_of}
+use Rattle.proxy_core.specs.declared.condition.Condition.{Condition}
+use Rattle.proxy_core.specs.declared.exchange.Exchange.{Exchange}
+
+-- a held response that has a validator is asked about (RFC 9111, section 4.3.1)
+abbrev pub condition_on : Stored → Option Condition
+condition_on e = cond (has_validator e.fields) (Some (record { serial = e.serial; sent = conditions_of e.fields })) None
+
+-- own: no conditions are sent so far, since nothing carries the second request of an exchange yet
+abbrev pub sends_conditions : Bool
+sends_conditions = false
+
+-- the held response of a serial, where a rule names one
+abbrev pub condition_at : List Stored → Option ℕ → Option Condition
+condition_at es None = None
+condition_at es (Some serial) = cond sends_conditions (option_and_then condition_on (find_entry serial es)) None
+
+-- what the request carries
+abbrev pub sent_with : Option Condition → Option Conditions
+sent_with condition = option_map (λ (c : Condition). c.sent) condition
+
+-- a 304 to a request that carried the proxy's conditions
+abbrev pub is_validation : Exchange → Response → Bool
+is_validation x r = (r.status == 304) && is_some x.condition
+
+-- a response to these conditions answers a held response
+abbrev pub is_answered_by : Option Condition → Response → ℕ → Stored → Bool
+is_answered_by None r now e = false
+is_answered_by (Some c) r now e = (r.status == 304) && ((c.serial == e.serial) && answers304 e c.sent (answered_of r now))
+
+abbrev pub is_answered : Exchange → Response → ℕ → Stored → Bool
+is_answered x r now e = is_answered_by x.condition r now e
+
+-- the serial that was asked about
+abbrev pub serial_asked : Option Condition → Option ℕ
+serial_asked condition = option_map (λ (c : Condition). c.serial) condition
+
+-- the held response that is asked about
+abbrev pub asked_about : List Stored → Exchange → Option Stored
+asked_about es x = option_and_then (λ serial. find_entry serial es) (serial_asked x.condition)
+
+abbrev pub if_answered : Exchange → Response → ℕ → Option Stored → Option Stored
+if_answered x r now None = None
+if_answered x r now (Some e) = cond (is_answered x r now e) (Some e) None
+
+-- the held response that a 304 answers
+abbrev pub validated : List Stored → Exchange → Response → ℕ → Option Stored
+validated es x r now = if_answered x r now (asked_about es x)
+
+-- what it becomes: the times are those of the 304 (RFC 9111, section 4.3.4)
+abbrev pub refreshed : Exchange → Response → ℕ → Stored → Stored
+refreshed x r now e =
+    freshened_of e (answered_of r now) x.asked (times_of (answered_of r now).fields x.request_time now)
+
+-- the same request, of method GET: what answers a HEAD may be kept for a GET
+abbrev pub as_get : Asked → Asked
+as_get asked = record asked { method = codes "GET" }
+
+abbrev pub head_of : Stored → Answered
+head_of e = record { status = e.status; fields = e.fields }
+
+-- what the storing rules ask of a freshened response: it is held already, under its serial
+abbrev pub kept_facts : ℕ → Response → Stored → Facts
+kept_facts max_stored r e = record {
+  vary_star = is_star e.fields;
+  listed = lists_cache_field r.fields;
+  explicit = (lifetime_of e.fields).explicit;
+  validator = has_validator e.fields;
+  too_large = nat_lt max_stored (length e.content);
+  overtaken = false;
+  no_serial = false;
+}
+
+-- no storing rule stands against a freshened response
+abbrev pub is_kept : ℕ → Exchange → Response → Stored → Bool
+is_kept max_stored x r e = is_none (storage_rule_of (as_get x.asked) (head_of e) (kept_facts max_stored r e))

@@ -1,0 +1,82 @@
+//! A reply that was made, and what it will do to the store.
+ghost use Rattle.std.specs.Prelude.{◌≡◌};
+ghost use Rattle.proxy_core.specs.Turns.{stored_by, used_by, reply_of};
+
+use crate::outcome::{Outcome, Reply};
+use hx_fields::Bytes;
+use hx_store::{Entry, Serials};
+
+/// What becomes of the store.
+#[derive(Drop)]
+pub(crate) enum Change {
+    /// Nothing is added, and none comes first.
+    Keep,
+    /// The response of this serial was sent: it comes first.
+    Use(u64),
+    /// A response was freshened and sent: it takes the place of the one of its serial, and comes first.
+    Freshen(Entry),
+    /// The response of this serial was sent for the last time.
+    LetGo(u64),
+    /// A response is stored.
+    Store(Entry),
+}
+
+impl Change {
+    /// The serial that will be stored.
+    pub(crate) fn stored(&self) -> Option<u64>
+        ensures { result ≡ stored_by self.now }
+    {
+        match self {
+            Change::Store(entry) => Some(entry.serial),
+            _ => None,
+        }
+    }
+
+    /// The serial that was sent.
+    pub(crate) fn used(&self) -> Option<u64>
+        ensures { result ≡ used_by self.now }
+    {
+        match self {
+            Change::Use(serial) => Some(*serial),
+            Change::Freshen(entry) => Some(entry.serial),
+            Change::LetGo(serial) => Some(*serial),
+            _ => None,
+        }
+    }
+}
+
+/// A reply, and what it will do. Nothing is done yet.
+#[derive(Drop)]
+pub(crate) struct Turn {
+    /// The whole message.
+    pub(crate) bytes: Bytes,
+    /// Whether the connection closes behind it.
+    pub(crate) close: bool,
+    pub(crate) change: Change,
+    /// The serials that go, ascending.
+    pub(crate) removed: Serials,
+}
+
+/// What an answer leads to.
+#[derive(Drop)]
+pub(crate) enum Course {
+    /// The exchange ends.
+    Ends(Turn),
+    /// The client's own request goes forward once more.
+    GoesOn(Bytes),
+}
+
+impl Turn {
+    /// The outcome that it is.
+    pub(crate) fn told(self) -> Outcome
+        ensures { result ≡ reply_of self }
+    {
+        Outcome::Reply(Reply {
+            bytes: self.bytes,
+            close: self.close,
+            stored: self.change.stored(),
+            used: self.change.used(),
+            removed: self.removed,
+        })
+    }
+}
