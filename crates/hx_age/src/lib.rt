@@ -9,8 +9,6 @@ mod dates;
 mod laws;
 mod lifetimes;
 mod moments;
-#[cfg(test)]
-mod tests;
 
 pub use ages::{current_age, is_fresh, staleness, ttl};
 pub use laws::{

@@ -11,8 +11,6 @@ mod laws;
 mod names;
 mod numbers;
 mod occurrences;
-#[cfg(test)]
-mod tests;
 
 pub use answers::{MaxStale, Seconds};
 pub use arguments::Argument;

@@ -10,8 +10,6 @@ mod field_line;
 mod field_lines;
 mod laws;
 mod member_list;
-#[cfg(test)]
-mod tests;
 mod tokens;
 
 pub use crate::byte_string::Bytes;

@@ -10,8 +10,6 @@ pub mod chunk_laws;
 mod chunk_phase;
 mod chunk_pieces;
 mod chunk_place;
-#[cfg(test)]
-mod chunk_tests;
 mod chunks;
 mod content;
 mod content_length;
@@ -40,8 +38,6 @@ mod size_line;
 mod status_front;
 mod status_head;
 mod taken;
-#[cfg(test)]
-mod tests;
 mod text_laws;
 mod unread;
 mod version;

@@ -8,8 +8,6 @@
 mod laws;
 mod nominated_values;
 mod nominations;
-#[cfg(test)]
-mod tests;
 
 pub use laws::{kept_is_enough, star_nominates_everything, vary_values_are_compared};
 pub use nominated_values::NominatedValue;

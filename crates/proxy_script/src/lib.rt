@@ -13,8 +13,6 @@ mod fronts;
 mod headers;
 mod items;
 mod laws;
-#[cfg(test)]
-mod tests;
 mod words;
 
 pub use effect_list::{Effect, effects_text};

@@ -1,0 +1,4 @@
+//! Tests, by what they follow.
+
+mod engines;
+mod watches;

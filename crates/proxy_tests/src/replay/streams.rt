@@ -1,0 +1,199 @@
+//! Readers that give few bytes at a time, are interrupted or fail, and writers that take few, fail or take none.
+ghost use Rattle.std.specs.Prelude.{Some};
+
+use super::rows::{FIRST_EFFECTS, FIRST_RUN};
+use super::told;
+use proxy_server::{ReplayFault, replay};
+use std::alloc::Global;
+use std::io;
+use std::io::{ErrorKind, Read, Write};
+use std::test::Fail;
+
+/// Gives at most `most` bytes at a time, and fails once `calls` calls were made.
+#[derive(Drop)]
+struct Source<'a> {
+    bytes: &'a [u8],
+    most: usize,
+    calls: u64,
+    kind: ErrorKind,
+}
+
+impl Read for Source<'_> {
+    ghost remaining = { λ r. Some r.bytes.now };
+
+    fn read(&mut self, buf: &mut [u8]) -> io::Result<usize> {
+        if self.calls == 0 {
+            // An interrupted reader goes on afterwards.
+            self.calls = u64::MAX;
+            return Err(io::Error::from(self.kind));
+        }
+        self.calls -= 1;
+        let most = buf.len().min(self.most.max(1));
+        let mut rest = self.bytes;
+        let n = rest.read(&mut buf[..most])?;
+        self.bytes = rest;
+        Ok(n)
+    }
+}
+
+/// Takes at most `most` bytes at a time, and fails once `calls` calls were made.
+#[derive(Drop)]
+struct Sink {
+    text: Vec<u8>,
+    most: usize,
+    calls: u64,
+    kind: ErrorKind,
+}
+
+impl Write for Sink {
+    ghost contents = { λ w. Some w.text.items };
+
+    fn write(&mut self, buf: &[u8]) -> io::Result<usize> {
+        if self.calls == 0 {
+            self.calls = u64::MAX;
+            return Err(io::Error::from(self.kind));
+        }
+        self.calls -= 1;
+        let most = buf.len().min(self.most);
+        match self.text.extend_from_slice(&buf[..most]) {
+            Ok(()) => Ok(most),
+            Err(_) => Err(io::Error::from(ErrorKind::OutOfMemory)),
+        }
+    }
+
+    fn flush(&mut self) -> io::Result<()> {
+        Ok(())
+    }
+}
+
+fn read_from(
+    alloc: Global,
+    most: usize,
+    calls: u64,
+    kind: ErrorKind,
+) -> (Result<(), ReplayFault>, Vec<u8>) {
+    let mut source = Source {
+        bytes: FIRST_RUN.as_bytes(),
+        most,
+        calls,
+        kind,
+    };
+    let mut text = Vec::new(alloc);
+    let result = replay(alloc, &mut source, &mut text);
+    (result, text)
+}
+
+fn written_to(
+    alloc: Global,
+    most: usize,
+    calls: u64,
+    kind: ErrorKind,
+) -> (Result<(), ReplayFault>, Vec<u8>) {
+    let mut script = FIRST_RUN.as_bytes();
+    let mut sink = Sink {
+        text: Vec::new(alloc),
+        most,
+        calls,
+        kind,
+    };
+    let result = replay(alloc, &mut script, &mut sink);
+    (result, sink.text)
+}
+
+#[test]
+fn a_reader_may_give_few_bytes_at_a_time(rt: HostRuntime) {
+    for most in 1..9usize {
+        let (result, text) = read_from(rt.alloc(), most, u64::MAX, ErrorKind::Other);
+        assert!(rt; told(&result).0 == "done", "at {most}");
+        assert!(rt; text.as_slice() == FIRST_EFFECTS.as_bytes(), "at {most}");
+    }
+}
+
+#[test]
+fn a_reader_that_fails_ends_the_replay(rt: HostRuntime) -> Result<(), Fail> {
+    let mut longest = 0usize;
+    for calls in 0..100u64 {
+        let (result, text) = read_from(rt.alloc(), 7, calls, ErrorKind::Other);
+        if result.is_ok() {
+            assert!(rt; text.as_slice() == FIRST_EFFECTS.as_bytes());
+            assert!(rt; calls == 62);
+            assert!(rt; longest == FIRST_EFFECTS.len());
+            return Ok(());
+        }
+        assert!(rt; told(&result).0 == "read", "at {calls}");
+        assert!(rt; FIRST_EFFECTS.as_bytes().starts_with(&text), "at {calls}");
+        // The forward, then the drop with the reply, then the second reply: whole happenings alone.
+        assert!(rt; matches!(text.len(), 0 | 91 | 273 | 441), "at {calls}");
+        longest = text.len();
+    }
+    Err(Fail::from("never ended"))
+}
+
+#[test]
+fn an_interrupted_call_is_made_again(rt: HostRuntime) {
+    for calls in 0..20u64 {
+        let (result, text) = read_from(rt.alloc(), 30, calls, ErrorKind::Interrupted);
+        assert!(rt; told(&result).0 == "done", "at {calls}");
+        assert!(rt; text.as_slice() == FIRST_EFFECTS.as_bytes(), "at {calls}");
+        let (result, text) = written_to(rt.alloc(), 30, calls, ErrorKind::Interrupted);
+        assert!(rt; told(&result).0 == "done", "at {calls}");
+        assert!(rt; text.as_slice() == FIRST_EFFECTS.as_bytes(), "at {calls}");
+    }
+}
+
+#[test]
+fn a_writer_may_take_few_bytes_at_a_time(rt: HostRuntime) {
+    for most in 1..9usize {
+        let (result, text) = written_to(rt.alloc(), most, u64::MAX, ErrorKind::Other);
+        assert!(rt; told(&result).0 == "done", "at {most}");
+        assert!(rt; text.as_slice() == FIRST_EFFECTS.as_bytes(), "at {most}");
+    }
+}
+
+#[test]
+fn a_writer_that_fails_ends_the_replay(rt: HostRuntime) -> Result<(), Fail> {
+    for calls in 0..100u64 {
+        let (result, text) = written_to(rt.alloc(), 7, calls, ErrorKind::Other);
+        if result.is_ok() {
+            assert!(rt; text.as_slice() == FIRST_EFFECTS.as_bytes());
+            return Ok(());
+        }
+        assert!(rt; told(&result).0 == "write", "at {calls}");
+        assert!(rt; FIRST_EFFECTS.as_bytes().starts_with(&text), "at {calls}");
+        assert!(rt; text.len() as u64 <= 7 * calls, "at {calls}");
+    }
+    Err(Fail::from("never ended"))
+}
+
+#[test]
+fn a_write_that_takes_nothing_is_a_failure(rt: HostRuntime) {
+    let (result, text) = written_to(rt.alloc(), 0, u64::MAX, ErrorKind::Other);
+    assert!(rt; told(&result).0 == "write");
+    assert!(rt; text.is_empty());
+}
+
+/// Gives the line of a table that is longer than any script, and never ends.
+#[derive(Drop)]
+struct Endless {
+    line: bool,
+}
+
+impl Read for Endless {
+    fn read(&mut self, buf: &mut [u8]) -> io::Result<usize> {
+        if self.line {
+            buf.fill(b'#');
+            return Ok(buf.len());
+        }
+        self.line = true;
+        let mut line = b"config 99999999\n".as_slice();
+        line.read(buf)
+    }
+}
+
+#[test]
+fn a_script_past_the_limit_is_no_longer_read(rt: HostRuntime) {
+    let mut text = Vec::new(rt.alloc());
+    let result = replay(rt.alloc(), &mut Endless { line: false }, &mut text);
+    assert!(rt; told(&result).0 == "read");
+    assert!(rt; text.is_empty());
+}
