@@ -1,6 +1,6 @@
 //! The operator's table, read.
-ghost use Rattle.std.specs.Prelude.{◌≡◌, ◌≤◌, length, Some, Err, slice_get};
-ghost use Rattle.hx_allow.specs.Matching.{verdict_of, origin_of, IsAllowing, NamesAnOrigin};
+ghost use Rattle.std.specs.Prelude.{◌≡◌, ◌≤◌, [], length, Err, slice_get, unwrap_or};
+ghost use Rattle.hx_allow.specs.Matching.{verdict_of, origin_of, NamesAnOrigin};
 ghost use Rattle.std.specs.Option.{option_copied};
 ghost use Rattle.hx_allow.specs.Tables.{ReadsAs};
 
@@ -62,12 +62,12 @@ impl Config {
         Verdict::NoLine
     }
 
-    /// The address of the origin of a line that `judge` has answered as allowing: four numbers and a port.
+    /// The address of the origin of a line, counted from 1: four numbers and a port. It is empty where the table has no
+    /// such line, or the line denies.
     pub fn origin(&self, line: u16) -> &str
-        requires { IsAllowing self.now.lines line }
-        ensures { origin_of self.now.lines line ≡ Some result.now }
+        ensures { result.now ≡ unwrap_or (origin_of self.now.lines line) [] }
     {
-        match line_at(&self.lines, usize::from(line) - 1) {
+        match line_at(&self.lines, usize::from(line).saturating_sub(1)) {
             Some(line) => match &line.origin {
                 Some(origin) => origin.as_str(),
                 None => "",

@@ -1,6 +1,6 @@
 //! The core: the operator's table, a shelf, the open exchanges and the next serial.
-ghost use Rattle.std.specs.Prelude.{◌≡◌, ◌≤◌, [], Some, IfOk, IfErr, OnErr};
-ghost use Rattle.proxy_core.specs.Outcomes.{fault_by};
+ghost use Rattle.std.specs.Prelude.{◌≡◌, ◌≤◌, [], Some, IfOk, IfErr, OnErr, option_copied};
+ghost use Rattle.proxy_core.specs.Outcomes.{find_exchange, fault_by};
 ghost use Rattle.proxy_core.specs.declared.event.Event.TheVariants.{Abandon};
 ghost use Rattle.proxy_core.specs.State.{State, Steps, Refuses};
 
@@ -53,6 +53,13 @@ impl<S: Shelf> Core<S> {
         ensures { result.now ≡ self.now.table }
     {
         &self.config
+    }
+
+    /// The open exchange of an id, if there is one.
+    pub fn exchange(&self, id: u64) -> Option<&Exchange>
+        ensures { option_copied result ≡ find_exchange id self.now.exchanges }
+    {
+        exchange_list::find(self.exchanges.as_slice(), id)
     }
 
     /// The least fault that stands at an event, want of memory aside.

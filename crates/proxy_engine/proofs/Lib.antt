@@ -6,7 +6,7 @@ pub mod Changes
 pub mod Taking
 pub mod Searching
 pub mod Once
-pub mod TakenLemmas
+pub mod Ending
 pub mod Wishing
 pub mod Stepping
 pub mod Wires

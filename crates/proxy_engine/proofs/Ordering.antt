@@ -1,7 +1,7 @@
 -- Stories keep their order, and effects name ends that are unshut.
 use Rattle.std.proofs.Common.{◌≡◌, ◌⊎◌, inl, inr, ℕ, zero, suc, ◌+◌, ◌-◌, ◌<◌, List, [], ◌∷◌, ◌++◌, length, get_or, set, refl, sym, ap, ◌∙◌, subst, arith, Bool, true, false, ◌||◌, cond, Option, None, Some, is_some, map, Result, Ok, Err}
-use Rattle.std.proofs.lemmas.List.{map-set, get_or-set_same}
-use Rattle.std.proofs.Math.ListN.{length-map, length-set}
+use Rattle.std.proofs.lemmas.List.{append-nil, map-set, get_or-set_same}
+use Rattle.std.proofs.Math.ListN.{get_or-append, length-map, length-set}
 use Rattle.std.proofs.Math.Seq.{map-set_same}
 use Rattle.hx_framing.specs.declared.requests.Request.{Request}
 use Rattle.hx_framing.specs.declared.fault.FrameFault.TheVariants as frame
@@ -11,7 +11,7 @@ use Rattle.hx_framing.specs.declared.answer.Next.TheVariants as next
 use Rattle.hx_framing.specs.Progress.{fed, finished}
 use Rattle.hx_allow.specs.Lines.{Table}
 use Rattle.hx_hop.specs.declared.asked_for.Asked.{Asked}
-use Rattle.proxy_engine.specs.Taken.{Refusal}
+use Rattle.proxy_engine.specs.Admitted.{Refusal}
 use Rattle.hx_reuse.specs.Rules.{decision_of}
 use Rattle.hx_reuse.specs.declared.decision.Decision.{Decision}
 use Rattle.hx_reuse.specs.declared.decision.Decision.TheVariants as decision
@@ -25,17 +25,17 @@ use Rattle.proxy_core.specs.declared.outcome.Outcome.{Outcome}
 use Rattle.proxy_core.specs.declared.outcome.Outcome.TheVariants as outcomes
 use Rattle.proxy_core.specs.Outcomes.{find_exchange, outcome_of, failed}
 use Rattle.proxy_core.specs.Replies.{is_head}
-use Rattle.proxy_core.specs.State.{State as CoreState, Steps, closed, left_open, invalidated_by, opened as opened_exchange}
+use Rattle.proxy_core.specs.State.{State as CoreState, Steps, closed, left_open, gone_out, opened as opened_exchange}
 use Rattle.proxy_script.specs.declared.effect_list.Effect.{Effect}
 use Rattle.proxy_script.specs.declared.effect_list.Effect.TheVariants as effects
 use Rattle.proxy_engine.specs.Happenings.{Accepts, Sends, Hears, Ends, Leaves, Shuts, Fails}
 use Rattle.proxy_engine.specs.Story.{Story, ConnStory, LinkStory, no_connection, no_link, accepted, opened, connection_at, link_at, with_connection, with_core, heard}
 use Rattle.proxy_engine.specs.Due.{Abandons, Finishes, Serves, Finish, Gives, Breaks, FinishBy, WishBy, is_busy, IsDueFirst}
-use Rattle.proxy_engine.specs.Acts.{Does, Served, Finished, Arrives, Refuses, Closes, Replies, came, effects_on, after_on, freed, linked, closing, dropping, passing, next_number}
+use Rattle.proxy_engine.specs.Acts.{Does, Served, Finished, Arrives, Refuses, Closes, Replies, came, asks_head, effects_on, after_on, freed, linked, closing, dropping, passing, next_number}
 use Rattle.proxy_engine.specs.Wiring.{Wired, at}
-use Rattle.proxy_engine.specs.Orderly.{IsOrderly, IsOpen, NamesOpen, link_told, owner_told, BeginsOrderly, TakesInOrder, ActsInOrder}
-use Rattle.proxy_engine.proofs.TakenLemmas.{taken_when_stood, is_reply, answer_replies, failure_replies, answer_leaves}
-use Rattle.proxy_engine.proofs.Wires.{within, wired_more, wired_freed, wired_opened, wired_left}
+use Rattle.proxy_engine.specs.Orderly.{IsOrderly, IsOpen, Drops, NamesOpen, link_told, owner_told, BeginsOrderly, TakesInOrder, ActsInOrder}
+use Rattle.proxy_engine.proofs.Ending.{Remains, remains}
+use Rattle.proxy_engine.proofs.Wires.{within, wired_more, wired_freed, wired_opened, wired_left, wired_again}
 
 -- what stands at a place of either list
 links_here : (cs : List ConnStory) (i : ℕ) → at (map link_told cs) i ≡ (get_or cs i no_connection).link
@@ -188,24 +188,91 @@ both_moved : (s now after : Story) (told said : List Effect) → after ≡ now �
 both_moved s now after told said a t h names =
     (subst (λ (x : Story). IsOrderly x) (sym a) h, subst (λ (x : Story). NamesOpen s x told) (sym a) (subst (λ (es : List Effect). NamesOpen s now es) (sym t) names))
 
-finished_order : (s : Story) (i j : ℕ) (o : Outcome) (core : CoreState) (to_head : Bool) (told : List Effect) (after : Story) → IsOrderly s → j < length s.links → at (map link_told s.connections) i ≡ Some j → (link_at s j).dropped ≡ false → IsOpen s (i + 1)
-    → (key : Option Key) → core.exchanges ≡ left_open key (i + 1) s.core.exchanges → is_reply o ≡ true → told ≡ effects.Drop (s.first + j) ∷ effects_on i (next_number s) (came s.core.table o) → after ≡ after_on i to_head (came s.core.table o) (with_core (freed s j i) core)
+-- the connection at i has a new link for its exchange
+again_order : (cs : List ConnStory) (ks : List LinkStory) (xs : List Exchange) (i j now max_body : ℕ) (to_head : Bool) (c : ConnStory) (k : LinkStory) → at (map link_told cs) i ≡ Some j → c.closed ≡ false → is_some (find_exchange (i + 1) xs) ≡ true → Order cs ks xs
+    → Order (set (set cs i (linked None c)) i (linked (Some (length (set ks j (dropping k)))) (get_or (set cs i (linked None c)) i no_connection))) (set ks j (dropping k) ++ opened max_body to_head i ∷ []) (map (gone_out (i + 1) now) xs)
+again_order cs ks xs i j now max_body to_head c k here unshut there h = (
+  subst (λ (ls : List (Option ℕ)). Wired ls (map owner_told (free ++ opened max_body to_head i ∷ [])) ys) (sym wires)
+      (subst (λ (os : List (Option ℕ)). Wired (set (set (map link_told cs) i None) i (Some (length free))) os ys) (sym owners) sized),
+  free_set (set cs i (linked None c)) i y (λ e. let shut = sym (still ∙ unshut) ∙ e in cc) (free_set cs i (linked None c) (λ e. refl) h.1),
+)
+  where
+    ys : List Exchange
+    ys = map (gone_out (i + 1) now) xs
+
+    free : List LinkStory
+    free = set ks j (dropping k)
+
+    y : ConnStory
+    y = linked (Some (length free)) (get_or (set cs i (linked None c)) i no_connection)
+
+    inside : i < length cs
+    inside = subst (λ n. i < n) (length-map cs link_told) (within (map link_told cs) i j here)
+
+    still : y.closed ≡ c.closed
+    still = ap (λ (d : ConnStory). d.closed) (get_or-set_same cs i (linked None c) no_connection inside)
+
+    dropped : map owner_told free ≡ set (map owner_told ks) j None
+    dropped = map-set owner_told ks j (dropping k)
+
+    size : length (set (map owner_told ks) j None) ≡ length free
+    size = sym (ap length dropped) ∙ length-map free owner_told
+
+    sized : Wired (set (set (map link_told cs) i None) i (Some (length free))) (set (map owner_told ks) j None ++ Some i ∷ []) ys
+    sized = subst (λ (n : ℕ). Wired (set (set (map link_told cs) i None) i (Some n)) (set (map owner_told ks) j None ++ Some i ∷ []) ys) size
+        (wired_again (map link_told cs) (map owner_told ks) xs i j now here there h.0)
+
+    wires : map link_told (set (set cs i (linked None c)) i y) ≡ set (set (map link_told cs) i None) i (Some (length free))
+    wires = map-set link_told (set cs i (linked None c)) i y ∙ ap (λ (ls : List (Option ℕ)). set ls i (Some (length free))) (map-set link_told cs i (linked None c))
+
+    owners : map owner_told (free ++ opened max_body to_head i ∷ []) ≡ set (map owner_told ks) j None ++ Some i ∷ []
+    owners = map_more owner_told free (opened max_body to_head i) ∙ ap (λ (os : List (Option ℕ)). os ++ Some i ∷ []) dropped
+
+finished_order : (s : Story) (i j : ℕ) (o : Outcome) (core : CoreState) (to_head : Bool) (told : List Effect) (after : Story) → IsOrderly s → j < length s.links → at (map link_told s.connections) i ≡ Some j → (link_at s j).dropped ≡ false → IsOpen s (i + 1) → (connection_at s i).closed ≡ false
+    → is_some (find_exchange (i + 1) s.core.exchanges) ≡ true → Remains o (i + 1) s.core.exchanges core.exchanges → told ≡ effects.Drop (s.first + j) ∷ effects_on i (next_number s) (came s.core.table o) → after ≡ after_on i to_head (came s.core.table o) (with_core (freed s j i) core)
     → IsOrderly after × NamesOpen s after told
-finished_order s i j (outcomes.Reply r) core to_head told after h within_links here link_open unshut key xs e told_is after_is =
-    let cs = set s.connections i (linked None (connection_at s i)) in
-    let ks = set s.links j (dropping (link_at s j)) in
-    let inside : i < length s.connections = subst (λ n. i < n) (length-map s.connections link_told) (within (map link_told s.connections) i j here) in
-    let inside_now : i < length cs = subst (λ n. i < n) (sym (length-set s.connections i (linked None (connection_at s i)))) inside in
-    let none : (get_or cs i no_connection).link ≡ None = ap (λ (c : ConnStory). c.link) (get_or-set_same s.connections i (linked None (connection_at s i)) no_connection inside) in
-    let free : Order cs ks core.exchanges = subst (λ (xs : List Exchange). Order cs ks xs) (sym xs) (left_order cs ks s.core.exchanges key (i + 1) (freed_order s.connections s.links s.core.exchanges i j (connection_at s i) (link_at s j) here (order_of s h))) in
-    let now = with_connection (with_core (freed s j i) core) i (closing r.close) in
-    both_moved s now after told (effects.Drop (s.first + j) ∷ effects_on i (next_number s) (Replies r.bytes r.close)) after_is told_is
-    (orderly now (closing_order cs ks core.exchanges i r.close none free)) (
-      record { place = j; number = refl; still = link_open; dropped = ap (λ (k : LinkStory). k.dropped) (get_or-set_same s.links j (dropping (link_at s j)) no_link within_links) },
-      names_reply s now i (next_number s) r.bytes r.close unshut (λ shut. shut_there cs i (get_or cs i no_connection) r.close inside_now shut),
-    )
-finished_order s i j (outcomes.Forward line bytes) core to_head told after h within_links here link_open unshut key xs e told_is after_is = cc
-finished_order s i j outcomes.Ended core to_head told after h within_links here link_open unshut key xs e told_is after_is = cc
+finished_order s i j o core to_head told after h within_links here link_open unshut unclosed there left told_is after_is = by_outcome o left told_is after_is
+  where
+    cs : List ConnStory
+    cs = set s.connections i (linked None (connection_at s i))
+
+    ks : List LinkStory
+    ks = set s.links j (dropping (link_at s j))
+
+    inside : i < length s.connections
+    inside = subst (λ n. i < n) (length-map s.connections link_told) (within (map link_told s.connections) i j here)
+
+    inside_now : i < length cs
+    inside_now = subst (λ n. i < n) (sym (length-set s.connections i (linked None (connection_at s i)))) inside
+
+    none : (get_or cs i no_connection).link ≡ None
+    none = ap (λ (c : ConnStory). c.link) (get_or-set_same s.connections i (linked None (connection_at s i)) no_connection inside)
+
+    base : Story
+    base = with_core (freed s j i) core
+
+    free : (key : Option Key) → core.exchanges ≡ left_open key (i + 1) s.core.exchanges → Order cs ks core.exchanges
+    free key xs = subst (λ (xs : List Exchange). Order cs ks xs) (sym xs) (left_order cs ks s.core.exchanges key (i + 1) (freed_order s.connections s.links s.core.exchanges i j (connection_at s i) (link_at s j) here (order_of s h)))
+
+    drops : (t : Story) (more : List LinkStory) → t.links ≡ ks ++ more → Drops s t (s.first + j)
+    drops t more e =
+        let first_of : get_or (ks ++ more) j no_link ≡ get_or ks j no_link = get_or-append ks more no_link j (subst (λ n. j < n) (sym (length-set s.links j (dropping (link_at s j)))) within_links) in
+        let link : link_at t j ≡ dropping (link_at s j) = ap (λ (ls : List LinkStory). get_or ls j no_link) e ∙ (first_of ∙ get_or-set_same s.links j (dropping (link_at s j)) no_link within_links) in
+        record { place = j; number = refl; still = link_open; dropped = ap (λ (k : LinkStory). k.dropped) link }
+
+    by_outcome : (o : Outcome) → Remains o (i + 1) s.core.exchanges core.exchanges → told ≡ effects.Drop (s.first + j) ∷ effects_on i (next_number s) (came s.core.table o) → after ≡ after_on i to_head (came s.core.table o) base → IsOrderly after × NamesOpen s after told
+    by_outcome (outcomes.Reply r) left told_is after_is =
+        let now = with_connection base i (closing r.close) in
+        both_moved s now after told (effects.Drop (s.first + j) ∷ effects_on i (next_number s) (Replies r.bytes r.close)) after_is told_is
+        (orderly now (closing_order cs ks core.exchanges i r.close none (free left.0 left.1)))
+        (drops now [] (sym (append-nil ks)), names_reply s now i (next_number s) r.bytes r.close unshut (λ shut. shut_there cs i (get_or cs i no_connection) r.close inside_now shut))
+    by_outcome (outcomes.Forward line bytes) left told_is after_is =
+        let behind = after_on i to_head (came s.core.table (outcomes.Forward line bytes)) base in
+        both_moved s behind after told (effects.Drop (s.first + j) ∷ effects_on i (next_number s) (came s.core.table (outcomes.Forward line bytes))) after_is told_is
+        (orderly behind (subst (λ (xs : List Exchange). Order behind.connections behind.links xs) (sym left.1) (again_order s.connections s.links s.core.exchanges i j left.0 core.table.max_body to_head (connection_at s i) (link_at s j) here unclosed there (order_of s h))))
+        (drops behind (opened core.table.max_body to_head i ∷ []) refl, (refl, tt))
+    by_outcome outcomes.Ended left told_is after_is =
+        both_moved s base after told (effects.Drop (s.first + j) ∷ []) after_is told_is (orderly base (free left.0 left.1)) (drops base [] (sym (append-nil ks)), tt)
 
 -- ---- what is known where an act is due
 
@@ -245,7 +312,7 @@ lost_parts false o l e = cc
 
 -- the exchange on the link at j is finished
 finishes_order : (s : Story) (now j : ℕ) (f : Finish) (told : List Effect) (after : Story) → IsOrderly s → IsDueFirst s (Some (Finishes j f)) → Finished s now j (link_at s j).connection f told after → IsOrderly after × NamesOpen s after told
-finishes_order s now j f told after h due done = by_finish f due.1.1 done
+finishes_order s now j f told after h due done = by_finish f done
   where
     i : ℕ
     i = (link_at s j).connection
@@ -265,22 +332,22 @@ finishes_order s now j f told after h due done = by_finish f due.1.1 done
     inside : i < length s.connections
     inside = subst (λ n. i < n) (length-map s.connections link_told) (within (map link_told s.connections) i j here)
 
+    unclosed : (connection_at s i).closed ≡ false
+    unclosed = closed_of (connection_at s i).closed (connection_at s i).link j (h.free i) linked_here
+
     unshut : IsOpen s (i + 1)
-    unshut = record { place = i; number = refl; closed = closed_of (connection_at s i).closed (connection_at s i).link j (h.free i) linked_here; gone = gone_by (connection_at s i).gone (connection_at s i).link j (due.0 i inside) linked_here }
+    unshut = record { place = i; number = refl; closed = unclosed; gone = gone_by (connection_at s i).gone (connection_at s i).link j (due.0 i inside) linked_here }
 
     is_there : is_some (find_exchange (i + 1) xs) ≡ true
     is_there = h.wired.opened i ∙ ap is_some here
 
-    by_finish : (f : Finish) → FinishBy (link_at s j).dropped (link_at s j) (Some f) → Finished s now j i f told after → IsOrderly after × NamesOpen s after told
-    by_finish (Gives r) stood d =
-        let replies : is_reply d.1.outcome ≡ true =
-        ap is_reply d.1.steps.outcome_is
-        ∙ answer_replies s.core.table s.core.entries xs (find_exchange (i + 1) xs) s.core.next now (i + 1) r is_there (taken_when_stood (link_at s j).dropped (link_at s j) r stood) in
-        finished_order s i j d.1.outcome d.1.core (link_at s j).progress.to_head told after h due.1.0 here link_open unshut (invalidated_by (find_exchange (i + 1) xs) r)
-        (ap (λ (k : CoreState). k.exchanges) d.1.steps.leaves ∙ answer_leaves s.core.entries xs now (i + 1) r d.1.outcome replies) replies d.1.told_is d.1.after_is
-    by_finish (Breaks kind) stood d =
-        finished_order s i j d.outcome d.core (link_at s j).progress.to_head told after h due.1.0 here link_open unshut None (ap (λ (k : CoreState). k.exchanges) d.steps.leaves)
-        (ap is_reply d.steps.outcome_is ∙ failure_replies s.core.table s.core.entries xs (find_exchange (i + 1) xs) s.core.next now (i + 1) kind is_there) d.told_is d.after_is
+    by_finish : (f : Finish) → Finished s now j i f told after → IsOrderly after × NamesOpen s after told
+    by_finish (Gives r) d =
+        finished_order s i j d.1.outcome d.1.core (asks_head (find_exchange (i + 1) xs)) told after h due.1.0 here link_open unshut unclosed is_there
+        (remains s.core d.1.core now (i + 1) (Gives r) d.1.outcome is_there d.1.steps) d.1.told_is d.1.after_is
+    by_finish (Breaks kind) d =
+        finished_order s i j d.outcome d.core (asks_head (find_exchange (i + 1) xs)) told after h due.1.0 here link_open unshut unclosed is_there
+        (remains s.core d.core now (i + 1) (Breaks kind) d.outcome is_there d.steps) d.told_is d.after_is
 
 -- the exchange of the connection at i is abandoned
 abandons_order : (s : Story) (now i l : ℕ) (told : List Effect) (after : Story) → IsOrderly s → IsDueFirst s (Some (Abandons i l)) → Does s now (Abandons i l) told after → IsOrderly after × NamesOpen s after told

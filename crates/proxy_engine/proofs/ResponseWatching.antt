@@ -1,9 +1,10 @@
 -- A reader of an origin's answer that is asked ahead: what is known of the next answer.
-use Rattle.std.proofs.Common.{◌≡◌, ℕ, false, List, refl, sym, subst, ◌∙◌}
+use Rattle.std.proofs.Common.{◌≡◌, ℕ, Bool, false, List, [], refl, sym, subst, ◌∙◌}
 use Rattle.hx_framing.specs.declared.responses.Response.{Response}
 use Rattle.hx_framing.specs.declared.answer.Next.{Next}
 use Rattle.hx_framing.specs.declared.answer.Next.TheVariants as next
-use Rattle.hx_framing.specs.Progress.{Progress, fed, finished, moved}
+use Rattle.hx_framing.specs.Progress.{Progress, start, fed, finished, moved}
+use Rattle.hx_framing.specs.Reading.{Incomplete}
 use Rattle.hx_framing.specs.ResponseState.{State, StandsFor}
 use Rattle.hx_framing.specs.ResponseStream.{Answers}
 use Rattle.hx_framing.proofs.ResponseStreams.{due_fed, due_finished}
@@ -17,6 +18,10 @@ shows_by l next.NeedsContinue e = (next.NeedsContinue, subst (λ (l : Look Respo
 shows_by l (next.Message m) e = (next.Message m, subst (λ (l : Look Response). Shows l (next.Message m)) (sym e) refl)
 shows_by l (next.Refused f) e = (next.Refused f, subst (λ (l : Look Response). Shows l (next.Refused f)) (sym e) refl)
 shows_by l next.End e = (next.End, subst (λ (l : Look Response). Shows l next.End) (sym e) refl)
+
+-- nothing is due on a stream of which nothing has come
+pub nothing_yet : (max_body : ℕ) (to_head : Bool) → Answers (start max_body to_head) next.More
+nothing_yet max_body to_head = record { spells = tt; by = (Incomplete, ([], [], refl, refl), refl) }
 
 -- what is shown is the answer of each stream that it stands for
 shown : (w : Watched) (p : Progress Response) (l : Look Response) (a : Next Response) → StandsBy w.reader l p → Shows l a → Answers p a

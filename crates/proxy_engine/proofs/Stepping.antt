@@ -1,10 +1,10 @@
 -- The core's steps, done on both sides.
-use Rattle.std.proofs.Common.{◌≡◌, ℕ, ◌+◌, ◌<◌, ◌≤◌, ◌^◌, List, [], ◌∷◌, length, get_or, set, refl, sym, ap, ◌∙◌, subst, arith, Bool, true, false, cond, Option, Some, None, Ok}
+use Rattle.std.proofs.Common.{◌≡◌, ℕ, ◌+◌, ◌<◌, ◌≤◌, ◌^◌, List, [], ◌∷◌, length, get_or, set, refl, sym, ap, ◌∙◌, subst, arith, Bool, true, false, cond, Option, Some, None, is_some, Ok}
 use Rattle.hx_framing.specs.declared.requests.Request.{Request}
 use Rattle.hx_framing.specs.declared.answer.Next.{Next}
 use Rattle.hx_framing.specs.declared.answer.Next.TheVariants as next
 use Rattle.hx_hop.specs.declared.asked_for.Asked.{Asked}
-use Rattle.proxy_engine.specs.Taken.{IsAdmitted}
+use Rattle.proxy_engine.specs.Admitted.{IsAdmitted}
 use Rattle.hx_allow.specs.Lines.{Table}
 use Rattle.hx_allow.specs.Matching.{verdict_of}
 use Rattle.hx_allow.specs.declared.verdicts.Verdict.{Verdict}
@@ -18,7 +18,6 @@ use Rattle.proxy_core.specs.declared.condition.Condition.{Condition}
 use Rattle.proxy_core.specs.Validating.{condition_at}
 use Rattle.proxy_core.specs.Outcomes.{allowed, unanswered, is_only_if_cached, arrived, outcome_of, find_exchange}
 use Rattle.proxy_core.specs.declared.exchange.Exchange.{Exchange}
-use Rattle.proxy_core.specs.declared.outcome.Reply.{Reply}
 use Rattle.proxy_core.specs.declared.event.Event.{Event}
 use Rattle.proxy_core.specs.Replies.{is_head}
 use Rattle.proxy_core.specs.State.{State as CoreState, Steps}
@@ -27,18 +26,21 @@ use Rattle.proxy_core.specs.declared.outcome.Outcome.TheVariants as outcomes
 use Rattle.proxy_core.specs.declared.event.Event.TheVariants as events
 use Rattle.proxy_script.specs.declared.effect_list.Effect.{Effect}
 use Rattle.proxy_script.specs.declared.effect_list.Effect.TheVariants as effects
-use Rattle.proxy_engine.specs.Look.{Due}
+use Rattle.hx_framing.specs.declared.responses.Response.{Response}
+use Rattle.hx_status.specs.declared.cause.FailKind.{FailKind}
+use Rattle.proxy_engine.specs.Look.{Look, Unknown, Quiet, Due}
 use Rattle.proxy_engine.specs.Story.{Story, ConnStory, link_at, with_connection, with_core}
 use Rattle.proxy_engine.specs.Due.{Abandons, Finish, Gives, Breaks, Finishes, Serves, IsDueFirst}
-use Rattle.proxy_engine.specs.Acts.{Came, Replies, Forwards, StepsOn, Finished, address_of, came, came_at, passing, closing, freed, effects_on, after_on, next_number}
-use Rattle.proxy_engine.specs.State.{ConnStands, LinkStands, Stands, state, finish_seen, finish_at, link_load, Done, Failed}
-use Rattle.proxy_engine.specs.Wishes.{verdict_address, MayGive, Ends, EndFault}
+use Rattle.proxy_engine.specs.Acts.{Came, Forwards, StepsOn, Finished, address_of, asks_head, came, came_at, passing, freed, effects_on, after_on, next_number}
+use Rattle.proxy_engine.specs.State.{ConnStands, LinkStands, Stands, state, finish_seen, finish_at, finish_load, link_load, Done, Failed}
+use Rattle.proxy_engine.specs.Wishes.{verdict_address, again_address, MayGive, Ends, EndFault}
 use Rattle.proxy_engine.specs.declared.happening.EngineFault.{EngineFault}
 use Rattle.proxy_engine.specs.declared.happening.EngineFault.TheVariants.{WrongNumber, NotAccepted, OutOfMemory, Spent}
 use Rattle.proxy_engine.specs.declared.ends.Connection.{Connection}
 use Rattle.proxy_engine.specs.declared.ends.Link.{Link}
 use Rattle.proxy_engine.proofs.Parts.{both_length}
 use Rattle.proxy_engine.proofs.Changes.{changed_connection, changed_core}
+use Rattle.proxy_engine.proofs.Ending.{again_way}
 use Rattle.proxy_engine.proofs.Wishing.{same_place}
 
 line_of_unanswered : (table : Table) (n now : ℕ) (asked : Asked) (rule : ReuseRule) (condition : Option Condition) (only : Bool) (line : ℕ) (bytes : List ℕ) → unanswered table n now asked rule condition only ≡ outcomes.Forward line bytes → n ≡ line
@@ -125,36 +127,56 @@ abandoned_done s cs1 ks1 core core1 first now i l o told steps is first_is core_
       stands = subst (λ (q : Outcome). Stands (state cs1 ks1 core1 first) (after_on i false (came s.core.table q) (with_core (freed s l i) core1))) (sym ends) (changed_core cs1 ks1 core first core1 (freed s l i) h);
     }
 
--- the steps that end an exchange with a reply
-reply_steps : (s : Story) (core core1 : CoreState) (first now i j : ℕ) (event : Event) (o : Outcome) (reply : Reply) (to_head : Bool) (told : List Effect) → Steps core event o core1 → o ≡ outcomes.Reply reply
-    → told ≡ effects.Drop (first + j) ∷ effects_on i 0 (Replies reply.bytes reply.close) → first ≡ s.first → core ≡ s.core
-    → StepsOn s (freed s j i) i to_head event (effects.Drop (s.first + j) ∷ []) told (with_connection (with_core (freed s j i) core1) i (closing reply.close))
-reply_steps s core core1 first now i j event o reply to_head told steps replies is first_is core_is = record {
+-- what stands on a link, where it goes
+finished_steps : (s : Story) (core core1 : CoreState) (first now i j : ℕ) (event : Event) (o : Outcome) (to_head : Bool) (told : List Effect) → Steps core event o core1 → told ≡ effects.Drop (first + j) ∷ effects_on i (next_number s) (came core.table o)
+    → first ≡ s.first → core ≡ s.core → StepsOn s (freed s j i) i to_head event (effects.Drop (s.first + j) ∷ []) told (after_on i to_head (came s.core.table o) (with_core (freed s j i) core1))
+finished_steps s core core1 first now i j event o to_head told steps is first_is core_is = record {
   outcome = o;
   core = core1;
   steps = subst (λ (k : CoreState). Steps k event o core1) core_is steps;
-  told_is = is ∙ (ap (λ n. effects.Drop (n + j) ∷ effects_on i 0 (Replies reply.bytes reply.close)) first_is ∙ sym (ap (λ (q : Outcome). effects.Drop (s.first + j) ∷ effects_on i (next_number s) (came s.core.table q)) replies));
-  after_is = sym (ap (λ (q : Outcome). after_on i to_head (came s.core.table q) (with_core (freed s j i) core1)) replies);
+  told_is = is ∙ (ap (λ n. effects.Drop (n + j) ∷ effects_on i (next_number s) (came core.table o)) first_is ∙ ap (λ (k : CoreState). effects.Drop (s.first + j) ∷ effects_on i (next_number s) (came k.table o)) core_is);
+  after_is = refl;
 }
 
-finished_by : (s : Story) (core core1 : CoreState) (first now i j : ℕ) (f : Finish) (spent : Bool) (o : Outcome) (reply : Reply) (told : List Effect) → MayGive spent f → (spent ≡ false → next_number s < 2 ^ 64)
-    → Ends core now (i + 1) f o core1 → o ≡ outcomes.Reply reply → told ≡ effects.Drop (first + j) ∷ effects_on i 0 (Replies reply.bytes reply.close) → first ≡ s.first → core ≡ s.core
-    → Finished s now j i f told (with_connection (with_core (freed s j i) core1) i (closing reply.close))
-finished_by s core core1 first now i j (Gives r) spent o reply told may left steps replies is first_is core_is =
-    (left may, reply_steps s core core1 first now i j (events.Answer now (i + 1) r) o reply (link_at s j).progress.to_head told steps replies is first_is core_is)
-finished_by s core core1 first now i j (Breaks kind) spent o reply told may left steps replies is first_is core_is =
-    reply_steps s core core1 first now i j (events.Fail now (i + 1) kind) o reply (link_at s j).progress.to_head told steps replies is first_is core_is
+finished_by : (s : Story) (core core1 : CoreState) (first now i j : ℕ) (f : Finish) (spent : Bool) (o : Outcome) (told : List Effect) → MayGive spent f → (spent ≡ false → next_number s < 2 ^ 64)
+    → Ends core now (i + 1) f o core1 → told ≡ effects.Drop (first + j) ∷ effects_on i (next_number s) (came core.table o) → first ≡ s.first → core ≡ s.core
+    → Finished s now j i f told (after_on i (asks_head (find_exchange (i + 1) s.core.exchanges)) (came s.core.table o) (with_core (freed s j i) core1))
+finished_by s core core1 first now i j (Gives r) spent o told may left steps is first_is core_is =
+    (left may, finished_steps s core core1 first now i j (events.Answer now (i + 1) r) o (asks_head (find_exchange (i + 1) s.core.exchanges)) told steps is first_is core_is)
+finished_by s core core1 first now i j (Breaks kind) spent o told may left steps is first_is core_is =
+    finished_steps s core core1 first now i j (events.Fail now (i + 1) kind) o (asks_head (find_exchange (i + 1) s.core.exchanges)) told steps is first_is core_is
 
--- an exchange was finished with a reply
-pub finished_done : (s : Story) (cs1 cs2 : List Connection) (ks1 : List Link) (core core1 : CoreState) (first now i j : ℕ) (f : Finish) (spent : Bool) (o : Outcome) (reply : Reply) (told : List Effect)
-    → MayGive spent f → (spent ≡ false → next_number s < 2 ^ 64) → Ends core now (i + 1) f o core1 → o ≡ outcomes.Reply reply → told ≡ effects.Drop (first + j) ∷ effects_on i 0 (Replies reply.bytes reply.close) → first ≡ s.first → core ≡ s.core
-    → i ≡ (link_at s j).connection → Stands (state cs1 ks1 core first) (freed s j i) → ((t : Story) (k : CoreState) → Stands (state cs1 ks1 k first) t → Stands (state cs2 ks1 k first) (with_connection t i (closing reply.close)))
-    → Done s now (Finishes j f) told (state cs2 ks1 core1 first)
-finished_done s cs1 cs2 ks1 core core1 first now i j f spent o reply told may left steps replies is first_is core_is owner gone closes = record {
-  after = with_connection (with_core (freed s j i) core1) i (closing reply.close);
-  does = subst (λ (n : ℕ). Finished s now j n f told (with_connection (with_core (freed s j i) core1) i (closing reply.close))) owner (finished_by s core core1 first now i j f spent o reply told may left steps replies is first_is core_is);
-  stands = closes (with_core (freed s j i) core1) core1 (changed_core cs1 ks1 core first core1 (freed s j i) gone);
-}
+-- the way of an exchange that goes forward once more
+finish_way : (core core1 : CoreState) (now id : ℕ) (f : Finish) (o : Outcome) (address : List ℕ) → is_some (find_exchange id core.exchanges) ≡ true → Ends core now id f o core1 → address ≡ again_address core.table (find_exchange id core.exchanges) → came_at address o ≡ came core.table o
+finish_way core core1 now id f o address there steps e = same_way address core.table o (λ line bytes is. e ∙ again_way core core1 now id f o line bytes there steps is)
+
+ends_table : (core core1 : CoreState) (now id : ℕ) (f : Finish) (o : Outcome) → Ends core now id f o core1 → core1.table ≡ core.table
+ends_table core core1 now id (Gives r) o h = ap (λ (k : CoreState). k.table) h.leaves
+ends_table core core1 now id (Breaks kind) o h = ap (λ (k : CoreState). k.table) h.leaves
+
+-- an exchange was finished, or goes forward once more
+pub finished_done : (s : Story) (cs1 cs2 : List Connection) (ks1 ks2 : List Link) (core core1 : CoreState) (first now i j max_body : ℕ) (f : Finish) (spent : Bool) (o : Outcome) (address : List ℕ) (to_head : Bool) (told : List Effect)
+    → is_some (find_exchange (i + 1) core.exchanges) ≡ true → MayGive spent f → (spent ≡ false → next_number s < 2 ^ 64) → Ends core now (i + 1) f o core1 → address ≡ again_address core.table (find_exchange (i + 1) core.exchanges) → max_body ≡ core.table.max_body
+    → to_head ≡ asks_head (find_exchange (i + 1) core.exchanges) → first + length ks1 ≡ next_number s → told ≡ effects.Drop (first + j) ∷ effects_on i (first + length ks1) (came_at address o) → first ≡ s.first → core ≡ s.core → i ≡ (link_at s j).connection
+    → Stands (state cs1 ks1 core first) (freed s j i) → ((t : Story) (k : CoreState) → k.table.max_body ≡ max_body → Stands (state cs1 ks1 k first) t → Stands (state cs2 ks2 k first) (after_on i to_head (came_at address o) t))
+    → Done s now (Finishes j f) told (state cs2 ks2 core1 first)
+finished_done s cs1 cs2 ks1 ks2 core core1 first now i j max_body f spent o address to_head told there may left steps way most head number is first_is core_is owner gone applies =
+    let behind = with_core (freed s j i) core1 in
+    let coming : came_at address o ≡ came core.table o = finish_way core core1 now (i + 1) f o address there steps way in
+    let tells : told ≡ effects.Drop (first + j) ∷ effects_on i (next_number s) (came core.table o) =
+    is ∙ (ap (λ n. effects.Drop (first + j) ∷ effects_on i n (came_at address o)) number ∙ ap (λ (q : Came). effects.Drop (first + j) ∷ effects_on i (next_number s) q) coming) in
+    let most_after : core1.table.max_body ≡ max_body = ap (λ (t : Table). t.max_body) (ends_table core core1 now (i + 1) f o steps) ∙ sym most in
+    let stepped = applies behind core1 most_after (changed_core cs1 ks1 core first core1 (freed s j i) gone) in
+    let told_way : Stands (state cs2 ks2 core1 first) (after_on i to_head (came s.core.table o) behind) =
+    subst (λ (q : Came). Stands (state cs2 ks2 core1 first) (after_on i to_head q behind)) (coming ∙ ap (λ (k : CoreState). came k.table o) core_is) stepped in
+    let told_head : Stands (state cs2 ks2 core1 first) (after_on i (asks_head (find_exchange (i + 1) s.core.exchanges)) (came s.core.table o) behind) =
+    subst (λ (b : Bool). Stands (state cs2 ks2 core1 first) (after_on i b (came s.core.table o) behind)) (head ∙ ap (λ (k : CoreState). asks_head (find_exchange (i + 1) k.exchanges)) core_is) told_way in
+    let after = after_on i (asks_head (find_exchange (i + 1) s.core.exchanges)) (came s.core.table o) behind in
+    record {
+      after = after;
+      does = subst (λ (n : ℕ). Finished s now j n f told after) owner (finished_by s core core1 first now i j f spent o told may left steps tells first_is core_is);
+      stands = told_head;
+    }
 
 -- an exchange that isn't finished, since no number is left
 pub end_failed : (s : Story) (j : ℕ) (f : Finish) (spent : Bool) (e : EngineFault) → EndFault spent f e → (spent ≡ true → 2 ^ 64 ≤ next_number s) → IsDueFirst s (Some (Finishes j f)) → Failed s e
@@ -164,10 +186,18 @@ end_failed s j f spent OutOfMemory h many due = tt
 end_failed s j (Gives r) spent Spent h many due = (Finishes j (Gives r), due, tt, many h)
 end_failed s j (Breaks kind) spent Spent h many due = absurd h
 
-counts_by : (dropped : Bool) (o : Option Finish) (f : Finish) → cond dropped None o ≡ Some f → ◌≡◌ {A = ℕ} (cond dropped 0 1) 1
-counts_by true o f h = cc
-counts_by false o f h = refl
+-- a link on which something stands counts two
+pub link_counts : (k : Link) (f : Finish) → finish_at k ≡ Some f → link_load k ≡ 2
+link_counts k f h = by_dropped k.dropped h
+  where
+    by_look : (l : Look Response) (failed : Option FailKind) → finish_seen l failed ≡ Some f → finish_load l failed ≡ 1
+    by_look Unknown None h = absurd (cc)
+    by_look Unknown (Some kind) h = refl
+    by_look Quiet None h = absurd (cc)
+    by_look Quiet (Some kind) h = refl
+    by_look (Due a) None h = refl
+    by_look (Due a) (Some kind) h = refl
 
--- a link on which something stands isn't dropped
-pub link_counts : (k : Link) (f : Finish) → finish_at k ≡ Some f → link_load k ≡ 1
-link_counts k f h = counts_by k.dropped (finish_seen k.watch.look k.failed) f h
+    by_dropped : (d : Bool) → cond d None (finish_seen k.watch.look k.failed) ≡ Some f → cond d 0 (1 + finish_load k.watch.look k.failed) ≡ 2
+    by_dropped true h = absurd (cc)
+    by_dropped false h = ap (λ n. 1 + n) (by_look k.watch.look k.failed h)

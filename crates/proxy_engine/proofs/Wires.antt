@@ -1,9 +1,9 @@
 -- What keeps connections, links and open exchanges together.
-use Rattle.std.proofs.Common.{◌≡◌, ◌≢◌, ◌⊎◌, inl, inr, ℕ, zero, suc, ◌+◌, ◌<◌, ◌≤◌, ◌==◌, List, [], ◌∷◌, ◌++◌, length, get_or, set, refl, sym, ap, ◌∙◌, subst, arith, Bool, true, false, not, cond, Option, None, Some, is_some, map, Result, Ok, Err, OnOk, OnErr}
+use Rattle.std.proofs.Common.{◌≡◌, ◌≢◌, ◌⊎◌, inl, inr, ℕ, zero, suc, ◌+◌, ◌<◌, ◌≤◌, ◌==◌, List, [], ◌∷◌, ◌++◌, length, get_or, set, refl, sym, ap, ◌∙◌, subst, arith, Bool, true, false, not, ◌&&◌, cond, if◌then◌else◌, Option, None, Some, is_some, map, Result, Ok, Err, OnOk, OnErr}
 use Rattle.std.proofs.lemmas.Bool.{cases_lt, eqb-true, eq-eqb, lt-ltb}
 use Rattle.std.proofs.lemmas.Bool.Decides.{eqb_tells}
 use Rattle.std.proofs.lemmas.List.{get_or-set_same, get_or-set_other, length_push}
-use Rattle.std.proofs.Math.ListN.{get_or-append, length-map}
+use Rattle.std.proofs.Math.ListN.{get_or-append, length-map, length-set}
 use Rattle.std.proofs.Math.Seq.{get_or-append_seam}
 use Rattle.proxy_core.specs.Moments.{too_late}
 use Rattle.proxy_core.specs.Outcomes.{find_exchange, fault_of, fault_by}
@@ -13,16 +13,15 @@ use Rattle.hx_hop.specs.declared.asked_for.Asked.{Asked}
 use Rattle.hx_store.specs.Stored.{Stored}
 use Rattle.hx_target.specs.declared.keys.Key.{Key}
 use Rattle.hx_target.specs.Keys.{same_key}
-use Rattle.proxy_engine.proofs.TakenLemmas.{is_reply, answer_leaves}
-use Rattle.proxy_core.specs.State.{State as CoreState, closed, opened, open_after, overtake, left_open, invalidated_by}
+use Rattle.proxy_engine.proofs.Ending.{Remains}
+use Rattle.proxy_core.specs.State.{closed, opened, open_after, overtake, left_open, gone_out}
 use Rattle.proxy_core.specs.declared.outcome.Outcome.{Outcome}
 use Rattle.proxy_core.specs.declared.event.Event.TheVariants.{Arrive}
-use Rattle.proxy_core.specs.declared.outcome.Outcome.TheVariants.{Forward}
+use Rattle.proxy_core.specs.declared.outcome.Outcome.TheVariants.{Reply, Forward, Ended}
 use Rattle.proxy_core.specs.declared.exchange.Exchange.{Exchange}
-use Rattle.proxy_engine.specs.Wiring.{Wired, at, link_of, owner_of, links_of, owners_of}
-use Rattle.proxy_engine.specs.Due.{Finish, Gives, Breaks}
-use Rattle.proxy_engine.specs.State.{finish_seen, finish_at}
-use Rattle.proxy_engine.specs.Wishes.{Ends}
+use Rattle.proxy_engine.specs.Wiring.{Wired, at, link_of, owner_of, links_of, owners_of, wires_after, owners_after}
+use Rattle.proxy_engine.specs.Due.{Finish}
+use Rattle.proxy_engine.specs.State.{finish_seen, finish_at, gone_load, lost_load}
 use Rattle.proxy_engine.proofs.Wishing.{same_place}
 use Rattle.proxy_engine.proofs.Searching.{some_from}
 use Rattle.proxy_engine.specs.declared.ends.Connection.{Connection}
@@ -111,6 +110,10 @@ find_pushed id (y ∷ xs) x e = pushed_by (y.id == id) y (find_exchange id (xs +
 find_before : (id : ℕ) (xs : List Exchange) (x : Exchange) → x.id ≢ id → is_some (find_exchange id (xs ++ x ∷ [])) ≡ is_some (find_exchange id xs)
 find_before id [] x n = ap (λ (b : Bool). is_some (cond b (Some x) None)) (other_number x.id id n)
 find_before id (y ∷ xs) x n = is_some_by (y.id == id) y (find_exchange id (xs ++ x ∷ [])) (find_exchange id xs) (find_before id xs x n)
+
+-- links and connections that read the same
+pub wired_same : (ls ls1 os os1 : List (Option ℕ)) (xs : List Exchange) → ls1 ≡ ls → os1 ≡ os → Wired ls os xs → Wired ls1 os1 xs
+wired_same ls ls1 os os1 xs l o w = subst (λ (ls : List (Option ℕ)). Wired ls os1 xs) (sym l) (subst (λ (os : List (Option ℕ)). Wired ls os xs) (sym o) w)
 
 -- ---- an exchange ends
 
@@ -219,15 +222,62 @@ wired_opened links owners xs x i here free id h = record {
     opened_by k (inr other) =
         find_before (k + 1) xs x (λ q. other (omega (arith, q, id))) ∙ (h.opened k ∙ sym (ap is_some (get_or-set_other links i k (Some (length owners)) None other)))
 
--- a request goes forward, or not
-pub wired_stepped : (cs cs1 : List Connection) (ks ks1 : List Link) (held : List Stored) (xs : List Exchange) (now i line : ℕ) (asked : Asked) (bytes : List ℕ) → i < length cs → links_of cs1 ≡ set (links_of cs) i (Some (length ks)) → owners_of ks1 ≡ owners_of ks ++ Some i ∷ []
-    → at (links_of cs) i ≡ None → Wired (links_of cs) (owners_of ks) xs → Wired (links_of cs1) (owners_of ks1) (open_after held xs (Arrive now (i + 1) asked) (Forward line bytes))
-wired_stepped cs cs1 ks ks1 held xs now i line asked bytes here links owners free h =
+-- ---- one goes forward once more
+
+renewed_by : (b : Bool) (x y : Exchange) (id : ℕ) (o p : Option Exchange) → y.id ≡ x.id → is_some o ≡ is_some p
+    → is_some (cond ((cond b y x).id == id) (Some (cond b y x)) o) ≡ is_some (cond (x.id == id) (Some x) p)
+renewed_by true x y id o p e h = ap (λ (n : ℕ). is_some (cond (n == id) (Some y) o)) e ∙ open_by (x.id == id)
+  where
+    open_by : (b : Bool) → is_some (cond b (Some y) o) ≡ is_some (cond b (Some x) p)
+    open_by true = refl
+    open_by false = h
+renewed_by false x y id o p e h = is_some_by (x.id == id) x o p h
+
+find_renewed : (id now other : ℕ) (xs : List Exchange) → is_some (find_exchange other (map (gone_out id now) xs)) ≡ is_some (find_exchange other xs)
+find_renewed id now other [] = refl
+find_renewed id now other (x ∷ xs) =
+    renewed_by (x.id == id) x (record x { request_time = now; condition = None; overtaken = false }) other (find_exchange other (map (gone_out id now) xs)) (find_exchange other xs) refl (find_renewed id now other xs)
+
+-- the exchange of a connection that lost its link has a new one
+pub wired_again : (links owners : List (Option ℕ)) (xs : List Exchange) (i j now : ℕ) → at links i ≡ Some j → is_some (find_exchange (i + 1) xs) ≡ true → Wired links owners xs
+    → Wired (set (set links i None) i (Some (length (set owners j None)))) (set owners j None ++ Some i ∷ []) (map (gone_out (i + 1) now) xs)
+wired_again links owners xs i j now here there h =
+    record { owned = opens.owned; linked = opens.linked; opened = λ k. open_still k (same_or_not k i) ∙ opens.opened k }
+  where
+    found : (y : Exchange) × (find_exchange (i + 1) xs ≡ Some y)
+    found = some_from (find_exchange (i + 1) xs) (sym there)
+
+    x : Exchange
+    x = record found.0 { id = i + 1 }
+
+    less : List (Option ℕ)
+    less = set links i None
+
+    inside : i < length less
+    inside = subst (λ n. i < n) (sym (length-set links i None)) (within links i j here)
+
+    opens : Wired (set less i (Some (length (set owners j None)))) (set owners j None ++ Some i ∷ []) (closed (i + 1) xs ++ x ∷ [])
+    opens = wired_opened less (set owners j None) (closed (i + 1) xs) x i inside (get_or-set_same links i None None (within links i j here)) refl (wired_freed links owners xs i j here h)
+
+    open_still : (k : ℕ) → (k ≡ i) ⊎ (k ≢ i) → is_some (find_exchange (k + 1) (map (gone_out (i + 1) now) xs)) ≡ is_some (find_exchange (k + 1) (closed (i + 1) xs ++ x ∷ []))
+    open_still k (inl same) =
+        subst (λ n. is_some (find_exchange (n + 1) (map (gone_out (i + 1) now) xs)) ≡ is_some (find_exchange (n + 1) (closed (i + 1) xs ++ x ∷ []))) (sym same)
+        (find_renewed (i + 1) now (i + 1) xs ∙ (there ∙ sym (find_pushed (i + 1) (closed (i + 1) xs) x refl)))
+    open_still k (inr other) =
+        find_renewed (i + 1) now (k + 1) xs
+        ∙ (sym (ap is_some (find_kept (i + 1) (k + 1) xs (λ q. other (omega (arith, q))))) ∙ sym (find_before (k + 1) (closed (i + 1) xs) x (λ q. other (omega (arith, q)))))
+
+-- a request has arrived: it goes forward, or not
+pub wired_arrived : (cs cs1 cs2 : List Connection) (ks ks2 : List Link) (held : List Stored) (xs : List Exchange) (now i : ℕ) (asked : Asked) (o : Outcome) → i < length cs → links_of cs1 ≡ links_of cs → at (links_of cs) i ≡ None
+    → links_of cs2 ≡ wires_after i (length ks) o (links_of cs1) → owners_of ks2 ≡ owners_after i o (owners_of ks) → Wired (links_of cs) (owners_of ks) xs → Wired (links_of cs2) (owners_of ks2) (open_after held xs (Arrive now (i + 1) asked) o)
+wired_arrived cs cs1 cs2 ks ks2 held xs now i asked (Reply r) inside same free links owners h = wired_same _ _ _ _ xs (links ∙ same) owners h
+wired_arrived cs cs1 cs2 ks ks2 held xs now i asked (Forward line bytes) inside same free links owners h =
     let size : length (owners_of ks) ≡ length ks = length-map ks owner_of in
     let wires : length (links_of cs) ≡ length cs = length-map cs link_of in
-    let opens = wired_opened (links_of cs) (owners_of ks) xs (opened held now (i + 1) asked line) i (omega (arith, here, wires)) free refl h in
-    subst (λ (ls : List (Option ℕ)). Wired ls (owners_of ks1) (xs ++ opened held now (i + 1) asked line ∷ [])) (sym (links ∙ ap (λ n. set (links_of cs) i (Some n)) (sym size)))
-    (subst (λ (os : List (Option ℕ)). Wired (set (links_of cs) i (Some (length (owners_of ks)))) os (xs ++ opened held now (i + 1) asked line ∷ [])) (sym owners) opens)
+    let ys = xs ++ opened held now (i + 1) asked line ∷ [] in
+    let opens = wired_opened (links_of cs) (owners_of ks) xs (opened held now (i + 1) asked line) i (omega (arith, inside, wires)) free refl h in
+    wired_same _ _ _ _ ys (links ∙ (ap (λ (ls : List (Option ℕ)). set ls i (Some (length ks))) same ∙ ap (λ n. set (links_of cs) i (Some n)) (sym size))) owners opens
+wired_arrived cs cs1 cs2 ks ks2 held xs now i asked Ended inside same free links owners h = wired_same _ _ _ _ xs (links ∙ same) owners h
 
 -- ---- on both sides
 
@@ -274,24 +324,41 @@ wired_ended cs cs1 ks ks1 xs xs1 i j h links owners key exchanges w =
     (subst (λ (os : List (Option ℕ)). Wired (set (links_of cs) i None) os xs1) (sym owners)
     (subst (λ (es : List Exchange). Wired (set (links_of cs) i None) (set (owners_of ks) j None) es) (sym exchanges) (wired_left (set (links_of cs) i None) (set (owners_of ks) j None) xs key (i + 1) (wired_freed (links_of cs) (owners_of ks) xs i j h w))))
 
--- the key that the end of an exchange invalidates
-abbrev pub key_of : CoreState → ℕ → Finish → Option Key
-key_of core id (Gives r) = invalidated_by (find_exchange id core.exchanges) r
-key_of core id (Breaks kind) = None
-
-pub ended_exchanges : (core core1 : CoreState) (now id : ℕ) (f : Finish) (o : Outcome) → is_reply o ≡ true → Ends core now id f o core1 → core1.exchanges ≡ left_open (key_of core id f) id core.exchanges
-ended_exchanges core core1 now id (Gives r) o replies h = ap (λ (k : CoreState). k.exchanges) h.leaves ∙ answer_leaves core.entries core.exchanges now id r o replies
-ended_exchanges core core1 now id (Breaks kind) o replies h = ap (λ (k : CoreState). k.exchanges) h.leaves
-
--- links and connections that read the same
-pub wired_same : (ls ls1 os os1 : List (Option ℕ)) (xs : List Exchange) → ls1 ≡ ls → os1 ≡ os → Wired ls os xs → Wired ls1 os1 xs
-wired_same ls ls1 os os1 xs l o w = subst (λ (ls : List (Option ℕ)). Wired ls os1 xs) (sym l) (subst (λ (os : List (Option ℕ)). Wired ls os xs) (sym o) w)
+-- an exchange was finished, or goes forward once more
+pub wired_finished : (cs cs1 cs2 : List Connection) (ks ks1 ks2 : List Link) (xs ys : List Exchange) (i j : ℕ) (o : Outcome) → at (links_of cs) i ≡ Some j → links_of cs1 ≡ set (links_of cs) i None → owners_of ks1 ≡ set (owners_of ks) j None
+    → links_of cs2 ≡ wires_after i (length ks1) o (links_of cs1) → owners_of ks2 ≡ owners_after i o (owners_of ks1) → is_some (find_exchange (i + 1) xs) ≡ true → Remains o (i + 1) xs ys → Wired (links_of cs) (owners_of ks) xs → Wired (links_of cs2) (owners_of ks2) ys
+wired_finished cs cs1 cs2 ks ks1 ks2 xs ys i j (Reply r) here links owners links2 owners2 there left h = wired_ended cs cs2 ks ks2 xs ys i j here (links2 ∙ links) (owners2 ∙ owners) left.0 left.1 h
+wired_finished cs cs1 cs2 ks ks1 ks2 xs ys i j (Forward line bytes) here links owners links2 owners2 there left h =
+    let free = set (owners_of ks) j None in
+    let size : length ks1 ≡ length free = sym (length-map ks1 owner_of) ∙ ap length owners in
+    subst (λ (es : List Exchange). Wired (links_of cs2) (owners_of ks2) es) (sym left.1)
+    (wired_same _ _ _ _ (map (gone_out (i + 1) left.0) xs)
+    (links2 ∙ (ap (λ (ls : List (Option ℕ)). set ls i (Some (length ks1))) links ∙ ap (λ n. set (set (links_of cs) i None) i (Some n)) size))
+    (owners2 ∙ ap (λ (os : List (Option ℕ)). os ++ Some i ∷ []) owners) (wired_again (links_of cs) (owners_of ks) xs i j left.0 here there h))
+wired_finished cs cs1 cs2 ks ks1 ks2 xs ys i j Ended here links owners links2 owners2 there left h = wired_ended cs cs2 ks ks2 xs ys i j here (links2 ∙ links) (owners2 ∙ owners) left.0 left.1 h
 
 -- the connection of a link on which something stands has it
 pub due_link : (cs : List Connection) (ks : List Link) (xs : List Exchange) (j : ℕ) (x : Link) → j < length ks → x ≡ get_or ks j x → is_some (finish_at (get_or ks j x)) ≡ true → Wired (links_of cs) (owners_of ks) xs → at (links_of cs) x.connection ≡ Some j
 due_link cs ks xs j x l e h w =
     let known = some_from (finish_at (get_or ks j x)) (sym h) in
     finished_link cs ks xs j x x known.0 l e e (ap finish_at e ∙ known.1) w
+
+gone_by_one : (gone : Bool) → cond gone 1 0 ≤ 1
+gone_by_one true = omega arith
+gone_by_one false = omega arith
+
+pub gone_most : (c : Connection) → gone_load c ≤ 1
+gone_most c = gone_by_one c.gone
+
+linked_by : (gone : Bool) (o : Option ℕ) (j : ℕ) → o ≡ Some j → ◌≡◌ {A = ℕ} (if is_some o && gone then 1 else 0) (if gone then 1 else 0)
+linked_by gone None j h = absurd (cc)
+linked_by gone (Some l) j h = refl
+
+-- a connection that has a link counts by whether it is gone
+pub linked_load : (cs : List Connection) (i j : ℕ) (x : Connection) → x ≡ get_or cs i x → at (links_of cs) i ≡ Some j → lost_load (get_or cs i x) ≡ gone_load (get_or cs i x)
+linked_load cs i j x e h =
+    let here : at (links_of cs) i ≡ link_of x = mapped_at link_of cs i x (within_connections cs i j h) e in
+    subst (λ (c : Connection). lost_load c ≡ gone_load c) e (linked_by x.gone x.link j (sym here ∙ h))
 
 -- a connection was accepted, or wasn't
 pub wired_accepted : {E : Type 0} (r : Result (Unit {0}) E) (cs cs1 : List Connection) (os : List (Option ℕ)) (xs : List Exchange) → OnOk r (links_of cs1 ≡ links_of cs ++ None ∷ []) → OnErr r (cs1 ≡ cs) → Wired (links_of cs) os xs → Wired (links_of cs1) os xs

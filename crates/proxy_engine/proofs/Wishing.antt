@@ -12,7 +12,7 @@ use Rattle.proxy_core.specs.Replies.{refused_text}
 use Rattle.proxy_core.specs.State.{State as CoreState}
 use Rattle.proxy_script.specs.declared.effect_list.Effect.{Effect}
 use Rattle.proxy_script.specs.declared.effect_list.Effect.TheVariants as effects
-use Rattle.proxy_engine.specs.Taken.{IsAdmitted}
+use Rattle.proxy_engine.specs.Admitted.{IsAdmitted}
 use Rattle.proxy_engine.specs.Look.{Due}
 use Rattle.proxy_engine.specs.Story.{Story, ConnStory, with_connection}
 use Rattle.proxy_engine.specs.Due.{Serves, Finish}

@@ -15,6 +15,8 @@ use Rattle.hx_status.specs.declared.cause.Cause.{Cause}
 use Rattle.hx_status.specs.declared.cause.Cause.TheVariants as cause
 use Rattle.hx_hop.specs.Moments.{date_text_of}
 use Rattle.proxy_core.specs.Replies.{refused_text, is_head}
+use Rattle.proxy_core.specs.Outcomes.{find_exchange}
+use Rattle.proxy_core.specs.declared.exchange.Exchange.{Exchange}
 use Rattle.proxy_core.specs.State.{State as CoreState, Steps}
 use Rattle.proxy_core.specs.declared.outcome.Outcome.{Outcome}
 use Rattle.proxy_core.specs.declared.outcome.Outcome.TheVariants as outcomes
@@ -22,7 +24,7 @@ use Rattle.proxy_core.specs.declared.event.Event.{Event}
 use Rattle.proxy_core.specs.declared.event.Event.TheVariants as events
 use Rattle.proxy_script.specs.declared.effect_list.Effect.{Effect}
 use Rattle.proxy_script.specs.declared.effect_list.Effect.TheVariants as effects
-use Rattle.proxy_engine.specs.Taken.{Refusal, IsAdmitted}
+use Rattle.proxy_engine.specs.Admitted.{Refusal, IsAdmitted}
 use Rattle.proxy_engine.specs.Story.{Story, ConnStory, LinkStory, opened, connection_at, link_at, with_connection, with_link, with_core}
 use Rattle.proxy_engine.specs.Due.{Finish, Gives, Breaks, Act, Abandons, Finishes, Serves}
 
@@ -72,6 +74,11 @@ with_opened s i to_head = record {
   core = s.core;
   first = s.first;
 }
+
+-- the request of an open exchange is a HEAD
+abbrev pub asks_head : Option Exchange → Bool
+asks_head None = false
+asks_head (Some x) = is_head x.asked
 
 -- for the connection at i; the next link has this number
 abbrev pub effects_on : ℕ → ℕ → Came → List Effect
@@ -137,9 +144,9 @@ Served s now i next.End told after = Closes s i told after
 -- the exchange on the link at j, of the connection at i, is finished
 abbrev pub Finished : Story → ℕ → ℕ → ℕ → Finish → List Effect → Story → Type 0
 Finished s now j i (Gives r) told after =
-    (next_number s < 2 ^ 64) × StepsOn s (freed s j i) i (link_at s j).progress.to_head (events.Answer now (i + 1) r) (effects.Drop (s.first + j) ∷ []) told after
+    (next_number s < 2 ^ 64) × StepsOn s (freed s j i) i (asks_head (find_exchange (i + 1) s.core.exchanges)) (events.Answer now (i + 1) r) (effects.Drop (s.first + j) ∷ []) told after
 Finished s now j i (Breaks kind) told after =
-    StepsOn s (freed s j i) i (link_at s j).progress.to_head (events.Fail now (i + 1) kind) (effects.Drop (s.first + j) ∷ []) told after
+    StepsOn s (freed s j i) i (asks_head (find_exchange (i + 1) s.core.exchanges)) (events.Fail now (i + 1) kind) (effects.Drop (s.first + j) ∷ []) told after
 
 -- an act was done, with these effects
 abbrev pub Does : Story → ℕ → Act → List Effect → Story → Type 0

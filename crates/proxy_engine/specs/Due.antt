@@ -14,7 +14,6 @@ use Rattle.hx_framing.specs.RequestStream.{Answers as RequestAnswers}
 use Rattle.hx_framing.specs.ResponseStream.{Answers as ResponseAnswers}
 use Rattle.hx_status.specs.declared.cause.FailKind.{FailKind}
 use Rattle.hx_status.specs.declared.cause.FailKind.TheVariants as kinds
-use Rattle.proxy_engine.specs.Taken.{is_taken_response}
 use Rattle.proxy_engine.specs.Story.{Story, ConnStory, LinkStory, no_connection, no_link}
 
 -- a whole answer, or a failure
@@ -35,15 +34,10 @@ kind_of frame.Chunk = kinds.BadAnswer
 kind_of frame.Expect = kinds.BadAnswer
 kind_of frame.Status = kinds.BadAnswer
 
--- own: a response that isn't taken so far is a bad answer
-abbrev pub given : Response → Bool → Finish
-given m true = Gives m
-given m false = Breaks kinds.BadAnswer
-
 -- what came first counts: an answer or a fault before the failure
 abbrev pub finish_of : Next Response → Option FailKind → Option Finish
 finish_of next.More kind = option_map Breaks kind
-finish_of (next.Message m) kind = Some (given m (is_taken_response m))
+finish_of (next.Message m) kind = Some (Gives m)
 finish_of (next.Refused fault) kind = Some (Breaks (kind_of fault))
 finish_of next.NeedsContinue kind = Some (Breaks kinds.BadAnswer)
 finish_of next.End kind = Some (Breaks kinds.Closed)

@@ -3,7 +3,7 @@ pub mod RequestWatch
 pub mod ResponseWatch
 pub mod Happenings
 pub mod Story
-pub mod Taken
+pub mod Admitted
 pub mod Due
 pub mod Acts
 pub mod State

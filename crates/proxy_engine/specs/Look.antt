@@ -29,6 +29,12 @@ is_due (Due (next.Message m)) = true
 is_due (Due (next.Refused f)) = true
 is_due (Due next.End) = true
 
+-- something may stand there: it wasn't looked at, or the look has found something
+abbrev pub unsettled : {M : Type 0} → Look M → ℕ
+unsettled Unknown = 1
+unsettled Quiet = 0
+unsettled (Due a) = 1
+
 -- a message or a continue that is known counts as one that is still to come
 abbrev pub known : {M : Type 0} → Look M → ℕ
 known Unknown = 0

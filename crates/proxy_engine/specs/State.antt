@@ -12,7 +12,7 @@ use Rattle.hx_framing.specs.declared.answer.Next.{Next}
 use Rattle.hx_status.specs.declared.cause.FailKind.{FailKind}
 use Rattle.proxy_core.specs.State.{State as CoreState}
 use Rattle.proxy_engine.specs.Happenings.{Said}
-use Rattle.proxy_engine.specs.Look.{Look, Unknown, Quiet, Due}
+use Rattle.proxy_engine.specs.Look.{Look, Unknown, Quiet, Due, unsettled}
 use Rattle.proxy_engine.specs.RequestWatch.{Stands as RequestStands, load}
 use Rattle.proxy_engine.specs.ResponseWatch.{Stands as ResponseStands}
 use Rattle.proxy_engine.specs.Story.{Story, ConnStory, LinkStory, no_connection, no_link, fault_of, heard}
@@ -117,6 +117,10 @@ FoundConnections cs (Some i) = FoundConnection cs i
 
 -- ---- how much is still to come
 
+-- a gone connection counts one
+abbrev pub gone_load : Connection → ℕ
+gone_load c = if c.gone then 1 else 0
+
 -- a gone connection with an open exchange counts one
 abbrev pub lost_load : Connection → ℕ
 lost_load c = if is_some c.link && c.gone then 1 else 0
@@ -125,9 +129,14 @@ lost_load c = if is_some c.link && c.gone then 1 else 0
 abbrev pub connection_load : Connection → ℕ
 connection_load c = 3 * load c.watch + (if c.closed then 0 else 1) + lost_load c
 
--- a link that isn't dropped counts one
+-- an answer that may stand there counts one, and so does a failure
+abbrev pub finish_load : Look Response → Option FailKind → ℕ
+finish_load look None = unsettled look
+finish_load look (Some kind) = 1
+
+-- a link that isn't dropped counts one, and what may stand on it one more: so a request that goes forward again leaves less
 abbrev pub link_load : Link → ℕ
-link_load k = if k.dropped then 0 else 1
+link_load k = if k.dropped then 0 else 1 + finish_load k.watch.look k.failed
 
 -- no more acts than this are due, one after another, while nothing is taken
 abbrev pub load_of : List Connection → List Link → ℕ

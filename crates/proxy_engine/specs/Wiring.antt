@@ -1,9 +1,12 @@
 -- Which connection has which link, and which exchanges of the core are open: the three agree.
 --
+-- wires_after, owners_after: what an outcome of the core adds
 -- Wired: connections, links and open exchanges belong together     IsWired: those of an engine do
-use Rattle.std.specs.Prelude.{◌≡◌, ℕ, ◌+◌, List, map, Option, None, Some, is_some, if◌then◌else◌, slice_index_or}
+use Rattle.std.specs.Prelude.{◌≡◌, ℕ, ◌+◌, List, [], ◌∷◌, ◌++◌, map, Option, None, Some, is_some, if◌then◌else◌, slice_set, slice_index_or}
 use Rattle.proxy_core.specs.Outcomes.{find_exchange}
 use Rattle.proxy_core.specs.declared.exchange.Exchange.{Exchange}
+use Rattle.proxy_core.specs.declared.outcome.Outcome.{Outcome}
+use Rattle.proxy_core.specs.declared.outcome.Outcome.TheVariants.{Reply, Forward, Ended}
 use Rattle.proxy_engine.specs.State.{State}
 use Rattle.proxy_engine.specs.declared.ends.Connection.{Connection}
 use Rattle.proxy_engine.specs.declared.ends.Link.{Link}
@@ -15,6 +18,18 @@ link_of c = c.link
 -- the place of the connection that an open link belongs to
 abbrev pub owner_of : Link → Option ℕ
 owner_of k = if k.dropped then None else Some k.connection
+
+-- the links of the connections behind an outcome for the connection at i, where the next link has the place n
+abbrev pub wires_after : ℕ → ℕ → Outcome → List (Option ℕ) → List (Option ℕ)
+wires_after i n (Reply r) links = links
+wires_after i n (Forward line bytes) links = slice_set links i (Some n)
+wires_after i n Ended links = links
+
+-- the connections of the links
+abbrev pub owners_after : ℕ → Outcome → List (Option ℕ) → List (Option ℕ)
+owners_after i (Reply r) owners = owners
+owners_after i (Forward line bytes) owners = owners ++ Some i ∷ []
+owners_after i Ended owners = owners
 
 -- what stands at a place, or nothing beyond the list
 abbrev pub at : List (Option ℕ) → ℕ → Option ℕ

@@ -39,7 +39,7 @@ fn is_finished(link: &mut Link, alloc: Global) -> Result<bool, AllocError>
     ensures stands { (s : LinkStory) → LinkStands link.old s → LinkStands link.new s }
     ensures value { IfOk result (λ b. b ≡ is_some (finish_at link.new)) }
     ensures owner { owner_of link.new ≡ owner_of link.old }
-    ensures load { link_load link.new ≡ link_load link.old }
+    ensures load { link_load link.new ≤ link_load link.old }
     ensures meaning { OnOk result ((s : LinkStory) → LinkStands link.new s → Stood s (finish_at link.new)) }
 {
     if link.dropped {
@@ -72,7 +72,7 @@ pub(crate) fn find_finished(
     ensures stands { (ss : List LinkStory) → Both LinkStands links.old.items ss → Both LinkStands links.new.items ss }
     ensures found { IfOk result (λ found. FoundLinks links.new.items found) }
     ensures owners { owners_of links.new.items ≡ owners_of links.old.items }
-    ensures load { sum_by link_load links.new.items ≡ sum_by link_load links.old.items }
+    ensures load { sum_by link_load links.new.items ≤ sum_by link_load links.old.items }
 {
     for i in 0..links.len() {
         if is_finished(&mut links[i], alloc)? {

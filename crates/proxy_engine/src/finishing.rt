@@ -9,16 +9,19 @@ ghost use Rattle.proxy_engine.specs.Due.{Abandons, Finish, Finishes, kind_of, Is
 ghost use Rattle.proxy_engine.specs.State.{Stands, state, finish_at, lost_load, load_of, Done, Failed};
 ghost use Rattle.proxy_core.specs.Outcomes.{find_exchange};
 ghost use Rattle.proxy_engine.specs.Wiring.{IsWired, at, links_of};
-ghost use Rattle.proxy_engine.specs.Wishes.{Ends, MayGive, EndFault, outcome_by, goes_forward};
+ghost use Rattle.proxy_engine.specs.Acts.{asks_head};
+ghost use Rattle.proxy_engine.specs.Wishes.{Ends, MayGive, EndFault, again_address};
 
 use crate::ends::{Connection, Link};
 use crate::happening::EngineFault;
-use crate::outcomes::{free, is_spent, lacks_memory, number_at, put, room, send_reply};
-use crate::taken::is_taken_response;
+use crate::outcomes::{
+    Way, carry_out, free, is_spent, lacks_memory, number_at, put, room, room_for_link, way_to,
+};
+use hx_allow::Config;
 use hx_framing::{FrameFault, Next};
 use hx_status::FailKind;
 use hx_store::Shelf;
-use proxy_core::{Core, Outcome, Reply};
+use proxy_core::{Core, Exchange, Outcome};
 use proxy_script::Effect;
 use std::alloc::{AllocError, Global};
 
@@ -33,16 +36,34 @@ fn kind_of(fault: FrameFault) -> FailKind
     }
 }
 
-/// The reply that ends an exchange, if it gets one. Answers and failures never go forward again.
-fn reply_of(outcome: Outcome) -> Option<Reply>
-    requires { goes_forward outcome ≡ false }
-    ensures { outcome ≡ outcome_by result }
+/// The address to which an open exchange may go forward once more, behind an answer to the proxy's own conditions.
+fn address_again<'a>(config: &'a Config, exchange: &Exchange) -> &'a str
+    ensures { result.now ≡ again_address config.now (Some exchange.now) }
 {
-    match outcome {
-        Outcome::Reply(reply) => Some(reply),
-        Outcome::Forward(_, _) => unreachable!(),
-        Outcome::Ended => None,
+    if exchange.condition.is_some() {
+        config.origin(exchange.line)
+    } else {
+        ""
     }
+}
+
+/// How the request of an open exchange goes forward once more, if it does.
+fn way_again<S: Shelf>(core: &Core<S>, alloc: Global, id: u64) -> Result<Way, AllocError>
+    requires { is_some (find_exchange id core.now.exchanges) ≡ true }
+    ensures address { IfOk result (λ way. way.address ≡ again_address core.now.table (find_exchange id core.now.exchanges)) }
+    ensures max_body { IfOk result (λ way. way.max_body ≡ core.now.table.max_body) }
+    ensures to_head { IfOk result (λ way. way.to_head ≡ asks_head (find_exchange id core.now.exchanges)) }
+{
+    let Some(exchange) = core.exchange(id) else {
+        unreachable!()
+    };
+    let config = core.config();
+    way_to(
+        alloc,
+        address_again(config, exchange),
+        config,
+        &exchange.asked,
+    )
 }
 
 /// The origin failed.
@@ -84,9 +105,6 @@ fn end<S: Shelf>(
     match link.watch.due() {
         Some(next) => match next {
             Next::Message(response) => {
-                if !is_taken_response(response) {
-                    return fail(core, alloc, now, id, FailKind::BadAnswer);
-                }
                 if spent {
                     return Err(EngineFault::Spent);
                 }
@@ -135,7 +153,7 @@ pub(crate) fn abandon<S: Shelf>(
     Ok(effects)
 }
 
-/// The exchange of a link is finished by what stands on it, and the link is dropped.
+/// The exchange of a link is finished by what stands on it, or goes forward once more on a new one; the link is dropped.
 pub(crate) fn finish<S: Shelf>(
     connections: &mut Vec<Connection>,
     links: &mut Vec<Link>,
@@ -160,19 +178,29 @@ pub(crate) fn finish<S: Shelf>(
     let Ok(mut effects) = room(alloc) else {
         return Err(EngineFault::OutOfMemory);
     };
+    let Ok(()) = room_for_link(links) else {
+        return Err(EngineFault::OutOfMemory);
+    };
     let i = links[j].connection;
     let spent = is_spent(first, links.len());
+    let Ok(way) = way_again(core, alloc, i as u64 + 1) else {
+        return Err(EngineFault::OutOfMemory);
+    };
     let outcome = match end(&links[j], core, alloc, now, i as u64 + 1, spent) {
         Ok(outcome) => outcome,
         Err(fault) => return Err(fault),
     };
     free(connections, links, j, i);
     put(&mut effects, Effect::Drop(number_at(first, j)));
-    match reply_of(outcome) {
-        Some(reply) => {
-            send_reply(connections, &mut effects, i, reply.bytes, reply.close);
-            Ok(effects)
-        }
-        None => Ok(effects),
-    }
+    carry_out(
+        connections,
+        links,
+        &mut effects,
+        alloc,
+        first,
+        i,
+        way,
+        outcome,
+    );
+    Ok(effects)
 }

@@ -18,7 +18,6 @@ mod outcomes;
 mod request_watch;
 mod response_watch;
 mod serving;
-mod taken;
 mod takes;
 mod wishes;
 

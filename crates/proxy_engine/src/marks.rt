@@ -5,7 +5,7 @@ ghost use Rattle.hx_framing.specs.declared.answer.Next.{Next};
 ghost use Rattle.proxy_engine.specs.Look.{Due, known};
 ghost use Rattle.proxy_engine.specs.Story.{ConnStory, LinkStory};
 ghost use Rattle.proxy_engine.specs.Acts.{closing, linked, passing, dropping};
-ghost use Rattle.proxy_engine.specs.State.{ConnStands, LinkStands, connection_load, lost_load, link_load};
+ghost use Rattle.proxy_engine.specs.State.{ConnStands, LinkStands, connection_load, gone_load, lost_load, link_load};
 ghost use Rattle.proxy_engine.specs.Wiring.{owner_of};
 
 use crate::ends::{Connection, Link};
@@ -24,6 +24,7 @@ pub(crate) fn close(connection: &mut Connection, close: bool)
 pub(crate) fn unlink(connection: &mut Connection)
     ensures stands { (c : ConnStory) → ConnStands connection.old c → ConnStands connection.new (linked None c) }
     ensures link { connection.new.link ≡ None }
+    ensures gone { connection.new.gone ≡ connection.old.gone }
     ensures load { connection_load connection.new + lost_load connection.old ≡ connection_load connection.old }
 {
     connection.link = None;
@@ -33,7 +34,7 @@ pub(crate) fn unlink(connection: &mut Connection)
 pub(crate) fn link_to(connection: &mut Connection, place: usize)
     ensures stands { (c : ConnStory) → ConnStands connection.old c → ConnStands connection.new (linked (Some place) c) }
     ensures link { connection.new.link ≡ Some place }
-    ensures load { connection_load connection.new ≤ connection_load connection.old + 1 }
+    ensures load { connection_load connection.new ≤ connection_load connection.old + gone_load connection.old }
 {
     connection.link = Some(place);
 }

@@ -1,21 +1,21 @@
 //! What an outcome of the core does on the proxy's ends. Room is made first, so none of this takes memory.
 ghost use Rattle.std.specs.Prelude.{◌≡◌, ℕ, ◌+◌, ◌<◌, ◌≤◌, ◌^◌, ◌++◌, ◌∷◌, [], List, Bool, length, sum_by, true, false, IfOk, OnOk, None, Some, vec_len, vec_capacity, slice_index_or, slice_set};
-ghost use Rattle.hx_hop.specs.declared.asked_for.Asked.{Asked};
-ghost use Rattle.hx_store.specs.Stored.{Stored};
-ghost use Rattle.proxy_core.specs.declared.event.Event.TheVariants.{Arrive};
-ghost use Rattle.proxy_core.specs.declared.exchange.Exchange.{Exchange};
-ghost use Rattle.proxy_core.specs.State.{State as CoreState, open_after};
+ghost use Rattle.proxy_core.specs.Replies.{is_head};
+ghost use Rattle.proxy_core.specs.State.{State as CoreState};
 ghost use Rattle.proxy_engine.specs.Story.{Story, with_connection};
 ghost use Rattle.proxy_engine.specs.Acts.{closing, came_at, effects_on, after_on, freed, with_opened};
 ghost use Rattle.proxy_engine.specs.Acts.Came.{Replies};
-ghost use Rattle.proxy_engine.specs.Wiring.{Wired, at, links_of, owners_of};
-ghost use Rattle.proxy_engine.specs.State.{Stands, state, connection_load, lost_load, link_load, load_of};
+ghost use Rattle.proxy_engine.specs.Wiring.{links_of, owners_of, wires_after, owners_after};
+ghost use Rattle.proxy_engine.specs.Wishes.{goes_forward};
+ghost use Rattle.proxy_engine.specs.State.{Stands, state, connection_load, gone_load, lost_load, link_load, load_of};
 
 use crate::ends::{Connection, Link};
 use crate::happening::EngineFault;
 use crate::marks;
 use crate::response_watch::ResponseWatch;
+use hx_allow::Config;
 use hx_fields::Bytes;
+use hx_hop::Asked;
 use proxy_core::{CoreFault, Outcome};
 use proxy_script::Effect;
 use std::alloc::{AllocError, Global};
@@ -132,7 +132,7 @@ fn open_link(
         → Stands (state connections.new.items links.new.items core first) (with_opened s i to_head) }
     ensures links { links_of connections.new.items ≡ slice_set (links_of connections.old.items) i (Some (length links.old.items)) }
     ensures owners { owners_of links.new.items ≡ owners_of links.old.items ++ Some i ∷ [] }
-    ensures load { load_of connections.new.items links.new.items ≤ load_of connections.old.items links.old.items + 2 }
+    ensures load { (c : Connection) → load_of connections.new.items links.new.items ≤ load_of connections.old.items links.old.items + gone_load (slice_index_or connections.old.items i c) + 1 }
 {
     marks::link_to(&mut connections[i], links.len());
     put_link(
@@ -147,6 +147,12 @@ fn open_link(
     );
 }
 
+fn is_head(asked: &Asked) -> bool
+    ensures { result ≡ is_head asked.now }
+{
+    asked.method.as_str().as_bytes() == b"HEAD".as_slice()
+}
+
 /// How a request goes forward, if it does: to which address, and what its link reads.
 #[derive(Drop)]
 pub(crate) struct Way {
@@ -154,6 +160,24 @@ pub(crate) struct Way {
     /// The most bytes of the answer's content.
     pub(crate) max_body: u64,
     pub(crate) to_head: bool,
+}
+
+/// The way of a request to an address.
+pub(crate) fn way_to(
+    alloc: Global,
+    address: &str,
+    config: &Config,
+    asked: &Asked,
+) -> Result<Way, AllocError>
+    ensures address { IfOk result (λ way. way.address ≡ address.now) }
+    ensures max_body { IfOk result (λ way. way.max_body ≡ config.now.max_body) }
+    ensures to_head { IfOk result (λ way. way.to_head ≡ is_head asked.now) }
+{
+    Ok(Way {
+        address: Bytes::copy_of(alloc, address.as_bytes())?,
+        max_body: config.max_body(),
+        to_head: is_head(asked),
+    })
 }
 
 /// Does what an outcome says, for the connection at a place.
@@ -170,13 +194,13 @@ pub(crate) fn carry_out(
     requires within { i < length connections.old.items }
     requires room_for_link { vec_len links.old < vec_capacity links.old }
     requires room { vec_len effects.old + 2 ≤ vec_capacity effects.old }
-    requires left { first + length links.old.items < 2 ^ 64 }
+    requires left { goes_forward outcome ≡ true → first + length links.old.items < 2 ^ 64 }
     ensures effects { effects.new.items ≡ effects.old.items ++ effects_on i (first + length links.old.items) (came_at way.address outcome) }
     ensures stands { (s : Story) → (core : CoreState) → core.table.max_body ≡ way.max_body → Stands (state connections.old.items links.old.items core first) s
         → Stands (state connections.new.items links.new.items core first) (after_on i way.to_head (came_at way.address outcome) s) }
-    ensures wired { (held : List Stored) → (exchanges : List Exchange) → (now : ℕ) → (asked : Asked) → at (links_of connections.old.items) i ≡ None → Wired (links_of connections.old.items) (owners_of links.old.items) exchanges
-        → Wired (links_of connections.new.items) (owners_of links.new.items) (open_after held exchanges (Arrive now (i + 1) asked) outcome) }
-    ensures load { load_of connections.new.items links.new.items ≤ load_of connections.old.items links.old.items + 2 }
+    ensures links { links_of connections.new.items ≡ wires_after i (length links.old.items) outcome (links_of connections.old.items) }
+    ensures owners { owners_of links.new.items ≡ owners_after i outcome (owners_of links.old.items) }
+    ensures load { (c : Connection) → load_of connections.new.items links.new.items ≤ load_of connections.old.items links.old.items + gone_load (slice_index_or connections.old.items i c) + 1 }
 {
     match outcome {
         Outcome::Reply(reply) => send_reply(connections, effects, i, reply.bytes, reply.close),
@@ -199,6 +223,8 @@ pub(crate) fn free(connections: &mut Vec<Connection>, links: &mut Vec<Link>, j: 
     ensures owners { owners_of links.new.items ≡ slice_set (owners_of links.old.items) j None }
     ensures load { (c : Connection) → (k : Link) → load_of connections.new.items links.new.items + lost_load (slice_index_or connections.old.items i c) + link_load (slice_index_or links.old.items j k)
         ≡ load_of connections.old.items links.old.items }
+    ensures gone { (c : Connection) → gone_load (slice_index_or connections.new.items i c) ≡ gone_load (slice_index_or connections.old.items i c) }
+    ensures room { vec_len links.old < vec_capacity links.old → vec_len links.new < vec_capacity links.new }
     ensures connections { length connections.new.items ≡ length connections.old.items }
     ensures links { length links.new.items ≡ length links.old.items }
 {

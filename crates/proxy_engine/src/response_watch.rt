@@ -1,10 +1,10 @@
 //! A reader of an origin's answer that is asked ahead: what it answers is kept until it is used, so that no act
 //! reads bytes twice, and an answer that finds no memory on its way isn't lost.
-ghost use Rattle.std.specs.Prelude.{◌≡◌, false, OnOk, OnErr, IfSome, is_some};
+ghost use Rattle.std.specs.Prelude.{◌≡◌, ◌≤◌, false, OnOk, OnErr, IfSome, is_some};
 ghost use Rattle.hx_framing.specs.Progress.{Progress, start, fed, finished};
 ghost use Rattle.hx_framing.specs.declared.responses.Response.{Response};
 ghost use Rattle.hx_framing.specs.declared.answer.Next.{Next};
-ghost use Rattle.proxy_engine.specs.Look.{Due, Shows, is_due, look_by};
+ghost use Rattle.proxy_engine.specs.Look.{Quiet, Due, Shows, is_due, look_by, unsettled};
 ghost use Rattle.proxy_engine.specs.ResponseWatch.{look_of};
 
 use hx_framing::{Next, Response, ResponseReader};
@@ -49,13 +49,15 @@ fn ahead_of(next: Next<Response>) -> ResponseAhead
 impl ResponseWatch {
     ghost use Rattle.proxy_engine.specs.ResponseWatch.{Stands};
 
-    /// A watch of an empty stream. The content has at most `max_body` bytes; `to_head` says that it answers a HEAD.
+    /// A watch of an empty stream, on which nothing is due. The content has at most `max_body` bytes; `to_head` says
+    /// that it answers a HEAD.
     pub fn new(alloc: Global, max_body: u64, to_head: bool) -> ResponseWatch
-        ensures { Stands result (start max_body to_head) }
+        ensures stands { Stands result (start max_body to_head) }
+        ensures quiet { result.look ≡ Quiet }
     {
         ResponseWatch {
             reader: ResponseReader::new(alloc, max_body, to_head),
-            ahead: ResponseAhead::Unknown,
+            ahead: ResponseAhead::Quiet,
         }
     }
 
@@ -91,6 +93,7 @@ impl ResponseWatch {
     pub fn look(&mut self, alloc: Global) -> Result<(), AllocError>
         ensures stands { (p : Progress Response) → Stands self.old p → Stands self.new p }
         ensures looked { OnOk result ((a : Next Response) × Shows self.new.look a) }
+        ensures load { unsettled self.new.look ≤ unsettled self.old.look }
     {
         match self.ahead {
             ResponseAhead::Unknown => {

@@ -3,7 +3,7 @@ ghost use Rattle.std.specs.Prelude.{◌≡◌, ℕ, ◌+◌, ◌<◌, ◌≤◌,
 ghost use Rattle.hx_framing.specs.declared.requests.Request.{Request};
 ghost use Rattle.hx_framing.specs.declared.answer.Next.{Next};
 ghost use Rattle.hx_framing.specs.declared.answer.Next.TheVariants as next;
-ghost use Rattle.proxy_engine.specs.Taken.{IsAdmitted};
+ghost use Rattle.proxy_engine.specs.Admitted.{IsAdmitted};
 ghost use Rattle.hx_allow.specs.Matching.{verdict_of};
 ghost use Rattle.hx_hop.specs.Moments.{date_text_of};
 ghost use Rattle.proxy_core.specs.Replies.{refused_text, is_head};
@@ -19,7 +19,7 @@ use crate::ends::{Connection, Link};
 use crate::happening::EngineFault;
 use crate::marks;
 use crate::outcomes::{
-    Way, carry_out, close_at, is_spent, lacks_memory, put, room, room_for_link, send_reply,
+    Way, carry_out, close_at, is_spent, lacks_memory, put, room, room_for_link, send_reply, way_to,
 };
 use crate::wishes::{Wish, wish_of};
 use hx_allow::{Config, Verdict};
@@ -101,20 +101,14 @@ fn shut(
     Ok(effects)
 }
 
-fn is_head(asked: &Asked) -> bool
-    ensures { result ≡ is_head asked.now }
-{
-    asked.method.as_str().as_bytes() == b"HEAD".as_slice()
-}
-
 /// The address to which a request goes forward, if the table allows it.
-fn address_for(alloc: Global, config: &Config, asked: &Asked) -> Result<Bytes, AllocError>
-    ensures { IfOk result (λ address. address ≡ verdict_address config.now (verdict_of config.now.lines asked.now.method asked.now.target)) }
+fn address_for<'a>(config: &'a Config, asked: &Asked) -> &'a str
+    ensures { result.now ≡ verdict_address config.now (verdict_of config.now.lines asked.now.method asked.now.target) }
 {
     match config.judge(&asked.method, &asked.target) {
-        Verdict::Allowed(line) => Bytes::copy_of(alloc, config.origin(line).as_bytes()),
-        Verdict::DeniedBy(_) => Ok(Bytes::new(alloc)),
-        Verdict::NoLine => Ok(Bytes::new(alloc)),
+        Verdict::Allowed(line) => config.origin(line),
+        Verdict::DeniedBy(_) => "",
+        Verdict::NoLine => "",
     }
 }
 
@@ -124,11 +118,7 @@ fn way_for(alloc: Global, config: &Config, asked: &Asked) -> Result<Way, AllocEr
     ensures max_body { IfOk result (λ way. way.max_body ≡ config.now.max_body) }
     ensures to_head { IfOk result (λ way. way.to_head ≡ is_head asked.now) }
 {
-    Ok(Way {
-        address: address_for(alloc, config, asked)?,
-        max_body: config.max_body(),
-        to_head: is_head(asked),
-    })
+    way_to(alloc, address_for(config, asked), config, asked)
 }
 
 /// A request arrives at the core. All that can fail comes before the core's step, or is that step.

@@ -8,7 +8,6 @@ ghost use Rattle.proxy_engine.specs.State.{wish_at};
 ghost use Rattle.proxy_engine.specs.Wishes.{IsMessageWish, IsWish, wish_by};
 
 use crate::ends::Connection;
-use crate::taken::is_taken_request;
 use hx_framing::{FrameFault, Next, Request};
 use hx_hop::{Asked, ask};
 use hx_status::Cause;
@@ -34,13 +33,10 @@ fn is_head(request: &Request) -> bool
     request.method.as_str().as_bytes() == b"HEAD".as_slice()
 }
 
-/// A message arrives as a request, or is refused: one that isn't taken so far as a head that can't be read.
+/// A message arrives as a request, or is refused.
 fn message_wish(alloc: Global, request: &Request) -> Result<Wish, AllocError>
     ensures { IfOk result (λ wish. IsMessageWish request.now wish) }
 {
-    if !is_taken_request(request) {
-        return Ok(Wish::Refuse(Cause::Frame(FrameFault::Head), false));
-    }
     match ask(alloc, request) {
         Ok(asked) => Ok(Wish::Arrive(asked)),
         Err(TargetFault::OutOfMemory) => Err(AllocError),

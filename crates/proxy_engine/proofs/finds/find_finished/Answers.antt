@@ -7,7 +7,7 @@ use Rattle.proxy_engine.specs.State.{LinkStands, finish_at, link_load}
 use Rattle.proxy_engine.specs.Wiring.{owner_of}
 use Rattle.proxy_engine.proofs.Parts.{both_kept}
 use Rattle.proxy_engine.proofs.Shown.{none_from}
-use Rattle.proxy_engine.proofs.Searching.{map_kept, passed_more, found_first, none_first, some_from, sum_kept}
+use Rattle.proxy_engine.proofs.Searching.{map_kept, passed_more, found_first, none_first, some_from, sum_most}
 use Rattle.proxy_engine.proofs.finds.find_finished.Goals as goal
 
 pub returns-in_err-is_finished-clause-stands : goal.returns-in_err-is_finished-clause-stands
@@ -40,7 +40,7 @@ loop-i-preserved c =
     record {
       len = simp length-set c.loop-i.invariant.len;
       stands = λ ss b. both_kept LinkStands xs ss i c.index_mut.result.now c.is_finished.new.link within c.index_mut.ensures.value c.is_finished.ensures.stands (c.loop-i.invariant.stands ss b);
-      load = sum_kept link_load xs i c.index_mut.result.now c.is_finished.new.link within c.index_mut.ensures.value c.is_finished.ensures.load ∙ c.loop-i.invariant.load;
+      load = omega (arith, sum_most link_load xs i c.index_mut.result.now c.is_finished.new.link within c.index_mut.ensures.value c.is_finished.ensures.load, c.loop-i.invariant.load);
       owners = map_kept owner_of xs i c.index_mut.result.now c.is_finished.new.link c.index_mut.ensures.value c.is_finished.ensures.owner ∙ c.loop-i.invariant.owners;
       passed = passed_more LinkStands (λ s. Stood s None) xs i c.is_finished.new.link within (λ s h. subst (λ o. Stood s o) nothing (c.in_ok-is_finished.ensures.meaning s h)) c.loop-i.invariant.passed;
     }

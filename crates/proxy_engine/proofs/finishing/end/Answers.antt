@@ -1,15 +1,15 @@
-use Rattle.std.proofs.Common.{sym, ap, ◌∙◌}
+use Rattle.std.proofs.Common.{ap, ◌∙◌}
 use Rattle.hx_framing.specs.declared.responses.Response.{Response}
 use Rattle.hx_framing.specs.declared.answer.Next.{Next}
 use Rattle.proxy_engine.specs.Look.{Due}
 use Rattle.proxy_engine.specs.Due.{Gives}
-use Rattle.proxy_engine.proofs.TakenLemmas.{given_seen}
+use Rattle.proxy_engine.proofs.Ending.{given_seen}
 use Rattle.proxy_engine.proofs.finishing.end.Goals as goal
 
 pub returns-in-Ok-clause-ok : goal.returns-in-Ok-clause-ok
 returns-in-Ok-clause-ok g c = (
   Gives c.in-Message.response,
-  given_seen c.args.link.now c.in-Message.response c.requires.due (c.in-Some.ensures.value ∙ ap (λ (a : Next Response). Due a) c.in-Message.is) (sym c.is_taken_response.ensures ∙ c.if-not-is_taken_response.false),
+  given_seen c.args.link.now c.in-Message.response c.requires.due (c.in-Some.ensures.value ∙ ap (λ (a : Next Response). Due a) c.in-Message.is),
   c.if-spent.false,
   c.in-Ok.ensures.ok,
 )

@@ -1,103 +1,138 @@
-use Rattle.std.proofs.Common.{rules, ◌≡◌, ◌+◌, ◌<◌, ◌≤◌, ◌^◌, ◌∙◌, ◌++◌, ◌∷◌, [], ℕ, List, length, get_or, sym, ap, subst, arith}
+use Rattle.std.proofs.Common.{rules, ◌≡◌, ◌+◌, ◌<◌, ◌≤◌, ◌^◌, ◌∙◌, ◌++◌, ◌∷◌, [], ℕ, List, length, get_or, set, sym, ap, subst, arith, Option, None, sum_by}
 use Rattle.proxy_script.specs.declared.effect_list.Effect.{Effect}
 use Rattle.proxy_script.specs.declared.effect_list.Effect.TheVariants.{Drop}
+use Rattle.proxy_core.specs.declared.exchange.Exchange.{Exchange}
+use Rattle.proxy_core.specs.Outcomes.{find_exchange}
 use Rattle.proxy_engine.specs.Story.{no_link}
 use Rattle.proxy_engine.specs.Due.{Finish, Finishes}
-use Rattle.proxy_engine.specs.Acts.{effects_on}
-use Rattle.proxy_engine.specs.Acts.Came.{Replies}
-use Rattle.proxy_engine.specs.State.{LinkStands, state, Done, link_load}
+use Rattle.proxy_engine.specs.Acts.{came_at, effects_on}
+use Rattle.proxy_engine.specs.State.{LinkStands, Stands, state, Done, link_load, lost_load, gone_load}
+use Rattle.proxy_engine.specs.Wiring.{at, links_of, owners_of}
 use Rattle.proxy_engine.specs.Wishes.{EndFault}
+use Rattle.proxy_engine.specs.declared.ends.Connection.{Connection}
+use Rattle.proxy_engine.specs.declared.ends.Link.{Link}
 use Rattle.proxy_engine.proofs.Parts.{both_length, both_here}
 use Rattle.proxy_engine.proofs.Searching.{some_part}
 use Rattle.proxy_engine.proofs.Wishing.{finish_known, same_place, told_one}
-use Rattle.proxy_engine.proofs.TakenLemmas.{end_replies, finish_is_taken, reply_stays}
-use Rattle.proxy_engine.proofs.Wires.{key_of, finished_link, within_connections, due_link, is_open, wired_ended, ended_exchanges}
+use Rattle.proxy_engine.proofs.Ending.{remains}
+use Rattle.proxy_engine.proofs.Wires.{within_connections, due_link, is_open, linked_load, same_default, wired_finished}
 use Rattle.proxy_engine.proofs.Stepping.{finished_done, end_failed, link_counts}
 use Rattle.proxy_engine.proofs.finishing.finish.Goals as goal
+
+pub overflow_add-i : goal.overflow_add-i
+overflow_add-i g c =
+    let same = c.room_for_link.ensures.items in
+    let x = c.index.result.now in
+    let here = subst (λ (ls : List Link). x ≡ get_or ls c.args.j x) same c.index.ensures in
+    let link = due_link c.args.connections.now.items c.args.links.now.items c.args.core.now.exchanges c.args.j x c.requires.within here (c.requires.due x) c.requires.wired in
+    let within = within_connections c.args.connections.now.items x.connection c.args.j link in
+    search (rules, within)
+
+pub overflow_add-i-2 : goal.overflow_add-i-2
+overflow_add-i-2 g c =
+    let same = c.room_for_link.ensures.items in
+    let x = c.index.result.now in
+    let here = subst (λ (ls : List Link). x ≡ get_or ls c.args.j x) same c.index.ensures in
+    let link = due_link c.args.connections.now.items c.args.links.now.items c.args.core.now.exchanges c.args.j x c.requires.within here (c.requires.due x) c.requires.wired in
+    let within = within_connections c.args.connections.now.items x.connection c.args.j link in
+    search (rules, within)
+
+pub way_again-requires : goal.way_again-requires
+way_again-requires g c =
+    let cs = c.args.connections.now.items in
+    let ks = c.args.links.now.items in
+    let x = c.index.result.now in
+    let here = subst (λ (ls : List Link). x ≡ get_or ls c.args.j x) c.room_for_link.ensures.items c.index.ensures in
+    is_open cs ks c.args.core.now.exchanges x.connection c.args.j (due_link cs ks c.args.core.now.exchanges c.args.j x c.requires.within here (c.requires.due x) c.requires.wired) c.requires.wired
+
+pub end-requires-clause-open : goal.end-requires-clause-open
+end-requires-clause-open g c =
+    let cs = c.args.connections.now.items in
+    let ks = c.args.links.now.items in
+    let x = c.index.result.now in
+    let here = subst (λ (ls : List Link). x ≡ get_or ls c.args.j x) c.room_for_link.ensures.items c.index.ensures in
+    is_open cs ks c.args.core.now.exchanges x.connection c.args.j (due_link cs ks c.args.core.now.exchanges c.args.j x c.requires.within here (c.requires.due x) c.requires.wired) c.requires.wired
 
 pub returns-in-Err-clause-fault : goal.returns-in-Err-clause-fault
 returns-in-Err-clause-fault g c = λ s f k shown due h.
     let ks = c.args.links.now.items in
+    let y = c.index-2.result.now in
+    let here = subst (λ (ls : List Link). y ≡ get_or ls c.args.j y) c.room_for_link.ensures.items c.index-2.ensures in
     let ended = c.in-Err.ensures.fault in
-    let same : f ≡ ended.0 = finish_known ks c.args.j c.index-2.result.now k ended.0 f c.requires.within c.index-2.ensures ended.1 shown in
+    let same : f ≡ ended.0 = finish_known ks c.args.j y k ended.0 f c.requires.within here ended.1 shown in
     let links = both_length LinkStands ks s.links h.links in
     let first_is : c.args.first ≡ s.first = h.first in
-    let count : c.len.result ≡ length ks = search rules in
+    let count : c.len.result ≡ length c.room_for_link.new.links.items = search rules in
+    let sizes = ap length c.room_for_link.ensures.items in
     end_failed s c.args.j f c.is_spent-spent.result c.in-Err.fault (subst (λ (x : Finish). EndFault c.is_spent-spent.result x c.in-Err.fault) (sym same) ended.2)
-    (λ t. let many = c.is_spent-spent.ensures.spent t in omega (arith, many, count, links)) due
+    (λ t. let many = c.is_spent-spent.ensures.spent t in omega (arith, many, count, sizes, links)) due
 
-pub returns-in-Some-clause-ok : goal.returns-in-Some-clause-ok
-returns-in-Some-clause-ok g c = λ s f k shown h.
+pub returns-clause-wired : goal.returns-clause-wired
+returns-clause-wired g c =
     let cs = c.args.connections.now.items in
     let ks = c.args.links.now.items in
+    let core = c.args.core.now in
+    let x = c.index.result.now in
+    let here = subst (λ (ls : List Link). x ≡ get_or ls c.args.j x) c.room_for_link.ensures.items c.index.ensures in
+    let link = due_link cs ks core.exchanges c.args.j x c.requires.within here (c.requires.due x) c.requires.wired in
+    let there = is_open cs ks core.exchanges x.connection c.args.j link c.requires.wired in
+    let owners : owners_of c.free.new.links.items ≡ set (owners_of ks) c.args.j None = c.free.ensures.owners ∙ ap (λ (ls : List Link). set (owners_of ls) c.args.j None) c.room_for_link.ensures.items in
+    wired_finished cs c.free.new.connections.items c.carry_out.new.connections.items ks c.free.new.links.items c.carry_out.new.links.items core.exchanges c.end.new.core.exchanges x.connection c.args.j c.in-Ok-end.outcome link c.free.ensures.wires owners
+    c.carry_out.ensures.links c.carry_out.ensures.owners there (remains core c.end.new.core c.args.now (x.connection + 1) c.in-Ok-end.ensures.ok.0 c.in-Ok-end.outcome there c.in-Ok-end.ensures.ok.3) c.requires.wired
+
+pub returns-clause-less : goal.returns-clause-less
+returns-clause-less g c =
+    let cs = c.args.connections.now.items in
+    let ks = c.args.links.now.items in
+    let rooms = c.room_for_link.new.links.items in
     let j = c.args.j in
     let i = c.index.result.now.connection in
+    let same = c.room_for_link.ensures.items in
+    let y = c.index-2.result.now in
+    let here = subst (λ (ls : List Link). y ≡ get_or ls j y) same c.index-2.ensures in
+    let there = subst (λ (ls : List Link). c.index.result.now ≡ get_or ls j c.index.result.now) same c.index.ensures in
+    let counts : link_load y ≡ 2 = link_counts y c.in-Ok-end.ensures.ok.0 c.in-Ok-end.ensures.ok.1 in
+    let stood : link_load (get_or rooms j y) ≡ link_load y = ap link_load (sym c.index-2.ensures) in
+    let link = due_link cs ks c.args.core.now.exchanges j c.index.result.now c.requires.within there (c.requires.due c.index.result.now) c.requires.wired in
+    let within = within_connections cs i j link in
+    let x = get_or cs i (some_part cs i within) in
+    let lost = linked_load cs i j x (same_default cs i (some_part cs i within) within) link in
+    let sum = ap (sum_by link_load) same in
+    let freed = c.free.ensures.load x y in
+    let gone = c.free.ensures.gone x in
+    let carried = c.carry_out.ensures.load x in
+    omega (arith, counts, stood, lost, sum, freed, gone, carried)
+
+pub returns-clause-ok : goal.returns-clause-ok
+returns-clause-ok g c = λ s f k shown h.
+    let cs = c.args.connections.now.items in
+    let ks = c.args.links.now.items in
+    let core = c.args.core.now in
+    let j = c.args.j in
+    let x = c.index.result.now in
+    let i = x.connection in
+    let y = c.index-2.result.now in
+    let items = c.room_for_link.ensures.items in
+    let here = subst (λ (ls : List Link). y ≡ get_or ls j y) items c.index-2.ensures in
+    let there = subst (λ (ls : List Link). x ≡ get_or ls j x) items c.index.ensures in
     let ended = c.in-Ok-end.ensures.ok in
-    let same : f ≡ ended.0 = finish_known ks j c.index-2.result.now k ended.0 f c.requires.within c.index-2.ensures ended.1 shown in
+    let same : f ≡ ended.0 = finish_known ks j y k ended.0 f c.requires.within here ended.1 shown in
     let links = both_length LinkStands ks s.links h.links in
     let first_is : c.args.first ≡ s.first = h.first in
     let numbers : s.first + length s.links ≤ 2 ^ 64 = h.numbers in
-    let count : c.len.result ≡ length ks = search rules in
+    let count : c.len.result ≡ length c.room_for_link.new.links.items = search rules in
+    let sizes = ap length items in
     let number : c.number_at.result ≡ c.args.first + j = c.number_at.ensures (omega (arith, links, c.requires.within)) in
-    let owner = both_here LinkStands ks s.links j c.index.result.now no_link c.requires.within c.index.ensures h.links in
-    subst (λ (x : Finish). Done s c.args.now (Finishes j x) c.send_reply.new.effects.items (state c.send_reply.new.connections.items c.free.new.links.items c.end.new.core c.args.first)) (sym same)
-    (finished_done s c.free.new.connections.items c.send_reply.new.connections.items c.free.new.links.items c.args.core.now c.end.new.core c.args.first c.args.now i j ended.0 c.is_spent-spent.result c.in-Ok-end.outcome c.in-Some.reply
-    c.send_reply.new.effects.items ended.2 (λ t. let few = c.is_spent-spent.ensures.left t in omega (arith, few, count, links)) ended.3 c.in-Some.ensures
-    (c.send_reply.ensures.effects ∙ ap (λ (b : List Effect). b ++ effects_on i 0 (Replies c.in-Some.reply.bytes c.in-Some.reply.close))
-    (told_one c.in-Ok.effects.items c.put.new.effects.items _ c.put.ensures.items c.in-Ok.ensures.items ∙ ap (λ (n : ℕ). Drop n ∷ []) number)) first_is h.core owner.connection (c.free.ensures.stands s c.args.core.now c.args.first h)
-    (λ t core. c.send_reply.ensures.stands t c.free.new.links.items core c.args.first))
-
-pub returns-in-Some-clause-less : goal.returns-in-Some-clause-less
-returns-in-Some-clause-less g c =
-    let ks = c.args.links.now.items in
-    let x = c.index-2.result.now in
-    let ended = c.in-Ok-end.ensures.ok in
-    let counts : link_load x ≡ 1 = link_counts x ended.0 ended.1 in
-    let here : get_or ks c.args.j x ≡ x = same_place ks c.args.j x x c.requires.within c.index-2.ensures in
-    let open_still = ap link_load here ∙ counts in
-    let cs = c.args.connections.now.items in
-    let i = c.index.result.now.connection in
-    let link = finished_link cs ks c.args.core.now.exchanges c.args.j c.index.result.now x ended.0 c.requires.within c.index.ensures c.index-2.ensures ended.1 c.requires.wired in
-    let within = within_connections cs i c.args.j link in
-    let freed = c.free.ensures.load (some_part cs i within) x in
-    let reply = c.send_reply.ensures.load in
-    omega (arith, freed, open_still, reply)
-
-pub overflow_add-i : goal.overflow_add-i
-overflow_add-i g c =
-    let x = c.index.result.now in
-    let link = due_link c.args.connections.now.items c.args.links.now.items c.args.core.now.exchanges c.args.j x c.requires.within c.index.ensures (c.requires.due x) c.requires.wired in
-    let within = within_connections c.args.connections.now.items x.connection c.args.j link in
-    search (rules, within)
-
-pub end-requires-clause-open : goal.end-requires-clause-open
-end-requires-clause-open g c =
-    let x = c.index.result.now in
-    let link = due_link c.args.connections.now.items c.args.links.now.items c.args.core.now.exchanges c.args.j x c.requires.within c.index.ensures (c.requires.due x) c.requires.wired in
-    is_open c.args.connections.now.items c.args.links.now.items c.args.core.now.exchanges x.connection c.args.j link c.requires.wired
-
-pub send_reply-requires-clause-within : goal.send_reply-requires-clause-within
-send_reply-requires-clause-within g c =
-    let x = c.index.result.now in
-    let link = due_link c.args.connections.now.items c.args.links.now.items c.args.core.now.exchanges c.args.j x c.requires.within c.index.ensures (c.requires.due x) c.requires.wired in
-    subst (λ (n : ℕ). x.connection < n) (sym c.free.ensures.connections) (within_connections c.args.connections.now.items x.connection c.args.j link)
-
-pub returns-in-Some-clause-wired : goal.returns-in-Some-clause-wired
-returns-in-Some-clause-wired g c =
-    let cs = c.args.connections.now.items in
-    let ks = c.args.links.now.items in
-    let core = c.args.core.now in
-    let x = c.index.result.now in
-    let ended = c.in-Ok-end.ensures.ok in
-    let link = due_link cs ks core.exchanges c.args.j x c.requires.within c.index.ensures (c.requires.due x) c.requires.wired in
-    wired_ended cs c.send_reply.new.connections.items ks c.free.new.links.items core.exchanges c.end.new.core.exchanges x.connection c.args.j link (c.send_reply.ensures.links ∙ c.free.ensures.wires) c.free.ensures.owners
-    (key_of core (x.connection + 1) ended.0) (ended_exchanges core c.end.new.core c.args.now (x.connection + 1) ended.0 c.in-Ok-end.outcome (end_replies core c.end.new.core c.args.now (x.connection + 1) ended.0 c.in-Ok-end.outcome (is_open cs ks core.exchanges x.connection c.args.j link c.requires.wired) (λ r e. finish_is_taken c.index-2.result.now ended.0 r ended.1 e) ended.3) ended.3) c.requires.wired
-
-pub reply_of-requires : goal.reply_of-requires
-reply_of-requires g c =
-    let core = c.args.core.now in
-    let x = c.index.result.now in
-    let ended = c.in-Ok-end.ensures.ok in
-    let link = due_link c.args.connections.now.items c.args.links.now.items core.exchanges c.args.j x c.requires.within c.index.ensures (c.requires.due x) c.requires.wired in
-    reply_stays c.in-Ok-end.outcome
-    (end_replies core c.end.new.core c.args.now (x.connection + 1) ended.0 c.in-Ok-end.outcome (is_open c.args.connections.now.items c.args.links.now.items core.exchanges x.connection c.args.j link c.requires.wired) (λ r e. finish_is_taken c.index-2.result.now ended.0 r ended.1 e) ended.3)
+    let owner = both_here LinkStands ks s.links j x no_link c.requires.within there h.links in
+    let link = due_link cs ks core.exchanges j x c.requires.within there (c.requires.due x) c.requires.wired in
+    let is_there = is_open cs ks core.exchanges i j link c.requires.wired in
+    let told : c.put.new.effects.items ≡ Drop (c.args.first + j) ∷ [] = told_one c.in-Ok.effects.items c.put.new.effects.items _ c.put.ensures.items c.in-Ok.ensures.items ∙ ap (λ (n : ℕ). Drop n ∷ []) number in
+    let way = c.in-Ok-way_again.way in
+    let free = c.free.ensures.stands s core c.args.first (subst (λ (ls : List Link). Stands (state cs ls core c.args.first) s) (sym items) h) in
+    let fresh = c.free.ensures.links in
+    subst (λ (x : Finish). Done s c.args.now (Finishes j x) c.carry_out.new.effects.items (state c.carry_out.new.connections.items c.carry_out.new.links.items c.end.new.core c.args.first)) (sym same)
+    (finished_done s c.free.new.connections.items c.carry_out.new.connections.items c.free.new.links.items c.carry_out.new.links.items core c.end.new.core c.args.first c.args.now i j way.max_body ended.0 c.is_spent-spent.result c.in-Ok-end.outcome
+    way.address way.to_head c.carry_out.new.effects.items is_there ended.2 (λ t. let few = c.is_spent-spent.ensures.left t in omega (arith, few, count, sizes, links)) ended.3 c.in-Ok-way_again.ensures.address c.in-Ok-way_again.ensures.max_body
+    c.in-Ok-way_again.ensures.to_head (omega (arith, fresh, sizes, links, first_is))
+    (c.carry_out.ensures.effects ∙ ap (λ (b : List Effect). b ++ effects_on i (c.args.first + length c.free.new.links.items) (came_at way.address c.in-Ok-end.outcome)) told)
+    first_is h.core owner.connection free (λ t k. c.carry_out.ensures.stands t k))

@@ -1,4 +1,4 @@
-use Rattle.std.proofs.Common.{rules, ◌≡◌, ◌+◌, ◌∙◌, ◌++◌, Option, ℕ, List, length, get_or, set, sym, ap, subst, arith}
+use Rattle.std.proofs.Common.{sum_by, rules, ◌≡◌, ◌+◌, ◌∙◌, ◌++◌, Option, ℕ, List, length, get_or, set, sym, ap, subst, arith}
 use Rattle.proxy_script.specs.declared.effect_list.Effect.{Effect}
 use Rattle.hx_framing.specs.declared.answer.Next.TheVariants.{Message}
 use Rattle.hx_allow.specs.Lines.{Table}
@@ -10,11 +10,35 @@ use Rattle.proxy_engine.specs.State.{LinkStands}
 use Rattle.proxy_engine.proofs.Parts.{both_length}
 use Rattle.proxy_core.specs.State.{State as CoreState}
 use Rattle.proxy_core.specs.declared.exchange.Exchange.{Exchange}
-use Rattle.proxy_engine.specs.Wiring.{Wired, at, link_of, links_of, owners_of}
+use Rattle.proxy_engine.specs.Wiring.{Wired, link_of, links_of, owners_of}
 use Rattle.proxy_engine.proofs.Searching.{some_part, map_kept}
-use Rattle.proxy_engine.proofs.Wires.{is_free, same_default, wired_same, arrival_refused}
+use Rattle.proxy_engine.specs.declared.ends.Link.{Link}
+use Rattle.proxy_engine.proofs.Wires.{is_free, same_default, wired_arrived, arrival_refused}
 use Rattle.proxy_engine.proofs.Stepping.{arrived_done}
+use Rattle.hx_framing.specs.declared.requests.Request.{Request}
+use Rattle.proxy_engine.specs.Look.{Due, known}
+use Rattle.proxy_engine.specs.State.{connection_load, gone_load, link_load}
+use Rattle.proxy_engine.specs.declared.ends.Connection.{Connection}
+use Rattle.proxy_engine.proofs.Wishing.{same_place}
+use Rattle.proxy_engine.proofs.Wires.{gone_most}
+use Rattle.std.proofs.lemmas.List.Sums.{sum_by-set}
 use Rattle.proxy_engine.proofs.serving.arrive.Goals as goal
+
+pub returns-clause-less : goal.returns-clause-less
+returns-clause-less g c = λ r d due.
+    let cs = c.args.connections.now.items in
+    let i = c.args.i in
+    let x = c.index_mut.result.now in
+    let y = c.pass.new.connection in
+    let look : x.watch.look ≡ Due (Message r) = ap (λ (c : Connection). c.watch.look) (sym (same_place cs i x d c.requires.within c.index_mut.ensures.value)) ∙ due in
+    let counts : known x.watch.look ≡ 1 = ap known look in
+    let sum = sum_by-set connection_load cs i y x c.requires.within in
+    let old : connection_load x ≡ connection_load (get_or cs i x) = ap connection_load c.index_mut.ensures.value in
+    let links : sum_by link_load c.room_for_link.new.links.items ≡ sum_by link_load c.args.links.now.items = ap (sum_by link_load) c.room_for_link.ensures.items in
+    let most = gone_most (get_or (set cs i y) i x) in
+    let carried = c.carry_out.ensures.load x in
+    let passed = c.pass.ensures.load in
+    omega (arith, counts, sum, old, links, most, carried, passed)
 
 pub returns-then-is_spent-clause-fault : goal.returns-then-is_spent-clause-fault
 returns-then-is_spent-clause-fault g c = λ s r asked due h.
@@ -51,6 +75,7 @@ returns-clause-wired g c =
     let x = some_part cs i c.requires.within in
     let free = is_free cs c.args.links.now.items core.exchanges i (get_or cs i x) c.requires.within (same_default cs i x c.requires.within) (c.requires.free x) c.requires.wired in
     let passed : links_of (set cs i c.pass.new.connection) ≡ links_of cs = map_kept link_of cs i c.index_mut.result.now c.pass.new.connection c.index_mut.ensures.value c.pass.ensures.link in
-    let owners : owners_of c.room_for_link.new.links.items ≡ owners_of c.args.links.now.items = ap owners_of c.room_for_link.ensures.items in
+    let same = c.room_for_link.ensures.items in
     subst (λ (xs : List Exchange). Wired (links_of c.carry_out.new.connections.items) (owners_of c.carry_out.new.links.items) xs) (sym (ap (λ (k : CoreState). k.exchanges) c.in-Ok-arrive.ensures.ok.leaves))
-    (c.carry_out.ensures.wired core.entries core.exchanges c.args.now c.args.asked.now (ap (λ (ls : List (Option ℕ)). at ls i) passed ∙ free.0) (wired_same _ _ _ _ core.exchanges passed owners c.requires.wired))
+    (wired_arrived cs (set cs i c.pass.new.connection) c.carry_out.new.connections.items c.room_for_link.new.links.items c.carry_out.new.links.items core.entries core.exchanges c.args.now i c.args.asked.now c.in-Ok-arrive.outcome c.requires.within passed free.0
+    c.carry_out.ensures.links c.carry_out.ensures.owners (subst (λ (ls : List Link). Wired (links_of cs) (owners_of ls) core.exchanges) (sym same) c.requires.wired))
