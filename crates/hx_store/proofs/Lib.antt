@@ -1,2 +1,4 @@
 pub mod EntryLists
 pub mod FoundSerials
+pub mod Recency
+pub mod RecencyOrder

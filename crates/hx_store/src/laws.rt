@@ -1,6 +1,8 @@
 //! What the definitions say of worked calls, computed, and of every list of entries.
 
-ghost use Rattle.std.specs.Prelude.{◌≡◌, ◌∷◌, [], codes, take, slice_get, Some, None};
+ghost use Rattle.std.specs.Prelude.{◌≡◌, ◌<◌, ◌∷◌, ◌++◌, [], ℕ, List, true, codes, take, slice_get, Some, None, Decides};
+ghost use Rattle.hx_store.specs.Serials.{is_in};
+ghost use Rattle.hx_store.specs.Recency.{Done, Held, IsLater, Listed, bounded_of, held_of, place, recent_after, recent_of};
 ghost use Rattle.hx_store.specs.Shelf.{find_entry, promoted, serials, serials_of, without, without_key};
 ghost use Rattle.hx_store.specs.Found.{FindsThoseOfTheKey, FindsAscending};
 ghost use Rattle.hx_store.specs.Cases.{key_of, first, second, third, fourth};
@@ -21,4 +23,16 @@ pub fn shelf_calls()
 pub fn found_serials_are_those_of_the_key()
     ensures those { FindsThoseOfTheKey }
     ensures ascending { FindsAscending }
+{}
+
+/// A bounded list has exactly what is held by the count over its history, in the order of the latest storing or use.
+/// Listed is what was stored or used and not removed since; the held are the front of the listed, and what was crowded
+/// out doesn't come back when a removal leaves room.
+pub fn the_bounded_list_is_what_is_held()
+    ensures listed { (past : List Done) (serial : ℕ) → Decides (is_in serial (recent_of past)) (Listed past serial) }
+    ensures ordered { (past : List Done) (a b : ℕ) → is_in a (recent_of past) ≡ true → IsLater past a b → place a (recent_of past) < place b (recent_of past) }
+    ensures same { (capacity : ℕ) (past : List Done) → bounded_of capacity past ≡ held_of capacity past }
+    ensures counted { (capacity : ℕ) (past : List Done) (serial : ℕ) → Decides (is_in serial (held_of capacity past)) (Held capacity past serial) }
+    ensures front { (capacity : ℕ) (past : List Done) → (rest : List ℕ) × (held_of capacity past ++ rest ≡ recent_of past) }
+    ensures more { (capacity : ℕ) (item : Done) (past : List Done) → held_of capacity (item ∷ past) ≡ take capacity (recent_after item (held_of capacity past)) }
 {}

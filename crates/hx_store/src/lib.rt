@@ -12,7 +12,7 @@ mod serial_list;
 mod shelves;
 
 pub use entries::Entry;
-pub use laws::{found_serials_are_those_of_the_key, shelf_calls};
+pub use laws::{found_serials_are_those_of_the_key, shelf_calls, the_bounded_list_is_what_is_held};
 pub use list_shelf::ListShelf;
 pub use serial_list::Serials;
 pub use shelves::Shelf;

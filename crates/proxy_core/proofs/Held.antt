@@ -1,6 +1,5 @@
 -- No serial from the next one on is held: what the steps do to that.
-use Rattle.std.proofs.Common.{◌≡◌, ℕ, ◌+◌, Bool, true, false, not, cond, ◌||◌, eqb, ltb, ◌^◌, Option, None, Some, List, [], ◌∷◌, take, refl, sym, ◌∙◌, ap, subst, arith}
-use Rattle.std.specs.List.{filter}
+use Rattle.std.proofs.Common.{◌≡◌, ℕ, ◌+◌, true, false, cond, ◌||◌, eqb, ltb, ◌^◌, Option, None, Some, List, [], ◌∷◌, take, refl, sym, ◌∙◌, ap, subst, arith}
 use Rattle.std.proofs.lemmas.Bool.{false≢true, eqb-true, ne_eqb, false_from_ne_true}
 use Rattle.std.proofs.lemmas.Option.{same_Some}
 use Rattle.hx_store.specs.Stored.{Stored}

@@ -1,10 +1,9 @@
 -- What a turn leaves of the held responses is what its step leaves of them.
-use Rattle.std.proofs.Common.{◌≡◌, ◌⊎◌, inl, inr, ℕ, Bool, true, false, not, ◌&&◌, ◌||◌, ◌==◌, eqb, cond, Option, None, Some, is_some, List, [], ◌∷◌, take, refl, sym, ◌∙◌, ap, subst}
+use Rattle.std.proofs.Common.{◌≡◌, inl, inr, ℕ, Bool, true, false, not, ◌&&◌, ◌||◌, ◌==◌, eqb, cond, Option, None, Some, is_some, List, [], ◌∷◌, take, refl, sym, ◌∙◌, ap, subst}
 use Rattle.std.specs.Option.{option_and_then}
 use Rattle.hx_target.specs.declared.keys.Key.{Key}
 use Rattle.hx_target.specs.Keys.{same_key}
 use Rattle.std.specs.Prelude.{option_map, Result, Ok, Err, IfOk}
-use Rattle.std.specs.List.{filter}
 use Rattle.std.proofs.lemmas.Bool.{eqb-true, eq-eqb, cases_Bool, false≢true}
 use Rattle.std.proofs.lemmas.Option.{same_Some}
 use Rattle.hx_framing.specs.declared.responses.Response.{Response}
@@ -23,8 +22,8 @@ use Rattle.proxy_core.specs.declared.turns.Turn.{Turn}
 use Rattle.proxy_core.specs.declared.turns.Course.{Course}
 use Rattle.proxy_core.specs.declared.turns.Course.TheVariants.{Ends, GoesOn}
 use Rattle.proxy_core.specs.Validating.{is_validation, is_answered, is_answered_by, asked_about, if_answered, validated, refreshed}
-use Rattle.proxy_core.specs.State.{State, taken, used_form, used_list, stored_list, entries_after}
-use Rattle.proxy_core.specs.Turns.{stored_by, used_by, reply_of, entries_by, Makes, IsPlain, IsRefresh, IsNext, IsHeld, Leaves, CourseLeaves, CourseFits, IsPlainCourse}
+use Rattle.proxy_core.specs.State.{taken, used_form, used_list, stored_list}
+use Rattle.proxy_core.specs.Turns.{stored_by, used_by, entries_by, Makes, IsPlain, IsRefresh, IsNext, IsHeld, Leaves, CourseLeaves, CourseFits, IsPlainCourse}
 
 and_left : (a b : Bool) → (a && true) ≡ false → (a && b) ≡ false
 and_left true b h = absurd (cc)

@@ -1,6 +1,6 @@
 -- What is stored, and under which serial.
-use Rattle.std.proofs.Common.{◌≡◌, ℕ, Bool, true, false, cond, Option, None, Some, is_none, refl, sym, ◌∙◌, ap, subst}
-use Rattle.std.specs.Prelude.{Result, Ok, Err, IfOk}
+use Rattle.std.proofs.Common.{◌≡◌, ℕ, Bool, true, false, cond, Option, None, Some, is_none, refl, sym, subst}
+use Rattle.std.specs.Prelude.{Result, IfOk}
 use Rattle.hx_framing.specs.declared.responses.Response.{Response}
 use Rattle.hx_vary.specs.Vary.{is_star}
 use Rattle.hx_hop.specs.Answering.{answered_of}

@@ -4,5 +4,6 @@ pub mod Storing
 pub mod Outcomes
 pub mod State
 pub mod Traces
+pub mod Promises
 pub mod Turns
 pub mod Validating

@@ -11,7 +11,6 @@ use Rattle.hx_age.specs.Age.{times_of, age_of, ttl_of}
 use Rattle.hx_hop.specs.Answering.{answered_of}
 use Rattle.hx_hop.specs.declared.asked_for.Asked.{Asked}
 use Rattle.hx_store.specs.Stored.{Stored}
-use Rattle.hx_reuse.specs.declared.rule.ReuseRule.{ReuseRule}
 use Rattle.hx_validate.specs.NotModified.{wants_304, not_modified_of}
 use Rattle.hx_status.specs.Member.{member_text}
 use Rattle.hx_status.specs.Refusals.{status_of, text_of}

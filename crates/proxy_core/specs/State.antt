@@ -2,7 +2,7 @@
 --
 -- State: what contracts see of a core     left_open: the exchanges that an end leaves     after: what a step leaves
 -- Steps: a step that was done             Refuses: one that wasn't
-use Rattle.std.specs.Prelude.{◌≡◌, ◌⊎◌, ℕ, ◌+◌, ◌^◌, ◌≤◌, ◌==◌, nat_lt, not, Bool, true, false, List, [], ◌∷◌, ◌++◌, take, filter, map, Option, Some, None, option_map, cond}
+use Rattle.std.specs.Prelude.{◌≡◌, ◌⊎◌, ℕ, ◌+◌, ◌^◌, ◌≤◌, ◌==◌, nat_lt, not, true, false, List, [], ◌∷◌, ◌++◌, take, filter, map, Option, Some, None, option_map, cond}
 use Rattle.hx_target.specs.declared.keys.Key.{Key}
 use Rattle.hx_target.specs.Keys.{same_key}
 use Rattle.hx_framing.specs.declared.responses.Response.{Response}

@@ -3,7 +3,7 @@
 -- facts_of: what the storing rules ask beside the two heads     is_storable: no storing rule stands
 -- made: the stored response                                     replaced_by: those that it takes the place of
 -- is_unasked: a 304 that answers nothing                        invalidates: what is held for its key goes
-use Rattle.std.specs.Prelude.{ℕ, ◌==◌, nat_lt, nat_le, ◌&&◌, ◌||◌, not, List, [], ◌∷◌, filter, length, codes, Bool, true, false, Option, Some, None, is_none, cond}
+use Rattle.std.specs.Prelude.{ℕ, ◌==◌, nat_lt, nat_le, ◌&&◌, ◌||◌, not, List, filter, length, codes, Bool, true, false, Option, Some, None, is_none, cond}
 use Rattle.http.specs.Method.{safe_methods, is_among}
 use Rattle.hx_fields.specs.Lines.{has, without_named}
 use Rattle.hx_framing.specs.declared.responses.Response.{Response}

@@ -26,14 +26,10 @@ use Rattle.proxy_core.specs.declared.exchange.Exchange.{Exchange}
 abbrev pub condition_on : Stored → Option Condition
 condition_on e = cond (has_validator e.fields) (Some (record { serial = e.serial; sent = conditions_of e.fields })) None
 
--- own: no conditions are sent so far, since nothing carries the second request of an exchange yet
-abbrev pub sends_conditions : Bool
-sends_conditions = false
-
 -- the held response of a serial, where a rule names one
 abbrev pub condition_at : List Stored → Option ℕ → Option Condition
 condition_at es None = None
-condition_at es (Some serial) = cond sends_conditions (option_and_then condition_on (find_entry serial es)) None
+condition_at es (Some serial) = option_and_then condition_on (find_entry serial es)
 
 -- what the request carries
 abbrev pub sent_with : Option Condition → Option Conditions

@@ -2,6 +2,7 @@
 ghost use Rattle.std.specs.Prelude.{◌≡◌, ◌≤◌, [], length, MatchOption, slice_get, IfOk, IfErr, OnErr};
 ghost use Rattle.proxy_core.specs.State.{Steps, Refuses};
 ghost use Rattle.proxy_core.specs.Traces.{trace_of, begun, left, IsGood, Stops, DeniedLeaveNoTrace};
+ghost use Rattle.proxy_core.specs.Promises.{TwiceForwardOneReply};
 
 use crate::event::Event;
 use crate::fault::CoreFault;
@@ -42,6 +43,7 @@ pub fn run<S: Shelf + Drop>(
     ensures stopped { MatchOption result.stopped (length result.outcomes.items ≡ length events.now)
         (λ fault. Stops (left (begun config (S.limit shelf) first_serial) (trace_of events.now result.outcomes.items)) (slice_get events.now (length result.outcomes.items)) fault) }
     ensures denied { DeniedLeaveNoTrace config (trace_of events.now result.outcomes.items) }
+    ensures twice_forward_one_reply { TwiceForwardOneReply (trace_of events.now result.outcomes.items) }
 {
     let mut core = Core::new(alloc, config, shelf, first_serial);
     let mut outcomes = Vec::new(alloc);

@@ -32,9 +32,6 @@ use hx_validate::{answers, conditions, freshened, has_validator};
 use hx_vary::{Nominated, Nomination};
 use std::alloc::{AllocError, Global};
 
-/// No conditions are sent so far, since nothing carries the second request of an exchange yet.
-const SENDS_CONDITIONS: bool = false;
-
 /// What a request carries of a held response, if it has a validator.
 fn condition_on(alloc: Global, entry: &Entry) -> Result<Option<Condition>, AllocError>
     ensures { IfOk result (λ condition. condition ≡ condition_on entry.now) }
@@ -58,11 +55,11 @@ pub(crate) fn condition_at<S: Shelf>(
     ensures { IfOk result (λ condition. condition ≡ condition_at (S.entries shelf.now) named) }
 {
     match named {
-        Some(serial) if SENDS_CONDITIONS => match shelf.peek(serial) {
+        Some(serial) => match shelf.peek(serial) {
             Some(entry) => condition_on(alloc, entry),
             None => Ok(None),
         },
-        _ => Ok(None),
+        None => Ok(None),
     }
 }
 

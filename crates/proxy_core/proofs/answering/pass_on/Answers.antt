@@ -1,7 +1,6 @@
-use Rattle.std.proofs.Common.{◌≡◌, Some, subst, sym}
+use Rattle.std.proofs.Common.{◌≡◌, Some}
 use Rattle.proxy_core.specs.Outcomes.{stored_serial}
 use Rattle.proxy_core.specs.Storing.{is_storable}
-use Rattle.proxy_core.specs.Turns.{IsNext}
 use Rattle.proxy_core.proofs.Storable.{given_is_next, next_of_turn}
 use Rattle.proxy_core.proofs.answering.pass_on.Goals as goal
 

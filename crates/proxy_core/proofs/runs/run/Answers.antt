@@ -2,6 +2,7 @@ use Rattle.std.proofs.Common.{rules, arith, ◌≡◌, ◌<◌, ◌+◌, ◌++�
 use Rattle.proxy_core.specs.declared.outcome.Outcome.{Outcome}
 use Rattle.proxy_core.specs.Traces.{trace_of, begun, left, IsGood}
 use Rattle.proxy_core.proofs.Tracing.{left-push, good-push, at_index, stops_at, refuses_or, same_good, denied_leave_no_trace}
+use Rattle.proxy_core.proofs.TwiceForward.{twice_forward_one_reply as twice}
 use Rattle.proxy_core.proofs.runs.run.Goals as goal
 
 pub returns-then-is_err-clause-stopped : goal.returns-then-is_err-clause-stopped
@@ -47,3 +48,17 @@ loop-event-preserved g c =
 
 pub returns-clause-denied : goal.returns-clause-denied
 returns-clause-denied g c = denied_leave_no_trace (begun c.args.config (g.S.Shelf.limit c.args.shelf) c.args.first_serial) (trace_of c.args.events.now c.loop-event.outcomes.items) c.loop-event.invariant.good
+
+pub returns-then-is_err-clause-twice_forward_one_reply : goal.returns-then-is_err-clause-twice_forward_one_reply
+returns-then-is_err-clause-twice_forward_one_reply g c =
+    let start = begun c.args.config (g.S.Shelf.limit c.args.shelf) c.args.first_serial in
+    twice start (trace_of c.args.events.now c.reserve.new.self.items) (same_good start c.args.events.now c.loop-event.outcomes.items _ c.reserve.ensures.items c.loop-event.invariant.good)
+
+pub returns-in-Err-clause-twice_forward_one_reply : goal.returns-in-Err-clause-twice_forward_one_reply
+returns-in-Err-clause-twice_forward_one_reply g c =
+    let start = begun c.args.config (g.S.Shelf.limit c.args.shelf) c.args.first_serial in
+    twice start (trace_of c.args.events.now c.reserve.new.self.items) (same_good start c.args.events.now c.loop-event.outcomes.items _ c.reserve.ensures.items c.loop-event.invariant.good)
+
+pub returns-clause-twice_forward_one_reply : goal.returns-clause-twice_forward_one_reply
+returns-clause-twice_forward_one_reply g c =
+    twice (begun c.args.config (g.S.Shelf.limit c.args.shelf) c.args.first_serial) (trace_of c.args.events.now c.loop-event.outcomes.items) c.loop-event.invariant.good

@@ -1,8 +1,7 @@
-use Rattle.std.proofs.Common.{rules, ◌≡◌, List, ℕ, Option, Some, None, cond, [], ◌∷◌, ap, sym, ◌∙◌}
-use Rattle.hx_store.specs.Stored.{Stored}
+use Rattle.std.proofs.Common.{rules, ◌≡◌, Some, None, ap}
 use Rattle.proxy_core.specs.State.{removed_in}
 use Rattle.proxy_core.specs.Validating.{is_kept, validated}
-use Rattle.proxy_core.proofs.Leaving.{validated_is, refresh_leaves, refresh_fits, retry_leaves, retry_fits}
+use Rattle.proxy_core.proofs.Leaving.{validated_is, refresh_leaves, refresh_fits, retry_leaves}
 use Rattle.proxy_core.proofs.validating.course_after_304.Goals as goal
 
 pub returns-in-Some-clause-leaves : goal.returns-in-Some-clause-leaves

@@ -1,0 +1,109 @@
+-- Finding an exchange by its id in a list that was changed.
+use Rattle.std.proofs.Common.{◌≡◌, ℕ, Bool, true, false, not, cond, eqb, Option, None, Some, List, [], ◌∷◌, ◌++◌, map, refl, sym, ◌∙◌, ap, inl, inr}
+use Rattle.std.specs.Prelude.{option_map}
+use Rattle.std.proofs.lemmas.Bool.{cases_Bool, eqb-true, eq-eqb, false_from_ne_true, false≢true}
+use Rattle.hx_target.specs.declared.keys.Key.{Key}
+use Rattle.hx_target.specs.Keys.{same_key}
+use Rattle.proxy_core.specs.declared.exchange.Exchange.{Exchange}
+use Rattle.proxy_core.specs.Outcomes.{find_exchange}
+use Rattle.proxy_core.specs.State.{closed, overtake, left_open, gone_out}
+
+find-map : (f : Exchange → Exchange) → ((x : Exchange) → (f x).id ≡ x.id) → (id : ℕ) (xs : List Exchange) →
+    find_exchange id (map f xs) ≡ option_map f (find_exchange id xs)
+find-map f k id [] = refl
+find-map f k id (x ∷ xs) =
+    ap (λ n. cond (eqb n id) (Some (f x)) (find_exchange id (map f xs))) (k x)
+    ∙ elim (eqb x.id id) as (λ b. cond b (Some (f x)) (find_exchange id (map f xs)) ≡ option_map f (cond b (Some x) (find_exchange id xs))) [
+      | true ↦ refl
+      | false ↦ find-map f k id xs
+    ]
+
+gone_out-id : (i now : ℕ) (x : Exchange) → (gone_out i now x).id ≡ x.id
+gone_out-id i now x = elim (eqb x.id i) as (λ b. (cond b (record x { request_time = now; condition = None; overtaken = false }) x).id ≡ x.id) [
+  | true ↦ refl
+  | false ↦ refl
+]
+
+overtake-id : (key : Key) (x : Exchange) → (overtake key x).id ≡ x.id
+overtake-id key x = elim (same_key x.asked.target.key key) as (λ b. (cond b (record x { overtaken = true }) x).id ≡ x.id) [
+  | true ↦ refl
+  | false ↦ refl
+]
+
+pub find-gone_out : (i now : ℕ) (id : ℕ) (xs : List Exchange) →
+    find_exchange id (map (gone_out i now) xs) ≡ option_map (gone_out i now) (find_exchange id xs)
+find-gone_out i now id xs = find-map (gone_out i now) (gone_out-id i now) id xs
+
+-- what an invalidation does to an exchange
+abbrev pub overtaken_by : Option Key → Option Exchange → Option Exchange
+overtaken_by None o = o
+overtaken_by (Some key) o = option_map (overtake key) o
+
+find-overtake : (key : Key) (id : ℕ) (xs : List Exchange) → find_exchange id (map (overtake key) xs) ≡ option_map (overtake key) (find_exchange id xs)
+find-overtake key id xs = find-map (overtake key) (overtake-id key) id xs
+
+collapse : (b : Bool) (o p q : Option Exchange) → cond b o (cond b p q) ≡ cond b o q
+collapse true o p q = refl
+collapse false o p q = refl
+
+swap : (a b : Bool) (p q r : Option Exchange) → (a ≡ true → b ≡ false) → cond a p (cond b q r) ≡ cond b q (cond a p r)
+swap true b p q r h = sym (ap (λ b. cond b q p) (h refl))
+swap false b p q r h = refl
+
+cond_none : (b : Bool) (y : Exchange) (o : Option Exchange) → cond b (Some y) o ≡ None → (b ≡ false) × (o ≡ None)
+cond_none true y o h = absurd (cc)
+cond_none false y o h = (refl, h)
+
+nones : (b : Bool) → ◌≡◌ {A = Option Exchange} None (cond b None None)
+nones true = refl
+nones false = refl
+
+not_both : (a b id : ℕ) → eqb a b ≡ false → eqb a id ≡ true → eqb b id ≡ false
+not_both a b id h k = false_from_ne_true _ (λ q. false≢true (sym h ∙ eq-eqb a b (eqb-true a id k ∙ sym (eqb-true b id q))))
+
+pub find-closed : (i id : ℕ) (xs : List Exchange) → find_exchange id (closed i xs) ≡ cond (eqb i id) None (find_exchange id xs)
+find-closed i id [] = nones (eqb i id)
+find-closed i id (x ∷ xs) =
+    let rest = closed i xs in
+    elim (cases_Bool (eqb x.id i)) [
+      | inl t ↦ (
+          let e : eqb x.id id ≡ eqb i id = ap (λ n. eqb n id) (eqb-true x.id i t) in
+          ap (λ b. find_exchange id (cond (not b) (x ∷ rest) rest)) t
+          ∙ find-closed i id xs
+          ∙ sym (ap (λ b. cond (eqb i id) None (cond b (Some x) (find_exchange id xs))) e ∙ collapse (eqb i id) None (Some x) (find_exchange id xs))
+          )
+      | inr f ↦ (
+          ap (λ b. find_exchange id (cond (not b) (x ∷ rest) rest)) f
+          ∙ ap (λ o. cond (eqb x.id id) (Some x) o) (find-closed i id xs)
+          ∙ swap (eqb x.id id) (eqb i id) (Some x) None (find_exchange id xs) (λ k. not_both x.id i id f k)
+          )
+    ]
+
+-- an end, by which others may be overtaken
+pub find-left_open : (key : Option Key) (i id : ℕ) (xs : List Exchange) → find_exchange id (left_open key i xs) ≡ cond (eqb i id) None (overtaken_by key (find_exchange id xs))
+find-left_open None i id xs = find-closed i id xs
+find-left_open (Some key) i id xs =
+    find-overtake key id (closed i xs) ∙ ap (option_map (overtake key)) (find-closed i id xs)
+    ∙ elim (eqb i id) as (λ b. option_map (overtake key) (cond b None (find_exchange id xs)) ≡ cond b None (option_map (overtake key) (find_exchange id xs))) [
+      | true ↦ refl
+      | false ↦ refl
+    ]
+
+pub find-push : (id : ℕ) (xs : List Exchange) (x : Exchange) → find_exchange x.id xs ≡ None →
+    find_exchange id (xs ++ x ∷ []) ≡ cond (eqb x.id id) (Some x) (find_exchange id xs)
+find-push id [] x h = refl
+find-push id (y ∷ ys) x h =
+    let p = cond_none (eqb y.id x.id) y (find_exchange x.id ys) h in
+    ap (λ o. cond (eqb y.id id) (Some y) o) (find-push id ys x p.1)
+    ∙ swap (eqb y.id id) (eqb x.id id) (Some y) (Some x) (find_exchange id ys) (λ k. not_both y.id x.id id p.0 k)
+
+pub found-id : (i : ℕ) (xs : List Exchange) (z : Exchange) → find_exchange i xs ≡ Some z → eqb z.id i ≡ true
+found-id i [] z h = absurd (cc)
+found-id i (x ∷ xs) z h = elim (cases_Bool (eqb x.id i)) [
+  | inl t ↦ (
+      let k : Some x ≡ Some z = sym (ap (λ b. cond b (Some x) (find_exchange i xs)) t) ∙ h in
+      let e : x ≡ z = cc in
+      ap (λ (y : Exchange). eqb y.id i) (sym e) ∙ t
+      )
+  | inr f ↦ found-id i xs z (sym (ap (λ b. cond b (Some x) (find_exchange i xs)) f) ∙ h)
+]

@@ -1,0 +1,169 @@
+-- Each exchange goes forward at most twice and has at most one reply.
+use Rattle.std.proofs.Common.{◌≡◌, ℕ, ◌+◌, ◌≤◌, Bool, true, false, cond, ◌&&◌, eqb, Option, None, Some, is_some, List, [], ◌∷◌, ◌++◌, refl, sym, ◌∙◌, ap, subst, arith}
+use Rattle.std.proofs.lemmas.Bool.{eq-eqb, false≢true}
+use Rattle.hx_target.specs.declared.keys.Key.{Key}
+use Rattle.hx_target.specs.Keys.{same_key}
+use Rattle.hx_hop.specs.declared.asked_for.Asked.{Asked}
+use Rattle.proxy_core.specs.declared.exchange.Exchange.{Exchange}
+use Rattle.proxy_core.specs.declared.outcome.Outcome.{Outcome}
+use Rattle.proxy_core.specs.declared.outcome.Outcome.TheVariants.{Reply, Forward, Ended}
+use Rattle.proxy_core.specs.declared.event.Event.{Event}
+use Rattle.proxy_core.specs.declared.event.Event.TheVariants.{Arrive}
+use Rattle.proxy_core.specs.Outcomes.{find_exchange, id_of}
+use Rattle.proxy_core.specs.State.{State, overtake, opened}
+use Rattle.proxy_core.specs.Traces.{Item, left, IsGood}
+use Rattle.proxy_core.specs.Promises.{goes_forward, is_reply, is_arrival, key_by_step, times, NoneArrives, TwiceForwardOneReply}
+use Rattle.proxy_core.proofs.ExchangeLists.{overtaken_by}
+use Rattle.proxy_core.proofs.Moves.{Move, apart, opens, passes, again, closes, asked_of, move_of, and_none}
+
+-- a part of a good trace
+pub part : (start : State) (later past : List Item) → IsGood start (later ++ past) → IsGood start past
+part start [] past g = g
+part start (i ∷ later) past g = part start later past g.1
+
+-- how often an exchange may still go forward
+forwards_left : Option Exchange → ℕ
+forwards_left None = 0
+forwards_left (Some x) = cond (is_some x.condition) 1 0
+
+replies_left : Option Exchange → ℕ
+replies_left None = 0
+replies_left (Some x) = 1
+
+one : Bool → ℕ
+one b = cond b 1 0
+
+-- one step of the exchange of an id that does not arrive anew
+record Budget (id : ℕ) (event : Event) (o : Outcome) (x y : Option Exchange) : Type 0 where
+  forwards : one (eqb (id_of event) id && goes_forward o) + forwards_left y ≤ forwards_left x
+  replies : one (eqb (id_of event) id && is_reply o) + replies_left y ≤ replies_left x
+
+overtake_condition : (key : Key) (x : Exchange) → is_some (overtake key x).condition ≡ is_some x.condition
+overtake_condition key x = elim (same_key x.asked.target.key key) as (λ b. is_some (cond b (record x { overtaken = true }) x).condition ≡ is_some x.condition) [
+  | true ↦ refl
+  | false ↦ refl
+]
+
+budget_overtaken : (key : Option Key) (x : Option Exchange) →
+    (forwards_left (overtaken_by key x) ≡ forwards_left x) × (replies_left (overtaken_by key x) ≡ replies_left x)
+unfolding forwards_left replies_left
+budget_overtaken None x = (refl, refl)
+budget_overtaken (Some key) None = (refl, refl)
+budget_overtaken (Some key) (Some x) = (ap (λ b. cond b 1 0) (overtake_condition key x), refl)
+
+one_most : (b : Bool) → one b ≤ 1
+unfolding one
+one_most true = omega arith
+one_most false = omega arith
+
+not_both : (b c : Bool) → b ≡ true → c ≡ true → (b && c) ≡ false → ⊥
+not_both b c t u h = false≢true (sym h ∙ ap (λ b. b && c) t ∙ u)
+
+fresh_arrival : (id now : ℕ) (asked : Asked) (event : Event) → event ≡ Arrive now id asked → (eqb (id_of event) id && is_arrival event) ≡ false → ⊥
+fresh_arrival id now asked event e a =
+    not_both (eqb id id) true (eq-eqb id id refl) refl (sym (ap (λ v. eqb (id_of v) id && is_arrival v) e) ∙ a)
+
+-- what goes forward is no reply
+forward_only : (o : Outcome) → goes_forward o ≡ true → is_reply o ≡ false
+forward_only (Reply r) h = absurd (false≢true h)
+forward_only (Forward line bytes) h = refl
+forward_only Ended h = refl
+
+budget : (id : ℕ) (w : Option Exchange) (event : Event) (o : Outcome) (x y : Option Exchange) → Move id w event o x y →
+    (eqb (id_of event) id && is_arrival event) ≡ false → Budget id event o x y
+unfolding one forwards_left replies_left
+budget id w event o x y (apart n h) a =
+    let m = budget_overtaken (key_by_step (asked_of w) event o) x in
+    let f0 : one (eqb (id_of event) id && goes_forward o) ≡ 0 = ap (λ b. one (b && goes_forward o)) n in
+    let r0 : one (eqb (id_of event) id && is_reply o) ≡ 0 = ap (λ b. one (b && is_reply o)) n in
+    let f1 : forwards_left y ≡ forwards_left x = ap forwards_left h ∙ m.0 in
+    let r1 : replies_left y ≡ replies_left x = ap replies_left h ∙ m.1 in
+    record { forwards = omega arith; replies = omega arith }
+budget id w event o x y (opens es now asked line e x_is f h) a = absurd (fresh_arrival id now asked event e a)
+budget id w event o x y (passes t e x_is g h) a = absurd (not_both _ _ t e a)
+budget id w event o x y (again z now t e f c k h) a =
+    let f0 = one_most (eqb (id_of event) id && goes_forward o) in
+    let r0 : one (eqb (id_of event) id && is_reply o) ≡ 0 = ap (λ b. one (eqb (id_of event) id && b)) (forward_only o k) ∙ ap one (and_none (eqb (id_of event) id)) in
+    let f1 : forwards_left y ≡ 0 = ap forwards_left h in
+    let f2 : forwards_left x ≡ 1 = ap forwards_left f ∙ ap (λ b. cond b 1 0) c in
+    let r1 : replies_left y ≡ 1 = ap replies_left h in
+    let r2 : replies_left x ≡ 1 = ap replies_left f in
+    record { forwards = omega arith; replies = omega arith }
+budget id w event o x y (closes z t e f g h) a =
+    let f0 : one (eqb (id_of event) id && goes_forward o) ≡ 0 = ap (λ b. one (eqb (id_of event) id && b)) g ∙ ap one (and_none (eqb (id_of event) id)) in
+    let r0 = one_most (eqb (id_of event) id && is_reply o) in
+    let f1 : forwards_left y ≡ 0 = ap forwards_left h in
+    let r1 : replies_left y ≡ 0 = ap replies_left h in
+    let r2 : replies_left x ≡ 1 = ap replies_left f in
+    record { forwards = omega arith; replies = omega arith }
+
+-- the arrival of an exchange
+record Opening (o : Outcome) (y : Option Exchange) : Type 0 where
+  forwards : one (goes_forward o) + forwards_left y ≤ 2
+  replies : one (is_reply o) + replies_left y ≤ 1
+
+opening : (id : ℕ) (w : Option Exchange) (event : Event) (o : Outcome) (x y : Option Exchange) → Move id w event o x y →
+    eqb (id_of event) id ≡ true → is_arrival event ≡ true → Opening o y
+unfolding one forwards_left replies_left
+opening id w event o x y (apart n h) t a = absurd (false≢true (sym n ∙ t))
+opening id w event o x y (opens es now asked line e x_is f h) t a =
+    let f0 = one_most (goes_forward o) in
+    let r0 : one (is_reply o) ≡ 0 = ap one (forward_only o f) in
+    let f1 : forwards_left y ≡ one (is_some (opened es now id asked line).condition) = ap forwards_left h in
+    let f2 = one_most (is_some (opened es now id asked line).condition) in
+    let r1 : replies_left y ≡ 1 = ap replies_left h in
+    record { forwards = omega arith; replies = omega arith }
+opening id w event o x y (passes u e x_is g h) t a =
+    let f0 = one_most (goes_forward o) in
+    let r0 = one_most (is_reply o) in
+    let f1 : forwards_left y ≡ 0 = ap forwards_left h in
+    let r1 : replies_left y ≡ 0 = ap replies_left h in
+    record { forwards = omega arith; replies = omega arith }
+opening id w event o x y (again z now u e f c k h) t a = absurd (false≢true (sym e ∙ a))
+opening id w event o x y (closes z u e f g h) t a = absurd (false≢true (sym e ∙ a))
+
+one_more : (b : Bool) (n : ℕ) → cond b (n + 1) n ≡ one b + n
+unfolding one
+one_more true n = omega arith
+one_more false n = omega arith
+
+module _ (start : State) (arrival : Item) (before : List Item) where
+  abbrev id : ℕ
+  id = id_of arrival.event
+
+  abbrev exchange : List Item → Option Exchange
+  exchange items = find_exchange id (left start (items ++ arrival ∷ before)).exchanges
+
+  abbrev so_far : (Outcome → Bool) → List Item → ℕ
+  so_far p items = times p id (items ++ arrival ∷ [])
+
+  counted : (items : List Item) → IsGood start (items ++ arrival ∷ before) → is_arrival arrival.event ≡ true → NoneArrives id items →
+      (so_far goes_forward items + forwards_left (exchange items) ≤ 2) × (so_far is_reply items + replies_left (exchange items) ≤ 1)
+  counted [] g a n =
+      let s = left start before in
+      let here : eqb (id_of arrival.event) (id_of arrival.event) ≡ true = eq-eqb (id_of arrival.event) (id_of arrival.event) refl in
+      let k = opening _ _ _ _ _ _ (move_of start.table s arrival (id_of arrival.event) g.0) here a in
+      let f : so_far goes_forward [] ≡ one (goes_forward arrival.outcome) + 0 = one_more _ 0 ∙ ap (λ b. one (b && goes_forward arrival.outcome) + 0) here in
+      let r : so_far is_reply [] ≡ one (is_reply arrival.outcome) + 0 = one_more _ 0 ∙ ap (λ b. one (b && is_reply arrival.outcome) + 0) here in
+      let kf = k.forwards in
+      let kr = k.replies in
+      (omega arith, omega arith)
+  counted (h ∷ items) g a n =
+      let i = counted items g.1 a n.1 in
+      let s = left start (items ++ arrival ∷ before) in
+      let k = budget _ _ _ _ _ _ (move_of start.table s h (id_of arrival.event) g.0) n.0 in
+      let f = one_more (eqb (id_of h.event) (id_of arrival.event) && goes_forward h.outcome) (so_far goes_forward items) in
+      let r = one_more (eqb (id_of h.event) (id_of arrival.event) && is_reply h.outcome) (so_far is_reply items) in
+      let kf = k.forwards in
+      let kr = k.replies in
+      let i0 = i.0 in
+      let i1 = i.1 in
+      (omega arith, omega arith)
+
+pub twice_forward_one_reply : (start : State) (trace : List Item) → IsGood start trace → TwiceForwardOneReply trace
+twice_forward_one_reply start trace g later items before arrival e a n =
+    let p : IsGood start (items ++ arrival ∷ before) = part start later (items ++ arrival ∷ before) (subst (IsGood start) (sym e) g) in
+    let k = counted start arrival before items p a n in
+    let k0 = k.0 in
+    let k1 = k.1 in
+    (omega arith, omega arith)
