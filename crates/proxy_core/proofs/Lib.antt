@@ -6,3 +6,8 @@ pub mod Tracing
 pub mod ExchangeLists
 pub mod Moves
 pub mod TwiceForward
+pub mod HeldEntries
+pub mod StepKinds
+pub mod HeldLaw
+pub mod Marks
+pub mod Unsent

@@ -4,6 +4,7 @@ pub mod Storing
 pub mod Outcomes
 pub mod State
 pub mod Traces
+pub mod Histories
 pub mod Promises
 pub mod Turns
 pub mod Validating
