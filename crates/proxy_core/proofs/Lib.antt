@@ -11,3 +11,5 @@ pub mod StepKinds
 pub mod HeldLaw
 pub mod Marks
 pub mod Unsent
+pub mod OpenLaws
+pub mod Counting

@@ -6,5 +6,6 @@ pub mod State
 pub mod Traces
 pub mod Histories
 pub mod Promises
+pub mod Meaning
 pub mod Turns
 pub mod Validating
