@@ -35,13 +35,13 @@ NoneFrom-next limit n gone es zs x last next m e k l h =
     let P : Option ℕ → Type 0 = λ o. NoneFrom o zs in
     subst P (sym m) (elim (ltb (n + 1) (2 ^ 64)) as (λ b. P (cond b (Some (n + 1)) None)) [ true ↦ some | false ↦ tt ])
 
-NoneFrom-taken : (next : Option ℕ) (gone : List ℕ) (es : List Stored) → NoneFrom next es → NoneFrom next (taken gone es)
+pub NoneFrom-taken : (next : Option ℕ) (gone : List ℕ) (es : List Stored) → NoneFrom next es → NoneFrom next (taken gone es)
 NoneFrom-taken next [] es h = h
 NoneFrom-taken None (s ∷ gone) es h = tt
 NoneFrom-taken (Some n) (s ∷ gone) es h = λ t l. filter_keeps _ t es (h t l)
 
 -- what takes the place of a held response has its serial
-NoneFrom-fresh : (next : Option ℕ) (e : Stored) (es : List Stored) → holds e.serial es ≡ true → NoneFrom next es → NoneFrom next (e ∷ without (e.serial ∷ []) es)
+pub NoneFrom-fresh : (next : Option ℕ) (e : Stored) (es : List Stored) → holds e.serial es ≡ true → NoneFrom next es → NoneFrom next (e ∷ without (e.serial ∷ []) es)
 NoneFrom-fresh None e es held h = tt
 NoneFrom-fresh (Some n) e es held h = λ t l.
     front_none t (Some e) es (without (e.serial ∷ []) es) (λ x g. ap (λ (z : Stored). holds z.serial es) (sym (same_Some e x g)) ∙ held) (h t l) (filter_keeps _ t es (h t l))

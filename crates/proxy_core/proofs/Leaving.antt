@@ -153,7 +153,7 @@ pub serial_stays : (x : Exchange) (r : Response) (now : ℕ) (e : Stored) → (r
 unfolding freshened_of
 serial_stays x r now e = refl
 
-key_stays : (x : Exchange) (r : Response) (now : ℕ) (e : Stored) → (refreshed x r now e).key ≡ e.key
+pub key_stays : (x : Exchange) (r : Response) (now : ℕ) (e : Stored) → (refreshed x r now e).key ≡ e.key
 unfolding freshened_of
 key_stays x r now e = refl
 

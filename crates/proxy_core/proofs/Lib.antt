@@ -6,3 +6,10 @@ pub mod Tracing
 pub mod ExchangeLists
 pub mod Moves
 pub mod TwiceForward
+pub mod HeldEntries
+pub mod StepKinds
+pub mod HeldLaw
+pub mod Marks
+pub mod Unsent
+pub mod OpenLaws
+pub mod Counting

@@ -89,7 +89,7 @@ and_right true b h = h
 and_right false b h = absurd (false≢true h)
 
 -- an error is no answer that invalidates
-error_is_none : (status : ℕ) → is_error_status status ≡ true → (nat_le 200 status && nat_le status 399) ≡ false
+pub error_is_none : (status : ℕ) → is_error_status status ≡ true → (nat_le 200 status && nat_le status 399) ≡ false
 error_is_none status h = grind (arith, nat_tests)
 
 passed_sends : (table : Table) (es : List Stored) (now : ℕ) (x : Exchange) (r : Response) (next : Option ℕ) (rescue : Rescue) → sends_nothing_held (passed_unless table es now x r next false rescue) ≡ true

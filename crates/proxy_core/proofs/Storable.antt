@@ -13,7 +13,7 @@ use Rattle.proxy_core.specs.declared.turns.Turn.{Turn}
 use Rattle.proxy_core.specs.Storing.{facts_of, is_storable}
 use Rattle.proxy_core.specs.Turns.{IsNext}
 
-none_of : (o : Option StoreRule) → is_none o ≡ true → o ≡ None
+pub none_of : (o : Option StoreRule) → is_none o ≡ true → o ≡ None
 none_of None h = refl
 none_of (Some rule) h = cc
 

@@ -56,10 +56,10 @@ unfolding one
 one_most true = omega arith
 one_most false = omega arith
 
-not_both : (b c : Bool) → b ≡ true → c ≡ true → (b && c) ≡ false → ⊥
+pub not_both : (b c : Bool) → b ≡ true → c ≡ true → (b && c) ≡ false → ⊥
 not_both b c t u h = false≢true (sym h ∙ ap (λ b. b && c) t ∙ u)
 
-fresh_arrival : (id now : ℕ) (asked : Asked) (event : Event) → event ≡ Arrive now id asked → (eqb (id_of event) id && is_arrival event) ≡ false → ⊥
+pub fresh_arrival : (id now : ℕ) (asked : Asked) (event : Event) → event ≡ Arrive now id asked → (eqb (id_of event) id && is_arrival event) ≡ false → ⊥
 fresh_arrival id now asked event e a =
     not_both (eqb id id) true (eq-eqb id id refl) refl (sym (ap (λ v. eqb (id_of v) id && is_arrival v) e) ∙ a)
 

@@ -4,6 +4,8 @@ pub mod Storing
 pub mod Outcomes
 pub mod State
 pub mod Traces
+pub mod Histories
 pub mod Promises
+pub mod Meaning
 pub mod Turns
 pub mod Validating

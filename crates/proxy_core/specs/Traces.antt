@@ -1,7 +1,7 @@
 -- Whole runs: what happened and what it gave, the latest first.
 --
 -- Item: an accepted step       trace_of: the items of events and their outcomes
--- left: what a trace leaves    IsGood: each item is what its case gives
+-- left: what a trace leaves    IsGood: each item is what its case gives, over the list that a core keeps
 -- Stops: why a run stopped     IsDenied, LeavesNoTrace: requests that the operator's table denies
 use Rattle.std.specs.Prelude.{◌≡◌, ◌≢◌, ℕ, Option, None, Some, List, [], ◌∷◌}
 use Rattle.std.specs.List.{AllByRecursion}
@@ -46,7 +46,8 @@ pub record Accepts (table : Table) (held : List Stored) (exchanges : List Exchan
   pub allowed : fault_by exchanges item.event ≡ None
   pub outcome_is : item.outcome ≡ outcome_by table held exchanges next item.event
 
--- each item is what its case gives, over what the items before it leave
+-- each item is what its case gives, over what the items before it leave of a core; `Histories.antt` says the same with no
+-- list of the program in it
 abbrev pub IsGood : State → List Item → Type 0
 IsGood start [] = Unit {0}
 IsGood start (item ∷ past) =

@@ -20,6 +20,7 @@ mod fault;
 mod finishing;
 mod handling;
 mod judging;
+mod laws;
 mod moments;
 mod outcome;
 mod proxy;
@@ -35,6 +36,10 @@ pub use crate::condition::Condition;
 pub use crate::event::Event;
 pub use crate::exchange::Exchange;
 pub use crate::fault::CoreFault;
+pub use crate::laws::{
+    a_core_keeps_what_is_held, a_good_trace_leaves_no_choice, open_from_arrival_to_end,
+    overtaken_where_invalidated, serials_are_counted,
+};
 pub use crate::outcome::{Outcome, Reply, Run};
 pub use crate::proxy::Core;
 pub use crate::reply_text::refused;

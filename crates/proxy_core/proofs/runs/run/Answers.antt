@@ -1,34 +1,97 @@
-use Rattle.std.proofs.Common.{rules, arith, ◌≡◌, ◌<◌, ◌+◌, ◌++◌, ◌∷◌, [], List, length, ap, ◌∙◌, sym, subst, length-append}
+use Rattle.std.proofs.Common.{rules, arith, ◌≡◌, ◌<◌, ◌+◌, ◌++◌, ◌∷◌, [], ℕ, List, length, ap, ◌∙◌, sym, subst, length-append}
+use Rattle.hx_allow.specs.Lines.{Table}
+use Rattle.proxy_core.specs.declared.event.Event.{Event}
 use Rattle.proxy_core.specs.declared.outcome.Outcome.{Outcome}
-use Rattle.proxy_core.specs.Traces.{trace_of, begun, left, IsGood}
+use Rattle.proxy_core.specs.Traces.{trace_of, begun, left, IsGood, DeniedLeaveNoTrace}
+use Rattle.proxy_core.specs.Histories.{IsGoodHistory}
+use Rattle.proxy_core.specs.Promises.{NothingInvalidatedIsSent, TwiceForwardOneReply}
 use Rattle.proxy_core.proofs.Tracing.{left-push, good-push, at_index, stops_at, refuses_or, same_good, denied_leave_no_trace}
-use Rattle.proxy_core.proofs.TwiceForward.{twice_forward_one_reply as twice}
+use Rattle.proxy_core.proofs.HeldLaw.{good_held, stops_held}
+use Rattle.proxy_core.proofs.TwiceForward.{twice_forward_one_reply}
+use Rattle.proxy_core.proofs.Unsent.{nothing_invalidated_is_sent}
 use Rattle.proxy_core.proofs.runs.run.Goals as goal
 
-pub returns-then-is_err-clause-stopped : goal.returns-then-is_err-clause-stopped
-returns-then-is_err-clause-stopped g c =
-    let i = c.loop-event.invariant in
-    let n : c.loop-event.event-index < length c.args.events.now = omega arith in
-    stops_at (begun c.args.config (g.S.Shelf.limit c.args.shelf) c.args.first_serial) c.args.events.now c.loop-event.outcomes.items _ c.event-item.result c.loop-event.core _ c.reserve.ensures.items
-    (at_index c.args.events.now _ _ c.event-item.result i.long n c.event-item.is) i.stands
-    (refuses_or c.loop-event.core c.event-item.result _ c.fault.result c.fault.ensures c.unwrap_or-fault.ensures)
+-- the trace so far is good over the bounded list, also where its outcomes are the same ones after room was found
+module _ (table : Table) (limit first : ℕ) (events : List Event) (outcomes more : List Outcome) (same : more ≡ outcomes)
+    (g : IsGood (begun table limit first) (trace_of events outcomes)) where
+  plain : IsGood (begun table limit first) (trace_of events more)
+  plain = same_good (begun table limit first) events outcomes more same g
+
+  good : IsGoodHistory table limit first (trace_of events more)
+  good = good_held table limit first (trace_of events more) plain
+
+  denied : DeniedLeaveNoTrace table (trace_of events more)
+  denied = denied_leave_no_trace (begun table limit first) (trace_of events more) plain
+
+  unsent : NothingInvalidatedIsSent (trace_of events more)
+  unsent = nothing_invalidated_is_sent table limit first (trace_of events more) plain
+
+  twice : TwiceForwardOneReply (trace_of events more)
+  twice = twice_forward_one_reply (begun table limit first) (trace_of events more) plain
+
+pub returns-clause-good : goal.returns-clause-good
+returns-clause-good g c = good_held c.args.config _ _ _ c.loop-event.invariant.good
+
+pub returns-in-Err-clause-good : goal.returns-in-Err-clause-good
+returns-in-Err-clause-good g c =
+    good c.args.config (g.S.Shelf.limit c.args.shelf) c.args.first_serial c.args.events.now c.loop-event.outcomes.items _ c.reserve.ensures.items c.loop-event.invariant.good
+
+pub returns-then-is_err-clause-good : goal.returns-then-is_err-clause-good
+returns-then-is_err-clause-good g c =
+    good c.args.config (g.S.Shelf.limit c.args.shelf) c.args.first_serial c.args.events.now c.loop-event.outcomes.items _ c.reserve.ensures.items c.loop-event.invariant.good
+
+pub returns-clause-denied : goal.returns-clause-denied
+returns-clause-denied g c = denied_leave_no_trace (begun c.args.config (g.S.Shelf.limit c.args.shelf) c.args.first_serial) _ c.loop-event.invariant.good
+
+pub returns-in-Err-clause-denied : goal.returns-in-Err-clause-denied
+returns-in-Err-clause-denied g c =
+    denied c.args.config (g.S.Shelf.limit c.args.shelf) c.args.first_serial c.args.events.now c.loop-event.outcomes.items _ c.reserve.ensures.items c.loop-event.invariant.good
 
 pub returns-then-is_err-clause-denied : goal.returns-then-is_err-clause-denied
 returns-then-is_err-clause-denied g c =
-    let start = begun c.args.config (g.S.Shelf.limit c.args.shelf) c.args.first_serial in
-    denied_leave_no_trace start (trace_of c.args.events.now c.reserve.new.self.items) (same_good start c.args.events.now c.loop-event.outcomes.items _ c.reserve.ensures.items c.loop-event.invariant.good)
+    denied c.args.config (g.S.Shelf.limit c.args.shelf) c.args.first_serial c.args.events.now c.loop-event.outcomes.items _ c.reserve.ensures.items c.loop-event.invariant.good
+
+pub returns-clause-nothing_invalidated_is_sent : goal.returns-clause-nothing_invalidated_is_sent
+returns-clause-nothing_invalidated_is_sent g c = nothing_invalidated_is_sent c.args.config (g.S.Shelf.limit c.args.shelf) c.args.first_serial _ c.loop-event.invariant.good
+
+pub returns-in-Err-clause-nothing_invalidated_is_sent : goal.returns-in-Err-clause-nothing_invalidated_is_sent
+returns-in-Err-clause-nothing_invalidated_is_sent g c =
+    unsent c.args.config (g.S.Shelf.limit c.args.shelf) c.args.first_serial c.args.events.now c.loop-event.outcomes.items _ c.reserve.ensures.items c.loop-event.invariant.good
+
+pub returns-then-is_err-clause-nothing_invalidated_is_sent : goal.returns-then-is_err-clause-nothing_invalidated_is_sent
+returns-then-is_err-clause-nothing_invalidated_is_sent g c =
+    unsent c.args.config (g.S.Shelf.limit c.args.shelf) c.args.first_serial c.args.events.now c.loop-event.outcomes.items _ c.reserve.ensures.items c.loop-event.invariant.good
+
+pub returns-clause-twice_forward_one_reply : goal.returns-clause-twice_forward_one_reply
+returns-clause-twice_forward_one_reply g c = twice_forward_one_reply (begun c.args.config (g.S.Shelf.limit c.args.shelf) c.args.first_serial) _ c.loop-event.invariant.good
+
+pub returns-in-Err-clause-twice_forward_one_reply : goal.returns-in-Err-clause-twice_forward_one_reply
+returns-in-Err-clause-twice_forward_one_reply g c =
+    twice c.args.config (g.S.Shelf.limit c.args.shelf) c.args.first_serial c.args.events.now c.loop-event.outcomes.items _ c.reserve.ensures.items c.loop-event.invariant.good
+
+pub returns-then-is_err-clause-twice_forward_one_reply : goal.returns-then-is_err-clause-twice_forward_one_reply
+returns-then-is_err-clause-twice_forward_one_reply g c =
+    twice c.args.config (g.S.Shelf.limit c.args.shelf) c.args.first_serial c.args.events.now c.loop-event.outcomes.items _ c.reserve.ensures.items c.loop-event.invariant.good
 
 pub returns-in-Err-clause-stopped : goal.returns-in-Err-clause-stopped
 returns-in-Err-clause-stopped g c =
     let i = c.loop-event.invariant in
+    let limit = g.S.Shelf.limit c.args.shelf in
     let n : c.loop-event.event-index < length c.args.events.now = omega arith in
-    stops_at (begun c.args.config (g.S.Shelf.limit c.args.shelf) c.args.first_serial) c.args.events.now c.loop-event.outcomes.items _ c.event-item.result c.loop-event.core _ c.reserve.ensures.items
-    (at_index c.args.events.now _ _ c.event-item.result i.long n c.event-item.is) i.stands c.in-Err.ensures.err
+    stops_held c.args.config limit c.args.first_serial _ _ _
+    (plain c.args.config limit c.args.first_serial c.args.events.now c.loop-event.outcomes.items _ c.reserve.ensures.items i.good)
+    (stops_at (begun c.args.config limit c.args.first_serial) c.args.events.now c.loop-event.outcomes.items _ c.event-item.result c.loop-event.core _ c.reserve.ensures.items
+    (at_index c.args.events.now _ _ c.event-item.result i.long n c.event-item.is) i.stands c.in-Err.ensures.err)
 
-pub returns-in-Err-clause-denied : goal.returns-in-Err-clause-denied
-returns-in-Err-clause-denied g c =
-    let start = begun c.args.config (g.S.Shelf.limit c.args.shelf) c.args.first_serial in
-    denied_leave_no_trace start (trace_of c.args.events.now c.reserve.new.self.items) (same_good start c.args.events.now c.loop-event.outcomes.items _ c.reserve.ensures.items c.loop-event.invariant.good)
+pub returns-then-is_err-clause-stopped : goal.returns-then-is_err-clause-stopped
+returns-then-is_err-clause-stopped g c =
+    let i = c.loop-event.invariant in
+    let limit = g.S.Shelf.limit c.args.shelf in
+    let n : c.loop-event.event-index < length c.args.events.now = omega arith in
+    stops_held c.args.config limit c.args.first_serial _ _ _
+    (plain c.args.config limit c.args.first_serial c.args.events.now c.loop-event.outcomes.items _ c.reserve.ensures.items i.good)
+    (stops_at (begun c.args.config limit c.args.first_serial) c.args.events.now c.loop-event.outcomes.items _ c.event-item.result c.loop-event.core _ c.reserve.ensures.items
+    (at_index c.args.events.now _ _ c.event-item.result i.long n c.event-item.is) i.stands (refuses_or c.loop-event.core c.event-item.result _ c.fault.result c.fault.ensures c.unwrap_or-fault.ensures))
 
 pub loop-event-preserved : goal.loop-event-preserved
 loop-event-preserved g c =
@@ -45,20 +108,3 @@ loop-event-preserved g c =
       stands = left-push start es os c.event-item.result c.in-Ok.outcome c.loop-event.core _ at i.stands k ∙ ap (λ (zs : List Outcome). left start (trace_of es zs)) (sym p);
       good = subst (λ (zs : List Outcome). IsGood start (trace_of es zs)) (sym p) (good-push start es os c.event-item.result c.in-Ok.outcome c.loop-event.core _ at i.stands k i.good);
     }
-
-pub returns-clause-denied : goal.returns-clause-denied
-returns-clause-denied g c = denied_leave_no_trace (begun c.args.config (g.S.Shelf.limit c.args.shelf) c.args.first_serial) (trace_of c.args.events.now c.loop-event.outcomes.items) c.loop-event.invariant.good
-
-pub returns-then-is_err-clause-twice_forward_one_reply : goal.returns-then-is_err-clause-twice_forward_one_reply
-returns-then-is_err-clause-twice_forward_one_reply g c =
-    let start = begun c.args.config (g.S.Shelf.limit c.args.shelf) c.args.first_serial in
-    twice start (trace_of c.args.events.now c.reserve.new.self.items) (same_good start c.args.events.now c.loop-event.outcomes.items _ c.reserve.ensures.items c.loop-event.invariant.good)
-
-pub returns-in-Err-clause-twice_forward_one_reply : goal.returns-in-Err-clause-twice_forward_one_reply
-returns-in-Err-clause-twice_forward_one_reply g c =
-    let start = begun c.args.config (g.S.Shelf.limit c.args.shelf) c.args.first_serial in
-    twice start (trace_of c.args.events.now c.reserve.new.self.items) (same_good start c.args.events.now c.loop-event.outcomes.items _ c.reserve.ensures.items c.loop-event.invariant.good)
-
-pub returns-clause-twice_forward_one_reply : goal.returns-clause-twice_forward_one_reply
-returns-clause-twice_forward_one_reply g c =
-    twice (begun c.args.config (g.S.Shelf.limit c.args.shelf) c.args.first_serial) (trace_of c.args.events.now c.loop-event.outcomes.items) c.loop-event.invariant.good

@@ -1,0 +1,154 @@
+-- Lists of held responses, against what a function gives of each serial.
+use Rattle.std.proofs.Common.{◌≡◌, ℕ, zero, suc, ◌≤◌, Bool, true, false, not, cond, ◌&&◌, ◌||◌, eqb, Option, Some, List, [], ◌∷◌, length, take, refl, sym, ◌∙◌, ap, subst, arith, inl, inr}
+use Rattle.std.specs.List.{filter, filter_map, cons_option, list_any}
+use Rattle.std.proofs.lemmas.Bool.{cases_Bool, eqb-true, eq-eqb, or_parts, false_from_ne_true, false≢true}
+use Rattle.std.proofs.lemmas.Option.{same_Some}
+use Rattle.hx_target.specs.declared.keys.Key.{Key}
+use Rattle.hx_target.specs.Keys.{same_key}
+use Rattle.hx_store.specs.Stored.{Stored}
+use Rattle.hx_store.specs.Serials.{is_in}
+use Rattle.hx_store.specs.Shelf.{serials, holds, find_entry, without, serials_of}
+use Rattle.hx_store.proofs.FoundSerials.{finds_those}
+use Rattle.hx_store.proofs.EntryLists.{length-filter_le}
+use Rattle.proxy_core.specs.State.{taken}
+
+pub serials-filter : (p : ℕ → Bool) (es : List Stored) → serials (filter (λ e. p e.serial) es) ≡ filter p (serials es)
+serials-filter p [] = refl
+serials-filter p (e ∷ es) = elim (p e.serial) as (λ b. serials (cond b (e ∷ filter (λ (e : Stored). p e.serial) es) (filter (λ (e : Stored). p e.serial) es)) ≡ cond b (e.serial ∷ filter p (serials es)) (filter p (serials es))) [
+  | true ↦ ap (λ zs. e.serial ∷ zs) (serials-filter p es)
+  | false ↦ serials-filter p es
+]
+
+pub serials-take : (n : ℕ) (es : List Stored) → serials (take n es) ≡ take n (serials es)
+serials-take zero es = refl
+serials-take (suc n) [] = refl
+serials-take (suc n) (e ∷ es) = ap (λ zs. e.serial ∷ zs) (serials-take n es)
+
+pub length-serials : (es : List Stored) → length (serials es) ≡ length es
+length-serials [] = refl
+length-serials (e ∷ es) = ap suc (length-serials es)
+
+without_nil : (es : List Stored) → without [] es ≡ es
+without_nil [] = refl
+without_nil (e ∷ es) = ap (λ zs. e ∷ zs) (without_nil es)
+
+pub taken_is : (gone : List ℕ) (es : List Stored) → taken gone es ≡ without gone es
+taken_is [] es = sym (without_nil es)
+taken_is (s ∷ gone) es = refl
+
+pub length-taken : (rm : List ℕ) (es : List Stored) → length (taken rm es) ≤ length es
+length-taken [] es = omega arith
+length-taken (s ∷ rm) es = length-filter_le (λ e. not (is_in e.serial (s ∷ rm))) es
+
+pub serials-taken : (rm : List ℕ) (es : List Stored) → serials (taken rm es) ≡ filter (λ s. not (is_in s rm)) (serials es)
+serials-taken rm es = ap serials (taken_is rm es) ∙ serials-filter (λ s. not (is_in s rm)) es
+
+-- each response is what the function gives at its serial
+pub EachIs : (ℕ → Option Stored) → List Stored → Type 0
+EachIs look [] = Unit {0}
+EachIs look (e ∷ es) = (look e.serial ≡ Some e) × EachIs look es
+
+pub EachIs-nil : (look : ℕ → Option Stored) → EachIs look []
+unfolding EachIs
+EachIs-nil look = tt
+
+pub EachIs-all : (look : ℕ → Option Stored) (es : List Stored) → EachIs look es → filter_map look (serials es) ≡ es
+unfolding EachIs
+EachIs-all look [] h = refl
+EachIs-all look (e ∷ es) h = ap (λ o. cons_option o (filter_map look (serials es))) h.0 ∙ ap (λ zs. e ∷ zs) (EachIs-all look es h.1)
+
+pub EachIs-filter : (look : ℕ → Option Stored) (p : Stored → Bool) (es : List Stored) → EachIs look es → EachIs look (filter p es)
+unfolding EachIs
+EachIs-filter look p [] h = tt
+EachIs-filter look p (e ∷ es) h = elim (p e) as (λ b. EachIs look (cond b (e ∷ filter p es) (filter p es))) [
+  | true ↦ (h.0, EachIs-filter look p es h.1)
+  | false ↦ EachIs-filter look p es h.1
+]
+
+pub EachIs-take : (look : ℕ → Option Stored) (n : ℕ) (es : List Stored) → EachIs look es → EachIs look (take n es)
+unfolding EachIs
+EachIs-take look zero es h = tt
+EachIs-take look (suc n) [] h = tt
+EachIs-take look (suc n) (e ∷ es) h = (h.0, EachIs-take look n es h.1)
+
+pub EachIs-taken : (look : ℕ → Option Stored) (rm : List ℕ) (es : List Stored) → EachIs look es → EachIs look (taken rm es)
+EachIs-taken look [] es h = h
+EachIs-taken look (s ∷ rm) es h = EachIs-filter look (λ e. not (is_in e.serial (s ∷ rm))) es h
+
+pub EachIs-cons : (look : ℕ → Option Stored) (e : Stored) (es : List Stored) → look e.serial ≡ Some e → EachIs look es → EachIs look (e ∷ es)
+unfolding EachIs
+EachIs-cons look e es k h = (k, h)
+
+-- another function that gives the same but at a serial that none of these has
+pub EachIs-but : (look other : ℕ → Option Stored) (s : ℕ) (es : List Stored) → holds s es ≡ false → ((t : ℕ) → eqb s t ≡ false → other t ≡ look t) →
+    EachIs look es → EachIs other es
+unfolding EachIs
+EachIs-but look other s [] h k g = tt
+EachIs-but look other s (e ∷ es) h k g =
+    let p = or_parts (eqb e.serial s) (holds s es) h in
+    let off : eqb s e.serial ≡ false = false_from_ne_true _ (λ q. false≢true (sym p.0 ∙ eq-eqb e.serial s (sym (eqb-true s e.serial q)))) in
+    (k e.serial off ∙ g.0, EachIs-but look other s es p.1 k g.1)
+
+pub EachIs-same : (look other : ℕ → Option Stored) (es : List Stored) → ((s : ℕ) → other s ≡ look s) → EachIs look es → EachIs other es
+EachIs-same look other es k h = subst (λ f. EachIs f es) (λ i. λ s. k' s i) h
+  where
+    k' : (s : ℕ) → look s ≡ other s
+    k' s = sym (k s)
+
+pub EachIs-find : (look : ℕ → Option Stored) (s : ℕ) (es : List Stored) (e : Stored) → find_entry s es ≡ Some e → EachIs look es → look s ≡ Some e
+unfolding EachIs
+EachIs-find look s [] e f g = absurd (cc)
+EachIs-find look s (x ∷ es) e f g = elim (cases_Bool (eqb x.serial s)) [
+  | inl t ↦ (
+      let k : x ≡ e = same_Some x e (sym (ap (λ b. cond b (Some x) (find_entry s es)) t) ∙ f) in
+      ap look (sym (eqb-true x.serial s t)) ∙ g.0 ∙ ap (λ y. Some y) k
+      )
+  | inr n ↦ EachIs-find look s es e (sym (ap (λ b. cond b (Some x) (find_entry s es)) n) ∙ f) g.1
+]
+
+-- a held serial has its response
+pub held_found : (s : ℕ) (es : List Stored) → holds s es ≡ true → (e : Stored) × (find_entry s es ≡ Some e)
+held_found s [] h = absurd (false≢true h)
+held_found s (e ∷ es) h = go (eqb e.serial s) refl (held_found s es)
+  where
+    go : (b : Bool) → eqb e.serial s ≡ b → (holds s es ≡ true → (x : Stored) × (find_entry s es ≡ Some x)) → (x : Stored) × (find_entry s (e ∷ es) ≡ Some x)
+    go true k f = (e, ap (λ b. cond b (Some e) (find_entry s es)) k)
+    go false k f =
+        let r = f (sym (ap (λ b. b || holds s es) k) ∙ h) in (r.0, ap (λ b. cond b (Some e) (find_entry s es)) k ∙ r.1)
+
+and_none : (a : Bool) → (a && false) ≡ false
+and_none true = refl
+and_none false = refl
+
+none_any : (key : Key) (s : ℕ) (es : List Stored) → holds s es ≡ false → list_any (λ (e : Stored). same_key e.key key && eqb e.serial s) es ≡ false
+none_any key s [] h = refl
+none_any key s (e ∷ es) h =
+    let p = or_parts (eqb e.serial s) (holds s es) h in
+    ap (λ b. (same_key e.key key && b) || list_any (λ (e : Stored). same_key e.key key && eqb e.serial s) es) p.0
+    ∙ ap (λ b. b || list_any (λ (e : Stored). same_key e.key key && eqb e.serial s) es) (and_none (same_key e.key key))
+    ∙ none_any key s es p.1
+
+-- what isn't held isn't found of a key
+pub none_of_key : (key : Key) (s : ℕ) (es : List Stored) → holds s es ≡ false → is_in s (serials_of key es) ≡ false
+none_of_key key s es h = finds_those key s es ∙ none_any key s es h
+
+some_any : (key : Key) (s : ℕ) (es : List Stored) (e : Stored) → find_entry s es ≡ Some e → same_key e.key key ≡ true →
+    list_any (λ (e : Stored). same_key e.key key && eqb e.serial s) es ≡ true
+some_any key s [] e f h = absurd (cc)
+some_any key s (x ∷ es) e f h = elim (cases_Bool (eqb x.serial s)) [
+  | inl t ↦ (
+      let same : x ≡ e = same_Some x e (sym (ap (λ b. cond b (Some x) (find_entry s es)) t) ∙ f) in
+      ap (λ b. (same_key x.key key && b) || list_any (λ (e : Stored). same_key e.key key && eqb e.serial s) es) t
+      ∙ ap (λ b. (b && true) || list_any (λ (e : Stored). same_key e.key key && eqb e.serial s) es) (ap (λ (z : Stored). same_key z.key key) same ∙ h)
+      )
+  | inr n ↦ (
+      let more = some_any key s es e (sym (ap (λ b. cond b (Some x) (find_entry s es)) n) ∙ f) h in
+      ap (λ b. (same_key x.key key && b) || list_any (λ (e : Stored). same_key e.key key && eqb e.serial s) es) n
+      ∙ ap (λ b. b || list_any (λ (e : Stored). same_key e.key key && eqb e.serial s) es) (and_none (same_key x.key key))
+      ∙ more
+      )
+]
+
+-- what is held and has the key is found of it
+pub some_of_key : (key : Key) (s : ℕ) (es : List Stored) (e : Stored) → find_entry s es ≡ Some e → same_key e.key key ≡ true → is_in s (serials_of key es) ≡ true
+some_of_key key s es e f h = finds_those key s es ∙ some_any key s es e f h

@@ -1,0 +1,187 @@
+-- The request and the mark of an open exchange, by the items before.
+use Rattle.std.proofs.Common.{◌≡◌, ℕ, ◌+◌, Bool, true, false, cond, ◌&&◌, ◌||◌, eqb, Option, None, Some, List, [], ◌∷◌, ◌++◌, refl, sym, ◌∙◌, ap, arith}
+use Rattle.std.proofs.lemmas.Bool.{eq-eqb, false≢true, or_parts}
+use Rattle.std.proofs.lemmas.Option.{same_Some}
+use Rattle.hx_target.specs.declared.keys.Key.{Key}
+use Rattle.hx_target.specs.Keys.{same_key}
+use Rattle.hx_hop.specs.declared.asked_for.Asked.{Asked}
+use Rattle.hx_allow.specs.Lines.{Table}
+use Rattle.proxy_core.specs.declared.exchange.Exchange.{Exchange}
+use Rattle.proxy_core.specs.declared.outcome.Outcome.{Outcome}
+use Rattle.proxy_core.specs.declared.event.Event.{Event}
+use Rattle.proxy_core.specs.declared.event.Event.TheVariants.{Arrive, Answer, Fail, Abandon}
+use Rattle.proxy_core.specs.Outcomes.{find_exchange, id_of, fault_of}
+use Rattle.proxy_core.specs.State.{overtake}
+use Rattle.proxy_core.specs.Traces.{Item, begun, left, IsGood}
+use Rattle.proxy_core.specs.Promises.{goes_forward, is_arrival, times, asked_at, asked_by, key_by_step, is_key, invalidates_key, NoneInvalidates, some_invalidates}
+use Rattle.proxy_core.proofs.ExchangeLists.{overtaken_by}
+use Rattle.proxy_core.proofs.Moves.{Move, apart, opens, passes, again, closes, asked_of, move_of}
+
+-- ---- the request of an open exchange is that of the latest arrival of its id
+
+overtake_asked : (key : Key) (x : Exchange) → (overtake key x).asked ≡ x.asked
+overtake_asked key x = elim (same_key x.asked.target.key key) as (λ b. (cond b (record x { overtaken = true }) x).asked ≡ x.asked) [
+  | true ↦ refl
+  | false ↦ refl
+]
+
+asked_overtaken : (key : Option Key) (x : Option Exchange) → asked_of (overtaken_by key x) ≡ asked_of x
+asked_overtaken None x = refl
+asked_overtaken (Some key) None = refl
+asked_overtaken (Some key) (Some x) = ap (λ (a : Asked). Some a) (overtake_asked key x)
+
+asked_apart : (id : ℕ) (event : Event) (b : Option Asked) → eqb (id_of event) id ≡ false → asked_at id event b ≡ b
+asked_apart id (Arrive now i asked) b n = ap (λ c. cond c (Some asked) b) n
+asked_apart id (Answer now i r) b n = refl
+asked_apart id (Fail now i kind) b n = refl
+asked_apart id (Abandon i) b n = refl
+
+asked_late : (id : ℕ) (event : Event) (b : Option Asked) → is_arrival event ≡ false → asked_at id event b ≡ b
+asked_late id (Arrive now i asked) b n = absurd (false≢true (sym n))
+asked_late id (Answer now i r) b n = refl
+asked_late id (Fail now i kind) b n = refl
+asked_late id (Abandon i) b n = refl
+
+none_asked : (y : Option Exchange) (a : Asked) → y ≡ None → asked_of y ≡ Some a → ⊥
+none_asked None a h g = cc
+none_asked (Some z) a h g = cc
+
+asked_more : (id : ℕ) (w : Option Exchange) (event : Event) (o : Outcome) (x y : Option Exchange) (b : Option Asked) (a : Asked) → Move id w event o x y →
+    ((a : Asked) → asked_of x ≡ Some a → b ≡ Some a) → asked_of y ≡ Some a → asked_at id event b ≡ Some a
+asked_more id w event o x y b a (apart n h) f g =
+    asked_apart id event b n ∙ f a (sym (asked_overtaken (key_by_step (asked_of w) event o) x) ∙ sym (ap asked_of h) ∙ g)
+asked_more id w event o x y b a (opens es now asked line e x_is k h) f g =
+    ap (λ v. asked_at id v b) e ∙ ap (λ c. cond c (Some asked) b) (eq-eqb id id refl) ∙ sym (ap asked_of h) ∙ g
+asked_more id w event o x y b a (passes t e x_is k h) f g = absurd (none_asked y a h g)
+asked_more id w event o x y b a (again z now t e q c k h) f g = asked_late id event b e ∙ f a (ap asked_of q ∙ sym (ap asked_of h) ∙ g)
+asked_more id w event o x y b a (closes z t e q k h) f g = absurd (none_asked y a h g)
+
+pub asked_is : (table : Table) (limit first : ℕ) (past : List Item) → IsGood (begun table limit first) past → (id : ℕ) (a : Asked) →
+    asked_of (find_exchange id (left (begun table limit first) past).exchanges) ≡ Some a → asked_by id past ≡ Some a
+asked_is table limit first [] g id a h = absurd (cc)
+asked_is table limit first (i ∷ past) g id a k =
+    asked_more id _ i.event i.outcome _ _ (asked_by id past) a (move_of table (left (begun table limit first) past) i id g.0)
+    (λ a q. asked_is table limit first past g.1 id a q) k
+
+-- what an item invalidates, by the exchange and by the items before
+key_is : (w : Option Exchange) (event : Event) (o : Outcome) (b : Option Asked) → fault_of w event ≡ None → ((a : Asked) → asked_of w ≡ Some a → b ≡ Some a) →
+    key_by_step b event o ≡ key_by_step (asked_of w) event o
+key_is (Some w) event o b f h = ap (λ b. key_by_step b event o) (h w.asked refl)
+key_is None (Arrive now i asked) o None f h = refl
+key_is None (Arrive now i asked) o (Some a) f h = refl
+key_is None (Answer now i r) o b f h = absurd (cc)
+key_is None (Fail now i kind) o b f h = absurd (cc)
+key_is None (Abandon i) o b f h = absurd (cc)
+
+pub same_key_of_step : (table : Table) (limit first : ℕ) (i : Item) (past : List Item) → IsGood (begun table limit first) (i ∷ past) →
+    key_by_step (asked_by (id_of i.event) past) i.event i.outcome
+    ≡ key_by_step (asked_of (find_exchange (id_of i.event) (left (begun table limit first) past).exchanges)) i.event i.outcome
+same_key_of_step table limit first i past g = key_is _ i.event i.outcome _ g.0.allowed (λ a q. asked_is table limit first past g.1 (id_of i.event) a q)
+
+-- ---- from a going forward on
+
+record Unmarked (key : Option Key) (x : Option Exchange) (z : Exchange) : Type 0 where
+  was : Exchange
+  x_is : x ≡ Some was
+  asked : z.asked ≡ was.asked
+  overtaken : z.overtaken ≡ (was.overtaken || is_key key was.asked.target.key)
+
+or_none : (b : Bool) → b ≡ (b || false)
+or_none true = refl
+or_none false = refl
+
+or_all : (b : Bool) → true ≡ (b || true)
+or_all true = refl
+or_all false = refl
+
+overtake_marks : (key : Key) (x : Exchange) → (overtake key x).overtaken ≡ (x.overtaken || same_key x.asked.target.key key)
+overtake_marks key x =
+    elim (same_key x.asked.target.key key) as (λ b. (cond b (record x { overtaken = true }) x).overtaken ≡ (x.overtaken || b)) [
+      | true ↦ or_all x.overtaken
+      | false ↦ or_none x.overtaken
+    ]
+
+unmarked : (key : Option Key) (x : Option Exchange) (z : Exchange) → overtaken_by key x ≡ Some z → Unmarked key x z
+unmarked None x z h = record { was = z; x_is = h; asked = refl; overtaken = or_none z.overtaken }
+unmarked (Some key) None z h = absurd (cc)
+unmarked (Some key) (Some u) z h =
+    let e : overtake key u ≡ z = same_Some (overtake key u) z h in
+    record {
+      was = u;
+      x_is = refl;
+      asked = ap (λ (z : Exchange). z.asked) (sym e) ∙ overtake_asked key u;
+      overtaken = ap (λ (z : Exchange). z.overtaken) (sym e) ∙ overtake_marks key u;
+    }
+
+none_more : (b : Bool) (n : ℕ) → cond b (n + 1) n ≡ 0 → (b ≡ false) × (n ≡ 0)
+none_more true n h = absurd (omega arith)
+none_more false n h = (refl, h)
+
+none_some : (y : Option Exchange) (z : Exchange) → y ≡ None → y ≡ Some z → ⊥
+none_some None z h g = cc
+none_some (Some x) z h g = cc
+
+out_now : (id : ℕ) (w : Option Exchange) (event : Event) (o : Outcome) (x y : Option Exchange) (z : Exchange) → Move id w event o x y →
+    eqb (id_of event) id ≡ true → goes_forward o ≡ true → y ≡ Some z → z.overtaken ≡ false
+out_now id w event o x y z (apart n h) t f g = absurd (false≢true (sym n ∙ t))
+out_now id w event o x y z (opens es now asked line e x_is q h) t f g = ap (λ (z : Exchange). z.overtaken) (same_Some z _ (sym g ∙ h))
+out_now id w event o x y z (passes u e x_is q h) t f g = absurd (none_some y z h g)
+out_now id w event o x y z (again v now u e q c p h) t f g = ap (λ (z : Exchange). z.overtaken) (same_Some z _ (sym g ∙ h))
+out_now id w event o x y z (closes v u e q p h) t f g = absurd (none_some y z h g)
+
+or_swap : (a b : Bool) → (a || b) ≡ (b || a)
+or_swap true true = refl
+or_swap true false = refl
+or_swap false true = refl
+or_swap false false = refl
+
+pub none_of_some : (key : Key) (items past : List Item) → some_invalidates key items past ≡ false → NoneInvalidates key items past
+none_of_some key [] past h = tt
+none_of_some key (i ∷ items) past h =
+    let p = or_parts (invalidates_key key i (items ++ past)) (some_invalidates key items past) h in (p.0, none_of_some key items past p.1)
+
+module _ (table : Table) (limit first : ℕ) (f : Item) (before : List Item) (id : ℕ) where
+  abbrev exchange : List Item → Option Exchange
+  exchange items = find_exchange id (left (begun table limit first) (items ++ f ∷ before)).exchanges
+
+  -- the exchange, where it is open: its request, and its mark
+  abbrev IsOut : List Item → Type 0
+  IsOut items = (z : Exchange) → exchange items ≡ Some z →
+      (asked_by id (f ∷ before) ≡ Some z.asked) × (z.overtaken ≡ some_invalidates z.asked.target.key items (f ∷ before))
+
+  out_step : (i : Item) (items : List Item) → IsGood (begun table limit first) (i ∷ (items ++ f ∷ before)) → (eqb (id_of i.event) id && goes_forward i.outcome) ≡ false →
+      IsOut items → (y : Option Exchange) →
+      Move id (find_exchange (id_of i.event) (left (begun table limit first) (items ++ f ∷ before)).exchanges) i.event i.outcome (exchange items) y →
+      (z : Exchange) → y ≡ Some z → (asked_by id (f ∷ before) ≡ Some z.asked) × (z.overtaken ≡ some_invalidates z.asked.target.key (i ∷ items) (f ∷ before))
+  out_step i items g n out y (apart a e) z q =
+      let key = key_by_step (asked_of (find_exchange (id_of i.event) (left (begun table limit first) (items ++ f ∷ before)).exchanges)) i.event i.outcome in
+      let u = unmarked key (exchange items) z (sym e ∙ q) in
+      let was = out u.was u.x_is in (
+        was.0 ∙ ap (λ r. Some r) (sym u.asked),
+        u.overtaken
+            ∙ ap (λ b. b || is_key key u.was.asked.target.key) was.1
+            ∙ or_swap (some_invalidates u.was.asked.target.key items (f ∷ before)) (is_key key u.was.asked.target.key)
+            ∙ ap (λ o. is_key o u.was.asked.target.key || some_invalidates u.was.asked.target.key items (f ∷ before)) (sym (same_key_of_step table limit first i (items ++ f ∷ before) g))
+            ∙ ap (λ (r : Asked). some_invalidates r.target.key (i ∷ items) (f ∷ before)) (sym u.asked),
+      )
+  out_step i items g n out y (opens es now asked line e x_is q p) z r =
+      let t : (eqb (id_of i.event) id && goes_forward i.outcome) ≡ true =
+      ap (λ v. eqb (id_of v) id && goes_forward i.outcome) e ∙ ap (λ b. eqb id id && b) q ∙ ap (λ b. b && true) (eq-eqb id id refl) in
+      absurd (false≢true (sym n ∙ t))
+  out_step i items g n out y (passes u e x_is q p) z r = absurd (none_some y z p r)
+  out_step i items g n out y (again v now u e q c p t) z r =
+      let t : (eqb (id_of i.event) id && goes_forward i.outcome) ≡ true = ap (λ b. eqb (id_of i.event) id && b) p ∙ ap (λ b. b && true) u in
+      absurd (false≢true (sym n ∙ t))
+  out_step i items g n out y (closes v u e q p t) z r = absurd (none_some y z t r)
+
+  -- since f, by which the exchange went forward last
+  pub out_since : (items : List Item) → IsGood (begun table limit first) (items ++ f ∷ before) → goes_forward f.outcome ≡ true → id_of f.event ≡ id →
+      times goes_forward id items ≡ 0 → (z : Exchange) → exchange items ≡ Some z →
+      (asked_by id (f ∷ before) ≡ Some z.asked) × (z.overtaken ≡ some_invalidates z.asked.target.key items (f ∷ before))
+  out_since [] g o e n = λ z q. (
+    asked_is table limit first (f ∷ before) g id z.asked (ap asked_of q),
+    out_now id _ f.event f.outcome _ _ z (move_of table (left (begun table limit first) before) f id g.0) (eq-eqb (id_of f.event) id e) o q,
+  )
+  out_since (i ∷ items) g o e n =
+      let m = none_more _ _ n in
+      out_step i items g m.0 (out_since items g.1 o e m.1) _ (move_of table (left (begun table limit first) (items ++ f ∷ before)) i id g.0)

@@ -1,0 +1,202 @@
+-- What a step does to the held responses, by what it stores and uses.
+use Rattle.std.proofs.Common.{◌≡◌, inl, inr, ℕ, Bool, true, false, cond, ◌&&◌, ◌||◌, eqb, Option, None, Some, List, [], ◌∷◌, refl, sym, ◌∙◌, ap, subst, arith}
+use Rattle.std.specs.List.{Contains}
+use Rattle.std.proofs.lemmas.Bool.{eq-eqb}
+use Rattle.hx_framing.specs.declared.responses.Response.{Response}
+use Rattle.hx_hop.specs.declared.asked_for.Asked.{Asked}
+use Rattle.hx_allow.specs.Lines.{Table}
+use Rattle.hx_allow.specs.Matching.{verdict_of}
+use Rattle.hx_allow.specs.declared.verdicts.Verdict.{Verdict}
+use Rattle.hx_allow.specs.declared.verdicts.Verdict.TheVariants as verdict
+use Rattle.hx_store.specs.Stored.{Stored}
+use Rattle.hx_store.specs.Serials.{is_in}
+use Rattle.hx_store.specs.Shelf.{holds, find_entry, serials_of}
+use Rattle.hx_store.proofs.Recency.{is_in-filter}
+use Rattle.hx_reuse.specs.Rules.{decision_of}
+use Rattle.hx_reuse.specs.Meaning.{NamesTheResponse}
+use Rattle.hx_reuse.specs.declared.rule.ReuseRule.{ReuseRule}
+use Rattle.hx_reuse.specs.declared.rule.ErrorRule.{ErrorRule}
+use Rattle.hx_reuse.specs.declared.decision.Decision.{Decision}
+use Rattle.hx_reuse.specs.declared.decision.Decision.TheVariants as decision
+use Rattle.hx_reuse.proofs.Members.{IsMember}
+use Rattle.hx_reuse.proofs.Choice.{member_contained, chosen_is_held}
+use Rattle.hx_reuse.proofs.MeaningLemmas.{is_held, names_the_least}
+use Rattle.hx_status.specs.declared.status.Detail.{Detail}
+use Rattle.hx_status.specs.declared.status.Detail.TheVariants.{StaleIfError, ReuseAfterError}
+use Rattle.hx_status.specs.declared.cause.FailKind.{FailKind}
+use Rattle.hx_status.specs.declared.cause.FailKind.TheVariants.{BadAnswer}
+use Rattle.proxy_core.specs.declared.condition.Condition.{Condition}
+use Rattle.proxy_core.specs.declared.handling.Handling.{Handling}
+use Rattle.proxy_core.specs.declared.exchange.Exchange.{Exchange}
+use Rattle.proxy_core.specs.declared.rescue.Rescue.{Rescue}
+use Rattle.proxy_core.specs.declared.rescue.Rescue.TheVariants.{Sends, Refuses}
+use Rattle.proxy_core.specs.declared.outcome.Outcome.{Outcome}
+use Rattle.proxy_core.specs.declared.event.Event.{Event}
+use Rattle.proxy_core.specs.declared.event.Event.TheVariants.{Arrive, Answer, Fail, Abandon}
+use Rattle.proxy_core.specs.Validating.{condition_at, is_validation, validated, refreshed}
+use Rattle.proxy_core.specs.Storing.{is_unasked, is_storable, replaced_by, nominates, made}
+use Rattle.proxy_core.specs.Outcomes.{find_exchange, id_of, sent, allowed, arrived, unanswered, is_only_if_cached, error_rule_at, rescue_by, rescue_of, failed, is_error_status, passed, passed_unless, revalidated, answered, outcome_of}
+use Rattle.proxy_core.specs.State.{State, NoneFrom, stored_in, used_in, removed_in, stored_form}
+use Rattle.proxy_core.specs.Traces.{Item, Accepts}
+use Rattle.proxy_core.proofs.Leaving.{validated_is, serial_stays}
+use Rattle.proxy_core.proofs.HeldEntries.{held_found, none_of_key}
+
+-- nothing is stored or used; a held response is used; an answer is stored under the next serial, which isn't removed
+pub data Kind (es : List Stored) (x : Option Exchange) (event : Event) (next st us : Option ℕ) (rm : List ℕ) : Type 0 where
+  idle : st ≡ None → us ≡ None → Kind es x event next st us rm
+  uses : (s : ℕ) (e : Stored) → st ≡ None → us ≡ Some s → find_entry s es ≡ Some e → Kind es x event next st us rm
+  stores : (s : ℕ) (e : Stored) → st ≡ Some s → us ≡ None → next ≡ Some s → stored_form x event s ≡ Some e → e.serial ≡ s → is_in s rm ≡ false →
+      Kind es x event next st us rm
+
+KindOf : List Stored → Option Exchange → Event → Option ℕ → Outcome → Type 0
+KindOf es x event next o = Kind es x event next (stored_in o) (used_in o) (removed_in o)
+
+-- ---- what is sent is held
+
+abbrev IsFound : List Stored → ℕ → Type 0
+IsFound es s = (e : Stored) × (find_entry s es ≡ Some e)
+
+member_holds : (es : List Stored) (e : Stored) → IsMember e es → holds e.serial es ≡ true
+member_holds [] e m = absurd m
+member_holds (x ∷ es) e (inl same) = ap (λ b. b || holds e.serial es) (eq-eqb x.serial e.serial (ap (λ (z : Stored). z.serial) same))
+member_holds (x ∷ es) e (inr m) = ap (λ b. eqb x.serial e.serial || b) (member_holds es e m) ∙ or_true (eqb x.serial e.serial)
+  where
+    or_true : (a : Bool) → (a || true) ≡ true
+    or_true true = refl
+    or_true false = refl
+
+contained_found : (es : List Stored) (e : Stored) (s : ℕ) → Contains es e → e.serial ≡ s → IsFound es s
+contained_found es e s c k = held_found s es (ap (λ z. holds z es) (sym k) ∙ member_holds es e (member_contained es e c))
+
+hit_found : (es : List Stored) (asked : Asked) (now s : ℕ) → decision_of es asked now ≡ decision.Hit s → IsFound es s
+hit_found es asked now s h =
+    let r = is_held es asked now s h in contained_found es r.0 s r.1.is_candidate.is_held r.2
+
+named_found : (es : List Stored) (asked : Asked) (now s : ℕ) (rule : ReuseRule) → decision_of es asked now ≡ decision.Forward rule (Some s) → IsFound es s
+named_found es asked now s rule h = go ((names_the_least es asked now rule (Some s) h).1)
+  where
+    go : NamesTheResponse es asked rule (Some s) → IsFound es s
+    go (inl low) = absurd (cc_of low.1)
+      where
+        cc_of : Some s ≡ None → ⊥
+        cc_of k = cc
+    go (inr high) =
+        let there = high.1 in
+        contained_found es there.0 s (chosen_is_held es asked there.0 there.1) (same s there.0.serial there.2)
+      where
+        same : (m n : ℕ) → Some m ≡ Some n → n ≡ m
+        same m n k = cc
+
+same_sent : (m n : ℕ) (c d : Detail) → Sends m c ≡ Sends n d → m ≡ n
+same_sent m n c d h = cc
+
+-- ---- the kind of each outcome
+
+module _ (table : Table) (es : List Stored) (x : Option Exchange) (event : Event) (next : Option ℕ) where
+  kind_sent : (s now : ℕ) (handling : Handling) (asked : Asked) → IsFound es s → KindOf es x event next (sent table es s now handling asked)
+  unfolding KindOf
+  kind_sent s now handling asked f = uses s f.0 refl refl f.1
+
+  kind_unanswered : (line now : ℕ) (asked : Asked) (rule : ReuseRule) (condition : Option Condition) (b : Bool) → KindOf es x event next (unanswered table line now asked rule condition b)
+  unfolding KindOf
+  kind_unanswered line now asked rule condition true = idle refl refl
+  kind_unanswered line now asked rule condition false = idle refl refl
+
+  kind_allowed : (line now : ℕ) (asked : Asked) (d : Decision) → ((s : ℕ) → d ≡ decision.Hit s → IsFound es s) → KindOf es x event next (allowed table es line now asked d)
+  unfolding KindOf
+  kind_allowed line now asked (decision.Hit s) f = let r = f s refl in uses s r.0 refl refl r.1
+  kind_allowed line now asked (decision.Forward rule against) f = kind_unanswered line now asked rule (condition_at es against) (is_only_if_cached asked)
+
+  kind_arrived : (now : ℕ) (asked : Asked) (v : Verdict) → KindOf es x event next (arrived table es now asked v)
+  unfolding KindOf
+  kind_arrived now asked (verdict.Allowed line) = kind_allowed line now asked (decision_of es asked now) (λ s h. hit_found es asked now s h)
+  kind_arrived now asked (verdict.DeniedBy line) = idle refl refl
+  kind_arrived now asked verdict.NoLine = idle refl refl
+
+  -- what is sent after a failure is held
+  rescue_found : (asked : Asked) (now s : ℕ) (detail : Detail) (d : Decision) → decision_of es asked now ≡ d → rescue_of es asked now d ≡ Sends s detail → IsFound es s
+  rescue_found asked now s detail (decision.Hit t) k h = subst (IsFound es) (same_sent t s ReuseAfterError detail h) (hit_found es asked now t k)
+  rescue_found asked now s detail (decision.Forward rule None) k h = absurd (cc)
+  rescue_found asked now s detail (decision.Forward rule (Some t)) k h = by_rule (error_rule_at es t asked now) h
+    where
+      by_rule : (o : Option ErrorRule) → rescue_by rule t o ≡ Sends s detail → IsFound es s
+      by_rule None h = subst (IsFound es) (same_sent t s StaleIfError detail h) (named_found es asked now t rule k)
+      by_rule (Some error) h = absurd (cc)
+
+  kind_failed : (now : ℕ) (z : Exchange) (kind : FailKind) (came : Option ℕ) (rescue : Rescue) → ((s : ℕ) (detail : Detail) → rescue ≡ Sends s detail → IsFound es s) →
+      KindOf es x event next (failed table es now z kind came rescue)
+  unfolding KindOf
+  kind_failed now z kind came (Sends s detail) f = let r = f s detail refl in uses s r.0 refl refl r.1
+  kind_failed now z kind came (Refuses rule error) f = idle refl refl
+
+-- ---- and of each answer
+
+module _ (table : Table) (es : List Stored) (now id : ℕ) (x : Exchange) (r : Response) (next : Option ℕ) where
+  abbrev event : Event
+  event = Answer now id r
+
+  kind_passed : (b : Bool) (n : Option ℕ) → next ≡ n → NoneFrom n es → KindOf es (Some x) (Answer now id r) next (passed table es now x r (cond b n None))
+  unfolding KindOf
+  kind_passed true (Some s) k g =
+      let none : is_in s (replaced_by es x.asked) ≡ false =
+      is_in-filter s (λ serial. nominates es x.asked (find_entry serial es)) (serials_of x.asked.target.key es)
+      ∙ ap (λ b. b && nominates es x.asked (find_entry s es)) (none_of_key x.asked.target.key s es (g s (omega arith)))
+      in
+      stores s (made s x r now) refl refl k refl refl none
+  kind_passed true None k g = idle refl refl
+  kind_passed false n k g = idle refl refl
+
+  kind_unless : (b : Bool) (rescue : Rescue) → NoneFrom next es → ((s : ℕ) (detail : Detail) → rescue ≡ Sends s detail → IsFound es s) →
+      KindOf es (Some x) (Answer now id r) next (passed_unless table es now x r next b rescue)
+  unfolding KindOf
+  kind_unless true (Sends s detail) g f = let r = f s detail refl in uses s r.0 refl refl r.1
+  kind_unless true (Refuses rule error) g f = kind_passed (is_storable table.max_stored x r now next) next refl g
+  kind_unless false rescue g f = kind_passed (is_storable table.max_stored x r now next) next refl g
+
+  kind_revalidated : (o : Option Stored) (d : Decision) → validated es x r now ≡ o → decision_of es x.asked now ≡ d →
+      KindOf es (Some x) (Answer now id r) next (revalidated table es now x r o d)
+  unfolding KindOf
+  kind_revalidated (Some e) d v k =
+      uses (refreshed x r now e).serial e refl refl (ap (λ s. find_entry s es) (serial_stays x r now e) ∙ (validated_is es x r now e v).found)
+  kind_revalidated None (decision.Hit s) v k = let f = hit_found es x.asked now s k in uses s f.0 refl refl f.1
+  kind_revalidated None (decision.Forward rule against) v k = idle refl refl
+
+  kind_answered : NoneFrom next es → KindOf es (Some x) (Answer now id r) next (answered table es now x r next (decision_of es x.asked now))
+  kind_answered g = by_304 (is_validation x r)
+    where
+      d : Decision
+      d = decision_of es x.asked now
+
+      found : (s : ℕ) (detail : Detail) → rescue_of es x.asked now (decision_of es x.asked now) ≡ Sends s detail → IsFound es s
+      found s detail h = rescue_found table es (Some x) (Answer now id r) next x.asked now s detail (decision_of es x.asked now) refl h
+
+      by_unasked : (b : Bool) → KindOf es (Some x) (Answer now id r) next (cond b (failed table es now x BadAnswer (Some r.status) (rescue_of es x.asked now (decision_of es x.asked now)))
+          (passed_unless table es now x r next (is_error_status r.status) (rescue_of es x.asked now (decision_of es x.asked now))))
+      by_unasked true = kind_failed table es (Some x) (Answer now id r) next now x BadAnswer (Some r.status) (rescue_of es x.asked now (decision_of es x.asked now)) found
+      by_unasked false = kind_unless (is_error_status r.status) (rescue_of es x.asked now (decision_of es x.asked now)) g found
+
+      by_304 : (b : Bool) → KindOf es (Some x) (Answer now id r) next (cond b (revalidated table es now x r (validated es x r now) (decision_of es x.asked now))
+          (cond (is_unasked x.asked r) (failed table es now x BadAnswer (Some r.status) (rescue_of es x.asked now (decision_of es x.asked now)))
+          (passed_unless table es now x r next (is_error_status r.status) (rescue_of es x.asked now (decision_of es x.asked now)))))
+      by_304 true = kind_revalidated (validated es x r now) (decision_of es x.asked now) refl refl
+      by_304 false = by_unasked (is_unasked x.asked r)
+
+kind_of : (table : Table) (es : List Stored) (xs : List Exchange) (x : Option Exchange) (event : Event) (next : Option ℕ) → NoneFrom next es →
+    KindOf es x event next (outcome_of table es xs x next event)
+unfolding KindOf
+kind_of table es xs x (Arrive now id asked) next h = kind_arrived table es x (Arrive now id asked) next now asked (verdict_of table.lines asked.method asked.target)
+kind_of table es xs (Some x) (Answer now id r) next h = kind_answered table es now id x r next h
+kind_of table es xs None (Answer now id r) next h = idle refl refl
+kind_of table es xs (Some x) (Fail now id kind) next h =
+    kind_failed table es (Some x) (Fail now id kind) next now x kind None (rescue_of es x.asked now (decision_of es x.asked now))
+    (λ s detail k. rescue_found table es (Some x) (Fail now id kind) next x.asked now s detail (decision_of es x.asked now) refl k)
+kind_of table es xs None (Fail now id kind) next h = idle refl refl
+kind_of table es xs x (Abandon id) next h = idle refl refl
+
+-- of an accepted step
+pub kind_in : (table : Table) (s : State) (i : Item) → NoneFrom s.next s.entries → Accepts table s.entries s.exchanges s.next i →
+    Kind s.entries (find_exchange (id_of i.event) s.exchanges) i.event s.next (stored_in i.outcome) (used_in i.outcome) (removed_in i.outcome)
+unfolding KindOf
+kind_in table s i f a =
+    let x = find_exchange (id_of i.event) s.exchanges in
+    subst (KindOf s.entries x i.event s.next) (sym a.outcome_is) (kind_of table s.entries s.exchanges x i.event s.next f)

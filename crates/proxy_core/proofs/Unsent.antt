@@ -1,0 +1,421 @@
+-- Nothing invalidated is sent.
+use Rattle.std.proofs.Common.{◌≡◌, ℕ, ◌+◌, ◌<◌, ◌≤◌, ◌^◌, Bool, true, false, not, cond, ◌&&◌, ◌||◌, eqb, ltb, Option, None, Some, List, [], ◌∷◌, ◌++◌, map, refl, sym, ◌∙◌, ap, subst, arith, inl, inr}
+use Rattle.std.specs.Prelude.{option_map, bytes_eq, codes, nat_le}
+use Rattle.std.proofs.lemmas.Bool.{cases_Bool, eqb-true, eq-eqb, false≢true, false_from_ne_true, or_left}
+use Rattle.std.proofs.lemmas.Bool.Decides.{nat_tests}
+use Rattle.std.proofs.lemmas.Option.{same_Some}
+use Rattle.http.specs.Method.{safe_methods, is_among}
+use Rattle.hx_target.specs.declared.keys.Key.{Key}
+use Rattle.hx_target.specs.Keys.{same_key}
+use Rattle.hx_framing.specs.declared.responses.Response.{Response}
+use Rattle.hx_hop.specs.Answering.{answered_of}
+use Rattle.hx_hop.specs.declared.asked_for.Asked.{Asked}
+use Rattle.hx_allow.specs.Lines.{Table}
+use Rattle.hx_allow.specs.Matching.{verdict_of}
+use Rattle.hx_allow.specs.declared.verdicts.Verdict.{Verdict}
+use Rattle.hx_allow.specs.declared.verdicts.Verdict.TheVariants as verdict
+use Rattle.hx_store.specs.Stored.{Stored}
+use Rattle.hx_store.specs.Serials.{is_in}
+use Rattle.hx_store.specs.Shelf.{holds, serials_of}
+use Rattle.hx_store.specs.Recency.{is_the, touches, recent_after}
+use Rattle.hx_store.proofs.Recency.{held_more, is_in-take, is_in-after}
+use Rattle.hx_store.proofs.EntryLists.{find-serial, find_holds}
+use Rattle.hx_storable.specs.declared.rule.StoreRule.TheVariants.{Method, Overtaken}
+use Rattle.hx_storable.specs.Rules.{storage_rule_of}
+use Rattle.hx_storable.proofs.LeastRule.{no_rule_stands}
+use Rattle.hx_reuse.specs.Rules.{decision_of}
+use Rattle.hx_reuse.specs.declared.rule.ReuseRule.{ReuseRule}
+use Rattle.hx_reuse.specs.declared.decision.Decision.{Decision}
+use Rattle.hx_reuse.specs.declared.decision.Decision.TheVariants as decision
+use Rattle.hx_status.specs.declared.cause.FailKind.{FailKind}
+use Rattle.hx_status.specs.declared.cause.FailKind.TheVariants.{BadAnswer}
+use Rattle.proxy_core.specs.declared.condition.Condition.{Condition}
+use Rattle.proxy_core.specs.declared.exchange.Exchange.{Exchange}
+use Rattle.proxy_core.specs.declared.rescue.Rescue.{Rescue}
+use Rattle.proxy_core.specs.declared.rescue.Rescue.TheVariants.{Sends, Refuses}
+use Rattle.proxy_core.specs.declared.outcome.Outcome.{Outcome}
+use Rattle.proxy_core.specs.declared.event.Event.{Event}
+use Rattle.proxy_core.specs.declared.event.Event.TheVariants.{Arrive, Answer, Fail, Abandon}
+use Rattle.proxy_core.specs.Validating.{condition_at, is_validation, is_answered, validated, refreshed}
+use Rattle.proxy_core.specs.Storing.{facts_of, is_storable, is_unasked, invalidates, key_invalidated}
+use Rattle.proxy_core.specs.Outcomes.{find_exchange, id_of, arrived, allowed, unanswered, is_only_if_cached, rescue_of, failed, is_error_status, passed, passed_unless, removed_by, stored_serial, revalidated, answered, outcome_of}
+use Rattle.proxy_core.specs.State.{stored_in, used_in, removed_in, next_after, next_of, stored_form, used_form}
+use Rattle.proxy_core.specs.Traces.{Item, begun, left, IsGood}
+use Rattle.proxy_core.specs.Histories.{held_serials, held_entry, done_by, seen}
+use Rattle.proxy_core.specs.Promises.{key_by_answer, key_by_step, is_key, invalidates_key, NoneInvalidates, NothingInvalidatedIsSent}
+use Rattle.proxy_core.proofs.Storable.{none_of}
+use Rattle.proxy_core.proofs.Leaving.{key_stays}
+use Rattle.proxy_core.proofs.HeldEntries.{EachIs-find, held_found, some_of_key}
+use Rattle.proxy_core.proofs.StepKinds.{Kind, idle, uses, stores, kind_in}
+use Rattle.proxy_core.proofs.HeldLaw.{look_after, stands_for}
+use Rattle.proxy_core.proofs.Moves.{asked_of, same_key_invalidated, error_is_none}
+use Rattle.proxy_core.proofs.TwiceForward.{part}
+use Rattle.proxy_core.proofs.Marks.{same_key_of_step, out_since, none_of_some}
+
+and_left : (a b : Bool) → (a && b) ≡ true → a ≡ true
+and_left true b h = refl
+and_left false b h = absurd (false≢true h)
+
+and_right : (a b : Bool) → (a && b) ≡ true → b ≡ true
+and_right true b h = h
+and_right false b h = absurd (false≢true h)
+
+not_true : (b : Bool) → not b ≡ true → b ≡ false
+not_true true h = absurd (false≢true h)
+not_true false h = refl
+
+not_false : (b : Bool) → not b ≡ false → b ≡ true
+not_false true h = refl
+not_false false h = absurd (false≢true (sym h))
+
+-- ---- what is stored
+
+-- what is stored was asked for by a GET, and wasn't overtaken
+record IsPlainGet (x : Exchange) : Type 0 where
+  safe : is_among safe_methods x.asked.method ≡ true
+  in_time : x.overtaken ≡ false
+
+storable_is : (max_stored : ℕ) (x : Exchange) (r : Response) (now : ℕ) (next : Option ℕ) → is_storable max_stored x r now next ≡ true → IsPlainGet x
+storable_is max_stored x r now next h =
+    let a = answered_of r now in
+    let facts = facts_of max_stored x r now next in
+    let none : storage_rule_of x.asked a facts ≡ None = none_of (storage_rule_of x.asked a facts) h in
+    record {
+      safe = or_left (bytes_eq x.asked.method (codes "GET")) _ (not_false (bytes_eq x.asked.method (codes "GET")) (no_rule_stands x.asked a facts Method none));
+      in_time = no_rule_stands x.asked a facts Overtaken none;
+    }
+
+record Storing (w : Option Exchange) (event : Event) (next : Option ℕ) (s : ℕ) : Type 0 where
+  z : Exchange
+  now : ℕ
+  i : ℕ
+  r : Response
+  w_is : w ≡ Some z
+  event_is : event ≡ Answer now i r
+  plain : IsPlainGet z
+  next_is : next ≡ Some s
+
+none_stored : (s : ℕ) → ◌≡◌ {A = Option ℕ} None (Some s) → ⊥
+none_stored s h = cc
+
+stored_arrival : (table : Table) (es : List Stored) (now : ℕ) (asked : Asked) (v : Verdict) (s : ℕ) → stored_in (arrived table es now asked v) ≡ Some s → ⊥
+stored_arrival table es now asked (verdict.Allowed line) s h = by_decision (decision_of es asked now) h
+  where
+    unless : (rule : ReuseRule) (condition : Option Condition) (b : Bool) → stored_in (unanswered table line now asked rule condition b) ≡ Some s → ⊥
+    unless rule condition true h = none_stored s h
+    unless rule condition false h = none_stored s h
+
+    by_decision : (d : Decision) → stored_in (allowed table es line now asked d) ≡ Some s → ⊥
+    by_decision (decision.Hit t) h = none_stored s h
+    by_decision (decision.Forward rule against) h = unless rule (condition_at es against) (is_only_if_cached asked) h
+stored_arrival table es now asked (verdict.DeniedBy line) s h = none_stored s h
+stored_arrival table es now asked verdict.NoLine s h = none_stored s h
+
+stored_failure : (table : Table) (es : List Stored) (now : ℕ) (x : Exchange) (kind : FailKind) (came : Option ℕ) (rescue : Rescue) (s : ℕ) → stored_in (failed table es now x kind came rescue) ≡ Some s → ⊥
+stored_failure table es now x kind came (Sends serial detail) s h = none_stored s h
+stored_failure table es now x kind came (Refuses rule error) s h = none_stored s h
+
+stored_304 : (table : Table) (es : List Stored) (now : ℕ) (x : Exchange) (r : Response) (o : Option Stored) (d : Decision) (s : ℕ) → stored_in (revalidated table es now x r o d) ≡ Some s → ⊥
+stored_304 table es now x r (Some e) d s h = none_stored s h
+stored_304 table es now x r None (decision.Hit t) s h = none_stored s h
+stored_304 table es now x r None (decision.Forward rule against) s h = none_stored s h
+
+module _ (table : Table) (es : List Stored) (now i : ℕ) (x : Exchange) (r : Response) (next : Option ℕ) (s : ℕ) where
+  stored_by_test : (b : Bool) → is_storable table.max_stored x r now next ≡ b → cond b next None ≡ Some s → Storing (Some x) (Answer now i r) next s
+  stored_by_test true k h = record { z = x; now = now; i = i; r = r; w_is = refl; event_is = refl; plain = storable_is table.max_stored x r now next k; next_is = h }
+  stored_by_test false k h = absurd (none_stored s h)
+
+  stored_unless : (b : Bool) (rescue : Rescue) → stored_in (passed_unless table es now x r next b rescue) ≡ Some s → Storing (Some x) (Answer now i r) next s
+  stored_unless true (Sends serial detail) h = absurd (none_stored s h)
+  stored_unless true (Refuses rule error) h = stored_by_test (is_storable table.max_stored x r now next) refl h
+  stored_unless false rescue h = stored_by_test (is_storable table.max_stored x r now next) refl h
+
+  stored_answer : (d : Decision) → stored_in (answered table es now x r next d) ≡ Some s → Storing (Some x) (Answer now i r) next s
+  stored_answer d h = by_304 (is_validation x r) h
+    where
+      by_unasked : (b : Bool) → stored_in (cond b (failed table es now x BadAnswer (Some r.status) (rescue_of es x.asked now d))
+          (passed_unless table es now x r next (is_error_status r.status) (rescue_of es x.asked now d))) ≡ Some s → Storing (Some x) (Answer now i r) next s
+      by_unasked true h = absurd (stored_failure table es now x BadAnswer (Some r.status) (rescue_of es x.asked now d) s h)
+      by_unasked false h = stored_unless (is_error_status r.status) (rescue_of es x.asked now d) h
+
+      by_304 : (b : Bool) → stored_in (cond b (revalidated table es now x r (validated es x r now) d)
+          (cond (is_unasked x.asked r) (failed table es now x BadAnswer (Some r.status) (rescue_of es x.asked now d))
+          (passed_unless table es now x r next (is_error_status r.status) (rescue_of es x.asked now d)))) ≡ Some s → Storing (Some x) (Answer now i r) next s
+      by_304 true h = absurd (stored_304 table es now x r (validated es x r now) d s h)
+      by_304 false h = by_unasked (is_unasked x.asked r) h
+
+storing_of : (table : Table) (es : List Stored) (xs : List Exchange) (w : Option Exchange) (next : Option ℕ) (event : Event) (s : ℕ) →
+    stored_in (outcome_of table es xs w next event) ≡ Some s → Storing w event next s
+storing_of table es xs w next (Arrive now i asked) s h = absurd (stored_arrival table es now asked (verdict_of table.lines asked.method asked.target) s h)
+storing_of table es xs None next (Answer now i r) s h = absurd (none_stored s h)
+storing_of table es xs (Some z) next (Answer now i r) s h = stored_answer table es now i z r next s (decision_of es z.asked now) h
+storing_of table es xs None next (Fail now i kind) s h = absurd (none_stored s h)
+storing_of table es xs (Some z) next (Fail now i kind) s h = absurd (stored_failure table es now z kind None (rescue_of es z.asked now (decision_of es z.asked now)) s h)
+storing_of table es xs w next (Abandon i) s h = absurd (none_stored s h)
+
+-- ---- what an item that invalidates removes
+
+-- the parts of the test of an exchange and its answer: u unsafe, c no error, v a 304 to the proxy's conditions, n one that nobody asked for
+record Tested (u c v n : Bool) : Type 0 where
+  unsafe : u ≡ true
+  no_error : c ≡ true
+  no_validation : v ≡ false
+  no_unasked : n ≡ false
+
+tested : (u c v n : Bool) → (u && c && not (v || n)) ≡ true → Tested u c v n
+tested false c v n h = absurd (false≢true h)
+tested true false v n h = absurd (false≢true h)
+tested true true true n h = absurd (false≢true h)
+tested true true false true h = absurd (false≢true h)
+tested true true false false h = record { unsafe = refl; no_error = refl; no_validation = refl; no_unasked = refl }
+
+key_parts : (x : Exchange) (r : Response) (k : Key) → key_invalidated x r ≡ Some k → (invalidates x r ≡ true) × (x.asked.target.key ≡ k)
+key_parts x r k h = by_test (invalidates x r) h
+  where
+    by_test : (b : Bool) → cond b (Some x.asked.target.key) None ≡ Some k → (b ≡ true) × (x.asked.target.key ≡ k)
+    by_test true h = (refl, same_Some x.asked.target.key k h)
+    by_test false h = absurd (cc)
+
+-- where the rest is as it should be, the answer is passed on
+passed_at : (table : Table) (es : List Stored) (now : ℕ) (x : Exchange) (r : Response) (next : Option ℕ) (d : Decision) (v n e : Bool) → v ≡ false → n ≡ false → e ≡ false →
+    cond v (revalidated table es now x r (validated es x r now) d)
+    (cond n (failed table es now x BadAnswer (Some r.status) (rescue_of es x.asked now d)) (passed_unless table es now x r next e (rescue_of es x.asked now d)))
+    ≡ passed table es now x r (stored_serial table x r now next)
+passed_at table es now x r next d true n e hv hn he = absurd (false≢true (sym hv))
+passed_at table es now x r next d false true e hv hn he = absurd (false≢true (sym hn))
+passed_at table es now x r next d false false true hv hn he = absurd (false≢true (sym he))
+passed_at table es now x r next d false false false hv hn he = refl
+
+answer_removes : (table : Table) (es : List Stored) (now : ℕ) (x : Exchange) (r : Response) (next : Option ℕ) (d : Decision) (k : Key) →
+    key_invalidated x r ≡ Some k → removed_in (answered table es now x r next d) ≡ serials_of k es
+answer_removes table es now x r next d k h =
+    let p = key_parts x r k h in
+    let t = tested (not (is_among safe_methods x.asked.method)) (nat_le 200 r.status && nat_le r.status 399) (is_validation x r) (is_unasked x.asked r) p.0 in
+    let fine : is_error_status r.status ≡ false = false_from_ne_true _ (λ e. false≢true (sym (error_is_none r.status e) ∙ t.no_error)) in
+    let unstored : is_storable table.max_stored x r now next ≡ false = false_from_ne_true _ (λ e.
+    let plain = storable_is table.max_stored x r now next e in
+    false≢true (sym (ap not plain.safe) ∙ t.unsafe)) in
+    ap removed_in (passed_at table es now x r next d (is_validation x r) (is_unasked x.asked r) (is_error_status r.status) t.no_validation t.no_unasked fine)
+    ∙ ap (λ b. removed_by es x r (cond b next None)) unstored
+    ∙ ap (λ b. cond b (serials_of x.asked.target.key es) []) p.0
+    ∙ ap (λ key. serials_of key es) p.1
+
+removes_key : (table : Table) (es : List Stored) (xs : List Exchange) (w : Option Exchange) (next : Option ℕ) (event : Event) (o : Outcome) (k : Key) →
+    o ≡ outcome_of table es xs w next event → key_by_step (asked_of w) event o ≡ Some k → removed_in o ≡ serials_of k es
+removes_key table es xs None next event o k e h = absurd (cc)
+removes_key table es xs (Some z) next (Arrive now i asked) o k e h = absurd (cc)
+removes_key table es xs (Some z) next (Answer now i r) o k e h =
+    let d = decision_of es z.asked now in
+    ap removed_in e
+    ∙ answer_removes table es now z r next d k (same_key_invalidated table es now z r next d ∙ ap (key_by_answer z.asked r) (sym e) ∙ h)
+removes_key table es xs (Some z) next (Fail now i kind) o k e h = absurd (cc)
+removes_key table es xs (Some z) next (Abandon i) o k e h = absurd (cc)
+
+-- ---- serials from below
+
+Below : ℕ → Option ℕ → Type 0
+Below s None = Unit {0}
+Below s (Some n) = s < n
+
+below_next : (s n : ℕ) → s ≤ n → Below s (next_of n)
+unfolding Below
+below_next s n h = elim (ltb (n + 1) (2 ^ 64)) as (λ b. Below s (cond b (Some (n + 1)) None)) [ true ↦ omega arith | false ↦ tt ]
+
+-- what an item does to a serial stored before it
+record Older (s : ℕ) (next st us : Option ℕ) (es : List Stored) : Type 0 where
+  not_stored : is_the st s ≡ false
+  below : Below s (next_after next st)
+  used_held : is_the us s ≡ true → holds s es ≡ true
+
+older : (s : ℕ) (es : List Stored) (x : Option Exchange) (event : Event) (next st us : Option ℕ) (rm : List ℕ) → Kind es x event next st us rm → Below s next →
+    Older s next st us es
+unfolding Below
+older s es x event next st us rm (idle a b) l = record {
+  not_stored = ap (λ o. is_the o s) a;
+  below = subst (λ o. Below s (next_after next o)) (sym a) l;
+  used_held = λ t. absurd (false≢true (sym (ap (λ o. is_the o s) b) ∙ t));
+}
+older s es x event next st us rm (uses t e a b f) l = record {
+  not_stored = ap (λ o. is_the o s) a;
+  below = subst (λ o. Below s (next_after next o)) (sym a) l;
+  used_held = λ u.
+      let same : t ≡ s = eqb-true t s (sym (ap (λ o. is_the o s) b) ∙ u) in
+      ap (λ z. holds z es) (sym (find-serial t es e f ∙ same)) ∙ find_holds t es e f;
+}
+older s es x event next st us rm (stores t e a b q f k off) l =
+    let n : s < t = subst (Below s) q l in
+    let apart : eqb t s ≡ false = grind (arith, nat_tests) in
+    record {
+      not_stored = ap (λ o. is_the o s) a ∙ apart;
+      below = subst (λ o. Below s (next_after next o)) (sym a) (below_next s t (omega arith));
+      used_held = λ u. absurd (false≢true (sym (ap (λ o. is_the o s) b) ∙ u));
+    }
+
+key_of : Option Stored → Option Key
+key_of None = None
+key_of (Some e) = Some e.key
+
+used_key : (x : Option Exchange) (event : Event) (e : Stored) → (used_form x event e).key ≡ e.key
+used_key None event e = refl
+used_key (Some x) (Arrive now id asked) e = refl
+used_key (Some x) (Answer now id r) e = elim (is_answered x r now e) as (λ b. (cond b (refreshed x r now e) e).key ≡ e.key) [
+  | true ↦ key_stays x r now e
+  | false ↦ refl
+]
+used_key (Some x) (Fail now id kind) e = refl
+used_key (Some x) (Abandon id) e = refl
+
+key_kept : (x : Option Exchange) (event : Event) (st us : Option ℕ) (look : ℕ → Option Stored) (s : ℕ) → is_the st s ≡ false →
+    key_of (look_after x event st us look s) ≡ key_of (look s)
+unfolding key_of
+key_kept x event st us look s n =
+    ap (λ b. key_of (cond b (stored_form x event s) (cond (is_the us s) (option_map (used_form x event) (look s)) (look s)))) n
+    ∙ elim (is_the us s) as (λ b. key_of (cond b (option_map (used_form x event) (look s)) (look s)) ≡ key_of (look s)) [
+      | true ↦ form (look s)
+      | false ↦ refl
+    ]
+  where
+    form : (o : Option Stored) → key_of (option_map (used_form x event) o) ≡ key_of o
+    form None = refl
+    form (Some e) = ap (λ k. Some k) (used_key x event e)
+
+-- ---- from the storing to the sending
+
+module _ (table : Table) (limit first : ℕ) where
+  -- an item that a stored and held serial lives through: it was held before, and the item doesn't invalidate its key
+  record Lives (s : ℕ) (k : Key) (i : Item) (past : List Item) : Type 0 where
+    held_before : is_in s (held_serials limit past) ≡ true
+    clean : invalidates_key k i past ≡ false
+
+  lives : (s : ℕ) (k : Key) (i : Item) (past : List Item) → IsGood (begun table limit first) (i ∷ past) → Below s (left (begun table limit first) past).next →
+      key_of (held_entry limit past s) ≡ Some k → is_in s (held_serials limit (i ∷ past)) ≡ true → Lives s k i past
+  unfolding key_of
+  lives s k i past g l q m =
+      let p = stands_for table limit first past g.1 in
+      let st = left (begun table limit first) past in
+      let es = st.entries in
+      let w = find_exchange (id_of i.event) st.exchanges in
+      let d = older s es w i.event st.next (stored_in i.outcome) (used_in i.outcome) (removed_in i.outcome) (kind_in table st i p.fresh g.0) l in
+      let item = done_by i in
+      let before = held_serials limit past in
+      let inside : ((touches item s || is_in s before) && not (is_in s (removed_in i.outcome))) ≡ true =
+      sym (is_in-after s item before) ∙ and_left _ _ (sym (is_in-take s limit (recent_after item before)) ∙ sym (ap (is_in s) (held_more limit item (map done_by past))) ∙ m)
+      in
+      let stays : not (is_in s (removed_in i.outcome)) ≡ true = and_right (touches item s || is_in s before) (not (is_in s (removed_in i.outcome))) inside in
+      let came : ((is_the (stored_in i.outcome) s || is_the (used_in i.outcome) s) || is_in s before) ≡ true = and_left _ _ inside in
+      let was : is_in s before ≡ true =
+      elim (cases_Bool (is_the (used_in i.outcome) s)) [
+        | inl u ↦ sym (ap (is_in s) p.serials_are) ∙ d.used_held u
+        | inr n ↦ sym (ap (λ b. (b || is_the (used_in i.outcome) s) || is_in s before) d.not_stored ∙ ap (λ b. b || is_in s before) n) ∙ came
+      ]
+      in
+      let f = held_found s es (ap (is_in s) p.serials_are ∙ was) in
+      let its_key : f.0.key ≡ k = same_Some f.0.key k (ap key_of (sym (EachIs-find (held_entry limit past) s es f.0 f.1 p.entries_are)) ∙ q) in
+      record {
+        held_before = was;
+        clean = ap (λ o. is_key o k) (same_key_of_step table limit first i past g)
+            ∙ false_from_ne_true _ (λ t.
+            let named = gone_key (key_by_step (asked_of w) i.event i.outcome) t in
+            let r : removed_in i.outcome ≡ serials_of named.0 es = removes_key table es st.exchanges w st.next i.event i.outcome named.0 g.0.outcome_is named.1 in
+            let there = some_of_key named.0 s es f.0 f.1 (ap (λ key. same_key key named.0) its_key ∙ named.2) in
+            false≢true (sym (ap not (ap (is_in s) r ∙ there)) ∙ stays));
+      }
+    where
+      gone_key : (o : Option Key) → is_key o k ≡ true → (gone : Key) × (o ≡ Some gone) × (same_key k gone ≡ true)
+      gone_key None t = absurd (false≢true t)
+      gone_key (Some gone) t = (gone, refl, t)
+
+  record Since (s : ℕ) (k : Key) (storing : Item) (past items : List Item) : Type 0 where
+    below : Below s (left (begun table limit first) (items ++ storing ∷ past)).next
+    key : key_of (held_entry limit (items ++ storing ∷ past) s) ≡ Some k
+    clean : is_in s (held_serials limit (items ++ storing ∷ past)) ≡ true → NoneInvalidates k items (storing ∷ past)
+
+  since : (s : ℕ) (k : Key) (storing : Item) (past : List Item) (items : List Item) → IsGood (begun table limit first) (items ++ storing ∷ past) →
+      Since s k storing past [] → Since s k storing past items
+  since s k storing past [] g b = b
+  since s k storing past (i ∷ items) g b =
+      let so = since s k storing past items g.1 b in
+      let all = items ++ storing ∷ past in
+      let p = stands_for table limit first all g.1 in
+      let st = left (begun table limit first) all in
+      let w = find_exchange (id_of i.event) st.exchanges in
+      let d = older s st.entries w i.event st.next (stored_in i.outcome) (used_in i.outcome) (removed_in i.outcome) (kind_in table st i p.fresh g.0) so.below in
+      let v = find_exchange (id_of i.event) (seen limit all).exchanges in
+      record {
+        below = d.below;
+        key = key_kept v i.event (stored_in i.outcome) (used_in i.outcome) (held_entry limit all) s d.not_stored ∙ so.key;
+        clean = λ m.
+            let r = lives s k i all g so.below so.key m in
+            (r.clean, so.clean r.held_before);
+      }
+
+  -- what is known of a storing
+  record Known (s : ℕ) (storing : Item) (past : List Item) : Type 0 where
+    z : Exchange
+    w_is : find_exchange (id_of storing.event) (left (begun table limit first) past).exchanges ≡ Some z
+    in_time : z.overtaken ≡ false
+    since_then : Since s z.asked.target.key storing past []
+    clean : (k : Key) → invalidates_key k storing past ≡ false
+
+  stored_is : (s : ℕ) (storing : Item) (past : List Item) → IsGood (begun table limit first) (storing ∷ past) → stored_in storing.outcome ≡ Some s → Known s storing past
+  unfolding key_of
+  stored_is s storing past g e =
+      let st = left (begun table limit first) past in
+      let p = stands_for table limit first past g.1 in
+      let w = find_exchange (id_of storing.event) st.exchanges in
+      let d = storing_of table st.entries st.exchanges w st.next storing.event s (sym (ap stored_in g.0.outcome_is) ∙ e) in
+      let z = d.z in
+      let x_seen : find_exchange (id_of storing.event) (seen limit past).exchanges ≡ Some z =
+      ap (find_exchange (id_of storing.event)) (sym p.exchanges_are) ∙ d.w_is
+      in
+      let v = find_exchange (id_of storing.event) (seen limit past).exchanges in
+      let look : ℕ → Option Stored = held_entry limit past in
+      let safe : not (is_among safe_methods z.asked.method) ≡ false = ap not d.plain.safe in
+      record {
+        z = z;
+        w_is = d.w_is;
+        in_time = d.plain.in_time;
+        since_then = record {
+          below = subst (Below s) (sym (ap (λ o. next_after st.next o) e)) (below_next s s (omega arith));
+          key = ap key_of (ap (λ o. cond (is_the o s) (stored_form v storing.event s) (cond (is_the (used_in storing.outcome) s) (option_map (used_form v storing.event) (look s)) (look s))) e
+              ∙ ap (λ b. cond b (stored_form v storing.event s) (cond (is_the (used_in storing.outcome) s) (option_map (used_form v storing.event) (look s)) (look s))) (eq-eqb s s refl)
+              ∙ ap (λ x. stored_form x storing.event s) x_seen
+              ∙ ap (λ v. stored_form (Some z) v s) d.event_is);
+          clean = λ m. tt;
+        };
+        clean = λ k. ap (λ o. is_key o k) (same_key_of_step table limit first storing past g
+            ∙ ap (λ x. key_by_step (asked_of x) storing.event storing.outcome) d.w_is
+            ∙ ap (λ v. key_by_step (Some z.asked) v storing.outcome) d.event_is
+            ∙ no_key z.asked.target.key (not (is_among safe_methods z.asked.method)) _ safe);
+      }
+    where
+      no_key : (key : Key) (u rest : Bool) → u ≡ false → cond (u && rest) (Some key) None ≡ None
+      no_key key true rest h = absurd (false≢true (sym h))
+      no_key key false rest h = refl
+
+sent_held : (es : List Stored) (x : Option Exchange) (event : Event) (next st us : Option ℕ) (rm : List ℕ) (s : ℕ) → Kind es x event next st us rm → us ≡ Some s → holds s es ≡ true
+sent_held es x event next st us rm s (idle a b) h = absurd (cc)
+sent_held es x event next st us rm s (uses t e a b f) h =
+    let same : t ≡ s = same_Some t s (sym b ∙ h) in
+    ap (λ z. holds z es) (sym (find-serial t es e f ∙ same)) ∙ find_holds t es e f
+sent_held es x event next st us rm s (stores t e a b q f k off) h = absurd (cc)
+
+pub nothing_invalidated_is_sent : (table : Table) (limit first : ℕ) (trace : List Item) → IsGood (begun table limit first) trace → NothingInvalidatedIsSent trace
+nothing_invalidated_is_sent table limit first trace g later middle between before sending storing f s asked e used stored forward same none ask =
+    let base = between ++ f ∷ before in
+    let at_sending : IsGood (begun table limit first) (sending ∷ (middle ++ (storing ∷ base))) =
+    part (begun table limit first) later (sending ∷ (middle ++ (storing ∷ base))) (subst (IsGood (begun table limit first)) (sym e) g)
+    in
+    let at_storing : IsGood (begun table limit first) (storing ∷ base) = part (begun table limit first) middle (storing ∷ base) at_sending.1 in
+    let d = stored_is table limit first s storing base at_storing stored in
+    let o = out_since table limit first f before (id_of storing.event) between at_storing.1 forward same none d.z d.w_is in
+    let st = left (begun table limit first) (middle ++ storing ∷ base) in
+    let p = stands_for table limit first (middle ++ storing ∷ base) at_sending.1 in
+    let i = since table limit first s d.z.asked.target.key storing base middle at_sending.1 d.since_then in
+    let held : is_in s (held_serials limit (middle ++ storing ∷ base)) ≡ true =
+    sym (ap (is_in s) p.serials_are)
+    ∙ sent_held st.entries _ sending.event st.next _ _ _ s (kind_in table st sending p.fresh at_sending.0) used
+    in
+    subst (λ (r : Asked). NoneInvalidates r.target.key middle (storing ∷ base) × NoneInvalidates r.target.key (storing ∷ between) (f ∷ before))
+    (same_Some d.z.asked asked (sym o.0 ∙ ask))
+    (i.clean held, (d.clean d.z.asked.target.key, none_of_some d.z.asked.target.key between (f ∷ before) (sym o.1 ∙ d.in_time)))
