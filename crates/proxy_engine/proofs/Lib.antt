@@ -11,4 +11,5 @@ pub mod Wishing
 pub mod Stepping
 pub mod Wires
 pub mod Ordering
+pub mod Living
 pub mod Staying

@@ -10,3 +10,4 @@ pub mod State
 pub mod Wishes
 pub mod Wiring
 pub mod Orderly
+pub mod Lives

@@ -2,6 +2,7 @@
 ghost use Rattle.std.specs.Prelude.{◌≡◌, Option};
 ghost use Rattle.proxy_engine.specs.Story.{Story};
 ghost use Rattle.proxy_engine.specs.Due.{Act, IsDueFirst};
+ghost use Rattle.proxy_engine.specs.Lives.{LivesAreRuns};
 ghost use Rattle.proxy_engine.specs.Orderly.{BeginsOrderly, TakesInOrder, ActsInOrder, TakesStay, ActsStay};
 
 /// One act is due first, or none is: so `work` has no choice.
@@ -21,4 +22,11 @@ pub fn effects_name_open_ends()
 pub fn what_ends_stays_ended()
     ensures takes { TakesStay }
     ensures acts { ActsStay }
+{}
+
+/// Whatever takes happenings and does what is due, from an engine to which nothing has happened on: the steps of its core are
+/// a good run over what is held by the count, and its effects are the texts of what the steps gave, in order. So whatever
+/// drives an engine, a script or sockets, has the promises of `proxy_core::run`.
+pub fn lives_are_runs()
+    ensures { LivesAreRuns }
 {}

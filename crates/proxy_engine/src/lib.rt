@@ -23,6 +23,6 @@ mod wishes;
 
 pub use crate::engine::Engine;
 pub use crate::happening::{EngineFault, Happening, Work};
-pub use crate::laws::{due_once, effects_name_open_ends, what_ends_stays_ended};
+pub use crate::laws::{due_once, effects_name_open_ends, lives_are_runs, what_ends_stays_ended};
 pub use crate::request_watch::RequestWatch;
 pub use crate::response_watch::ResponseWatch;
