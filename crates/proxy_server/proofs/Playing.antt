@@ -13,6 +13,7 @@ use Rattle.proxy_script.specs.declared.effect_list.Effect.{Effect}
 use Rattle.proxy_engine.specs.State.{State, Stands}
 use Rattle.proxy_server.specs.Bytes.{WasRead, limit}
 use Rattle.proxy_server.specs.Played.{Scene, beginning, happening_of, moment_after, PlaysItem, Plays, Refuses}
+use Rattle.proxy_server.proofs.Running.{plays_run}
 use Rattle.proxy_server.specs.Replay.{StandsAt, IsWrong, Leads, LeadsTo, EndsAt, Fails, Tells, IsReplay, IsReplayed, IsRefused}
 use Rattle.proxy_server.specs.Steps.{Opens, Told, Untold, StepFails}
 use Rattle.proxy_server.specs.declared.faults.ReplayFault.{ReplayFault}
@@ -48,14 +49,15 @@ script_more front table items h script fits placed = record {
 }
 
 leads_more : (bytes rest more : List ℕ) (items : List Item) (h : Item) (effects others : List Effect) (b c : Scene) → Leads bytes items rest effects b → StandsAt false rest h more → PlaysItem b h others c → Leads bytes (items ++ h ∷ []) more (effects ++ others) c
-leads_more bytes rest more items h effects others b c leads stands one = record {
+leads_more bytes rest more items h effects others b c leads stands one = let longer = plays_more items (beginning leads.config) b c effects others h leads.plays one in record {
   front = leads.front ++ spelled h;
   bytes_are = leads.bytes_are ∙ (ap (λ xs. leads.front ++ xs) stands.0 ∙ sym (append_assoc leads.front (spelled h) more));
   table = leads.table;
   script = script_more leads.front leads.table items h leads.script stands.1 stands.2;
   config = leads.config;
   reads = leads.reads;
-  plays = plays_more items (beginning leads.config) b c effects others h leads.plays one;
+  plays = longer;
+  run = plays_run leads.config (items ++ h ∷ []) (effects ++ others) c longer;
 }
 
 -- what was played so far, at this moment and line, by an engine that stands for it
@@ -82,6 +84,7 @@ so_far_first bytes rest table e old opens stands = record {
     config = table;
     reads = opens.reads;
     plays = (refl, refl);
+    run = plays_run table [] [] (beginning table) (refl, refl);
   };
   moment = refl;
   line_is = refl;
@@ -233,6 +236,7 @@ replayed_by script rest before text none replay =
       effects = led.effects;
       last = led.last;
       plays = led.leads.plays;
+      run = led.leads.run;
       told = replay.tells.appends ∙ (ap (λ xs. xs ++ replay.tells.written) none ∙ led.holds.1);
     }
 

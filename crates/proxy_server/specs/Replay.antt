@@ -14,6 +14,7 @@ use Rattle.proxy_script.specs.Effects.{effects_text}
 use Rattle.proxy_script.specs.declared.effect_list.Effect.{Effect}
 use Rattle.proxy_server.specs.Bytes.{limit}
 use Rattle.proxy_server.specs.Played.{Scene, beginning, Plays, Halts}
+use Rattle.proxy_server.specs.Runs.{IsRun}
 use Rattle.proxy_server.specs.declared.faults.ReplayFault.{ReplayFault}
 use Rattle.proxy_server.specs.declared.faults.ReplayFault.TheVariants as faults
 
@@ -27,7 +28,8 @@ abbrev pub IsWrong : Bool → Bool → List ℕ → Type 0
 IsWrong first true rest = (rest ≡ [] → first ≡ true) × ((item : Item) (more : List ℕ) → ¬ (StandsAt first rest item more))
 IsWrong first false rest = item_at first rest ≡ Wrong
 
--- The bytes are a table and items, spelled, and a rest; the items were played, with these effects.
+-- The bytes are a table and items, spelled, and a rest; the items were played, with these effects, and the steps of the core
+-- are a good run.
 pub record Leads (bytes : List ℕ) (items : List Item) (rest : List ℕ) (effects : List Effect) (last : Scene) : Type 0 where
   pub front : List ℕ
   pub bytes_are : bytes ≡ front ++ rest
@@ -36,6 +38,7 @@ pub record Leads (bytes : List ℕ) (items : List Item) (rest : List ℕ) (effec
   pub config : Table
   pub reads : ReadsAs table (Ok config)
   pub plays : Plays (beginning config) items effects last
+  pub run : IsRun config effects last
 
 -- they lead so far, and P holds there
 pub record LeadsTo (bytes : List ℕ) (P : List Item → List ℕ → List Effect → Scene → Type 0) : Type 0 where
@@ -105,6 +108,7 @@ pub record IsReplayed (script text : List ℕ) : Type 0 where
   pub effects : List Effect
   pub last : Scene
   pub plays : Plays (beginning config) items effects last
+  pub run : IsRun config effects last
   pub told : text ≡ effects_text effects
 
 -- why a script isn't replayed whole: the fault of it, or of the part that was read

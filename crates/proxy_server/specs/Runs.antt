@@ -1,19 +1,17 @@
 -- A play of a script is a run of the core.
 --
--- start: the core of a table, to which nothing has happened     IsRun: the core behind a scene is what a good trace leaves
+-- IsRun: the proxy lived through what was played, and the steps of its core are a good run that was told
 use Rattle.std.specs.Prelude.{◌≡◌, List}
 use Rattle.hx_allow.specs.Lines.{Table}
-use Rattle.proxy_core.specs.State.{State as CoreState}
-use Rattle.proxy_core.specs.Traces.{Item, begun, left, IsGood, DeniedLeaveNoTrace}
-use Rattle.proxy_server.specs.Played.{Scene}
+use Rattle.proxy_script.specs.declared.effect_list.Effect.{Effect}
+use Rattle.proxy_engine.specs.Lives.{Step, Lives, told_of, IsRun as IsCoreRun}
+use Rattle.proxy_server.specs.Played.{Scene, beginning}
 
-abbrev pub start : Table → CoreState
-start table = begun table table.capacity 1
-
--- The core has gone through the items of a good trace: each is what its case gives, over what the items before it leave,
--- and what the table denies left no trace.
-pub record IsRun (table : Table) (core : CoreState) : Type 0 where
-  pub trace : List Item
-  pub good : IsGood (start table) trace
-  pub leaves : core ≡ left (start table) trace
-  pub denied : DeniedLeaveNoTrace table trace
+-- The takes and acts behind these effects. The steps of the core among them are a good run: each is what its case gives
+-- over what is held by the count, and the effects are the texts of what they gave, in order, with the proxy's own answers
+-- to what is no request. Serials begin at 1.
+pub record IsRun (table : Table) (effects : List Effect) (last : Scene) : Type 0 where
+  pub steps : List Step
+  pub lives : Lives (beginning table).story steps last.story
+  pub told : told_of steps ≡ effects
+  pub run : IsCoreRun table table.capacity 1 steps last.story.core

@@ -7,10 +7,11 @@ ghost use Rattle.proxy_server.specs.Played.{Scene, Plays, beginning};
 ghost use Rattle.proxy_server.specs.Closes.{EndsWithItsClose};
 ghost use Rattle.proxy_server.specs.Runs.{IsRun};
 
-/// Whatever a script plays, the core's steps are a good run: each outcome is that of its case over what the steps
-/// before it leave, and a denied request leaves no trace.
+/// Whatever a script plays, the core's steps are a good run: each outcome is that of its case over what is held by the count
+/// over the steps before it, nothing invalidated is sent, an exchange goes forward at most twice and has one reply at most, a
+/// denied request leaves no trace, and what was written is what the steps gave.
 pub fn a_play_is_a_run()
-    ensures { (table : Table) → (items : List Item) → (effects : List Effect) → (last : Scene) → Plays (beginning table) items effects last → IsRun table last.story.core }
+    ensures { (table : Table) → (items : List Item) → (effects : List Effect) → (last : Scene) → Plays (beginning table) items effects last → IsRun table effects last }
 {}
 
 /// Whatever a script plays, nothing goes to a client behind the close of its connection, and none is closed twice.
