@@ -13,3 +13,4 @@ pub mod Marks
 pub mod Unsent
 pub mod OpenLaws
 pub mod Counting
+pub mod FirstRules

@@ -1,6 +1,7 @@
 //! What the definitions of a good trace come to, for a reader who has to believe them.
 
 ghost use Rattle.proxy_core.specs.Meaning.{OpenFromArrivalToEnd, OpenByArrivalAlone, HasItsRequest, KeepsItsRule, OvertakenWhereInvalidated, NextIsCounted, StoredHasTheNext, LeavesNoChoice, GoodOverWhatIsHeld, GoodOverTheList, KeepsWhatIsHeld, KeepsWhatIsOpen, KeepsTheNext};
+ghost use Rattle.proxy_core.specs.Naming.{NamesFirstRules};
 
 /// After a good trace an exchange is open from its arrival to its end and not else, with the request and the rule of its
 /// arrival.
@@ -35,4 +36,10 @@ pub fn a_core_keeps_what_is_held()
     ensures entries { KeepsWhatIsHeld }
     ensures exchanges { KeepsWhatIsOpen }
     ensures next { KeepsTheNext }
+{}
+
+/// In a good trace each answer that isn't a stored response names the first rule against one: the line of the table, the
+/// least reuse rule that stands now with the least error rule, or where the answer is passed on the rule of the arrival.
+pub fn each_answer_names_its_first_rule()
+    ensures { NamesFirstRules }
 {}
