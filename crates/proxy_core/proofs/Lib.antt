@@ -14,3 +14,4 @@ pub mod Unsent
 pub mod OpenLaws
 pub mod Counting
 pub mod FirstRules
+pub mod SendLaws

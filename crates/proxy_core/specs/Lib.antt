@@ -8,5 +8,6 @@ pub mod Histories
 pub mod Promises
 pub mod Meaning
 pub mod Naming
+pub mod Sending
 pub mod Turns
 pub mod Validating
