@@ -13,3 +13,5 @@ pub mod Marks
 pub mod Unsent
 pub mod OpenLaws
 pub mod Counting
+pub mod FirstRules
+pub mod SendLaws

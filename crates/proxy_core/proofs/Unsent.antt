@@ -42,7 +42,7 @@ use Rattle.proxy_core.specs.Outcomes.{find_exchange, id_of, arrived, allowed, un
 use Rattle.proxy_core.specs.State.{stored_in, used_in, removed_in, next_after, next_of, stored_form, used_form}
 use Rattle.proxy_core.specs.Traces.{Item, begun, left, IsGood}
 use Rattle.proxy_core.specs.Histories.{held_serials, held_entry, done_by, seen}
-use Rattle.proxy_core.specs.Promises.{key_by_answer, key_by_step, is_key, invalidates_key, NoneInvalidates, NothingInvalidatedIsSent}
+use Rattle.proxy_core.specs.Promises.{is_passed_on, key_by_answer, key_by_step, is_key, invalidates_key, NoneInvalidates, NothingInvalidatedIsSent}
 use Rattle.proxy_core.proofs.Storable.{none_of}
 use Rattle.proxy_core.proofs.Leaving.{key_stays}
 use Rattle.proxy_core.proofs.HeldEntries.{EachIs-find, held_found, some_of_key}
@@ -386,7 +386,7 @@ module _ (table : Table) (limit first : ℕ) where
         clean = λ k. ap (λ o. is_key o k) (same_key_of_step table limit first storing past g
             ∙ ap (λ x. key_by_step (asked_of x) storing.event storing.outcome) d.w_is
             ∙ ap (λ v. key_by_step (Some z.asked) v storing.outcome) d.event_is
-            ∙ no_key z.asked.target.key (not (is_among safe_methods z.asked.method)) _ safe);
+            ∙ no_key z.asked.target.key (not (is_among safe_methods z.asked.method)) ((nat_le 200 d.r.status && nat_le d.r.status 399) && is_passed_on z.asked d.r storing.outcome) safe);
       }
     where
       no_key : (key : Key) (u rest : Bool) → u ≡ false → cond (u && rest) (Some key) None ≡ None

@@ -7,5 +7,7 @@ pub mod Traces
 pub mod Histories
 pub mod Promises
 pub mod Meaning
+pub mod Naming
+pub mod Sending
 pub mod Turns
 pub mod Validating

@@ -1,6 +1,8 @@
 //! What the definitions of a good trace come to, for a reader who has to believe them.
 
 ghost use Rattle.proxy_core.specs.Meaning.{OpenFromArrivalToEnd, OpenByArrivalAlone, HasItsRequest, KeepsItsRule, OvertakenWhereInvalidated, NextIsCounted, StoredHasTheNext, LeavesNoChoice, GoodOverWhatIsHeld, GoodOverTheList, KeepsWhatIsHeld, KeepsWhatIsOpen, KeepsTheNext};
+ghost use Rattle.proxy_core.specs.Naming.{NamesFirstRules};
+ghost use Rattle.proxy_core.specs.Sending.{SendsStoredWhereItMay, SendsStoredNowhereElse, ForwardsWhereAllowed, ForwardsNowhereElse};
 
 /// After a good trace an exchange is open from its arrival to its end and not else, with the request and the rule of its
 /// arrival.
@@ -35,4 +37,24 @@ pub fn a_core_keeps_what_is_held()
     ensures entries { KeepsWhatIsHeld }
     ensures exchanges { KeepsWhatIsOpen }
     ensures next { KeepsTheNext }
+{}
+
+/// In a good trace a request goes to the origin of a line exactly where the table allows it by that line, a rule stands
+/// against a stored response, and the request takes others too.
+pub fn a_request_goes_forward_where_it_is_allowed()
+    ensures every { ForwardsWhereAllowed }
+    ensures only { ForwardsNowhereElse }
+{}
+
+/// In a good trace a stored response is sent exactly where one is held that RFC 9111, section 4 lets be reused for that
+/// request then, that a 304 validates, or that RFC 5861, section 4 lets be sent in place of an error.
+pub fn a_stored_response_is_sent_where_one_may_be()
+    ensures every { SendsStoredWhereItMay }
+    ensures only { SendsStoredNowhereElse }
+{}
+
+/// In a good trace each answer that isn't a stored response names the first rule against one: the line of the table, the
+/// least reuse rule that stands now with the least error rule, or where the answer is passed on the rule of the arrival.
+pub fn each_answer_names_its_first_rule()
+    ensures { NamesFirstRules }
 {}

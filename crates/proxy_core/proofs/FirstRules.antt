@@ -1,0 +1,173 @@
+-- Each answer that isn't a stored response names the first rule against one.
+use Rattle.std.proofs.Common.{◌≡◌, inl, inr, ℕ, Bool, true, false, cond, Option, None, Some, List, map, refl, sym, ◌∙◌, ap, subst}
+use Rattle.std.specs.Option.{option_and_then}
+use Rattle.std.proofs.lemmas.Bool.{false≢true}
+use Rattle.std.proofs.lemmas.Option.{same_Some}
+use Rattle.hx_directives.specs.Occurrences.{occurrences_of}
+use Rattle.hx_framing.specs.declared.responses.Response.{Response}
+use Rattle.hx_hop.specs.declared.asked_for.Asked.{Asked}
+use Rattle.hx_allow.specs.Lines.{Table}
+use Rattle.hx_allow.specs.Matching.{verdict_of}
+use Rattle.hx_allow.specs.declared.verdicts.Verdict.{Verdict}
+use Rattle.hx_allow.specs.declared.verdicts.Verdict.TheVariants as verdict
+use Rattle.hx_store.specs.Stored.{Stored}
+use Rattle.hx_store.specs.Serials.{Distinct}
+use Rattle.hx_store.specs.Shelf.{serials, find_entry}
+use Rattle.hx_store.proofs.Recency.{Distinct-filter, Distinct-recent}
+use Rattle.hx_reuse.specs.Rules.{decision_of}
+use Rattle.hx_reuse.specs.ErrorRules.{error_rule_on}
+use Rattle.hx_reuse.specs.Meaning.{IsLeast, NamesTheResponse}
+use Rattle.hx_reuse.specs.declared.rule.ReuseRule.{ReuseRule}
+use Rattle.hx_reuse.specs.declared.rule.ErrorRule.{ErrorRule}
+use Rattle.hx_reuse.specs.declared.decision.Decision.{Decision}
+use Rattle.hx_reuse.specs.declared.decision.Decision.TheVariants as decision
+use Rattle.hx_reuse.proofs.Choice.{chosen_is_held, found_by_serial}
+use Rattle.hx_reuse.proofs.MeaningLemmas.{names_the_least}
+use Rattle.hx_reuse.proofs.OnErrorLemmas.{least_on_error}
+use Rattle.hx_status.specs.declared.cause.FailKind.{FailKind}
+use Rattle.hx_status.specs.declared.cause.FailKind.TheVariants.{BadAnswer}
+use Rattle.proxy_core.specs.declared.exchange.Exchange.{Exchange}
+use Rattle.proxy_core.specs.declared.rescue.Rescue.{Rescue}
+use Rattle.proxy_core.specs.declared.rescue.Rescue.TheVariants.{Sends, Refuses}
+use Rattle.proxy_core.specs.declared.event.Event.{Event}
+use Rattle.proxy_core.specs.declared.event.Event.TheVariants.{Arrive, Answer, Fail, Abandon}
+use Rattle.proxy_core.specs.Validating.{condition_at, is_validation, validated}
+use Rattle.proxy_core.specs.Storing.{is_unasked}
+use Rattle.proxy_core.specs.Outcomes.{find_exchange, id_of, arrived, allowed, unanswered, is_only_if_cached, error_rule_at, rescue_by, rescue_of, failed, is_error_status, passed_unless, revalidated, answered, outcome_of}
+use Rattle.proxy_core.specs.Traces.{Item}
+use Rattle.proxy_core.specs.Histories.{IsGoodHistory, done_by, held_entries, open_exchanges, next_serial}
+use Rattle.proxy_core.specs.Naming.{NamesErrorRule, NamesFirst, NamesFirstRules}
+use Rattle.proxy_core.proofs.HeldLaw.{good_plain, entries_are_held, stands_for}
+
+module _ (es : List Stored) (distinct : Distinct (serials es)) (now : ℕ) (asked : Asked) where
+  -- where nothing is sent after a failure: the rule, and the error rule beside it
+  record IsRefused (rule : ReuseRule) (error : Option ErrorRule) : Type 0 where
+    least : IsLeast es asked now rule
+    named : NamesErrorRule es now asked rule error
+
+  never_one : (s : ℕ) → ◌≡◌ {A = Option ℕ} None (Some s) → ⊥
+  never_one s h = cc
+
+  refused_alone : (rule : ReuseRule) → decision_of es asked now ≡ decision.Forward rule None → IsRefused rule None
+  refused_alone rule h =
+      let r = names_the_least es asked now rule None h in
+      record { least = r.0; named = by_number r.1 }
+    where
+      by_number : NamesTheResponse es asked rule None → NamesErrorRule es now asked rule None
+      by_number (inl low) = inl (low.0, refl)
+      by_number (inr high) = absurd (never_one high.1.0.serial high.1.2)
+
+  refused_by : (rule : ReuseRule) (s : ℕ) (e : ErrorRule) → decision_of es asked now ≡ decision.Forward rule (Some s) → error_rule_at es s asked now ≡ Some e → IsRefused rule (Some e)
+  refused_by rule s e h k =
+      let r = names_the_least es asked now rule (Some s) h in
+      record { least = r.0; named = by_number r.1 }
+    where
+      by_number : NamesTheResponse es asked rule (Some s) → NamesErrorRule es now asked rule (Some e)
+      by_number (inl low) = absurd (never_one s (sym low.1))
+      by_number (inr high) =
+          let response = high.1.0 in
+          let serial : response.serial ≡ s = sym (same_Some s response.serial high.1.2) in
+          let found : find_entry s es ≡ Some response =
+          ap (λ z. find_entry z es) (sym serial) ∙ found_by_serial es distinct response (chosen_is_held es asked response high.1.1)
+          in
+          let rule_is : error_rule_on response (occurrences_of asked.fields) now ≡ Some e =
+          sym (ap (λ (o : Option Stored). option_and_then (λ (x : Stored). error_rule_on x (occurrences_of asked.fields) now) o) found) ∙ k
+          in
+          inr (high.0, (response, e, high.1.1, least_on_error response (occurrences_of asked.fields) now e rule_is, refl))
+
+  refuses_is : (d : Decision) (rule : ReuseRule) (error : Option ErrorRule) → decision_of es asked now ≡ d → rescue_of es asked now d ≡ Refuses rule error → IsRefused rule error
+  refuses_is (decision.Hit s) rule error d_is h = absurd (cc)
+  refuses_is (decision.Forward q None) rule error d_is h =
+      let same : q ≡ rule = cc in
+      let none : None ≡ error = cc in
+      subst (IsRefused rule) none (subst (λ (r : ReuseRule). IsRefused r None) same (refused_alone q d_is))
+  refuses_is (decision.Forward q (Some s)) rule error d_is h = by_rule (error_rule_at es s asked now) refl h
+    where
+      by_rule : (o : Option ErrorRule) → error_rule_at es s asked now ≡ o → rescue_by q s o ≡ Refuses rule error → IsRefused rule error
+      by_rule None k h = absurd (cc)
+      by_rule (Some e) k h =
+          let same : q ≡ rule = cc in
+          let some : Some e ≡ error = cc in
+          subst (IsRefused rule) some (subst (λ (r : ReuseRule). IsRefused r (Some e)) same (refused_by q s e d_is k))
+
+module _ (table : Table) (es : List Stored) (distinct : Distinct (serials es)) where
+  arrival_names : (x : Option Exchange) (now id : ℕ) (asked : Asked) → NamesFirst table es x (Arrive now id asked) (arrived table es now asked (verdict_of table.lines asked.method asked.target))
+  arrival_names x now id asked = by_verdict (verdict_of table.lines asked.method asked.target) refl
+    where
+      unless : (line : ℕ) (rule : ReuseRule) (against : Option ℕ) (b : Bool) → verdict_of table.lines asked.method asked.target ≡ verdict.Allowed line →
+          decision_of es asked now ≡ decision.Forward rule against → is_only_if_cached asked ≡ b →
+          NamesFirst table es x (Arrive now id asked) (unanswered table line now asked rule (condition_at es against) b)
+      unless line rule against true v d k = λ h. inr (inr (line, rule, v, k, (names_the_least es asked now rule against d).0, refl))
+      unless line rule against false v d k = tt
+
+      by_decision : (line : ℕ) (d : Decision) → verdict_of table.lines asked.method asked.target ≡ verdict.Allowed line → decision_of es asked now ≡ d →
+          NamesFirst table es x (Arrive now id asked) (allowed table es line now asked d)
+      by_decision line (decision.Hit s) v k = λ h. absurd (false≢true h)
+      by_decision line (decision.Forward rule against) v k = unless line rule against (is_only_if_cached asked) v k refl
+
+      by_verdict : (v : Verdict) → verdict_of table.lines asked.method asked.target ≡ v → NamesFirst table es x (Arrive now id asked) (arrived table es now asked v)
+      by_verdict (verdict.Allowed line) v = by_decision line (decision_of es asked now) v refl
+      by_verdict (verdict.DeniedBy line) v = λ h. inl (line, v, refl)
+      by_verdict verdict.NoLine v = λ h. inr (inl (v, refl))
+
+  failure_names : (x : Exchange) (now id : ℕ) (kind : FailKind) (rescue : Rescue) → rescue_of es x.asked now (decision_of es x.asked now) ≡ rescue →
+      NamesFirst table es (Some x) (Fail now id kind) (failed table es now x kind None rescue)
+  failure_names x now id kind (Sends s detail) k = λ h. absurd (false≢true h)
+  failure_names x now id kind (Refuses rule error) k = λ h.
+      let r = refuses_is es distinct now x.asked (decision_of es x.asked now) rule error refl k in
+      (rule, error, r.least, r.named, refl)
+
+  module _ (x : Exchange) (now id : ℕ) (r : Response) (next : Option ℕ) where
+    unasked_names : (rescue : Rescue) → is_unasked x.asked r ≡ true → rescue_of es x.asked now (decision_of es x.asked now) ≡ rescue →
+        NamesFirst table es (Some x) (Answer now id r) (failed table es now x BadAnswer (Some r.status) rescue)
+    unasked_names (Sends s detail) u k = λ h. absurd (false≢true h)
+    unasked_names (Refuses rule error) u k = λ h.
+        let q = refuses_is es distinct now x.asked (decision_of es x.asked now) rule error refl k in
+        inr (u, (rule, error, q.least, q.named, refl))
+
+    passed_names : (b : Bool) (rescue : Rescue) → NamesFirst table es (Some x) (Answer now id r) (passed_unless table es now x r next b rescue)
+    passed_names true (Sends s detail) = λ h. absurd (false≢true h)
+    passed_names true (Refuses rule error) = λ h. inl refl
+    passed_names false rescue = λ h. inl refl
+
+    validation_names : (o : Option Stored) (d : Decision) → NamesFirst table es (Some x) (Answer now id r) (revalidated table es now x r o d)
+    validation_names (Some e) d = λ h. absurd (false≢true h)
+    validation_names None (decision.Hit s) = λ h. absurd (false≢true h)
+    validation_names None (decision.Forward rule against) = tt
+
+    answer_names : NamesFirst table es (Some x) (Answer now id r) (answered table es now x r next (decision_of es x.asked now))
+    answer_names = by_304 (is_validation x r)
+      where
+        by_unasked : (b : Bool) → is_unasked x.asked r ≡ b →
+            NamesFirst table es (Some x) (Answer now id r) (cond b (failed table es now x BadAnswer (Some r.status) (rescue_of es x.asked now (decision_of es x.asked now)))
+            (passed_unless table es now x r next (is_error_status r.status) (rescue_of es x.asked now (decision_of es x.asked now))))
+        by_unasked true k = unasked_names (rescue_of es x.asked now (decision_of es x.asked now)) k refl
+        by_unasked false k = passed_names (is_error_status r.status) (rescue_of es x.asked now (decision_of es x.asked now))
+
+        by_304 : (b : Bool) → NamesFirst table es (Some x) (Answer now id r) (cond b (revalidated table es now x r (validated es x r now) (decision_of es x.asked now))
+            (cond (is_unasked x.asked r) (failed table es now x BadAnswer (Some r.status) (rescue_of es x.asked now (decision_of es x.asked now)))
+            (passed_unless table es now x r next (is_error_status r.status) (rescue_of es x.asked now (decision_of es x.asked now)))))
+        by_304 true = validation_names (validated es x r now) (decision_of es x.asked now)
+        by_304 false = by_unasked (is_unasked x.asked r) refl
+
+  names_by_event : (xs : List Exchange) (x : Option Exchange) (next : Option ℕ) (event : Event) → NamesFirst table es x event (outcome_of table es xs x next event)
+  names_by_event xs x next (Arrive now id asked) = arrival_names x now id asked
+  names_by_event xs (Some x) next (Answer now id r) = answer_names x now id r next
+  names_by_event xs None next (Answer now id r) = tt
+  names_by_event xs (Some x) next (Fail now id kind) = failure_names x now id kind (rescue_of es x.asked now (decision_of es x.asked now)) refl
+  names_by_event xs None next (Fail now id kind) = tt
+  names_by_event xs x next (Abandon id) = tt
+
+-- no serial is held twice
+pub held_distinct : (table : Table) (limit first : ℕ) (past : List Item) → IsGoodHistory table limit first past → Distinct (serials (held_entries limit past))
+held_distinct table limit first past g =
+    let p = good_plain table limit first past g in
+    subst Distinct (sym (ap serials (sym (entries_are_held table limit first past p)) ∙ (stands_for table limit first past p).serials_are))
+    (Distinct-filter _ _ (Distinct-recent (map done_by past)))
+
+pub names_first_rules : NamesFirstRules
+names_first_rules table limit first item past g =
+    let es = held_entries limit past in
+    let xs = open_exchanges limit past in
+    let x = find_exchange (id_of item.event) xs in
+    subst (NamesFirst table es x item.event) (sym g.0.outcome_is) (names_by_event table es (held_distinct table limit first past g.1) xs x (next_serial first past) item.event)

@@ -1,0 +1,322 @@
+-- A stored response is sent exactly where one is held that may be; a request goes forward exactly where the table allows it.
+use Rattle.std.proofs.Common.{◌≡◌, ◌⊎◌, inl, inr, ℕ, ◌<◌, Bool, true, false, cond, ◌||◌, Option, None, Some, List, ◌∷◌, refl, sym, ◌∙◌, ap, subst, arith}
+use Rattle.std.specs.Option.{option_and_then}
+use Rattle.std.proofs.lemmas.Bool.{false≢true, or_right}
+use Rattle.std.proofs.lemmas.Option.{same_Some}
+use Rattle.hx_directives.specs.Occurrences.{occurrences_of}
+use Rattle.hx_framing.specs.declared.responses.Response.{Response}
+use Rattle.hx_hop.specs.declared.asked_for.Asked.{Asked}
+use Rattle.hx_allow.specs.Lines.{Table}
+use Rattle.hx_allow.specs.Matching.{verdict_of}
+use Rattle.hx_allow.specs.declared.verdicts.Verdict.{Verdict}
+use Rattle.hx_allow.specs.declared.verdicts.Verdict.TheVariants as verdict
+use Rattle.hx_store.specs.Stored.{Stored}
+use Rattle.hx_store.specs.Serials.{Distinct}
+use Rattle.hx_store.specs.Shelf.{serials, find_entry}
+use Rattle.hx_reuse.specs.Chosen.{chosen_of}
+use Rattle.hx_reuse.specs.Words.{number_of}
+use Rattle.hx_reuse.specs.Rules.{decision_of}
+use Rattle.hx_reuse.specs.ErrorRules.{error_rule_on}
+use Rattle.hx_reuse.specs.Meaning.{IsLeast, NamesTheResponse}
+use Rattle.hx_reuse.specs.declared.rule.ReuseRule.{ReuseRule}
+use Rattle.hx_reuse.specs.declared.rule.ErrorRule.{ErrorRule}
+use Rattle.hx_reuse.specs.declared.decision.Decision.{Decision}
+use Rattle.hx_reuse.specs.declared.decision.Decision.TheVariants as decision
+use Rattle.hx_reuse.proofs.Choice.{chosen_is_held, chosen_is_latest, latest_is_the_chosen, found_by_serial}
+use Rattle.hx_reuse.proofs.MeaningLemmas.{is_held, names_the_least, forwards}
+use Rattle.hx_reuse.proofs.ReusableLemmas.{allowed_is_reused, reused_is_allowed}
+use Rattle.hx_reuse.proofs.OnErrorLemmas.{may_be_sent_on_error, sent_may_be}
+use Rattle.hx_status.specs.declared.status.Detail.{Detail}
+use Rattle.hx_status.specs.declared.status.Detail.TheVariants.{StaleIfError, ReuseAfterError}
+use Rattle.hx_status.specs.declared.cause.FailKind.{FailKind}
+use Rattle.hx_status.specs.declared.cause.FailKind.TheVariants.{BadAnswer}
+use Rattle.proxy_core.specs.declared.condition.Condition.{Condition}
+use Rattle.proxy_core.specs.declared.exchange.Exchange.{Exchange}
+use Rattle.proxy_core.specs.declared.rescue.Rescue.{Rescue}
+use Rattle.proxy_core.specs.declared.rescue.Rescue.TheVariants.{Sends, Refuses}
+use Rattle.proxy_core.specs.declared.outcome.Outcome.{Outcome}
+use Rattle.proxy_core.specs.declared.outcome.Outcome.TheVariants.{Forward}
+use Rattle.proxy_core.specs.declared.event.Event.{Event}
+use Rattle.proxy_core.specs.declared.event.Event.TheVariants.{Arrive, Answer, Fail, Abandon}
+use Rattle.proxy_core.specs.Validating.{condition_at, is_validation, validated, refreshed}
+use Rattle.proxy_core.specs.Storing.{is_unasked}
+use Rattle.proxy_core.specs.Outcomes.{find_exchange, id_of, arrived, allowed, unanswered, is_only_if_cached, error_rule_at, rescue_by, rescue_of, failed, is_error_status, passed_unless, revalidated, answered, outcome_of, outcome_by, forward_text}
+use Rattle.proxy_core.specs.State.{used_in}
+use Rattle.proxy_core.specs.Traces.{Item}
+use Rattle.proxy_core.specs.Histories.{IsGoodHistory, held_entries, open_exchanges, next_serial}
+use Rattle.proxy_core.specs.Sending.{IsReusable, MayBeSentInstead, IsRescue, MayBeSentAt, SendsStoredWhereItMay, SendsStoredNowhereElse, ForwardsWhereAllowed, ForwardsNowhereElse}
+use Rattle.proxy_core.proofs.Leaving.{serial_stays}
+use Rattle.proxy_core.proofs.FirstRules.{held_distinct}
+
+never_one : (s : ℕ) → ◌≡◌ {A = Option ℕ} None (Some s) → ⊥
+never_one s h = cc
+
+same_hit : (m n : ℕ) → decision.Hit m ≡ decision.Hit n → m ≡ n
+same_hit m n h = cc
+
+module _ (es : List Stored) (distinct : Distinct (serials es)) (asked : Asked) (now : ℕ) where
+  -- ---- after a failure
+
+  -- what a rule names is the chosen response
+  record IsNamed (rule : ReuseRule) (s : ℕ) : Type 0 where
+    response : Stored
+    late : 6 < number_of rule
+    chosen : chosen_of es asked ≡ Some response
+    serial : response.serial ≡ s
+    rule_at : error_rule_at es s asked now ≡ error_rule_on response (occurrences_of asked.fields) now
+
+  named_is : (rule : ReuseRule) (s : ℕ) → decision_of es asked now ≡ decision.Forward rule (Some s) → IsNamed rule s
+  named_is rule s h = by_number (names_the_least es asked now rule (Some s) h).1
+    where
+      by_number : NamesTheResponse es asked rule (Some s) → IsNamed rule s
+      by_number (inl low) = absurd (never_one s (sym low.1))
+      by_number (inr high) =
+          let response = high.1.0 in
+          let serial : response.serial ≡ s = sym (same_Some s response.serial high.1.2) in
+          let found : find_entry s es ≡ Some response =
+          ap (λ z. find_entry z es) (sym serial) ∙ found_by_serial es distinct response (chosen_is_held es asked response high.1.1)
+          in
+          record {
+            response = response;
+            late = high.0;
+            chosen = high.1.1;
+            serial = serial;
+            rule_at = ap (λ (o : Option Stored). option_and_then (λ (x : Stored). error_rule_on x (occurrences_of asked.fields) now) o) found;
+          }
+
+  -- what is sent may be
+  rescue_may : (d : Decision) (s : ℕ) (detail : Detail) → decision_of es asked now ≡ d → rescue_of es asked now d ≡ Sends s detail → IsRescue es asked now s
+  rescue_may (decision.Hit t) s detail d_is h =
+      let same : t ≡ s = cc in
+      inl (subst (λ n. IsReusable es asked now n) same (reused_is_allowed es asked now t d_is))
+  rescue_may (decision.Forward rule None) s detail d_is h = absurd (cc)
+  rescue_may (decision.Forward rule (Some t)) s detail d_is h = by_rule (error_rule_at es t asked now) refl h
+    where
+      by_rule : (o : Option ErrorRule) → error_rule_at es t asked now ≡ o → rescue_by rule t o ≡ Sends s detail → IsRescue es asked now s
+      by_rule None k h =
+          let n = named_is rule t d_is in
+          let least = (names_the_least es asked now rule (Some t) d_is).0 in
+          let same : t ≡ s = cc in
+          let late = n.late in
+          inr (
+            n.response,
+            record {
+              is_chosen = chosen_is_latest es asked n.response n.chosen;
+              is_for_the_cache = λ other low. least.none_before other (omega arith);
+              may_be_sent = sent_may_be n.response (occurrences_of asked.fields) now (sym n.rule_at ∙ k);
+            },
+            n.serial ∙ same,
+          )
+      by_rule (Some e) k h = absurd (cc)
+
+  -- the other way round
+  record IsSent (s : ℕ) : Type 0 where
+    detail : Detail
+    rescue : rescue_of es asked now (decision_of es asked now) ≡ Sends s detail
+
+  reusable_hit : (s : ℕ) → IsReusable es asked now s → decision_of es asked now ≡ decision.Hit s
+  reusable_hit s may = allowed_is_reused es asked now may.0 distinct may.1 ∙ ap (λ n. decision.Hit n) may.2
+
+  instead_sent : (s : ℕ) (response : Stored) → MayBeSentInstead es asked now response → response.serial ≡ s → (d : Decision) → decision_of es asked now ≡ d → IsSent s
+  instead_sent s response may serial (decision.Hit t) d_is =
+      let hit = is_held es asked now t d_is in
+      let same : hit.0 ≡ response =
+      same_Some hit.0 response (sym (latest_is_the_chosen es asked hit.0 distinct hit.1) ∙ latest_is_the_chosen es asked response distinct may.is_chosen)
+      in
+      let t_is : t ≡ s = sym hit.2 ∙ ap (λ (e : Stored). e.serial) same ∙ serial in
+      record { detail = ReuseAfterError; rescue = ap (rescue_of es asked now) d_is ∙ ap (λ n. Sends n ReuseAfterError) t_is }
+  instead_sent s response may serial (decision.Forward rule None) d_is =
+      let r = names_the_least es asked now rule None d_is in
+      absurd (by_number r.0 r.1)
+    where
+      by_number : IsLeast es asked now rule → NamesTheResponse es asked rule None → ⊥
+      by_number least (inl low) = false≢true (sym (may.is_for_the_cache rule low.0) ∙ least.it_stands)
+      by_number least (inr high) = never_one high.1.0.serial high.1.2
+  instead_sent s response may serial (decision.Forward rule (Some t)) d_is =
+      let n = named_is rule t d_is in
+      let same : n.response ≡ response = same_Some n.response response (sym n.chosen ∙ latest_is_the_chosen es asked response distinct may.is_chosen) in
+      let t_is : t ≡ s = sym n.serial ∙ ap (λ (e : Stored). e.serial) same ∙ serial in
+      let none : error_rule_at es t asked now ≡ None =
+      n.rule_at ∙ ap (λ (e : Stored). error_rule_on e (occurrences_of asked.fields) now) same ∙ may_be_sent_on_error response (occurrences_of asked.fields) now may.may_be_sent
+      in
+      record { detail = StaleIfError; rescue = ap (rescue_of es asked now) d_is ∙ ap (rescue_by rule t) none ∙ ap (λ n. Sends n StaleIfError) t_is }
+
+  rescue_sent : (s : ℕ) → IsRescue es asked now s → IsSent s
+  rescue_sent s (inl may) = record { detail = ReuseAfterError; rescue = ap (rescue_of es asked now) (reusable_hit s may) }
+  rescue_sent s (inr may) = instead_sent s may.0 may.1 may.2 (decision_of es asked now) refl
+
+-- ---- what each step uses
+
+module _ (table : Table) (es : List Stored) (distinct : Distinct (serials es)) where
+  failed_uses : (now : ℕ) (x : Exchange) (kind : FailKind) (came : Option ℕ) (s : ℕ) → IsRescue es x.asked now s →
+      used_in (failed table es now x kind came (rescue_of es x.asked now (decision_of es x.asked now))) ≡ Some s
+  failed_uses now x kind came s may =
+      let sent = rescue_sent es distinct x.asked now s may in ap (λ (q : Rescue). used_in (failed table es now x kind came q)) sent.rescue
+
+  used_failed : (now : ℕ) (x : Exchange) (kind : FailKind) (came : Option ℕ) (s : ℕ) (rescue : Rescue) → rescue_of es x.asked now (decision_of es x.asked now) ≡ rescue →
+      used_in (failed table es now x kind came rescue) ≡ Some s → IsRescue es x.asked now s
+  used_failed now x kind came s (Sends t detail) k h =
+      subst (λ n. IsRescue es x.asked now n) (same_Some t s h) (rescue_may es distinct x.asked now (decision_of es x.asked now) t detail refl k)
+  used_failed now x kind came s (Refuses rule error) k h = absurd (never_one s h)
+
+  -- an arrival
+  used_arrived : (now : ℕ) (asked : Asked) (s : ℕ) (v : Verdict) → verdict_of table.lines asked.method asked.target ≡ v → used_in (arrived table es now asked v) ≡ Some s →
+      ((line : ℕ) × (verdict_of table.lines asked.method asked.target ≡ verdict.Allowed line)) × IsReusable es asked now s
+  used_arrived now asked s (verdict.Allowed line) v h = ((line, v), by_decision (decision_of es asked now) refl h)
+    where
+      unless : (rule : ReuseRule) (condition : Option Condition) (b : Bool) → used_in (unanswered table line now asked rule condition b) ≡ Some s → ⊥
+      unless rule condition true h = never_one s h
+      unless rule condition false h = never_one s h
+
+      by_decision : (d : Decision) → decision_of es asked now ≡ d → used_in (allowed table es line now asked d) ≡ Some s → IsReusable es asked now s
+      by_decision (decision.Hit t) k h = subst (λ n. IsReusable es asked now n) (same_Some t s h) (reused_is_allowed es asked now t k)
+      by_decision (decision.Forward rule against) k h = absurd (unless rule (condition_at es against) (is_only_if_cached asked) h)
+  used_arrived now asked s (verdict.DeniedBy line) v h = absurd (never_one s h)
+  used_arrived now asked s verdict.NoLine v h = absurd (never_one s h)
+
+  module _ (x : Exchange) (now id : ℕ) (r : Response) (next : Option ℕ) (s : ℕ) where
+    abbrev IsUsed : Outcome → Type 0
+    IsUsed o = used_in o ≡ Some s
+
+    used_revalidated : (o : Option Stored) (d : Decision) → validated es x r now ≡ o → decision_of es x.asked now ≡ d → IsUsed (revalidated table es now x r o d) →
+        ((e : Stored) × (validated es x r now ≡ Some e) × (e.serial ≡ s)) ⊎ ((validated es x r now ≡ None) × IsReusable es x.asked now s)
+    used_revalidated (Some e) d v k h = inl (e, v, sym (serial_stays x r now e) ∙ same_Some (refreshed x r now e).serial s h)
+    used_revalidated None (decision.Hit t) v k h = inr (v, subst (λ n. IsReusable es x.asked now n) (same_Some t s h) (reused_is_allowed es x.asked now t k))
+    used_revalidated None (decision.Forward rule against) v k h = absurd (never_one s h)
+
+    used_passed : (b : Bool) (rescue : Rescue) → rescue_of es x.asked now (decision_of es x.asked now) ≡ rescue → IsUsed (passed_unless table es now x r next b rescue) →
+        (b ≡ true) × IsRescue es x.asked now s
+    used_passed true (Sends t detail) k h =
+        (refl, subst (λ n. IsRescue es x.asked now n) (same_Some t s h) (rescue_may es distinct x.asked now (decision_of es x.asked now) t detail refl k))
+    used_passed true (Refuses rule error) k h = absurd (never_one s h)
+    used_passed false rescue k h = absurd (never_one s h)
+
+    used_answered : IsUsed (answered table es now x r next (decision_of es x.asked now)) → MayBeSentAt table es (Some x) (Answer now id r) s
+    used_answered h = by_304 (is_validation x r) refl h
+      where
+        d : Decision
+        d = decision_of es x.asked now
+
+        by_unasked : (b : Bool) → is_unasked x.asked r ≡ b → IsUsed (cond b (failed table es now x BadAnswer (Some r.status) (rescue_of es x.asked now (decision_of es x.asked now)))
+            (passed_unless table es now x r next (is_error_status r.status) (rescue_of es x.asked now (decision_of es x.asked now)))) →
+            ((is_unasked x.asked r || is_error_status r.status) ≡ true) × IsRescue es x.asked now s
+        by_unasked true k h =
+            (ap (λ b. b || is_error_status r.status) k, used_failed now x BadAnswer (Some r.status) s (rescue_of es x.asked now (decision_of es x.asked now)) refl h)
+        by_unasked false k h =
+            let p = used_passed (is_error_status r.status) (rescue_of es x.asked now (decision_of es x.asked now)) refl h in
+            (or_right (is_unasked x.asked r) (is_error_status r.status) p.0, p.1)
+
+        by_304 : (b : Bool) → is_validation x r ≡ b → IsUsed (cond b (revalidated table es now x r (validated es x r now) (decision_of es x.asked now))
+            (cond (is_unasked x.asked r) (failed table es now x BadAnswer (Some r.status) (rescue_of es x.asked now (decision_of es x.asked now)))
+            (passed_unless table es now x r next (is_error_status r.status) (rescue_of es x.asked now (decision_of es x.asked now))))) →
+            MayBeSentAt table es (Some x) (Answer now id r) s
+        by_304 true k h = by_kind (used_revalidated (validated es x r now) (decision_of es x.asked now) refl refl h)
+          where
+            by_kind : ((e : Stored) × (validated es x r now ≡ Some e) × (e.serial ≡ s)) ⊎ ((validated es x r now ≡ None) × IsReusable es x.asked now s) →
+                MayBeSentAt table es (Some x) (Answer now id r) s
+            by_kind (inl answered) = inl (k, answered)
+            by_kind (inr anyway) = inr (inl (k, anyway.0, anyway.1))
+        by_304 false k h = let p = by_unasked (is_unasked x.asked r) refl h in inr (inr (k, p.0, p.1))
+
+    -- the other way round
+    rescue_uses : (b e : Bool) → (b || e) ≡ true → IsRescue es x.asked now s →
+        IsUsed (cond b (failed table es now x BadAnswer (Some r.status) (rescue_of es x.asked now (decision_of es x.asked now)))
+        (passed_unless table es now x r next e (rescue_of es x.asked now (decision_of es x.asked now))))
+    rescue_uses true e h may = failed_uses now x BadAnswer (Some r.status) s may
+    rescue_uses false true h may =
+        let sent = rescue_sent es distinct x.asked now s may in
+        ap (λ (q : Rescue). used_in (passed_unless table es now x r next true q)) sent.rescue
+    rescue_uses false false h may = absurd (false≢true h)
+
+    answered_uses : MayBeSentAt table es (Some x) (Answer now id r) s → IsUsed (answered table es now x r next (decision_of es x.asked now))
+    answered_uses (inl may) =
+        let d = decision_of es x.asked now in
+        let e = may.1.0 in
+        ap (λ b. used_in (cond b (revalidated table es now x r (validated es x r now) d) (cond (is_unasked x.asked r) (failed table es now x BadAnswer (Some r.status) (rescue_of es x.asked now d))
+        (passed_unless table es now x r next (is_error_status r.status) (rescue_of es x.asked now d))))) may.0
+        ∙ ap (λ (o : Option Stored). used_in (revalidated table es now x r o d)) may.1.1
+        ∙ ap (λ n. Some n) (serial_stays x r now e ∙ may.1.2)
+    answered_uses (inr (inl may)) =
+        let d = decision_of es x.asked now in
+        ap (λ b. used_in (cond b (revalidated table es now x r (validated es x r now) d) (cond (is_unasked x.asked r) (failed table es now x BadAnswer (Some r.status) (rescue_of es x.asked now d))
+        (passed_unless table es now x r next (is_error_status r.status) (rescue_of es x.asked now d))))) may.0
+        ∙ ap (λ (o : Option Stored). used_in (revalidated table es now x r o d)) may.1
+        ∙ ap (λ (k : Decision). used_in (revalidated table es now x r None k)) (reusable_hit es distinct x.asked now s may.2)
+    answered_uses (inr (inr may)) =
+        let d = decision_of es x.asked now in
+        ap (λ b. used_in (cond b (revalidated table es now x r (validated es x r now) d) (cond (is_unasked x.asked r) (failed table es now x BadAnswer (Some r.status) (rescue_of es x.asked now d))
+        (passed_unless table es now x r next (is_error_status r.status) (rescue_of es x.asked now d))))) may.0
+        ∙ rescue_uses (is_unasked x.asked r) (is_error_status r.status) may.1 may.2
+
+  may_be_used : (xs : List Exchange) (x : Option Exchange) (next : Option ℕ) (event : Event) (s : ℕ) → MayBeSentAt table es x event s → used_in (outcome_of table es xs x next event) ≡ Some s
+  may_be_used xs x next (Arrive now id asked) s may =
+      ap (λ (v : Verdict). used_in (arrived table es now asked v)) may.0.1
+      ∙ ap (λ (d : Decision). used_in (allowed table es may.0.0 now asked d)) (reusable_hit es distinct asked now s may.1)
+  may_be_used xs (Some x) next (Answer now id r) s may = answered_uses x now id r next s may
+  may_be_used xs None next (Answer now id r) s may = absurd may
+  may_be_used xs (Some x) next (Fail now id kind) s may = failed_uses now x kind None s may
+  may_be_used xs None next (Fail now id kind) s may = absurd may
+  may_be_used xs x next (Abandon id) s may = absurd may
+
+  used_may_be : (xs : List Exchange) (x : Option Exchange) (next : Option ℕ) (event : Event) (s : ℕ) → used_in (outcome_of table es xs x next event) ≡ Some s → MayBeSentAt table es x event s
+  used_may_be xs x next (Arrive now id asked) s h = used_arrived now asked s (verdict_of table.lines asked.method asked.target) refl h
+  used_may_be xs (Some x) next (Answer now id r) s h = used_answered x now id r next s h
+  used_may_be xs None next (Answer now id r) s h = absurd (never_one s h)
+  used_may_be xs (Some x) next (Fail now id kind) s h = used_failed now x kind None s (rescue_of es x.asked now (decision_of es x.asked now)) refl h
+  used_may_be xs None next (Fail now id kind) s h = absurd (never_one s h)
+  used_may_be xs x next (Abandon id) s h = absurd (never_one s h)
+
+pub sends_what_may_be_sent : SendsStoredWhereItMay
+sends_what_may_be_sent table limit first s item past g may =
+    let xs = open_exchanges limit past in
+    ap used_in g.0.outcome_is
+    ∙ may_be_used table (held_entries limit past) (held_distinct table limit first past g.1) xs (find_exchange (id_of item.event) xs) (next_serial first past) item.event s may
+
+pub sends_nothing_else : SendsStoredNowhereElse
+sends_nothing_else table limit first s item past g h =
+    let xs = open_exchanges limit past in
+    used_may_be table (held_entries limit past) (held_distinct table limit first past g.1) xs (find_exchange (id_of item.event) xs) (next_serial first past) item.event s
+    (sym (ap used_in g.0.outcome_is) ∙ h)
+
+-- ---- going forward
+
+arrival_is : (table : Table) (limit first now id : ℕ) (asked : Asked) (item : Item) (past : List Item) → IsGoodHistory table limit first (item ∷ past) → item.event ≡ Arrive now id asked →
+    item.outcome ≡ arrived table (held_entries limit past) now asked (verdict_of table.lines asked.method asked.target)
+arrival_is table limit first now id asked item past g e =
+    g.0.outcome_is ∙ ap (λ (v : Event). outcome_by table (held_entries limit past) (open_exchanges limit past) (next_serial first past) v) e
+
+pub forwards_where_allowed : ForwardsWhereAllowed
+forwards_where_allowed table limit first now id line asked rule item past g e v least other =
+    let es = held_entries limit past in
+    let d = forwards es asked now rule least in (
+      forward_text table asked (condition_at es d.0),
+      arrival_is table limit first now id asked item past g e
+          ∙ ap (λ (v : Verdict). arrived table es now asked v) v
+          ∙ ap (λ (d : Decision). allowed table es line now asked d) d.1
+          ∙ ap (λ b. unanswered table line now asked rule (condition_at es d.0) b) other,
+    )
+
+forward_parts : (table : Table) (es : List Stored) (now line : ℕ) (asked : Asked) (bytes : List ℕ) (v : Verdict) → verdict_of table.lines asked.method asked.target ≡ v →
+    arrived table es now asked v ≡ Forward line bytes →
+    (verdict_of table.lines asked.method asked.target ≡ verdict.Allowed line) × ((rule : ReuseRule) × IsLeast es asked now rule) × (is_only_if_cached asked ≡ false)
+forward_parts table es now line asked bytes (verdict.Allowed n) v h = by_decision (decision_of es asked now) refl h
+  where
+    unless : (rule : ReuseRule) (against : Option ℕ) (b : Bool) → is_only_if_cached asked ≡ b → decision_of es asked now ≡ decision.Forward rule against →
+        unanswered table n now asked rule (condition_at es against) b ≡ Forward line bytes →
+        (verdict_of table.lines asked.method asked.target ≡ verdict.Allowed line) × ((rule : ReuseRule) × IsLeast es asked now rule) × (is_only_if_cached asked ≡ false)
+    unless rule against true k d h = absurd (cc)
+    unless rule against false k d h =
+        let same : n ≡ line = cc in
+        (v ∙ ap (λ m. verdict.Allowed m) same, (rule, (names_the_least es asked now rule against d).0), k)
+
+    by_decision : (d : Decision) → decision_of es asked now ≡ d → allowed table es n now asked d ≡ Forward line bytes →
+        (verdict_of table.lines asked.method asked.target ≡ verdict.Allowed line) × ((rule : ReuseRule) × IsLeast es asked now rule) × (is_only_if_cached asked ≡ false)
+    by_decision (decision.Hit t) k h = absurd (cc)
+    by_decision (decision.Forward rule against) k h = unless rule against (is_only_if_cached asked) refl k h
+forward_parts table es now line asked bytes (verdict.DeniedBy n) v h = absurd (cc)
+forward_parts table es now line asked bytes verdict.NoLine v h = absurd (cc)
+
+pub forwards_nothing_else : ForwardsNowhereElse
+forwards_nothing_else table limit first now id line asked bytes item past g e h =
+    forward_parts table (held_entries limit past) now line asked bytes (verdict_of table.lines asked.method asked.target) refl
+    (sym (arrival_is table limit first now id asked item past g e) ∙ h)

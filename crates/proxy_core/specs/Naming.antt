@@ -1,0 +1,84 @@
+-- What an answer names that isn't a stored response: the first rule against one (RFC 9111, section 4; RFC 5861, section 4;
+-- RFC 9211).
+--
+-- NamesAtArrival: the line of the table that denies, that none allows, or the rule where only-if-cached stands
+-- NamesOnError: why nothing is sent in place of an error          NamesItsRule: of an answer that is passed on, its kept rule
+-- NamesFirst: of an item                                          NamesFirstRules: of each item of a good trace
+use Rattle.std.specs.Prelude.{◌≡◌, ◌⊎◌, ℕ, ◌<◌, ◌≤◌, true, List, ◌∷◌, Option, Some, None, is_some}
+use Rattle.hx_directives.specs.Occurrences.{occurrences_of}
+use Rattle.hx_framing.specs.declared.responses.Response.{Response}
+use Rattle.hx_hop.specs.declared.asked_for.Asked.{Asked}
+use Rattle.hx_hop.specs.Moments.{date_text_of}
+use Rattle.hx_allow.specs.Lines.{Table}
+use Rattle.hx_allow.specs.Matching.{verdict_of}
+use Rattle.hx_allow.specs.declared.verdicts.Verdict.TheVariants.{Allowed, DeniedBy, NoLine as Unmatched}
+use Rattle.hx_store.specs.Stored.{Stored}
+use Rattle.hx_reuse.specs.Chosen.{chosen_of}
+use Rattle.hx_reuse.specs.Words.{number_of}
+use Rattle.hx_reuse.specs.Meaning.{IsLeast}
+use Rattle.hx_reuse.specs.OnError.{IsLeastOnError}
+use Rattle.hx_reuse.specs.declared.rule.ReuseRule.{ReuseRule}
+use Rattle.hx_reuse.specs.declared.rule.ErrorRule.{ErrorRule}
+use Rattle.hx_status.specs.declared.cause.FailKind.{FailKind}
+use Rattle.hx_status.specs.declared.cause.FailKind.TheVariants.{BadAnswer}
+use Rattle.hx_status.specs.declared.cause.Cause.TheVariants.{Denied, NoLine, OnlyIfCached, Origin}
+use Rattle.proxy_core.specs.declared.exchange.Exchange.{Exchange}
+use Rattle.proxy_core.specs.declared.outcome.Outcome.{Outcome}
+use Rattle.proxy_core.specs.declared.outcome.Outcome.TheVariants.{Reply, Forward, Ended}
+use Rattle.proxy_core.specs.declared.event.Event.{Event}
+use Rattle.proxy_core.specs.declared.event.Event.TheVariants.{Arrive, Answer, Fail, Abandon}
+use Rattle.proxy_core.specs.Replies.{passed_text, refused_text, is_head}
+use Rattle.proxy_core.specs.Storing.{is_unasked}
+use Rattle.proxy_core.specs.Outcomes.{find_exchange, id_of, is_only_if_cached}
+use Rattle.proxy_core.specs.Traces.{Item}
+use Rattle.proxy_core.specs.Histories.{held_entries, open_exchanges, IsGoodHistory}
+use Rattle.proxy_core.specs.Promises.{sends_nothing_held}
+
+-- To a request that arrives the proxy answers by itself alone: the line of the table that denies it; that none matches; or
+-- the least reuse rule that stands, where the request takes no response but a stored one.
+abbrev pub NamesAtArrival : Table → List Stored → ℕ → Asked → List ℕ → Type 0
+NamesAtArrival table held now asked bytes =
+    ((line : ℕ) × (verdict_of table.lines asked.method asked.target ≡ DeniedBy line) × (bytes ≡ refused_text (date_text_of now) (Denied line) asked.close (is_head asked)))
+    ⊎ (((verdict_of table.lines asked.method asked.target ≡ Unmatched) × (bytes ≡ refused_text (date_text_of now) NoLine asked.close (is_head asked)))
+    ⊎ ((line : ℕ) × (rule : ReuseRule) × (verdict_of table.lines asked.method asked.target ≡ Allowed line) × (is_only_if_cached asked ≡ true) × IsLeast held asked now rule
+    × (bytes ≡ refused_text (date_text_of now) (OnlyIfCached rule) asked.close (is_head asked))))
+
+-- beside a reuse rule against the chosen response: the least rule against sending it in place of an error
+abbrev pub NamesErrorRule : List Stored → ℕ → Asked → ReuseRule → Option ErrorRule → Type 0
+NamesErrorRule held now asked rule error =
+    ((number_of rule ≤ 6) × (error ≡ None))
+    ⊎ ((6 < number_of rule) × ((response : Stored) × (least : ErrorRule) × (chosen_of held asked ≡ Some response)
+    × IsLeastOnError response (occurrences_of asked.fields) now least × (error ≡ Some least)))
+
+-- after a failure: its kind, the least reuse rule that stands now, and that rule
+abbrev pub NamesOnError : List Stored → ℕ → Exchange → FailKind → List ℕ → Type 0
+NamesOnError held now x kind bytes =
+    (rule : ReuseRule) × (error : Option ErrorRule) × IsLeast held x.asked now rule × NamesErrorRule held now x.asked rule error
+    × (bytes ≡ refused_text (date_text_of now) (Origin kind rule error) x.asked.close (is_head x.asked))
+
+-- an answer that is passed on: the rule that its exchange has kept from its arrival on, in Cache-Status
+abbrev pub NamesItsRule : Table → ℕ → Exchange → Response → List ℕ → Option ℕ → Type 0
+NamesItsRule table now x r bytes stored = bytes ≡ passed_text table.name x r now (is_some stored)
+
+-- by its event and the exchange that it is of; a 304 that nobody asked for is a failure
+abbrev pub NamesByEvent : Table → List Stored → Option Exchange → Event → List ℕ → Option ℕ → Type 0
+NamesByEvent table held x (Arrive now id asked) bytes stored = NamesAtArrival table held now asked bytes
+NamesByEvent table held (Some x) (Answer now id r) bytes stored =
+    NamesItsRule table now x r bytes stored ⊎ ((is_unasked x.asked r ≡ true) × NamesOnError held now x BadAnswer bytes)
+NamesByEvent table held (Some x) (Fail now id kind) bytes stored = NamesOnError held now x kind bytes
+NamesByEvent table held None (Answer now id r) bytes stored = ⊥
+NamesByEvent table held None (Fail now id kind) bytes stored = ⊥
+NamesByEvent table held x (Abandon id) bytes stored = ⊥
+
+-- an item whose reply is no stored response
+abbrev pub NamesFirst : Table → List Stored → Option Exchange → Event → Outcome → Type 0
+NamesFirst table held x event (Reply r) = sends_nothing_held (Reply r) ≡ true → NamesByEvent table held x event r.bytes r.stored
+NamesFirst table held x event (Forward line bytes) = Unit {0}
+NamesFirst table held x event Ended = Unit {0}
+
+-- ---- the statement
+
+-- Each answer that isn't a stored response names the first rule against one, over what was held and open before it.
+abbrev pub NamesFirstRules : Type 0
+NamesFirstRules = (table : Table) (limit first : ℕ) (item : Item) (past : List Item) → IsGoodHistory table limit first (item ∷ past) →
+    NamesFirst table (held_entries limit past) (find_exchange (id_of item.event) (open_exchanges limit past)) item.event item.outcome

@@ -1,0 +1,85 @@
+-- When a request reaches the cache or its origin, and when a stored response is sent: in the words of the RFCs, over what
+-- is held and open.
+--
+-- MayBeReused of hx_reuse: what RFC 9111 lets be sent      MayBeSentInstead: what RFC 5861 lets be sent in place of an error
+-- MayBeSentAt: what may be sent at an event
+-- Below them are the statements that the laws of `src/laws.rt` prove.
+use Rattle.std.specs.Prelude.{◌≡◌, ◌⊎◌, ℕ, ◌≤◌, ◌||◌, true, false, List, ◌∷◌, Option, Some, None}
+use Rattle.hx_directives.specs.Occurrences.{occurrences_of}
+use Rattle.hx_hop.specs.declared.asked_for.Asked.{Asked}
+use Rattle.hx_allow.specs.Lines.{Table}
+use Rattle.hx_allow.specs.Matching.{verdict_of}
+use Rattle.hx_allow.specs.declared.verdicts.Verdict.TheVariants.{Allowed}
+use Rattle.hx_store.specs.Stored.{Stored}
+use Rattle.hx_reuse.specs.Words.{number_of}
+use Rattle.hx_reuse.specs.Rules.{stands}
+use Rattle.hx_reuse.specs.Meaning.{IsChosen, IsLeast}
+use Rattle.hx_reuse.specs.Reusable.{MayBeReused}
+use Rattle.hx_reuse.specs.OnError.{MayBeSentOnError}
+use Rattle.hx_reuse.specs.declared.rule.ReuseRule.{ReuseRule}
+use Rattle.proxy_core.specs.declared.exchange.Exchange.{Exchange}
+use Rattle.proxy_core.specs.declared.outcome.Outcome.TheVariants.{Forward}
+use Rattle.proxy_core.specs.declared.event.Event.{Event}
+use Rattle.proxy_core.specs.declared.event.Event.TheVariants.{Arrive, Answer, Fail, Abandon}
+use Rattle.proxy_core.specs.Storing.{is_unasked}
+use Rattle.proxy_core.specs.Validating.{is_validation, validated}
+use Rattle.proxy_core.specs.Outcomes.{find_exchange, id_of, is_only_if_cached, is_error_status}
+use Rattle.proxy_core.specs.State.{used_in}
+use Rattle.proxy_core.specs.Traces.{Item}
+use Rattle.proxy_core.specs.Histories.{held_entries, open_exchanges, IsGoodHistory}
+
+-- the serial is that of the held response that may be sent without asking the origin (RFC 9111, section 4)
+abbrev pub IsReusable : List Stored → Asked → ℕ → ℕ → Type 0
+IsReusable held asked now s = (response : Stored) × MayBeReused held asked now response × (response.serial ≡ s)
+
+-- In place of an error: the response is the chosen one, none of the six rules stands by which a request or what is held
+-- has no response to send, and RFC 5861, section 4 lets it be sent.
+pub record MayBeSentInstead (held : List Stored) (asked : Asked) (now : ℕ) (response : Stored) : Type 0 where
+  pub is_chosen : IsChosen held asked response
+  pub is_for_the_cache : (rule : ReuseRule) → number_of rule ≤ 6 → stands rule held asked now ≡ false
+  pub may_be_sent : MayBeSentOnError response (occurrences_of asked.fields) now
+
+-- after a failure or an error: one that may be sent anyway, or in place of the error
+abbrev pub IsRescue : List Stored → Asked → ℕ → ℕ → Type 0
+IsRescue held asked now s =
+    IsReusable held asked now s ⊎ ((response : Stored) × MayBeSentInstead held asked now response × (response.serial ≡ s))
+
+-- At an event, of an exchange that is open, the response of this serial may be sent: at an arrival that the table allows;
+-- at a 304 to the proxy's conditions, the one that it answers, or where it answers none one that may be sent anyway; at a
+-- 304 that nobody asked for, a 500, 502, 503 or 504, and at a failure.
+abbrev pub MayBeSentAt : Table → List Stored → Option Exchange → Event → ℕ → Type 0
+MayBeSentAt table held x (Arrive now id asked) s =
+    ((line : ℕ) × (verdict_of table.lines asked.method asked.target ≡ Allowed line)) × IsReusable held asked now s
+MayBeSentAt table held (Some x) (Answer now id r) s =
+    ((is_validation x r ≡ true) × ((e : Stored) × (validated held x r now ≡ Some e) × (e.serial ≡ s)))
+    ⊎ (((is_validation x r ≡ true) × (validated held x r now ≡ None) × IsReusable held x.asked now s)
+    ⊎ ((is_validation x r ≡ false) × ((is_unasked x.asked r || is_error_status r.status) ≡ true) × IsRescue held x.asked now s))
+MayBeSentAt table held (Some x) (Fail now id kind) s = IsRescue held x.asked now s
+MayBeSentAt table held None (Answer now id r) s = ⊥
+MayBeSentAt table held None (Fail now id kind) s = ⊥
+MayBeSentAt table held x (Abandon id) s = ⊥
+
+-- ---- the statements
+
+-- A stored response is sent exactly where one is held that may be.
+abbrev pub SendsStoredWhereItMay : Type 0
+SendsStoredWhereItMay = (table : Table) (limit first s : ℕ) (item : Item) (past : List Item) → IsGoodHistory table limit first (item ∷ past) →
+    MayBeSentAt table (held_entries limit past) (find_exchange (id_of item.event) (open_exchanges limit past)) item.event s → used_in item.outcome ≡ Some s
+
+abbrev pub SendsStoredNowhereElse : Type 0
+SendsStoredNowhereElse = (table : Table) (limit first s : ℕ) (item : Item) (past : List Item) → IsGoodHistory table limit first (item ∷ past) →
+    used_in item.outcome ≡ Some s → MayBeSentAt table (held_entries limit past) (find_exchange (id_of item.event) (open_exchanges limit past)) item.event s
+
+-- A request reaches the origin of a line exactly where that is the table's first line that matches and it allows, a rule
+-- stands against a stored response, and the request takes others too.
+abbrev pub ForwardsWhereAllowed : Type 0
+ForwardsWhereAllowed = (table : Table) (limit first now id line : ℕ) (asked : Asked) (rule : ReuseRule) (item : Item) (past : List Item) →
+    IsGoodHistory table limit first (item ∷ past) → item.event ≡ Arrive now id asked →
+    verdict_of table.lines asked.method asked.target ≡ Allowed line → IsLeast (held_entries limit past) asked now rule → is_only_if_cached asked ≡ false →
+    (bytes : List ℕ) × (item.outcome ≡ Forward line bytes)
+
+abbrev pub ForwardsNowhereElse : Type 0
+ForwardsNowhereElse = (table : Table) (limit first now id line : ℕ) (asked : Asked) (bytes : List ℕ) (item : Item) (past : List Item) →
+    IsGoodHistory table limit first (item ∷ past) → item.event ≡ Arrive now id asked → item.outcome ≡ Forward line bytes →
+    (verdict_of table.lines asked.method asked.target ≡ Allowed line)
+    × ((rule : ReuseRule) × IsLeast (held_entries limit past) asked now rule) × (is_only_if_cached asked ≡ false)
