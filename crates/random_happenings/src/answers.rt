@@ -35,6 +35,8 @@ const DIRECTIVES: &[&str] = &[
     "Cache-Control: max-age=5\r\n",
     "Cache-Control: max-age=20\r\n",
     "Cache-Control: max-age=60\r\n",
+    "Cache-Control: max-age=100\r\n",
+    "Cache-Control: max-age=200\r\n",
     "Cache-Control: public, max-age=300\r\n",
     "Cache-Control: s-maxage=30, max-age=0\r\n",
     "Cache-Control: max-age=5, stale-if-error=100\r\n",

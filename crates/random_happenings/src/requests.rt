@@ -3,16 +3,17 @@
 use crate::dice::Dice;
 use std::alloc::{AllocError, Global};
 
-const METHODS: &[&str] = &[
-    "GET", "GET", "GET", "GET", "GET", "GET", "GET", "GET", "GET", "GET", "GET", "GET", "GET",
-    "GET", "HEAD", "HEAD", "POST", "POST", "PUT", "FOO", "get", "TRACE",
+const UNUSUAL_METHODS: &[&str] = &[
+    "HEAD", "HEAD", "HEAD", "POST", "POST", "PUT", "FOO", "get", "TRACE",
 ];
 
 const OTHER_VERSIONS: &[&str] = &["HTTP/1.0", "HTTP/1.0", "HTTP/2.0"];
 
 const HOSTS: &[&str] = &["h", "h", "i"];
 
-const PATHS: &[&str] = &["/a", "/a", "/a", "/b", "/b", "/c?q", "/d", "/denied"];
+const PATHS: &[&str] = &[
+    "/a", "/a", "/a", "/a", "/a", "/b", "/b", "/b", "/c?q", "/d", "/denied",
+];
 
 const LANGUAGES: &[&str] = &[
     "Accept-Language: de\r\n",
@@ -153,7 +154,11 @@ fn push_content(text: &mut String, dice: &mut Dice, is_usual: bool) -> Result<()
 pub fn push_request(text: &mut String, dice: &mut Dice, asked: &Asked) -> Result<(), AllocError> {
     let (host, path) = (asked.host, asked.path);
     let (connection, ordinal) = (asked.connection, asked.ordinal);
-    let method = dice.pick(METHODS);
+    let method = if dice.once_in(5) {
+        dice.pick(UNUSUAL_METHODS)
+    } else {
+        "GET"
+    };
     let version = if dice.once_in(30) {
         dice.pick(OTHER_VERSIONS)
     } else {
