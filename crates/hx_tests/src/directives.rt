@@ -1,5 +1,5 @@
 //! Directives of real lines, read with ample memory.
-use hx_directives::{Directive, Directives, MaxStale, Seconds};
+use hx_directives::{Directive, Directives, MaxStale, Seconds, capped_seconds};
 use hx_fields::Fields;
 use std::test::Fail;
 
@@ -15,5 +15,26 @@ fn directives_are_read(rt: HostRuntime) -> Result<(), Fail> {
     assert_eq!(rt; found.max_stale(), MaxStale::Any);
     assert!(rt; found.has(Directive::Private));
     assert!(rt; !found.has(Directive::NoStore));
+    Ok(())
+}
+
+/// RFC 9111, 1.2.2: digits alone, and what is greater than 2^31 counts as that.
+#[test]
+fn seconds_are_capped(rt: HostRuntime) -> Result<(), Fail> {
+    for (text, seconds) in [
+        ("60", Some(60)),
+        ("007", Some(7)),
+        ("0", Some(0)),
+        ("2147483647", Some(2147483647)),
+        ("2147483648", Some(2147483648)),
+        ("2147483649", Some(2147483648)),
+        ("99999999999999999999999", Some(2147483648)),
+        ("", None),
+        ("-1", None),
+        ("1.5", None),
+        (" 1", None),
+    ] {
+        assert_eq!(rt; capped_seconds(text.as_bytes()), seconds);
+    }
     Ok(())
 }

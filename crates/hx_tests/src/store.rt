@@ -34,6 +34,10 @@ fn insert(serials: &mut Serials, serial: u64) -> Result<(), AllocError> {
     serials.insert(serial)
 }
 
+fn push(serials: &mut Serials, serial: u64) -> Result<(), AllocError> {
+    serials.push(serial)
+}
+
 fn copied(alloc: Global, entry: &Entry) -> Result<Entry, AllocError> {
     entry.copy(alloc)
 }
@@ -251,5 +255,15 @@ fn serials_ascend(rt: HostRuntime) -> Result<(), Fail> {
     }
     are_serials(&rt, &serials, &[1, 4, 9]);
     are_serials(&rt, &copied_serials(rt.alloc(), &serials)?, &[1, 4, 9]);
+    Ok(())
+}
+
+#[test]
+fn pushed_serials_keep_their_order(rt: HostRuntime) -> Result<(), Fail> {
+    let mut serials = Serials::new(rt.alloc());
+    for serial in [4, 9, 1, 9] {
+        push(&mut serials, serial)?;
+    }
+    are_serials(&rt, &serials, &[4, 9, 1, 9]);
     Ok(())
 }

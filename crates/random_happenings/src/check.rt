@@ -1,0 +1,396 @@
+//! What is checked of a run.
+//!
+//! Its text is read by the grammar of effects, and those of each happening by themselves.
+//! - Links are numbered 1, 2, 3 and so on; each forward is on a new one, to an address of the table, and a link is
+//!   dropped once at most.
+//! - A connection has one request at an origin at most. It is the first that isn't answered yet, and its link is dropped
+//!   before anything goes to the client.
+//! - Replies come in the order of a connection's requests: what came of an origin has the fields of that very request,
+//!   what came of the store those of its target. A reply is a whole message.
+//! - Nothing goes to a connection that isn't accepted, or is closed, or gone; a client that goes leaves no link.
+
+use crate::effects::{Effect, read_effect};
+use crate::fields::{last_value, number_of, parts};
+use crate::log::{Log, Step, Told};
+use crate::requests::Asked;
+use bstr::ByteSlice;
+use std::alloc::{AllocError, Global};
+use std::fmt;
+
+/// What doesn't hold, with the connection or link at which it doesn't.
+#[derive(Drop)]
+pub enum Wrong {
+    OutOfMemory,
+    Rule(&'static str, u64),
+}
+
+impl From<AllocError> for Wrong {
+    fn from(_: AllocError) -> Self {
+        Wrong::OutOfMemory
+    }
+}
+
+/// How much there was of what.
+#[derive(Clone, Copy, Default)]
+pub struct Counts {
+    pub effects: u64,
+    pub forwards: u64,
+    pub drops: u64,
+    pub replies: u64,
+    pub stored: u64,
+    pub hits: u64,
+    pub validated: u64,
+    pub refused: u64,
+}
+
+impl fmt::Display for Counts {
+    fn fmt<W: fmt::Write>(&self, f: &mut fmt::Formatter<W>) -> fmt::Result {
+        let (effects, forwards, drops) = (self.effects, self.forwards, self.drops);
+        let (replies, stored, hits) = (self.replies, self.stored, self.hits);
+        let (validated, refused) = (self.validated, self.refused);
+        write!(
+            f,
+            "{effects} effects: {forwards} forwards, {drops} drops, {replies} replies, "
+        )?;
+        write!(
+            f,
+            "of them {stored} stored, {hits} hits, {validated} validated, {refused} refused"
+        )
+    }
+}
+
+#[derive(Drop)]
+struct Client<'a> {
+    asked: Vec<&'a Asked>,
+    replies: usize,
+    link: Option<u64>,
+    is_accepted: bool,
+    is_over: bool,
+}
+
+#[derive(Clone, Copy)]
+struct Link {
+    connection: u64,
+    is_dropped: bool,
+}
+
+#[derive(Drop)]
+struct Check<'a> {
+    alloc: Global,
+    clients: Vec<Client<'a>>,
+    links: Vec<Link>,
+    counts: Counts,
+}
+
+const CONTINUE: &[u8] = b"HTTP/1.1 100 Continue\r\n\r\n";
+
+fn one_more(count: &mut u64) {
+    *count = count.saturating_add(1);
+}
+
+fn holds(is_so: bool, rule: &'static str, number: u64) -> Result<(), Wrong> {
+    if is_so {
+        Ok(())
+    } else {
+        Err(Wrong::Rule(rule, number))
+    }
+}
+
+/// Where the end of this number, counted from 1, stands in a list.
+fn place(number: u64) -> usize {
+    match number.checked_sub(1) {
+        Some(before) => before as usize,
+        None => usize::MAX,
+    }
+}
+
+/// The connection and the ordinal that the field X-Id of a head names.
+fn id_of(head: &[u8]) -> Option<(u64, u64)> {
+    let (connection, ordinal) = last_value(head, b"X-Id")?.split_once_str(b".")?;
+    Some((number_of(connection)?, number_of(ordinal)?))
+}
+
+/// Whether a content has the length that its head states; to a HEAD there is none.
+fn fits(head: &[u8], content: &[u8]) -> bool {
+    match last_value(head, b"Content-Length") {
+        Some(length) => content.is_empty() || number_of(length) == Some(content.len() as u64),
+        None => content.is_empty(),
+    }
+}
+
+/// Whether a status line has a status of three digits and no reason.
+fn is_status_line(line: &[u8]) -> bool {
+    match line.strip_prefix(b"HTTP/1.1 ") {
+        Some([a, b, c, b' ']) => a.is_ascii_digit() && b.is_ascii_digit() && c.is_ascii_digit(),
+        _ => false,
+    }
+}
+
+/// Where a reply comes from.
+#[derive(Clone, Copy)]
+enum Source {
+    /// The proxy itself.
+    Own,
+    /// An origin, whose answer was stored or not.
+    Stored,
+    Origin,
+    /// The store: unasked, on the word of an origin, or in the place of an answer.
+    Hit,
+    Validated,
+    Store,
+}
+
+/// Where a reply says that it comes from.
+fn source_of(head: &[u8]) -> Option<Source> {
+    if last_value(head, b"Refusal").is_some() {
+        return Some(Source::Own);
+    }
+    let member = last_value(head, b"Cache-Status")?.strip_prefix(b"edge;")?;
+    if member.starts_with(b"hit") {
+        return Some(Source::Hit);
+    }
+    if member.contains_str(b";stored") {
+        return Some(Source::Stored);
+    }
+    if !member.contains_str(b";ttl=") {
+        return Some(Source::Origin);
+    }
+    if member.contains_str(b";fwd-status=304") {
+        return Some(Source::Validated);
+    }
+    Some(Source::Store)
+}
+
+/// Whether a head has the fields of the answer to this request, or, from the store, to one for its target.
+fn answers(alloc: Global, head: &[u8], source: Source, asked: &Asked) -> Result<bool, AllocError> {
+    match source {
+        Source::Own => Ok(true),
+        Source::Stored | Source::Origin => Ok(
+            last_value(head, b"X-Id") == Some(asked.id(alloc)?.as_bytes()),
+        ),
+        Source::Store | Source::Hit | Source::Validated => {
+            let is_bare = head.starts_with(b"HTTP/1.1 304 ");
+            Ok(is_bare || last_value(head, b"X-Target") == Some(asked.target(alloc)?.as_bytes()))
+        }
+    }
+}
+
+impl<'a> Check<'a> {
+    /// Nothing has happened yet; the requests that the clients of a log will send are known.
+    fn new(alloc: Global, log: &'a Log) -> Result<Self, Wrong> {
+        let mut clients = Vec::new(alloc);
+        for step in &log.steps {
+            if let Told::Accepted(_) = step.told {
+                let client = Client {
+                    asked: Vec::new(alloc),
+                    replies: 0,
+                    link: None,
+                    is_accepted: false,
+                    is_over: false,
+                };
+                clients.push(client).map_err(AllocError::from)?;
+            }
+        }
+        for asked in &log.asked {
+            if let Some(client) = clients.get_mut(place(asked.connection)) {
+                client.asked.push(asked).map_err(AllocError::from)?;
+            }
+        }
+        Ok(Check {
+            alloc,
+            clients,
+            links: Vec::new(alloc),
+            counts: Counts::default(),
+        })
+    }
+
+    /// The client of a connection to which something may go.
+    fn client(&mut self, number: u64) -> Result<&mut Client<'a>, Wrong> {
+        match self.clients.get_mut(place(number)) {
+            Some(client) if client.is_accepted && !client.is_over => Ok(client),
+            _ => Err(Wrong::Rule("an effect is on a connection that isn't open", number)),
+        }
+    }
+
+    /// What is known of a happening before its effects.
+    fn tell(&mut self, told: Told) {
+        match told {
+            Told::Accepted(number) => {
+                if let Some(client) = self.clients.get_mut(place(number)) {
+                    client.is_accepted = true;
+                }
+            }
+            Told::Gone(number) => {
+                if let Some(client) = self.clients.get_mut(place(number)) {
+                    client.is_over = true;
+                }
+            }
+            Told::Other => {}
+        }
+    }
+
+    /// What must hold behind the effects of a happening.
+    fn ask(&self, told: Told) -> Result<(), Wrong> {
+        if let Told::Gone(number) = told {
+            if let Some(client) = self.clients.get(place(number)) {
+                return holds(
+                    client.link.is_none(),
+                    "a client that is gone keeps its link",
+                    number,
+                );
+            }
+        }
+        Ok(())
+    }
+
+    fn forward(&mut self, number: u64, address: &[u8], request: &[u8]) -> Result<(), Wrong> {
+        let is_next = place(number) == self.links.len();
+        holds(
+            is_next,
+            "a forward is on a link that isn't the next",
+            number,
+        )?;
+        let is_known = matches!(address, b"127.0.0.1:8081" | b"127.0.0.1:8082");
+        holds(is_known, "no line has the address of a forward", number)?;
+        let (connection, ordinal) = match parts(request) {
+            Some((head, _)) => id_of(head),
+            None => None,
+        }
+        .ok_or(Wrong::Rule("a forward is of no request", number))?;
+        let client = self.client(connection)?;
+        holds(
+            client.link.is_none(),
+            "two requests of a connection are at origins",
+            connection,
+        )?;
+        let is_first = place(ordinal) == client.replies;
+        holds(
+            is_first,
+            "a forward isn't of the first request without reply",
+            connection,
+        )?;
+        client.link = Some(number);
+        one_more(&mut self.counts.forwards);
+        let link = Link {
+            connection,
+            is_dropped: false,
+        };
+        self.links.push(link).map_err(AllocError::from)?;
+        Ok(())
+    }
+
+    fn drop_link(&mut self, number: u64) -> Result<(), Wrong> {
+        let connection = match self.links.get_mut(place(number)) {
+            Some(link) if !link.is_dropped => {
+                link.is_dropped = true;
+                link.connection
+            }
+            _ => return Err(Wrong::Rule("a link is dropped that isn't there", number)),
+        };
+        if let Some(client) = self.clients.get_mut(place(connection)) {
+            client.link = None;
+        }
+        one_more(&mut self.counts.drops);
+        Ok(())
+    }
+
+    fn count(&mut self, source: Source) {
+        one_more(&mut self.counts.replies);
+        match source {
+            Source::Own => one_more(&mut self.counts.refused),
+            Source::Stored => one_more(&mut self.counts.stored),
+            Source::Hit => one_more(&mut self.counts.hits),
+            Source::Validated => one_more(&mut self.counts.validated),
+            Source::Origin | Source::Store => {}
+        }
+    }
+
+    /// Bytes to a client: a continue, or the reply to its first request that has none.
+    fn reply(&mut self, number: u64, bytes: &[u8]) -> Result<(), Wrong> {
+        let alloc = self.alloc;
+        let client = self.client(number)?;
+        holds(
+            client.link.is_none(),
+            "a client gets something while its link is open",
+            number,
+        )?;
+        if bytes == CONTINUE {
+            return Ok(());
+        }
+        let asked = match client.asked.get(client.replies) {
+            Some(asked) => *asked,
+            None => return Err(Wrong::Rule("a reply is to no request", number)),
+        };
+        client.replies = client.replies.saturating_add(1);
+        let (head, content) = parts(bytes).ok_or(Wrong::Rule("a reply is no message", number))?;
+        let line = match head.split_once_str(b"\r\n") {
+            Some((line, _)) => line,
+            None => head,
+        };
+        holds(is_status_line(line), "a reply has no status line", number)?;
+        holds(
+            fits(head, content),
+            "a reply has another length than it says",
+            number,
+        )?;
+        let source = source_of(head).ok_or(Wrong::Rule(
+            "a reply doesn't say whence it is",
+            number,
+        ))?;
+        let is_own = answers(alloc, head, source, asked)?;
+        holds(is_own, "a reply is to another request", number)?;
+        self.count(source);
+        Ok(())
+    }
+
+    /// The effects of one happening.
+    fn see(&mut self, text: &[u8]) -> Result<(), Wrong> {
+        let mut rest = text;
+        for _ in 0..text.len() {
+            if rest.is_empty() {
+                return Ok(());
+            }
+            let (effect, more) = read_effect(rest).ok_or(Wrong::Rule("a text is no effect", 0))?;
+            one_more(&mut self.counts.effects);
+            match effect {
+                Effect::Client(number, bytes) => self.reply(number, bytes)?,
+                Effect::Forward(number, address, request) => {
+                    self.forward(number, address, request)?;
+                }
+                Effect::Close(number) => {
+                    let client = self.client(number)?;
+                    holds(client.link.is_none(), "a close leaves a link", number)?;
+                    client.is_over = true;
+                }
+                Effect::Drop(number) => self.drop_link(number)?,
+            }
+            rest = more;
+        }
+        holds(rest.is_empty(), "a text is no effect", 0)
+    }
+}
+
+/// Checks the text of a replay, happening by happening.
+pub fn check_run(alloc: Global, log: &Log, text: &[u8]) -> Result<Counts, Wrong> {
+    holds(
+        log.effects.as_slice() == text,
+        "the replay did something else than the engine",
+        0,
+    )?;
+    let mut check = Check::new(alloc, log)?;
+    let mut rest = text;
+    for step in &log.steps {
+        let Step { told, length } = *step;
+        let own = rest
+            .get(..length)
+            .ok_or(Wrong::Rule("effects are missing", 0))?;
+        check.tell(told);
+        check.see(own)?;
+        check.ask(told)?;
+        rest = rest
+            .get(length..)
+            .ok_or(Wrong::Rule("effects are missing", 0))?;
+    }
+    holds(rest.is_empty(), "there are effects of no happening", 0)?;
+    Ok(check.counts)
+}

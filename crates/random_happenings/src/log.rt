@@ -1,0 +1,43 @@
+//! What happened, as the script has it, and what the engine did.
+
+use crate::requests::Asked;
+use std::alloc::Global;
+
+/// What the check has to know of a happening.
+#[derive(Clone, Copy)]
+pub enum Told {
+    /// The connection of this number was accepted.
+    Accepted(u64),
+    /// The client of this connection went away.
+    Gone(u64),
+    /// Anything else.
+    Other,
+}
+
+/// A happening, and how many bytes the text of its effects has.
+#[derive(Clone, Copy)]
+pub struct Step {
+    pub told: Told,
+    pub length: usize,
+}
+
+/// A script, and the run of it.
+#[derive(Drop)]
+pub struct Log {
+    pub script: Vec<u8>,
+    pub effects: Vec<u8>,
+    pub steps: Vec<Step>,
+    /// The requests of all connections, those of each in their order.
+    pub asked: Vec<Asked>,
+}
+
+impl Log {
+    pub fn new(alloc: Global) -> Self {
+        Log {
+            script: Vec::new(alloc),
+            effects: Vec::new(alloc),
+            steps: Vec::new(alloc),
+            asked: Vec::new(alloc),
+        }
+    }
+}

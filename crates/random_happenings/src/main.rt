@@ -1,0 +1,31 @@
+//! Plays 10,000 random happenings, and checks what the proxy does of them.
+//!
+//! A `World` of clients and origins makes happenings, the same in each run, one after another: requests and answers, whole,
+//! cut, faulty and too late, failures, ends, and moments that go forward and back. An engine beside it tells which links
+//! there are, so that what comes next can be of use. The script of all is then replayed, and of each effect is checked
+//! what `check.rt` says.
+#![tactic(auto)]
+
+mod answers;
+mod check;
+mod dice;
+mod effects;
+mod fields;
+mod items;
+mod log;
+mod requests;
+mod trial;
+mod world;
+
+use std::process::ExitCode;
+
+fn main(rt: HostRuntime) -> ExitCode {
+    match trial::run(&rt) {
+        Ok(true) => ExitCode::SUCCESS,
+        Ok(false) => ExitCode::FAILURE,
+        Err(e) => {
+            let _ = eprintln!(&rt; "the trial ended early: {e}");
+            ExitCode::FAILURE
+        }
+    }
+}

@@ -1,0 +1,184 @@
+//! What clients send.
+
+use crate::dice::Dice;
+use std::alloc::{AllocError, Global};
+
+const UNUSUAL_METHODS: &[&str] = &[
+    "HEAD", "HEAD", "HEAD", "POST", "POST", "PUT", "FOO", "get", "TRACE",
+];
+
+const OTHER_VERSIONS: &[&str] = &["HTTP/1.0", "HTTP/1.0", "HTTP/2.0"];
+
+const HOSTS: &[&str] = &["h", "h", "i"];
+
+const PATHS: &[&str] = &[
+    "/a", "/a", "/a", "/a", "/a", "/b", "/b", "/b", "/c?q", "/d", "/denied",
+];
+
+const LANGUAGES: &[&str] = &[
+    "Accept-Language: de\r\n",
+    "Accept-Language: en\r\n",
+    "accept-language:  de \r\n",
+];
+
+const DIRECTIVES: &[&str] = &[
+    "Cache-Control: no-cache\r\n",
+    "Cache-Control: no-store\r\n",
+    "Cache-Control: max-age=5\r\n",
+    "Cache-Control: max-age=0, max-stale\r\n",
+    "Cache-Control: max-stale=10\r\n",
+    "Cache-Control: max-stale\r\n",
+    "Cache-Control: min-fresh=5\r\n",
+    "Cache-Control: only-if-cached\r\n",
+    "Cache-Control: stale-if-error=30\r\n",
+];
+
+const CONDITIONS: &[&str] = &[
+    "If-None-Match: \"v1\"\r\n",
+    "If-None-Match: W/\"v2\", \"v1\"\r\n",
+    "If-None-Match: *\r\n",
+    "If-Modified-Since: Thu, 01 Jan 1970 00:10:00 GMT\r\n",
+    "If-Match: \"v1\"\r\n",
+    "Range: bytes=0-1\r\n",
+    "Authorization: Basic QQ==\r\n",
+];
+
+const CONNECTIONS: &[&str] = &[
+    "Connection: close\r\n",
+    "Connection: keep-alive, X-Hop\r\nX-Hop: 1\r\n",
+    "Connection: Accept-Language\r\n",
+    "TE: trailers\r\nUpgrade: h2c\r\n",
+];
+
+const FAULTS: &[&str] = &[
+    "Host: twice\r\n",
+    "Bad name: x\r\n",
+    " folded\r\n",
+    "Expect: gold\r\n",
+    "Content-Length: x\r\n",
+    "Transfer-Encoding: gzip\r\n",
+];
+
+/// A request of a client: which of the connection's it is, counted from 1, and what it asks for.
+#[derive(Drop)]
+pub struct Asked {
+    pub connection: u64,
+    pub ordinal: u64,
+    pub host: &'static str,
+    pub path: &'static str,
+}
+
+impl Asked {
+    /// A request for one of few targets, so that requests meet.
+    pub fn random(dice: &mut Dice, connection: u64, ordinal: u64) -> Self {
+        Asked {
+            connection,
+            ordinal,
+            host: dice.pick(HOSTS),
+            path: dice.pick(PATHS),
+        }
+    }
+
+    /// What its field X-Id says.
+    pub fn id(&self, alloc: Global) -> Result<String, AllocError> {
+        let (connection, ordinal) = (self.connection, self.ordinal);
+        format!(in alloc; "{connection}.{ordinal}")
+    }
+
+    /// What its field X-Target says.
+    pub fn target(&self, alloc: Global) -> Result<String, AllocError> {
+        let (host, path) = (self.host, self.path);
+        format!(in alloc; "{host}{path}")
+    }
+}
+
+/// This many letters.
+pub fn push_letters(text: &mut String, dice: &mut Dice, count: usize) -> Result<(), AllocError> {
+    for _ in 0..count {
+        text.push_str(dice.pick(&["a", "b", "c", "\r\n", "d"]))?;
+    }
+    Ok(())
+}
+
+/// A content of a few letters.
+pub fn letters(alloc: Global, dice: &mut Dice) -> Result<String, AllocError> {
+    let count = if dice.once_in(60) {
+        1000 + dice.below(5)
+    } else {
+        dice.below(30)
+    };
+    let mut content = String::new(alloc);
+    push_letters(&mut content, dice, count)?;
+    Ok(content)
+}
+
+/// The content in chunks, and its coding in front.
+pub fn push_chunks(text: &mut String, dice: &mut Dice) -> Result<(), AllocError> {
+    text.push_str("Transfer-Encoding: chunked\r\n\r\n")?;
+    for _ in 0..dice.below(4) {
+        let mut data = String::new(*text.allocator());
+        let count = 1 + dice.below(20);
+        push_letters(&mut data, dice, count)?;
+        let size = data.len();
+        write!(text, "{size:x}\r\n{data}\r\n")?;
+    }
+    text.push_str(dice.pick(&["0\r\n\r\n", "0\r\n\r\n", "0;x=1\r\nX-Trailer: t\r\n\r\n"]))?;
+    if dice.once_in(20) {
+        text.push_str("z\r\n")?;
+    }
+    Ok(())
+}
+
+/// The content with its length in front.
+fn push_counted(text: &mut String, dice: &mut Dice) -> Result<(), AllocError> {
+    let content = letters(*text.allocator(), dice)?;
+    let length = content.len();
+    write!(text, "Content-Length: {length}\r\n\r\n{content}")
+}
+
+fn push_content(text: &mut String, dice: &mut Dice, is_usual: bool) -> Result<(), AllocError> {
+    if !is_usual && !dice.once_in(30) {
+        return text.push_str("\r\n");
+    }
+    if dice.once_in(6) {
+        text.push_str("Expect: 100-continue\r\n")?;
+    }
+    match dice.below(10) {
+        0..=4 => push_counted(text, dice),
+        5..=8 => push_chunks(text, dice),
+        _ => text.push_str("\r\n"),
+    }
+}
+
+/// The whole of a request, with fields that its answer is known by.
+pub fn push_request(text: &mut String, dice: &mut Dice, asked: &Asked) -> Result<(), AllocError> {
+    let (host, path) = (asked.host, asked.path);
+    let (connection, ordinal) = (asked.connection, asked.ordinal);
+    let method = if dice.once_in(5) {
+        dice.pick(UNUSUAL_METHODS)
+    } else {
+        "GET"
+    };
+    let version = if dice.once_in(30) {
+        dice.pick(OTHER_VERSIONS)
+    } else {
+        "HTTP/1.1"
+    };
+    write!(text, "{method} {path} {version}\r\nHost: {host}\r\n")?;
+    write!(
+        text,
+        "X-Id: {connection}.{ordinal}\r\nX-Target: {host}{path}\r\n"
+    )?;
+    for (lines, rarity) in [
+        (LANGUAGES, 2usize),
+        (DIRECTIVES, 3),
+        (CONDITIONS, 6),
+        (CONNECTIONS, 20),
+        (FAULTS, 60),
+    ] {
+        if dice.once_in(rarity) {
+            text.push_str(dice.pick(lines))?;
+        }
+    }
+    push_content(text, dice, matches!(method, "POST" | "PUT" | "FOO"))
+}

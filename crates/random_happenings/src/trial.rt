@@ -1,0 +1,54 @@
+//! The trial: a script is made, replayed and checked.
+
+use crate::check::{Wrong, check_run};
+use crate::log::Log;
+use crate::world::{Stopped, World};
+use proxy_server::replay;
+use std::alloc::Global;
+use std::io;
+
+/// Where the choices begin: another number makes another script.
+const BEGINNING: u64 = 20_261_123;
+
+const HAPPENINGS: usize = 10_000;
+
+fn make(alloc: Global) -> Result<Log, Stopped> {
+    let mut world = World::new(alloc, BEGINNING)?;
+    for _ in 0..HAPPENINGS {
+        world.step()?;
+    }
+    Ok(world.into_log())
+}
+
+/// Prints whether the property holds, or what doesn't, and tells whether it does.
+pub fn run<R: Print + Eprint + AllocGlobal>(rt: &R) -> io::Result<bool> {
+    let log = match make(rt.alloc()) {
+        Ok(log) => log,
+        Err(stopped) => {
+            eprintln!(rt; "no script: {stopped}")?;
+            return Ok(false);
+        }
+    };
+    let mut script = log.script.as_slice();
+    let mut text = Vec::new(rt.alloc());
+    if let Err(fault) = replay(rt.alloc(), &mut script, &mut text) {
+        println!(rt; "the replay ended: {fault}")?;
+        return Ok(false);
+    }
+    match check_run(rt.alloc(), &log, text.as_slice()) {
+        Ok(counts) => {
+            eprintln!(rt; "{counts}")?;
+            let happenings = log.steps.len();
+            println!(rt; "{happenings} happenings: the property holds")?;
+            Ok(true)
+        }
+        Err(Wrong::OutOfMemory) => {
+            eprintln!(rt; "no memory")?;
+            Ok(false)
+        }
+        Err(Wrong::Rule(rule, number)) => {
+            println!(rt; "{rule}: {number}")?;
+            Ok(false)
+        }
+    }
+}

@@ -1,0 +1,345 @@
+//! Clients and origins that act at random, and the engine that tells them what links there are.
+ghost use Rattle.std.specs.Prelude.{◌<◌};
+
+use crate::answers::{Question, push_answer};
+use crate::dice::Dice;
+use crate::items::{happening, push_item};
+use crate::log::{Log, Step, Told};
+use crate::requests::{Asked, push_request};
+use hx_allow::Config;
+use hx_store::ListShelf;
+use proxy_engine::{Engine, EngineFault, Work};
+use proxy_script::{Effect, Failure, Item, effects_text};
+use std::alloc::{AllocError, Global};
+use std::{fmt, mem};
+
+/// The table of the trial: few entries, so that some are evicted, and contents of 1,000 bytes at most.
+pub const TABLE: &[u8] = b"version = 1
+name = \"edge\"
+capacity = 4
+max_body = 1000
+max_stored = 500
+
+[[line]]
+host = \"*\"
+methods = [\"*\"]
+path = \"/denied\"
+origin = \"deny\"
+
+[[line]]
+host = \"i\"
+methods = [\"*\"]
+path = \"/\"
+origin = \"127.0.0.1:8082\"
+
+[[line]]
+host = \"*\"
+methods = [\"*\"]
+path = \"/\"
+origin = \"127.0.0.1:8081\"
+";
+
+/// The most connections that are open at a time.
+const MOST_OPEN: usize = 16;
+
+/// More acts than one happening can make due.
+const MOST_ACTS: u32 = 10_000;
+
+/// The last moment of the trial.
+const LAST_MOMENT: u64 = 80_000;
+
+/// Why no script was made.
+#[derive(Debug, Drop)]
+pub enum Stopped {
+    OutOfMemory,
+    /// The engine refused what happened, or the table.
+    Refused,
+    /// The engine found always more to do.
+    Restless,
+}
+
+impl From<AllocError> for Stopped {
+    fn from(_: AllocError) -> Self {
+        Stopped::OutOfMemory
+    }
+}
+
+impl From<EngineFault> for Stopped {
+    fn from(fault: EngineFault) -> Self {
+        match fault {
+            EngineFault::OutOfMemory => Stopped::OutOfMemory,
+            _ => Stopped::Refused,
+        }
+    }
+}
+
+impl fmt::Display for Stopped {
+    fn fmt<W: fmt::Write>(&self, f: &mut fmt::Formatter<W>) -> fmt::Result {
+        f.write_str(match self {
+            Stopped::OutOfMemory => "no memory",
+            Stopped::Refused => "the engine refuses what happened",
+            Stopped::Restless => "the engine comes to no rest",
+        })
+    }
+}
+
+/// An open connection of a client.
+#[derive(Drop)]
+struct Caller {
+    number: u64,
+    /// How many requests it has begun.
+    begun: u64,
+    /// What of its requests isn't sent yet.
+    rest: Vec<u8>,
+}
+
+/// An open link to an origin.
+#[derive(Drop)]
+struct Link {
+    number: u64,
+    question: Question,
+    has_begun: bool,
+    /// What of its answer isn't sent yet.
+    rest: Vec<u8>,
+}
+
+#[derive(Drop)]
+pub struct World {
+    alloc: Global,
+    dice: Dice,
+    engine: Engine<ListShelf>,
+    now: u64,
+    callers: Vec<Caller>,
+    links: Vec<Link>,
+    accepted: u64,
+    forwarded: u64,
+    log: Log,
+}
+
+/// The next piece of what is to be sent, often all of it.
+fn cut_piece(dice: &mut Dice, rest: &mut Vec<u8>) -> Result<Vec<u8>, AllocError> {
+    let whole = rest.len();
+    let length = match dice.below(4) {
+        0 => dice.below(20),
+        1 => dice.below(whole),
+        _ => whole,
+    };
+    let tail = rest.split_off(length.min(whole))?;
+    Ok(mem::replace(rest, tail))
+}
+
+impl World {
+    /// Nothing has happened yet; the script has its table.
+    pub fn new(alloc: Global, beginning: u64) -> Result<Self, Stopped> {
+        let config = match Config::read(alloc, TABLE) {
+            Ok(config) => config,
+            Err(_) => return Err(Stopped::Refused),
+        };
+        let shelf = ListShelf::new(alloc, config.capacity());
+        let mut log = Log::new(alloc);
+        push_item(&mut log.script, Item::Config(TABLE))?;
+        Ok(World {
+            alloc,
+            dice: Dice::new(beginning),
+            engine: Engine::new(alloc, config, shelf, 1, 1),
+            now: 0,
+            callers: Vec::new(alloc),
+            links: Vec::new(alloc),
+            accepted: 0,
+            forwarded: 0,
+            log,
+        })
+    }
+
+    /// What happened, and what was done.
+    pub fn into_log(self) -> Log {
+        self.log
+    }
+
+    /// One more happening.
+    pub fn step(&mut self) -> Result<(), Stopped> {
+        if self.dice.once_in(5) {
+            self.change_moment()?;
+        }
+        let roll = self.dice.below(100);
+        if self.callers.is_empty() || (roll < 8 && self.callers.len() < MOST_OPEN) {
+            return self.accept();
+        }
+        match roll {
+            0..=3 => self.client_leaves(),
+            4..=7 => self.link_ends(),
+            8..=10 => self.too_late(),
+            11..=54 => self.client_sends(),
+            _ if self.links.is_empty() => self.client_sends(),
+            _ => self.origin_sends(),
+        }
+    }
+
+    /// The moment goes forward, or at times back. That is no happening.
+    fn change_moment(&mut self) -> Result<(), Stopped> {
+        let seconds = self.dice.below(6) as u64;
+        self.now = match self.dice.below(10) {
+            0 => self.now.saturating_sub(seconds),
+            1 => self.now.saturating_add(10 * seconds),
+            _ => self.now.saturating_add(seconds),
+        };
+        let moment = self.moment();
+        push_item(&mut self.log.script, Item::At(moment))?;
+        Ok(())
+    }
+
+    fn moment(&self) -> u64
+        ensures { result < 253402300800 }
+    {
+        self.now.min(LAST_MOMENT)
+    }
+
+    fn accept(&mut self) -> Result<(), Stopped> {
+        self.accepted = self.accepted.saturating_add(1);
+        let number = self.accepted;
+        let caller = Caller {
+            number,
+            begun: 0,
+            rest: Vec::new(self.alloc),
+        };
+        self.callers.push(caller).map_err(AllocError::from)?;
+        self.happen(Item::Accept(number), Told::Accepted(number))
+    }
+
+    /// A client sends a piece of a request, of a new one where the last was sent whole.
+    fn client_sends(&mut self) -> Result<(), Stopped> {
+        let i = self.dice.below(self.callers.len());
+        let Some(caller) = self.callers.get_mut(i) else {
+            return self.accept();
+        };
+        if caller.rest.is_empty() || self.dice.once_in(8) {
+            caller.begun = caller.begun.saturating_add(1);
+            let asked = Asked::random(&mut self.dice, caller.number, caller.begun);
+            let mut text = String::new(self.alloc);
+            push_request(&mut text, &mut self.dice, &asked)?;
+            caller.rest.extend_from_slice(text.as_bytes())?;
+            self.log.asked.push(asked).map_err(AllocError::from)?;
+        }
+        let number = caller.number;
+        let piece = cut_piece(&mut self.dice, &mut caller.rest)?;
+        self.happen(Item::Client(number, piece.as_slice()), Told::Other)
+    }
+
+    /// An origin sends a piece of its answer, and closes where all of it was sent.
+    fn origin_sends(&mut self) -> Result<(), Stopped> {
+        let i = self.dice.below(self.links.len());
+        let Some(link) = self.links.get_mut(i) else {
+            return self.accept();
+        };
+        let number = link.number;
+        if !link.has_begun {
+            link.has_begun = true;
+            let mut text = String::new(self.alloc);
+            push_answer(&mut text, &mut self.dice, &link.question)?;
+            link.rest.extend_from_slice(text.as_bytes())?;
+        } else if link.rest.is_empty() {
+            return self.happen(Item::Shut(number), Told::Other);
+        }
+        let piece = cut_piece(&mut self.dice, &mut link.rest)?;
+        self.happen(Item::Link(number, piece.as_slice()), Told::Other)
+    }
+
+    /// A client sends no more, or goes away.
+    fn client_leaves(&mut self) -> Result<(), Stopped> {
+        let i = self.dice.below(self.callers.len());
+        let Some(caller) = self.callers.get(i) else {
+            return self.accept();
+        };
+        let number = caller.number;
+        if self.dice.once_in(2) {
+            return self.happen(Item::End(number), Told::Other);
+        }
+        self.callers.retain(|caller| caller.number != number);
+        self.happen(Item::Gone(number), Told::Gone(number))
+    }
+
+    /// A link fails, or its origin closes it.
+    fn link_ends(&mut self) -> Result<(), Stopped> {
+        let i = self.dice.below(self.links.len());
+        let Some(link) = self.links.get(i) else {
+            return self.client_sends();
+        };
+        let number = link.number;
+        let item = match self.dice.below(4) {
+            0 => Item::Fail(number, Failure::Refused),
+            1 => Item::Fail(number, Failure::TimedOut),
+            2 => Item::Fail(number, Failure::Closed),
+            _ => Item::Shut(number),
+        };
+        self.happen(item, Told::Other)
+    }
+
+    /// Something happens at an end that is over.
+    fn too_late(&mut self) -> Result<(), Stopped> {
+        let n = (self.dice.below(self.accepted as usize) as u64).saturating_add(1);
+        let l = (self.dice.below(self.forwarded as usize) as u64).saturating_add(1);
+        let is_open = self.callers.iter().any(|caller| caller.number == n);
+        let is_linked = self.forwarded == 0 || self.links.iter().any(|link| link.number == l);
+        match self.dice.below(6) {
+            0 if !is_open => self.happen(Item::Client(n, b"GET /late HTTP/1.1\r\n"), Told::Other),
+            1 if !is_open => self.happen(Item::End(n), Told::Other),
+            2 if !is_open => self.happen(Item::Gone(n), Told::Gone(n)),
+            3 if !is_linked => self.happen(Item::Fail(l, Failure::Closed), Told::Other),
+            4 if !is_linked => self.happen(Item::Shut(l), Told::Other),
+            _ if !is_linked => self.happen(Item::Link(l, b"late"), Told::Other),
+            _ => self.client_sends(),
+        }
+    }
+
+    /// Writes what happened, and takes it.
+    fn happen(&mut self, item: Item<'_>, told: Told) -> Result<(), Stopped> {
+        push_item(&mut self.log.script, item)?;
+        let before = self.log.effects.len();
+        if let Some(happening) = happening(item) {
+            self.engine.take(self.alloc, happening)?;
+            self.settle()?;
+        }
+        let length = self.log.effects.len().saturating_sub(before);
+        self.log
+            .steps
+            .push(Step { told, length })
+            .map_err(AllocError::from)?;
+        Ok(())
+    }
+
+    /// Does all that is due.
+    fn settle(&mut self) -> Result<(), Stopped> {
+        let now = self.moment();
+        for _ in 0..MOST_ACTS {
+            match self.engine.work(self.alloc, now)? {
+                Work::Idle => return Ok(()),
+                Work::Did(effects) => self.see(effects.as_slice())?,
+            }
+        }
+        Err(Stopped::Restless)
+    }
+
+    /// Writes effects, and learns from them which ends there are.
+    fn see(&mut self, effects: &[Effect]) -> Result<(), Stopped> {
+        let text = effects_text(self.alloc, effects)?;
+        self.log.effects.extend_from_slice(text.as_slice())?;
+        for effect in effects {
+            match effect {
+                Effect::Client(_, _) => {}
+                Effect::Forward(number, _, bytes) => {
+                    self.forwarded = *number;
+                    let link = Link {
+                        number: *number,
+                        question: Question::read(self.alloc, bytes.as_slice())?,
+                        has_begun: false,
+                        rest: Vec::new(self.alloc),
+                    };
+                    self.links.push(link).map_err(AllocError::from)?;
+                }
+                Effect::Close(number) => self.callers.retain(|caller| caller.number != *number),
+                Effect::Drop(number) => self.links.retain(|link| link.number != *number),
+            }
+        }
+        Ok(())
+    }
+}
