@@ -1,6 +1,8 @@
 //! The rows of a folder.
 
+use crate::pieces::byte_by_byte;
 use proxy_server::replay;
+use std::alloc::{AllocError, Global};
 use std::io::ErrorKind;
 use std::rt::Files;
 use std::{fs, io};
@@ -37,26 +39,50 @@ fn file_or_nothing<R: Files + AllocGlobal>(
     }
 }
 
-/// Whether the replay of a row gives what is written down.
+/// What a replay writes, the line of its fault and the exit status; both are empty where it ends well.
+#[derive(Drop)]
+struct Played {
+    text: Vec<u8>,
+    line: String,
+    status: String,
+}
+
+fn replayed(alloc: Global, script: &[u8]) -> Result<Played, AllocError> {
+    let mut reader = script;
+    let mut text = Vec::new(alloc);
+    match replay(alloc, &mut reader, &mut text) {
+        Ok(()) => Ok(Played {
+            text,
+            line: String::new(alloc),
+            status: String::new(alloc),
+        }),
+        Err(fault) => {
+            let line = format!(in alloc; "{fault}\n")?;
+            let status = fault.exit_status();
+            Ok(Played {
+                text,
+                line,
+                status: format!(in alloc; "{status}\n")?,
+            })
+        }
+    }
+}
+
+/// Whether the replay of a row gives what is written down, and writes the same where its bytes come one at a time.
 fn holds<R: Files + AllocGlobal>(rt: &R, name: &str) -> io::Result<bool> {
     let script = file(rt, name, "script")?;
     let effects = file(rt, name, "effects")?;
     let wanted_line = file_or_nothing(rt, name, "stderr")?;
     let wanted_status = file_or_nothing(rt, name, "status")?;
-    let mut reader = script.as_slice();
-    let mut text = Vec::new(rt.alloc());
-    let (line, status) = match replay(rt.alloc(), &mut reader, &mut text) {
-        Ok(()) => (String::new(rt.alloc()), String::new(rt.alloc())),
-        Err(fault) => {
-            let line = format!(in rt.alloc(); "{fault}\n")?;
-            let status = fault.exit_status();
-            (line, format!(in rt.alloc(); "{status}\n")?)
-        }
-    };
+    let whole = replayed(rt.alloc(), script.as_slice())?;
+    let pieces = byte_by_byte(rt.alloc(), script.as_slice())?;
+    let cut = replayed(rt.alloc(), pieces.as_slice())?;
     Ok(
-        text.as_slice() == effects.as_slice()
-            && line.as_bytes() == wanted_line.as_slice()
-            && status.as_bytes() == wanted_status.as_slice(),
+        whole.text.as_slice() == effects.as_slice()
+            && whole.line.as_bytes() == wanted_line.as_slice()
+            && whole.status.as_bytes() == wanted_status.as_slice()
+            && cut.text.as_slice() == effects.as_slice()
+            && cut.status.as_bytes() == wanted_status.as_slice(),
     )
 }
 
