@@ -2,7 +2,7 @@
 
 ghost use Rattle.proxy_core.specs.Meaning.{OpenFromArrivalToEnd, OpenByArrivalAlone, HasItsRequest, KeepsItsRule, OvertakenWhereInvalidated, NextIsCounted, StoredHasTheNext, LeavesNoChoice, GoodOverWhatIsHeld, GoodOverTheList, KeepsWhatIsHeld, KeepsWhatIsOpen, KeepsTheNext};
 ghost use Rattle.proxy_core.specs.Naming.{NamesFirstRules};
-ghost use Rattle.proxy_core.specs.Sending.{SendsStoredWhereItMay, SendsStoredNowhereElse, ForwardsWhereAllowed, ForwardsNowhereElse};
+ghost use Rattle.proxy_core.specs.Sending.{SendsStoredWhereItMay, SendsStoredNowhereElse, ForwardsWhereAllowed, ForwardsNowhereElse, ReachesWhereAllowed, RefusesWhereNotAllowed};
 
 /// After a good trace an exchange is open from its arrival to its end and not else, with the request and the rule of its
 /// arrival.
@@ -44,6 +44,12 @@ pub fn a_core_keeps_what_is_held()
 pub fn a_request_goes_forward_where_it_is_allowed()
     ensures every { ForwardsWhereAllowed }
     ensures only { ForwardsNowhereElse }
+{}
+
+/// In a good trace a request reaches cache or origin exactly where the table allows it; any other is refused.
+pub fn a_request_reaches_cache_or_origin_where_it_is_allowed()
+    ensures allowed { ReachesWhereAllowed }
+    ensures refused { RefusesWhereNotAllowed }
 {}
 
 /// In a good trace a stored response is sent exactly where one is held that RFC 9111, section 4 lets be reused for that
