@@ -1,6 +1,7 @@
 //! What the definitions of a good trace come to, for a reader who has to believe them.
 
 ghost use Rattle.proxy_core.specs.Meaning.{OpenFromArrivalToEnd, OpenByArrivalAlone, HasItsRequest, KeepsItsRule, OvertakenWhereInvalidated, NextIsCounted, StoredHasTheNext, LeavesNoChoice, GoodOverWhatIsHeld, GoodOverTheList, KeepsWhatIsHeld, KeepsWhatIsOpen, KeepsTheNext};
+ghost use Rattle.proxy_core.specs.Driving.{PromisesOfADrivenCore};
 ghost use Rattle.proxy_core.specs.Naming.{NamesFirstRules};
 ghost use Rattle.proxy_core.specs.Sending.{SendsStoredWhereItMay, SendsStoredNowhereElse, ForwardsWhereAllowed, ForwardsNowhereElse, ReachesWhereAllowed, RefusesWhereNotAllowed};
 
@@ -63,4 +64,9 @@ pub fn a_stored_response_is_sent_where_one_may_be()
 /// least reuse rule that stands now with the least error rule, or where the answer is passed on the rule of the arrival.
 pub fn each_answer_names_its_first_rule()
     ensures { NamesFirstRules }
+{}
+
+/// Whoever drives a core by its public calls has gone through a good trace, with all that each good trace keeps.
+pub fn a_driven_core_keeps_the_promises()
+    ensures { PromisesOfADrivenCore }
 {}
