@@ -15,3 +15,4 @@ pub mod OpenLaws
 pub mod Counting
 pub mod FirstRules
 pub mod SendLaws
+pub mod Driven

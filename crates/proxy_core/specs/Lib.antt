@@ -7,6 +7,7 @@ pub mod Traces
 pub mod Histories
 pub mod Promises
 pub mod Meaning
+pub mod Driving
 pub mod Naming
 pub mod Sending
 pub mod Turns

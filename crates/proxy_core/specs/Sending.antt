@@ -4,12 +4,12 @@
 -- MayBeReused of hx_reuse: what RFC 9111 lets be sent      MayBeSentInstead: what RFC 5861 lets be sent in place of an error
 -- MayBeSentAt: what may be sent at an event
 -- Below them are the statements that the laws of `src/laws.rt` prove.
-use Rattle.std.specs.Prelude.{◌≡◌, ◌⊎◌, ℕ, ◌≤◌, ◌||◌, true, false, List, ◌∷◌, Option, Some, None}
+use Rattle.std.specs.Prelude.{◌≡◌, ◌≢◌, ◌⊎◌, ℕ, ◌≤◌, ◌||◌, true, false, List, ◌∷◌, Option, Some, None}
 use Rattle.hx_directives.specs.Occurrences.{occurrences_of}
 use Rattle.hx_hop.specs.declared.asked_for.Asked.{Asked}
 use Rattle.hx_allow.specs.Lines.{Table}
 use Rattle.hx_allow.specs.Matching.{verdict_of}
-use Rattle.hx_allow.specs.declared.verdicts.Verdict.TheVariants.{Allowed}
+use Rattle.hx_allow.specs.declared.verdicts.Verdict.TheVariants.{Allowed, DeniedBy, NoLine as Unmatched}
 use Rattle.hx_store.specs.Stored.{Stored}
 use Rattle.hx_reuse.specs.Words.{number_of}
 use Rattle.hx_reuse.specs.Rules.{stands}
@@ -17,13 +17,14 @@ use Rattle.hx_reuse.specs.Meaning.{IsChosen, IsLeast}
 use Rattle.hx_reuse.specs.Reusable.{MayBeReused}
 use Rattle.hx_reuse.specs.OnError.{MayBeSentOnError}
 use Rattle.hx_reuse.specs.declared.rule.ReuseRule.{ReuseRule}
+use Rattle.hx_status.specs.declared.cause.Cause.TheVariants.{Denied, NoLine, OnlyIfCached}
 use Rattle.proxy_core.specs.declared.exchange.Exchange.{Exchange}
 use Rattle.proxy_core.specs.declared.outcome.Outcome.TheVariants.{Forward}
 use Rattle.proxy_core.specs.declared.event.Event.{Event}
 use Rattle.proxy_core.specs.declared.event.Event.TheVariants.{Arrive, Answer, Fail, Abandon}
 use Rattle.proxy_core.specs.Storing.{is_unasked}
 use Rattle.proxy_core.specs.Validating.{is_validation, validated}
-use Rattle.proxy_core.specs.Outcomes.{find_exchange, id_of, is_only_if_cached, is_error_status}
+use Rattle.proxy_core.specs.Outcomes.{find_exchange, id_of, is_only_if_cached, is_error_status, refused}
 use Rattle.proxy_core.specs.State.{used_in}
 use Rattle.proxy_core.specs.Traces.{Item}
 use Rattle.proxy_core.specs.Histories.{held_entries, open_exchanges, IsGoodHistory}
@@ -83,3 +84,22 @@ ForwardsNowhereElse = (table : Table) (limit first now id line : ℕ) (asked : A
     IsGoodHistory table limit first (item ∷ past) → item.event ≡ Arrive now id asked → item.outcome ≡ Forward line bytes →
     (verdict_of table.lines asked.method asked.target ≡ Allowed line)
     × ((rule : ReuseRule) × IsLeast (held_entries limit past) asked now rule) × (is_only_if_cached asked ≡ false)
+
+-- A request that the table allows reaches the cache, which sends a stored response, or the origin of that line; or it takes
+-- no response but a stored one, and is told the rule against that.
+abbrev pub ReachesWhereAllowed : Type 0
+ReachesWhereAllowed = (table : Table) (limit first now id line : ℕ) (asked : Asked) (item : Item) (past : List Item) →
+    IsGoodHistory table limit first (item ∷ past) → item.event ≡ Arrive now id asked →
+    verdict_of table.lines asked.method asked.target ≡ Allowed line →
+    ((s : ℕ) × (used_in item.outcome ≡ Some s))
+    ⊎ (((bytes : List ℕ) × (item.outcome ≡ Forward line bytes))
+    ⊎ ((rule : ReuseRule) × (is_only_if_cached asked ≡ true) × IsLeast (held_entries limit past) asked now rule
+    × (item.outcome ≡ refused now (OnlyIfCached rule) asked)))
+
+-- Any other is refused, by the line that denies it or because none matches.
+abbrev pub RefusesWhereNotAllowed : Type 0
+RefusesWhereNotAllowed = (table : Table) (limit first now id : ℕ) (asked : Asked) (item : Item) (past : List Item) →
+    IsGoodHistory table limit first (item ∷ past) → item.event ≡ Arrive now id asked →
+    ((line : ℕ) → verdict_of table.lines asked.method asked.target ≢ Allowed line) →
+    ((line : ℕ) × (verdict_of table.lines asked.method asked.target ≡ DeniedBy line) × (item.outcome ≡ refused now (Denied line) asked))
+    ⊎ ((verdict_of table.lines asked.method asked.target ≡ Unmatched) × (item.outcome ≡ refused now NoLine asked))

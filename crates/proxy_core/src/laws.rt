@@ -1,8 +1,9 @@
 //! What the definitions of a good trace come to, for a reader who has to believe them.
 
 ghost use Rattle.proxy_core.specs.Meaning.{OpenFromArrivalToEnd, OpenByArrivalAlone, HasItsRequest, KeepsItsRule, OvertakenWhereInvalidated, NextIsCounted, StoredHasTheNext, LeavesNoChoice, GoodOverWhatIsHeld, GoodOverTheList, KeepsWhatIsHeld, KeepsWhatIsOpen, KeepsTheNext};
+ghost use Rattle.proxy_core.specs.Driving.{PromisesOfADrivenCore};
 ghost use Rattle.proxy_core.specs.Naming.{NamesFirstRules};
-ghost use Rattle.proxy_core.specs.Sending.{SendsStoredWhereItMay, SendsStoredNowhereElse, ForwardsWhereAllowed, ForwardsNowhereElse};
+ghost use Rattle.proxy_core.specs.Sending.{SendsStoredWhereItMay, SendsStoredNowhereElse, ForwardsWhereAllowed, ForwardsNowhereElse, ReachesWhereAllowed, RefusesWhereNotAllowed};
 
 /// After a good trace an exchange is open from its arrival to its end and not else, with the request and the rule of its
 /// arrival.
@@ -46,6 +47,12 @@ pub fn a_request_goes_forward_where_it_is_allowed()
     ensures only { ForwardsNowhereElse }
 {}
 
+/// In a good trace a request reaches cache or origin exactly where the table allows it; any other is refused.
+pub fn a_request_reaches_cache_or_origin_where_it_is_allowed()
+    ensures allowed { ReachesWhereAllowed }
+    ensures refused { RefusesWhereNotAllowed }
+{}
+
 /// In a good trace a stored response is sent exactly where one is held that RFC 9111, section 4 lets be reused for that
 /// request then, that a 304 validates, or that RFC 5861, section 4 lets be sent in place of an error.
 pub fn a_stored_response_is_sent_where_one_may_be()
@@ -57,4 +64,9 @@ pub fn a_stored_response_is_sent_where_one_may_be()
 /// least reuse rule that stands now with the least error rule, or where the answer is passed on the rule of the arrival.
 pub fn each_answer_names_its_first_rule()
     ensures { NamesFirstRules }
+{}
+
+/// Whoever drives a core by its public calls has gone through a good trace, with all that each good trace keeps.
+pub fn a_driven_core_keeps_the_promises()
+    ensures { PromisesOfADrivenCore }
 {}

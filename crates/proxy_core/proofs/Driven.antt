@@ -1,0 +1,42 @@
+-- A core that was begun and went through steps has gone through a good trace.
+use Rattle.std.proofs.Common.{◌≡◌, ℕ, List, [], ◌∷◌, ◌∙◌, ap, subst}
+use Rattle.hx_allow.specs.Lines.{Table}
+use Rattle.proxy_core.specs.State.{State, Steps, after}
+use Rattle.proxy_core.specs.Traces.{Item, begun, left, Accepts, IsGood}
+use Rattle.proxy_core.specs.Driving.{HasRun, PromisesOfADrivenCore}
+use Rattle.proxy_core.proofs.Tracing.{same_table, denied_leave_no_trace}
+use Rattle.proxy_core.proofs.HeldLaw.{good_held, entries_are_held, exchanges_are_open, next_is_counted}
+use Rattle.proxy_core.proofs.TwiceForward.{twice_forward_one_reply}
+use Rattle.proxy_core.proofs.Unsent.{nothing_invalidated_is_sent}
+
+-- good over the list that the core keeps
+record IsDriven (table : Table) (limit first : ℕ) (trace : List Item) (core : State) : Type 0 where
+  good : IsGood (begun table limit first) trace
+  leaves : core ≡ left (begun table limit first) trace
+
+driven : (table : Table) (limit first : ℕ) (trace : List Item) (core : State) → HasRun table limit first trace core → IsDriven table limit first trace core
+driven table limit first [] core h = record { good = tt; leaves = h }
+driven table limit first (item ∷ past) core h =
+    let start = begun table limit first in
+    let was = driven table limit first past h.0 h.1 in
+    let here : Steps (left start past) item.event item.outcome core = subst (λ (s : State). Steps s item.event item.outcome core) was.leaves h.2 in
+    let accepts : Accepts table (left start past).entries (left start past).exchanges (left start past).next item =
+    subst (λ (t : Table). Accepts t (left start past).entries (left start past).exchanges (left start past).next item) (same_table start past)
+    record { allowed = here.allowed; outcome_is = here.outcome_is } in
+    record {
+      good = (accepts, was.good);
+      leaves = h.2.leaves ∙ ap (λ (s : State). after s item.event item.outcome) was.leaves;
+    }
+
+pub promises_of_a_driven_core : PromisesOfADrivenCore
+promises_of_a_driven_core table limit first trace core h =
+    let d = driven table limit first trace core h in
+    record {
+      good = good_held table limit first trace d.good;
+      denied_leave_no_trace = denied_leave_no_trace (begun table limit first) trace d.good;
+      nothing_invalidated_is_sent = nothing_invalidated_is_sent table limit first trace d.good;
+      twice_forward_one_reply = twice_forward_one_reply (begun table limit first) trace d.good;
+      entries_are = ap (λ (s : State). s.entries) d.leaves ∙ entries_are_held table limit first trace d.good;
+      exchanges_are = ap (λ (s : State). s.exchanges) d.leaves ∙ exchanges_are_open table limit first trace d.good;
+      next_is = ap (λ (s : State). s.next) d.leaves ∙ next_is_counted table limit first trace d.good;
+    }
