@@ -170,6 +170,25 @@ fn has_target(alloc: Global, head: &[u8], asked: &Asked) -> Result<bool, AllocEr
     Ok(last_value(head, b"X-Target") == Some(asked.target(alloc)?.as_bytes()))
 }
 
+/// The head of a reply, which is to be a whole message, and where it says that it comes from.
+fn read_reply(number: u64, bytes: &[u8]) -> Result<(&[u8], Source), Wrong> {
+    let (head, content) = parts(bytes).ok_or(Wrong::Rule("a reply is no message", number))?;
+    let line = match head.split_once_str(b"\r\n") {
+        Some((line, _)) => line,
+        None => head,
+    };
+    holds(is_status_line(line), "a reply has no status line", number)?;
+    holds(
+        fits(head, content),
+        "a reply has another length than it says",
+        number,
+    )?;
+    match source_of(head) {
+        Some(source) => Ok((head, source)),
+        None => Err(Wrong::Rule("a reply doesn't say whence it is", number)),
+    }
+}
+
 impl<'a> Check<'a> {
     /// Nothing has happened yet; the requests that the clients of a log will send are known.
     fn new(alloc: Global, log: &'a Log) -> Result<Self, Wrong> {
@@ -335,21 +354,7 @@ impl<'a> Check<'a> {
             None => return Err(Wrong::Rule("a reply is to no request", number)),
         };
         client.replies = client.replies.saturating_add(1);
-        let (head, content) = parts(bytes).ok_or(Wrong::Rule("a reply is no message", number))?;
-        let line = match head.split_once_str(b"\r\n") {
-            Some((line, _)) => line,
-            None => head,
-        };
-        holds(is_status_line(line), "a reply has no status line", number)?;
-        holds(
-            fits(head, content),
-            "a reply has another length than it says",
-            number,
-        )?;
-        let source = source_of(head).ok_or(Wrong::Rule(
-            "a reply doesn't say whence it is",
-            number,
-        ))?;
+        let (head, source) = read_reply(number, bytes)?;
         holds(
             self.answers(head, source, asked)?,
             "a reply is to another request",
