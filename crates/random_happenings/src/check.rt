@@ -6,7 +6,7 @@
 //! - A connection has one request at an origin at most. It is the first that isn't answered yet, and its link is dropped
 //!   before anything goes to the client.
 //! - Replies come in the order of a connection's requests: what came of an origin has the fields of that very request,
-//!   what came of the store those of its target. A reply is a whole message.
+//!   what came of the store those of an earlier one for its target, whose answer was stored. A reply is a whole message.
 //! - Nothing goes to a connection that isn't accepted, or is closed, or gone; a client that goes leaves no link.
 
 use crate::effects::{Effect, read_effect};
@@ -79,6 +79,8 @@ struct Check<'a> {
     alloc: Global,
     clients: Vec<Client<'a>>,
     links: Vec<Link>,
+    /// The requests whose answers may have been kept.
+    kept: Vec<(u64, u64)>,
     counts: Counts,
 }
 
@@ -155,23 +157,35 @@ fn source_of(head: &[u8]) -> Option<Source> {
     if !member.contains_str(b";ttl=") {
         return Some(Source::Origin);
     }
-    if member.contains_str(b";fwd-status=304") {
+    let is_instead = member.contains_str(b";detail=stale-if-error")
+        || member.contains_str(b";detail=reuse-after-");
+    if member.contains_str(b";fwd-status=304") && !is_instead {
         return Some(Source::Validated);
     }
     Some(Source::Store)
 }
 
-/// Whether a head has the fields of the answer to this request, or, from the store, to one for its target.
-fn answers(alloc: Global, head: &[u8], source: Source, asked: &Asked) -> Result<bool, AllocError> {
-    match source {
-        Source::Own => Ok(true),
-        Source::Stored | Source::Origin => Ok(
-            last_value(head, b"X-Id") == Some(asked.id(alloc)?.as_bytes()),
-        ),
-        Source::Store | Source::Hit | Source::Validated => {
-            let is_bare = head.starts_with(b"HTTP/1.1 304 ");
-            Ok(is_bare || last_value(head, b"X-Target") == Some(asked.target(alloc)?.as_bytes()))
-        }
+/// Whether a head has the target of this request in its field X-Target.
+fn has_target(alloc: Global, head: &[u8], asked: &Asked) -> Result<bool, AllocError> {
+    Ok(last_value(head, b"X-Target") == Some(asked.target(alloc)?.as_bytes()))
+}
+
+/// The head of a reply, which is to be a whole message, and where it says that it comes from.
+fn read_reply(number: u64, bytes: &[u8]) -> Result<(&[u8], Source), Wrong> {
+    let (head, content) = parts(bytes).ok_or(Wrong::Rule("a reply is no message", number))?;
+    let line = match head.split_once_str(b"\r\n") {
+        Some((line, _)) => line,
+        None => head,
+    };
+    holds(is_status_line(line), "a reply has no status line", number)?;
+    holds(
+        fits(head, content),
+        "a reply has another length than it says",
+        number,
+    )?;
+    match source_of(head) {
+        Some(source) => Ok((head, source)),
+        None => Err(Wrong::Rule("a reply doesn't say whence it is", number)),
     }
 }
 
@@ -200,6 +214,7 @@ impl<'a> Check<'a> {
             alloc,
             clients,
             links: Vec::new(alloc),
+            kept: Vec::new(alloc),
             counts: Counts::default(),
         })
     }
@@ -294,6 +309,23 @@ impl<'a> Check<'a> {
         Ok(())
     }
 
+    /// Whether a head has the fields of the answer to this request, or, from the store, those of one that was kept for
+    /// its target. A 304 to a client has neither.
+    fn answers(&self, head: &[u8], source: Source, asked: &Asked) -> Result<bool, AllocError> {
+        let id = id_of(head);
+        let is_own = id == Some((asked.connection, asked.ordinal));
+        match source {
+            Source::Own => Ok(true),
+            Source::Stored | Source::Origin => Ok(is_own),
+            Source::Validated => Ok(is_own && has_target(self.alloc, head, asked)?),
+            Source::Hit | Source::Store if head.starts_with(b"HTTP/1.1 304 ") => Ok(true),
+            Source::Hit | Source::Store => {
+                let was_kept = self.kept.iter().any(|kept| Some(*kept) == id);
+                Ok(was_kept && has_target(self.alloc, head, asked)?)
+            }
+        }
+    }
+
     fn count(&mut self, source: Source) {
         one_more(&mut self.counts.replies);
         match source {
@@ -322,24 +354,17 @@ impl<'a> Check<'a> {
             None => return Err(Wrong::Rule("a reply is to no request", number)),
         };
         client.replies = client.replies.saturating_add(1);
-        let (head, content) = parts(bytes).ok_or(Wrong::Rule("a reply is no message", number))?;
-        let line = match head.split_once_str(b"\r\n") {
-            Some((line, _)) => line,
-            None => head,
-        };
-        holds(is_status_line(line), "a reply has no status line", number)?;
+        let (head, source) = read_reply(number, bytes)?;
         holds(
-            fits(head, content),
-            "a reply has another length than it says",
+            self.answers(head, source, asked)?,
+            "a reply is to another request",
             number,
         )?;
-        let source = source_of(head).ok_or(Wrong::Rule(
-            "a reply doesn't say whence it is",
-            number,
-        ))?;
-        let is_own = answers(alloc, head, source, asked)?;
-        holds(is_own, "a reply is to another request", number)?;
         self.count(source);
+        if matches!(source, Source::Stored | Source::Validated | Source::Store) {
+            let own = (asked.connection, asked.ordinal);
+            self.kept.push(own).map_err(AllocError::from)?;
+        }
         Ok(())
     }
 

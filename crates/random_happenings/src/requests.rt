@@ -79,12 +79,6 @@ impl Asked {
         }
     }
 
-    /// What its field X-Id says.
-    pub fn id(&self, alloc: Global) -> Result<String, AllocError> {
-        let (connection, ordinal) = (self.connection, self.ordinal);
-        format!(in alloc; "{connection}.{ordinal}")
-    }
-
     /// What its field X-Target says.
     pub fn target(&self, alloc: Global) -> Result<String, AllocError> {
         let (host, path) = (self.host, self.path);
