@@ -25,16 +25,19 @@ pub fn byte_by_byte(alloc: Global, script: &[u8]) -> Result<Vec<u8>, AllocError>
     let mut pieces = Vec::new(alloc);
     let mut rest = script;
     let mut first = true;
-    while let Front::Found(item, more) = read_item(first, rest) {
+    // Each item has a byte at least.
+    for _ in 0..script.len() {
+        let Front::Found(item, more) = read_item(first, rest) else {
+            break;
+        };
         match item {
-            Item::Client(n, bytes) if !bytes.is_empty() => push_bytes(
-                &mut pieces,
-                "client",
-                n,
-                bytes,
-            )?,
-            Item::Link(l, bytes) if !bytes.is_empty() => push_bytes(&mut pieces, "link", l, bytes)?,
-            _ => pieces.extend_from_slice(&rest[..rest.len() - more.len()])?,
+            Item::Client(n, bytes) if !bytes.is_empty() => {
+                push_bytes(&mut pieces, "client", n, bytes)?;
+            }
+            Item::Link(l, bytes) if !bytes.is_empty() => {
+                push_bytes(&mut pieces, "link", l, bytes)?;
+            }
+            _ => pieces.extend_from_slice(&rest[..rest.len().saturating_sub(more.len())])?,
         }
         rest = more;
         first = false;
