@@ -159,7 +159,23 @@ fn tells(bytes: &Bytes, text: &str) -> bool {
         .any(|part| part == text.as_bytes())
 }
 
-/// A GET of a path goes to the origin in these bytes.
+/// A GET of a path goes to the origin, with these lines behind its Host.
+fn goes_with(
+    rt: &impl Abort,
+    alloc: Global,
+    core: &mut Core<ListShelf>,
+    now: u64,
+    id: u64,
+    path: &str,
+    lines: &str,
+) -> Result<(), Fail> {
+    let asked = request(alloc, Method::GET, path)?;
+    let sent = forward(arrive(alloc, core, now, id, &asked))?;
+    assert!(rt; tells(&sent, lines));
+    Ok(())
+}
+
+/// A GET of a path goes to the origin without conditions.
 fn goes_forward(
     rt: &impl Abort,
     alloc: Global,
@@ -168,15 +184,21 @@ fn goes_forward(
     id: u64,
     path: &str,
 ) -> Result<(), Fail> {
-    let asked = request(alloc, Method::GET, path)?;
-    let sent = forward(arrive(alloc, core, now, id, &asked))?;
-    assert!(rt;
-        tells(
-            &sent,
-            "Host: h\r\nVia: 1.1 edge\r\nConnection: close\r\n\r\n"
-        )
-    );
-    Ok(())
+    let lines = "Host: h\r\nVia: 1.1 edge\r\nConnection: close\r\n\r\n";
+    goes_with(rt, alloc, core, now, id, path, lines)
+}
+
+/// A GET of a path asks the origin about the stored response.
+fn asks_about_it(
+    rt: &impl Abort,
+    alloc: Global,
+    core: &mut Core<ListShelf>,
+    now: u64,
+    id: u64,
+    path: &str,
+) -> Result<(), Fail> {
+    let lines = "Host: h\r\nIf-None-Match: \"v1\"\r\nVia: 1.1 edge\r\nConnection: close\r\n\r\n";
+    goes_with(rt, alloc, core, now, id, path, lines)
 }
 
 /// A GET of a path is answered from what is held under this serial number.
@@ -314,7 +336,7 @@ fn age_equal_to_lifetime_is_stale(rt: HostRuntime) -> Result<(), Fail> {
     goes_forward(&rt, rt.alloc(), &mut core, 100, 1, "/a")?;
     is_stored(&rt, rt.alloc(), &mut core, 1, 1)?;
     is_sent(&rt, rt.alloc(), &mut core, 159, "/a", 1)?;
-    goes_forward(&rt, rt.alloc(), &mut core, 160, 2, "/a")
+    asks_about_it(&rt, rt.alloc(), &mut core, 160, 2, "/a")
 }
 
 #[test]
