@@ -1,5 +1,6 @@
 //! The core with its steps, with ample memory: what clauses say can only be refused by memory is found here.
 mod failing;
+mod held;
 mod invalidating;
 mod reusing;
 mod runs;

@@ -1,0 +1,185 @@
+//! What a core holds over random events, against a direct count over what its steps did.
+
+use super::{answer, arrive, reply, request, response};
+use http::Method;
+use hx_allow::Config;
+use hx_fields::{Bytes, Fields};
+use hx_framing::Response;
+use hx_store::ListShelf;
+use proxy_core::{Core, Outcome};
+use std::alloc::Global;
+use std::process::Abort;
+use std::test::Fail;
+
+const TABLE: &str = "version = 1
+name = \"edge\"
+capacity = 2
+max_body = 1000
+max_stored = 10
+
+[[line]]
+host = \"*\"
+methods = [\"GET\", \"POST\"]
+path = \"/\"
+origin = \"127.0.0.1:8081\"
+";
+
+/// As many as the table's capacity.
+const ROOM: usize = 2;
+
+/// What one exchange did to the store.
+#[derive(Clone, Copy)]
+struct Done {
+    path: u64,
+    stored: Option<u64>,
+    used: Option<u64>,
+    removed: Option<u64>,
+}
+
+fn core(alloc: Global) -> Result<Core<ListShelf>, Fail> {
+    let config = Config::read(alloc, TABLE.as_bytes()).ok().ok_or("a table")?;
+    let shelf = ListShelf::new(alloc, config.capacity());
+    Ok(Core::new(alloc, config, shelf, 1))
+}
+
+fn path_text(path: u64) -> &'static str {
+    match path {
+        0 => "/a",
+        1 => "/b",
+        2 => "/c",
+        _ => "/d",
+    }
+}
+
+fn is_touched(done: &Done, serial: u64) -> bool {
+    done.stored == Some(serial) || done.used == Some(serial)
+}
+
+/// Where the serial was last stored or used, counted from 1; nothing where it was removed since, or never stored.
+fn last_place(history: &[Done], serial: u64) -> Option<usize> {
+    let mut last = None;
+    for (i, done) in history.iter().enumerate() {
+        if is_touched(done, serial) {
+            last = Some(i);
+        }
+        if done.removed == Some(serial) {
+            last = None;
+        }
+    }
+    last
+}
+
+/// How many others were stored or used later, and not removed since. Serials begin at 1, and each step stores one at most.
+fn count_before(history: &[Done], serial: u64, place: usize) -> usize {
+    let mut count = 0usize;
+    for (i, _) in history.iter().enumerate() {
+        let other = (i as u64).wrapping_add(1);
+        if other != serial && last_place(history, other).is_some_and(|later| later > place) {
+            count = count.wrapping_add(1);
+        }
+    }
+    count
+}
+
+/// Whether fewer than there is room for stood before it at each step since it was last stored or used.
+fn is_held(history: &[Done], serial: u64) -> bool {
+    let Some(place) = last_place(history, serial) else {
+        return false;
+    };
+    for (i, _) in history.iter().enumerate() {
+        if i >= place && count_before(&history[..i + 1], serial, place) >= ROOM {
+            return false;
+        }
+    }
+    true
+}
+
+/// The serial that is held for a path.
+fn held_for(history: &[Done], path: u64) -> Option<u64> {
+    for done in history {
+        if let Some(serial) = done.stored
+            && done.path == path
+            && is_held(history, serial)
+        {
+            return Some(serial);
+        }
+    }
+    None
+}
+
+fn no_content(alloc: Global) -> Result<Response, Fail> {
+    let mut fields = Fields::new(alloc);
+    fields.push(b"Date", b"Thu, 01 Jan 1970 00:01:41 GMT")?;
+    Ok(Response {
+        status: 204,
+        fields,
+        content: Bytes::new(alloc),
+        announced: None,
+    })
+}
+
+/// A POST that succeeds.
+fn post(alloc: Global, core: &mut Core<ListShelf>, path: u64) -> Result<Done, Fail> {
+    let asked = request(alloc, Method::POST, path_text(path))?;
+    let _ = super::forward(arrive(alloc, core, 101, 1, &asked))?;
+    let response = no_content(alloc)?;
+    let reply = reply(answer(alloc, core, 101, 1, &response))?;
+    Ok(Done {
+        path,
+        stored: reply.stored,
+        used: reply.used,
+        removed: reply.removed.last(),
+    })
+}
+
+/// A GET, whose answer may be stored or not.
+fn get(alloc: Global, core: &mut Core<ListShelf>, path: u64, may: bool) -> Result<Done, Fail> {
+    let asked = request(alloc, Method::GET, path_text(path))?;
+    let control = if may { "max-age=60" } else { "no-store" };
+    let reply = match arrive(alloc, core, 101, 1, &asked) {
+        Ok(Outcome::Forward(_, _)) => {
+            let response = response(alloc, control.as_bytes(), b"hi")?;
+            reply(answer(alloc, core, 101, 1, &response))?
+        }
+        step => reply(step)?,
+    };
+    Ok(Done {
+        path,
+        stored: reply.stored,
+        used: reply.used,
+        removed: reply.removed.last(),
+    })
+}
+
+/// The next of a row of numbers that looks random (xorshift).
+fn next_number(seed: u64) -> u64 {
+    let a = seed ^ (seed << 13);
+    let b = a ^ (a >> 7);
+    b ^ (b << 17)
+}
+
+#[test]
+fn what_is_held_is_counted(rt: HostRuntime) -> Result<(), Fail> {
+    let alloc = rt.alloc();
+    let mut core = core(alloc)?;
+    let mut history: Vec<Done> = Vec::new(alloc);
+    let mut seed = 88_172_645_463_325_252;
+    let mut hits = 0u64;
+    for _ in 0..60 {
+        seed = next_number(seed);
+        let path = seed % 4;
+        let held = held_for(history.as_slice(), path);
+        if (seed >> 8).is_multiple_of(6) {
+            let done = post(alloc, &mut core, path)?;
+            assert!(rt; done.removed == held);
+            history.push(done)?;
+        } else {
+            let done = get(alloc, &mut core, path, !(seed >> 16).is_multiple_of(5))?;
+            assert!(rt; done.used == held);
+            hits = hits.wrapping_add(u64::from(held.is_some()));
+            history.push(done)?;
+        }
+    }
+    assert!(rt; hits > 5);
+    Ok(())
+}
