@@ -152,8 +152,8 @@ fn get(alloc: Global, core: &mut Core<ListShelf>, path: u64, may: bool) -> Resul
 }
 
 /// The next of a row of numbers that looks random (xorshift).
-fn next_number(seed: u64) -> u64 {
-    let a = seed ^ (seed << 13);
+fn next_number(choice: u64) -> u64 {
+    let a = choice ^ (choice << 13);
     let b = a ^ (a >> 7);
     b ^ (b << 17)
 }
@@ -163,18 +163,18 @@ fn what_is_held_is_counted(rt: HostRuntime) -> Result<(), Fail> {
     let alloc = rt.alloc();
     let mut core = core(alloc)?;
     let mut history: Vec<Done> = Vec::new(alloc);
-    let mut seed = 88_172_645_463_325_252;
+    let mut choice = 88_172_645_463_325_252;
     let mut hits = 0u64;
     for _ in 0..60 {
-        seed = next_number(seed);
-        let path = seed % 4;
+        choice = next_number(choice);
+        let path = choice % 4;
         let held = held_for(history.as_slice(), path);
-        if (seed >> 8).is_multiple_of(6) {
+        if (choice >> 8).is_multiple_of(6) {
             let done = post(alloc, &mut core, path)?;
             assert!(rt; done.removed == held);
             history.push(done)?;
         } else {
-            let done = get(alloc, &mut core, path, !(seed >> 16).is_multiple_of(5))?;
+            let done = get(alloc, &mut core, path, !(choice >> 16).is_multiple_of(5))?;
             assert!(rt; done.used == held);
             hits = hits.wrapping_add(u64::from(held.is_some()));
             history.push(done)?;
