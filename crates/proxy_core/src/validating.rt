@@ -200,6 +200,28 @@ fn is_kept(
     Ok(rule.is_none())
 }
 
+/// What becomes of a freshened response: it is kept where it may be kept.
+fn change_after(entry: Entry, kept: bool) -> Change
+    ensures { IsRefresh kept entry result }
+{
+    if kept {
+        Change::Freshen(entry)
+    } else {
+        Change::LetGo(entry.serial)
+    }
+}
+
+/// The serials that a freshened response takes with it: its own, where it isn't kept.
+fn removed_after(alloc: Global, serial: u64, kept: bool) -> Result<Serials, AllocError>
+    ensures { IfOk result (λ removed. removed ≡ cond kept [] (serial ∷ [])) }
+{
+    let mut removed = Serials::new(alloc);
+    if !kept {
+        removed.push(serial)?;
+    }
+    Ok(removed)
+}
+
 /// Sends a freshened response, and keeps it where it may be kept.
 fn send_refreshed(
     alloc: Global,
@@ -217,24 +239,13 @@ fn send_refreshed(
         came: Some(response.status),
         detail: None,
     };
+    let kept = is_kept(alloc, config.max_stored(), exchange, response, &entry)?;
+    let removed = removed_after(alloc, entry.serial, kept)?;
     let bytes = stored_text(alloc, config.name(), &entry, now, handling, &exchange.asked)?;
-    let close = exchange.asked.close;
-    let mut removed = Serials::new(alloc);
-    if is_kept(alloc, config.max_stored(), exchange, response, &entry)? {
-        let change = Change::Freshen(entry);
-        return Ok(Turn {
-            bytes,
-            close,
-            change,
-            removed,
-        });
-    }
-    removed.push(entry.serial)?;
-    let change = Change::LetGo(entry.serial);
     Ok(Turn {
         bytes,
-        close,
-        change,
+        close: exchange.asked.close,
+        change: change_after(entry, kept),
         removed,
     })
 }
