@@ -1,19 +1,16 @@
-use Rattle.std.proofs.Common.{rules, ◌≡◌, ◌+◌, ◌<◌, ◌≤◌, ◌^◌, ◌∙◌, ◌++◌, ◌∷◌, [], ℕ, List, length, get_or, set, sym, ap, subst, arith, Option, None, sum_by}
+use Rattle.std.proofs.Common.{rules, ◌≡◌, ◌+◌, ◌≤◌, ◌^◌, ◌∙◌, ◌++◌, ◌∷◌, [], ℕ, List, length, get_or, set, sym, ap, subst, arith, None, sum_by}
 use Rattle.proxy_script.specs.declared.effect_list.Effect.{Effect}
 use Rattle.proxy_script.specs.declared.effect_list.Effect.TheVariants.{Drop}
-use Rattle.proxy_core.specs.declared.exchange.Exchange.{Exchange}
-use Rattle.proxy_core.specs.Outcomes.{find_exchange}
 use Rattle.proxy_engine.specs.Story.{no_link}
 use Rattle.proxy_engine.specs.Due.{Finish, Finishes}
 use Rattle.proxy_engine.specs.Acts.{came_at, effects_on}
-use Rattle.proxy_engine.specs.State.{LinkStands, Stands, state, Done, link_load, lost_load, gone_load}
-use Rattle.proxy_engine.specs.Wiring.{at, links_of, owners_of}
+use Rattle.proxy_engine.specs.State.{LinkStands, Stands, state, Done, link_load}
+use Rattle.proxy_engine.specs.Wiring.{owners_of}
 use Rattle.proxy_engine.specs.Wishes.{EndFault}
-use Rattle.proxy_engine.specs.declared.ends.Connection.{Connection}
 use Rattle.proxy_engine.specs.declared.ends.Link.{Link}
 use Rattle.proxy_engine.proofs.Parts.{both_length, both_here}
 use Rattle.proxy_engine.proofs.Searching.{some_part}
-use Rattle.proxy_engine.proofs.Wishing.{finish_known, same_place, told_one}
+use Rattle.proxy_engine.proofs.Wishing.{finish_known, told_one}
 use Rattle.proxy_engine.proofs.Ending.{remains}
 use Rattle.proxy_engine.proofs.Wires.{within_connections, due_link, is_open, linked_load, same_default, wired_finished}
 use Rattle.proxy_engine.proofs.Stepping.{finished_done, end_failed, link_counts}

@@ -1,4 +1,4 @@
-use Rattle.std.proofs.Common.{sum_by, rules, ◌≡◌, ◌+◌, ◌∙◌, ◌++◌, Option, ℕ, List, length, get_or, set, sym, ap, subst, arith}
+use Rattle.std.proofs.Common.{sum_by, rules, ◌≡◌, ◌+◌, ◌∙◌, ◌++◌, List, length, get_or, set, sym, ap, subst, arith}
 use Rattle.proxy_script.specs.declared.effect_list.Effect.{Effect}
 use Rattle.hx_framing.specs.declared.answer.Next.TheVariants.{Message}
 use Rattle.hx_allow.specs.Lines.{Table}
@@ -15,9 +15,8 @@ use Rattle.proxy_engine.proofs.Searching.{some_part, map_kept}
 use Rattle.proxy_engine.specs.declared.ends.Link.{Link}
 use Rattle.proxy_engine.proofs.Wires.{is_free, same_default, wired_arrived, arrival_refused}
 use Rattle.proxy_engine.proofs.Stepping.{arrived_done}
-use Rattle.hx_framing.specs.declared.requests.Request.{Request}
 use Rattle.proxy_engine.specs.Look.{Due, known}
-use Rattle.proxy_engine.specs.State.{connection_load, gone_load, link_load}
+use Rattle.proxy_engine.specs.State.{connection_load, link_load}
 use Rattle.proxy_engine.specs.declared.ends.Connection.{Connection}
 use Rattle.proxy_engine.proofs.Wishing.{same_place}
 use Rattle.proxy_engine.proofs.Wires.{gone_most}
