@@ -5,6 +5,8 @@ pub mod Shown
 pub mod Changes
 pub mod Taking
 pub mod Searching
+pub mod Falling
+pub mod Marking
 pub mod Once
 pub mod Ending
 pub mod Wishing

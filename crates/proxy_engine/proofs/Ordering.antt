@@ -5,25 +5,18 @@ use Rattle.std.proofs.Math.ListN.{get_or-append, length-map, length-set}
 use Rattle.std.proofs.Math.Seq.{map-set_same}
 use Rattle.hx_framing.specs.declared.requests.Request.{Request}
 use Rattle.hx_framing.specs.declared.fault.FrameFault.TheVariants as frame
-use Rattle.hx_framing.specs.declared.responses.Response.{Response}
 use Rattle.hx_framing.specs.declared.answer.Next.{Next}
 use Rattle.hx_framing.specs.declared.answer.Next.TheVariants as next
 use Rattle.hx_framing.specs.Progress.{fed, finished}
-use Rattle.hx_allow.specs.Lines.{Table}
 use Rattle.hx_hop.specs.declared.asked_for.Asked.{Asked}
 use Rattle.proxy_engine.specs.Admitted.{Refusal}
-use Rattle.hx_reuse.specs.Rules.{decision_of}
-use Rattle.hx_reuse.specs.declared.decision.Decision.{Decision}
-use Rattle.hx_reuse.specs.declared.decision.Decision.TheVariants as decision
 use Rattle.hx_status.specs.declared.cause.Cause.{Cause}
-use Rattle.hx_status.specs.declared.cause.FailKind.{FailKind}
 use Rattle.hx_target.specs.declared.keys.Key.{Key}
-use Rattle.hx_store.specs.Stored.{Stored}
 use Rattle.proxy_core.specs.declared.exchange.Exchange.{Exchange}
 use Rattle.proxy_core.specs.declared.event.Event.TheVariants as events
 use Rattle.proxy_core.specs.declared.outcome.Outcome.{Outcome}
 use Rattle.proxy_core.specs.declared.outcome.Outcome.TheVariants as outcomes
-use Rattle.proxy_core.specs.Outcomes.{find_exchange, outcome_of, failed}
+use Rattle.proxy_core.specs.Outcomes.{find_exchange}
 use Rattle.proxy_core.specs.Replies.{is_head}
 use Rattle.proxy_core.specs.State.{State as CoreState, Steps, closed, left_open, gone_out, opened as opened_exchange}
 use Rattle.proxy_script.specs.declared.effect_list.Effect.{Effect}

@@ -7,6 +7,8 @@ pub mod Admitted
 pub mod Due
 pub mod Acts
 pub mod State
+pub mod Places
+pub mod Marked
 pub mod Wishes
 pub mod Wiring
 pub mod Orderly

@@ -29,6 +29,12 @@ is_due (Due (next.Message m)) = true
 is_due (Due (next.Refused f)) = true
 is_due (Due next.End) = true
 
+-- something may be due: it wasn't looked at, or the look has found something
+abbrev pub may_show : {M : Type 0} → Look M → Bool
+may_show Unknown = true
+may_show Quiet = false
+may_show (Due a) = is_due (Due a)
+
 -- something may stand there: it wasn't looked at, or the look has found something
 abbrev pub unsettled : {M : Type 0} → Look M → ℕ
 unsettled Unknown = 1

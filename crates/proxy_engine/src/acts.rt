@@ -5,10 +5,10 @@ ghost use Rattle.proxy_engine.specs.Due.{IsFirst, Lost, Stood};
 ghost use Rattle.proxy_engine.specs.Wiring.{IsWired};
 ghost use Rattle.proxy_engine.specs.State.{Stands, state, load_of, Did, Failed, Lessens};
 
-use crate::ends::{Connection, Link};
-use crate::finds::{find_due, find_finished, find_lost};
+use crate::connections::Connections;
 use crate::finishing::{abandon, finish};
 use crate::happening::{EngineFault, Work};
+use crate::links::Links;
 use crate::serving::serve;
 use hx_store::Shelf;
 use proxy_core::Core;
@@ -16,8 +16,8 @@ use std::alloc::Global;
 
 /// Serves the first connection on which something is due, where nothing else is.
 fn serve_first<S: Shelf>(
-    connections: &mut Vec<Connection>,
-    links: &mut Vec<Link>,
+    connections: &mut Connections,
+    links: &mut Links,
     core: &mut Core<S>,
     alloc: Global,
     first: u64,
@@ -34,7 +34,7 @@ fn serve_first<S: Shelf>(
     ensures unchanged { OnErr result ((s : Story) → Stands (state connections.old.items links.old.items core.old first) s → Stands (state connections.new.items links.new.items core.new first) s) }
     ensures no_more { OnErr result (load_of connections.new.items links.new.items ≤ load_of connections.old.items links.old.items) }
 {
-    match find_due(connections, alloc) {
+    match connections.find_due(alloc) {
         Ok(Some(i)) => match serve(connections, links, core, alloc, first, now, i) {
             Ok(effects) => Ok(Work::Did(effects)),
             Err(fault) => Err(fault),
@@ -46,8 +46,8 @@ fn serve_first<S: Shelf>(
 
 /// Finishes the first exchange whose link has an answer or a failure, where no client with an exchange is gone.
 fn finish_first<S: Shelf>(
-    connections: &mut Vec<Connection>,
-    links: &mut Vec<Link>,
+    connections: &mut Connections,
+    links: &mut Links,
     core: &mut Core<S>,
     alloc: Global,
     first: u64,
@@ -64,7 +64,7 @@ fn finish_first<S: Shelf>(
     ensures unchanged { OnErr result ((s : Story) → Stands (state connections.old.items links.old.items core.old first) s → Stands (state connections.new.items links.new.items core.new first) s) }
     ensures no_more { OnErr result (load_of connections.new.items links.new.items ≤ load_of connections.old.items links.old.items) }
 {
-    match find_finished(links, alloc) {
+    match links.find_finished(alloc) {
         Ok(Some(j)) => match finish(connections, links, core, alloc, first, now, j) {
             Ok(effects) => Ok(Work::Did(effects)),
             Err(fault) => Err(fault),
@@ -76,8 +76,8 @@ fn finish_first<S: Shelf>(
 
 /// Does the first act that is due, if one is.
 pub(crate) fn work<S: Shelf>(
-    connections: &mut Vec<Connection>,
-    links: &mut Vec<Link>,
+    connections: &mut Connections,
+    links: &mut Links,
     core: &mut Core<S>,
     alloc: Global,
     first: u64,
@@ -92,7 +92,7 @@ pub(crate) fn work<S: Shelf>(
     ensures unchanged { OnErr result ((s : Story) → Stands (state connections.old.items links.old.items core.old first) s → Stands (state connections.new.items links.new.items core.new first) s) }
     ensures no_more { OnErr result (load_of connections.new.items links.new.items ≤ load_of connections.old.items links.old.items) }
 {
-    match find_lost(connections) {
+    match connections.find_lost() {
         Some((i, l)) => match abandon(connections, links, core, alloc, first, i, l) {
             Ok(effects) => Ok(Work::Did(effects)),
             Err(_) => Err(EngineFault::OutOfMemory),

@@ -4,8 +4,9 @@ ghost use Rattle.proxy_engine.specs.Story.{Story, keeps};
 ghost use Rattle.proxy_engine.specs.Happenings.{said, takes_memory};
 ghost use Rattle.proxy_engine.specs.State.{State, Stands, Takes, TakeFault, Did, Failed, Lessens, begun, load_at};
 
-use crate::ends::{Connection, Link};
+use crate::connections::Connections;
 use crate::happening::{EngineFault, Happening, Work};
+use crate::links::Links;
 use crate::{acts, takes};
 use hx_allow::Config;
 use hx_store::Shelf;
@@ -19,8 +20,8 @@ use std::marker::Model;
 /// that were used of them, and what was done.
 #[derive(Drop)]
 pub struct Engine<S: Shelf> {
-    connections: Vec<Connection>,
-    links: Vec<Link>,
+    connections: Connections,
+    links: Links,
     core: Core<S>,
     first_link: u64,
 }
@@ -44,8 +45,8 @@ impl<S: Shelf> Engine<S> {
         ensures { Stands result (begun (record { table = config; limit = S.limit shelf; entries = []; exchanges = []; next = Some first_serial }) first_link) }
     {
         Engine {
-            connections: Vec::new(alloc),
-            links: Vec::new(alloc),
+            connections: Connections::new(alloc),
+            links: Links::new(alloc),
             core: Core::new(alloc, config, shelf, first_serial),
             first_link,
         }

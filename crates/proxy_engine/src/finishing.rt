@@ -11,12 +11,13 @@ ghost use Rattle.proxy_core.specs.Outcomes.{find_exchange};
 ghost use Rattle.proxy_engine.specs.Wiring.{IsWired, at, links_of};
 ghost use Rattle.proxy_engine.specs.Acts.{asks_head};
 ghost use Rattle.proxy_engine.specs.Wishes.{Ends, MayGive, EndFault, again_address};
+ghost use Rattle.proxy_engine.specs.declared.ends.Connection.{Connection};
 
-use crate::ends::{Connection, Link};
+use crate::connections::Connections;
+use crate::ends::Link;
 use crate::happening::EngineFault;
-use crate::outcomes::{
-    Way, carry_out, free, is_spent, lacks_memory, number_at, put, room, room_for_link, way_to,
-};
+use crate::links::Links;
+use crate::outcomes::{Way, carry_out, free, is_spent, lacks_memory, number_at, put, room, way_to};
 use hx_allow::Config;
 use hx_framing::{FrameFault, Next};
 use hx_status::FailKind;
@@ -127,8 +128,8 @@ fn end<S: Shelf>(
 
 /// The exchange of a connection that is gone is abandoned, and its link is dropped.
 pub(crate) fn abandon<S: Shelf>(
-    connections: &mut Vec<Connection>,
-    links: &mut Vec<Link>,
+    connections: &mut Connections,
+    links: &mut Links,
     core: &mut Core<S>,
     alloc: Global,
     first: u64,
@@ -144,6 +145,8 @@ pub(crate) fn abandon<S: Shelf>(
     ensures err { OnErr result ((connections.new.items ≡ connections.old.items) × (links.new.items ≡ links.old.items) × (core.new ≡ core.old)) }
 {
     let mut effects = room(alloc)?;
+    let count = connections.len();
+    prove!(i < count);
     match core.abandon(i as u64 + 1) {
         Ok(_) => {}
         Err(_) => unreachable!(),
@@ -155,8 +158,8 @@ pub(crate) fn abandon<S: Shelf>(
 
 /// The exchange of a link is finished by what stands on it, or goes forward once more on a new one; the link is dropped.
 pub(crate) fn finish<S: Shelf>(
-    connections: &mut Vec<Connection>,
-    links: &mut Vec<Link>,
+    connections: &mut Connections,
+    links: &mut Links,
     core: &mut Core<S>,
     alloc: Global,
     first: u64,
@@ -178,15 +181,17 @@ pub(crate) fn finish<S: Shelf>(
     let Ok(mut effects) = room(alloc) else {
         return Err(EngineFault::OutOfMemory);
     };
-    let Ok(()) = room_for_link(links) else {
+    let Ok(()) = links.reserve_one() else {
         return Err(EngineFault::OutOfMemory);
     };
-    let i = links[j].connection;
+    let i = links.at(j).connection;
+    let count = connections.len();
+    prove!(i < count);
     let spent = is_spent(first, links.len());
     let Ok(way) = way_again(core, alloc, i as u64 + 1) else {
         return Err(EngineFault::OutOfMemory);
     };
-    let outcome = match end(&links[j], core, alloc, now, i as u64 + 1, spent) {
+    let outcome = match end(links.at(j), core, alloc, now, i as u64 + 1, spent) {
         Ok(outcome) => outcome,
         Err(fault) => return Err(fault),
     };

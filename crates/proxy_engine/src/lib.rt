@@ -7,14 +7,17 @@
 #![tactic(auto)]
 
 mod acts;
+mod connections;
 mod ends;
 mod engine;
 mod finds;
 mod finishing;
 mod happening;
 mod laws;
+mod links;
 mod marks;
 mod outcomes;
+mod places;
 mod request_watch;
 mod response_watch;
 mod serving;

@@ -8,9 +8,12 @@ ghost use Rattle.proxy_engine.specs.Acts.Came.{Replies};
 ghost use Rattle.proxy_engine.specs.Wiring.{links_of, owners_of, wires_after, owners_after};
 ghost use Rattle.proxy_engine.specs.Wishes.{goes_forward};
 ghost use Rattle.proxy_engine.specs.State.{Stands, state, connection_load, gone_load, lost_load, link_load, load_of};
+ghost use Rattle.proxy_engine.specs.declared.ends.Connection.{Connection};
 
-use crate::ends::{Connection, Link};
+use crate::connections::Connections;
+use crate::ends::Link;
 use crate::happening::EngineFault;
+use crate::links::Links;
 use crate::marks;
 use crate::response_watch::ResponseWatch;
 use hx_allow::Config;
@@ -28,13 +31,6 @@ pub(crate) fn put(effects: &mut Vec<Effect>, effect: Effect)
     ensures capacity { vec_capacity effects.old ≤ vec_capacity effects.new }
 {
     let _ = effects.push(effect);
-}
-
-fn put_link(links: &mut Vec<Link>, link: Link)
-    requires { vec_len links.old < vec_capacity links.old }
-    ensures { links.new.items ≡ links.old.items ++ link ∷ [] }
-{
-    let _ = links.push(link);
 }
 
 /// The number of the link at a place.
@@ -60,14 +56,6 @@ pub(crate) fn room(alloc: Global) -> Result<Vec<Effect>, AllocError>
     Vec::with_capacity(alloc, 3)
 }
 
-/// Room for one link more.
-pub(crate) fn room_for_link(links: &mut Vec<Link>) -> Result<(), AllocError>
-    ensures items { links.new.items ≡ links.old.items }
-    ensures ok { OnOk result (vec_len links.new < vec_capacity links.new) }
-{
-    links.reserve(1)
-}
-
 /// A step of the core that is refused found no memory: the engine asks for no step that another fault stands against.
 pub(crate) fn lacks_memory(fault: CoreFault) -> EngineFault
     requires { fault ≡ CoreFault.OutOfMemory }
@@ -82,7 +70,7 @@ pub(crate) fn lacks_memory(fault: CoreFault) -> EngineFault
 }
 
 /// The proxy closes the connection at a place, or leaves it as it is.
-pub(crate) fn close_at(connections: &mut Vec<Connection>, i: usize, close: bool)
+pub(crate) fn close_at(connections: &mut Connections, i: usize, close: bool)
     requires within { i < length connections.old.items }
     ensures stands { (s : Story) → (links : List Link) → (core : CoreState) → (first : ℕ) → Stands (state connections.old.items links core first) s
         → Stands (state connections.new.items links core first) (with_connection s i (closing close)) }
@@ -90,12 +78,12 @@ pub(crate) fn close_at(connections: &mut Vec<Connection>, i: usize, close: bool)
     ensures load { sum_by connection_load connections.new.items ≤ sum_by connection_load connections.old.items }
     ensures less { (c : Connection) → close ≡ true → (slice_index_or connections.old.items i c).closed ≡ false → sum_by connection_load connections.new.items < sum_by connection_load connections.old.items }
 {
-    marks::close(&mut connections[i], close);
+    marks::close(connections.at_mut(i), close);
 }
 
 /// Bytes go to the client, and the connection closes behind them or doesn't.
 pub(crate) fn send_reply(
-    connections: &mut Vec<Connection>,
+    connections: &mut Connections,
     effects: &mut Vec<Effect>,
     i: usize,
     bytes: Bytes,
@@ -110,6 +98,8 @@ pub(crate) fn send_reply(
     ensures load { sum_by connection_load connections.new.items ≤ sum_by connection_load connections.old.items }
     ensures less { (c : Connection) → close ≡ true → (slice_index_or connections.old.items i c).closed ≡ false → sum_by connection_load connections.new.items < sum_by connection_load connections.old.items }
 {
+    let count = connections.len();
+    prove!(i < count);
     close_at(connections, i, close);
     put(effects, Effect::Client(i as u64 + 1, bytes));
     if close {
@@ -119,32 +109,29 @@ pub(crate) fn send_reply(
 
 /// A link is opened for the connection at a place. It answers a HEAD or not.
 fn open_link(
-    connections: &mut Vec<Connection>,
-    links: &mut Vec<Link>,
+    connections: &mut Connections,
+    links: &mut Links,
     alloc: Global,
     max_body: u64,
     to_head: bool,
     i: usize,
 )
     requires within { i < length connections.old.items }
-    requires room { vec_len links.old < vec_capacity links.old }
+    requires room { length links.old.items < links.old.room }
     ensures stands { (s : Story) → (core : CoreState) → (first : ℕ) → core.table.max_body ≡ max_body → first + length links.old.items < 2 ^ 64 → Stands (state connections.old.items links.old.items core first) s
         → Stands (state connections.new.items links.new.items core first) (with_opened s i to_head) }
     ensures links { links_of connections.new.items ≡ slice_set (links_of connections.old.items) i (Some (length links.old.items)) }
     ensures owners { owners_of links.new.items ≡ owners_of links.old.items ++ Some i ∷ [] }
     ensures load { (c : Connection) → load_of connections.new.items links.new.items ≤ load_of connections.old.items links.old.items + gone_load (slice_index_or connections.old.items i c) + 1 }
 {
-    marks::link_to(&mut connections[i], links.len());
-    put_link(
-        links,
-        Link {
-            watch: ResponseWatch::new(alloc, max_body, to_head),
-            ended: false,
-            failed: None,
-            dropped: false,
-            connection: i,
-        },
-    );
+    marks::link_to(connections.at_mut(i), links.len());
+    links.put(Link {
+        watch: ResponseWatch::new(alloc, max_body, to_head),
+        ended: false,
+        failed: None,
+        dropped: false,
+        connection: i,
+    });
 }
 
 fn is_head(asked: &Asked) -> bool
@@ -182,8 +169,8 @@ pub(crate) fn way_to(
 
 /// Does what an outcome says, for the connection at a place.
 pub(crate) fn carry_out(
-    connections: &mut Vec<Connection>,
-    links: &mut Vec<Link>,
+    connections: &mut Connections,
+    links: &mut Links,
     effects: &mut Vec<Effect>,
     alloc: Global,
     first: u64,
@@ -192,7 +179,7 @@ pub(crate) fn carry_out(
     outcome: Outcome,
 )
     requires within { i < length connections.old.items }
-    requires room_for_link { vec_len links.old < vec_capacity links.old }
+    requires room_for_link { length links.old.items < links.old.room }
     requires room { vec_len effects.old + 2 ≤ vec_capacity effects.old }
     requires left { goes_forward outcome ≡ true → first + length links.old.items < 2 ^ 64 }
     ensures effects { effects.new.items ≡ effects.old.items ++ effects_on i (first + length links.old.items) (came_at way.address outcome) }
@@ -214,7 +201,7 @@ pub(crate) fn carry_out(
 }
 
 /// The exchange of a link and a connection is over.
-pub(crate) fn free(connections: &mut Vec<Connection>, links: &mut Vec<Link>, j: usize, i: usize)
+pub(crate) fn free(connections: &mut Connections, links: &mut Links, j: usize, i: usize)
     requires link { j < length links.old.items }
     requires connection { i < length connections.old.items }
     ensures stands { (s : Story) → (core : CoreState) → (first : ℕ) → Stands (state connections.old.items links.old.items core first) s
@@ -224,10 +211,10 @@ pub(crate) fn free(connections: &mut Vec<Connection>, links: &mut Vec<Link>, j: 
     ensures load { (c : Connection) → (k : Link) → load_of connections.new.items links.new.items + lost_load (slice_index_or connections.old.items i c) + link_load (slice_index_or links.old.items j k)
         ≡ load_of connections.old.items links.old.items }
     ensures gone { (c : Connection) → gone_load (slice_index_or connections.new.items i c) ≡ gone_load (slice_index_or connections.old.items i c) }
-    ensures room { vec_len links.old < vec_capacity links.old → vec_len links.new < vec_capacity links.new }
+    ensures room { length links.old.items < links.old.room → length links.new.items < links.new.room }
     ensures connections { length connections.new.items ≡ length connections.old.items }
     ensures links { length links.new.items ≡ length links.old.items }
 {
-    marks::drop_link(&mut links[j]);
-    marks::unlink(&mut connections[i]);
+    marks::drop_link(links.at_mut(j));
+    marks::unlink(connections.at_mut(i));
 }

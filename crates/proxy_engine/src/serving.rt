@@ -14,12 +14,15 @@ ghost use Rattle.proxy_engine.specs.Due.{Serves, IsDueFirst};
 ghost use Rattle.proxy_engine.specs.State.{Stands, state, wish_at, connection_load, load_of, Done, Failed};
 ghost use Rattle.proxy_engine.specs.Wiring.{IsWired, links_of};
 ghost use Rattle.proxy_engine.specs.Wishes.{verdict_address, IsWish};
+ghost use Rattle.proxy_engine.specs.declared.ends.Connection.{Connection};
+ghost use Rattle.proxy_engine.specs.declared.ends.Link.{Link};
 
-use crate::ends::{Connection, Link};
+use crate::connections::Connections;
 use crate::happening::EngineFault;
+use crate::links::Links;
 use crate::marks;
 use crate::outcomes::{
-    Way, carry_out, close_at, is_spent, lacks_memory, put, room, room_for_link, send_reply, way_to,
+    Way, carry_out, close_at, is_spent, lacks_memory, put, room, send_reply, way_to,
 };
 use crate::wishes::{Wish, wish_of};
 use hx_allow::{Config, Verdict};
@@ -33,7 +36,7 @@ use std::alloc::{AllocError, Global};
 
 /// The client may send the content of its request.
 fn send_continue(
-    connections: &mut Vec<Connection>,
+    connections: &mut Connections,
     alloc: Global,
     i: usize,
 ) -> Result<Vec<Effect>, AllocError>
@@ -45,8 +48,10 @@ fn send_continue(
     ensures err { OnErr result (connections.new.items ≡ connections.old.items) }
 {
     let mut effects = room(alloc)?;
+    let count = connections.len();
+    prove!(i < count);
     let bytes = Bytes::copy_of(alloc, b"HTTP/1.1 100 Continue\r\n\r\n")?;
-    marks::pass(&mut connections[i]);
+    marks::pass(connections.at_mut(i));
     put(&mut effects, Effect::Client(i as u64 + 1, bytes));
     Ok(effects)
 }
@@ -61,7 +66,7 @@ fn own_answer(alloc: Global, now: u64, why: Cause, head: bool) -> Result<Bytes, 
 
 /// The proxy answers by itself, and closes.
 fn refuse(
-    connections: &mut Vec<Connection>,
+    connections: &mut Connections,
     alloc: Global,
     now: u64,
     i: usize,
@@ -83,11 +88,7 @@ fn refuse(
 }
 
 /// The connection is closed without an answer.
-fn shut(
-    connections: &mut Vec<Connection>,
-    alloc: Global,
-    i: usize,
-) -> Result<Vec<Effect>, AllocError>
+fn shut(connections: &mut Connections, alloc: Global, i: usize) -> Result<Vec<Effect>, AllocError>
     requires { i < length connections.old.items }
     ensures ok { IfOk result (λ effects. (s : Story) → (links : List Link) → (core : CoreState) → (first now : ℕ) → (a : Next Request) → IsWish a Wish.Close
         → Stands (state connections.old.items links core first) s → Done s now (Serves i a) effects.items (state connections.new.items links core first)) }
@@ -96,6 +97,8 @@ fn shut(
     ensures err { OnErr result (connections.new.items ≡ connections.old.items) }
 {
     let mut effects = room(alloc)?;
+    let count = connections.len();
+    prove!(i < count);
     close_at(connections, i, true);
     put(&mut effects, Effect::Close(i as u64 + 1));
     Ok(effects)
@@ -123,8 +126,8 @@ fn way_for(alloc: Global, config: &Config, asked: &Asked) -> Result<Way, AllocEr
 
 /// A request arrives at the core. All that can fail comes before the core's step, or is that step.
 fn arrive<S: Shelf>(
-    connections: &mut Vec<Connection>,
-    links: &mut Vec<Link>,
+    connections: &mut Connections,
+    links: &mut Links,
     core: &mut Core<S>,
     alloc: Global,
     first: u64,
@@ -148,7 +151,7 @@ fn arrive<S: Shelf>(
     let Ok(mut effects) = room(alloc) else {
         return Err(EngineFault::OutOfMemory);
     };
-    let Ok(()) = room_for_link(links) else {
+    let Ok(()) = links.reserve_one() else {
         return Err(EngineFault::OutOfMemory);
     };
     if is_spent(first, links.len()) {
@@ -157,11 +160,13 @@ fn arrive<S: Shelf>(
     let Ok(way) = way_for(alloc, core.config(), asked) else {
         return Err(EngineFault::OutOfMemory);
     };
+    let count = connections.len();
+    prove!(i < count);
     let outcome = match core.arrive(alloc, now, i as u64 + 1, asked) {
         Ok(outcome) => outcome,
         Err(fault) => return Err(lacks_memory(fault)),
     };
-    marks::pass(&mut connections[i]);
+    marks::pass(connections.at_mut(i));
     carry_out(
         connections,
         links,
@@ -177,8 +182,8 @@ fn arrive<S: Shelf>(
 
 /// Does what is due on the connection at a place.
 pub(crate) fn serve<S: Shelf>(
-    connections: &mut Vec<Connection>,
-    links: &mut Vec<Link>,
+    connections: &mut Connections,
+    links: &mut Links,
     core: &mut Core<S>,
     alloc: Global,
     first: u64,
@@ -197,7 +202,7 @@ pub(crate) fn serve<S: Shelf>(
         → Stands (state connections.old.items links.old.items core.old first) s → Failed s fault) }
     ensures err { OnErr result ((connections.new.items ≡ connections.old.items) × (links.new.items ≡ links.old.items) × (core.new ≡ core.old)) }
 {
-    let wish = match wish_of(&connections[i], alloc) {
+    let wish = match wish_of(connections.at(i), alloc) {
         Ok(wish) => wish,
         Err(_) => return Err(EngineFault::OutOfMemory),
     };

@@ -6,16 +6,18 @@ ghost use Rattle.proxy_engine.specs.Story.{Story, ConnStory, LinkStory, sent, en
 ghost use Rattle.proxy_engine.specs.Wiring.{owner_of, links_of, owners_of};
 ghost use Rattle.proxy_engine.specs.State.{Stands, ConnStands, LinkStands, state, Takes, TakeFault};
 
+use crate::connections::Connections;
 use crate::ends::{Connection, Link};
 use crate::happening::EngineFault;
+use crate::links::Links;
 use crate::request_watch::RequestWatch;
 use hx_status::FailKind;
 use std::alloc::{AllocError, Global};
 
 /// Where the connection of this number stands.
-fn connection_place(connections: &[Connection], n: u64) -> Option<usize>
-    ensures { MatchOption result (nat_lt 0 n && nat_le n (length connections.now) ≡ false)
-        (λ i. (nat_lt 0 n && nat_le n (length connections.now) ≡ true) × (i ≡ n - 1) × (i < length connections.now)) }
+fn connection_place(connections: &Connections, n: u64) -> Option<usize>
+    ensures { MatchOption result (nat_lt 0 n && nat_le n (length connections.now.items) ≡ false)
+        (λ i. (nat_lt 0 n && nat_le n (length connections.now.items) ≡ true) × (i ≡ n - 1) × (i < length connections.now.items)) }
 {
     if 0 < n && n <= connections.len() as u64 {
         Some((n - 1) as usize)
@@ -25,9 +27,9 @@ fn connection_place(connections: &[Connection], n: u64) -> Option<usize>
 }
 
 /// Where the link of this number stands.
-fn link_place(links: &[Link], first: u64, l: u64) -> Option<usize>
-    ensures { MatchOption result (nat_le first l && nat_lt (l - first) (length links.now) ≡ false)
-        (λ j. (nat_le first l && nat_lt (l - first) (length links.now) ≡ true) × (j ≡ l - first) × (j < length links.now)) }
+fn link_place(links: &Links, first: u64, l: u64) -> Option<usize>
+    ensures { MatchOption result (nat_le first l && nat_lt (l - first) (length links.now.items) ≡ false)
+        (λ j. (nat_le first l && nat_lt (l - first) (length links.now.items) ≡ true) × (j ≡ l - first) × (j < length links.now.items)) }
 {
     if first <= l && l - first < links.len() as u64 {
         Some((l - first) as usize)
@@ -98,23 +100,15 @@ fn fail_link(link: &mut Link, kind: FailKind)
     }
 }
 
-/// Puts a connection at the end. There is room, so no memory is taken.
-fn put_connection(connections: &mut Vec<Connection>, connection: Connection)
-    requires { vec_len connections.old < vec_capacity connections.old }
-    ensures { connections.new.items ≡ connections.old.items ++ connection ∷ [] }
-{
-    let _ = connections.push(connection);
-}
-
 /// Whether that is the next number.
-fn is_next(connections: &[Connection], n: u64) -> bool
-    ensures { result ≡ (n == length connections.now + 1) }
+fn is_next(connections: &Connections, n: u64) -> bool
+    ensures { result ≡ (n == length connections.now.items + 1) }
 {
     n != 0 && n - 1 == connections.len() as u64
 }
 
 pub(crate) fn accept(
-    connections: &mut Vec<Connection>,
+    connections: &mut Connections,
     alloc: Global,
     max_body: u64,
     n: u64,
@@ -126,19 +120,16 @@ pub(crate) fn accept(
     ensures err { OnErr result (connections.new.items ≡ connections.old.items) }
 {
     if is_next(connections, n) {
-        match connections.reserve(1) {
+        match connections.reserve_one() {
             Ok(()) => {
                 let watch = RequestWatch::new(alloc, max_body);
-                put_connection(
-                    connections,
-                    Connection {
-                        watch,
-                        ended: false,
-                        gone: false,
-                        closed: false,
-                        link: None,
-                    },
-                );
+                connections.put(Connection {
+                    watch,
+                    ended: false,
+                    gone: false,
+                    closed: false,
+                    link: None,
+                });
                 Ok(())
             }
             Err(_) => Err(EngineFault::OutOfMemory),
@@ -148,11 +139,7 @@ pub(crate) fn accept(
     }
 }
 
-pub(crate) fn client(
-    connections: &mut Vec<Connection>,
-    n: u64,
-    bytes: &[u8],
-) -> Result<(), EngineFault>
+pub(crate) fn client(connections: &mut Connections, n: u64, bytes: &[u8]) -> Result<(), EngineFault>
     ensures ok { OnOk result ((s : Story) → (links : List Link) → (core : CoreState) → (first : ℕ) → Stands (state connections.old.items links core first) s
         → Takes s (Sends n bytes.now) (state connections.new.items links core first)) }
     ensures fault { IfErr result (λ e. (s : Story) → (links : List Link) → (core : CoreState) → (first : ℕ) → Stands (state connections.old.items links core first) s → TakeFault s (Sends n bytes.now) e) }
@@ -163,13 +150,13 @@ pub(crate) fn client(
     let Some(i) = connection_place(connections, n) else {
         return Err(EngineFault::NotAccepted);
     };
-    match send(&mut connections[i], bytes) {
+    match send(connections.at_mut(i), bytes) {
         Ok(()) => Ok(()),
         Err(_) => Err(EngineFault::OutOfMemory),
     }
 }
 
-pub(crate) fn finish_client(connections: &mut Vec<Connection>, n: u64) -> Result<(), EngineFault>
+pub(crate) fn finish_client(connections: &mut Connections, n: u64) -> Result<(), EngineFault>
     ensures ok { OnOk result ((s : Story) → (links : List Link) → (core : CoreState) → (first : ℕ) → Stands (state connections.old.items links core first) s
         → Takes s (Ends n) (state connections.new.items links core first)) }
     ensures fault { IfErr result (λ e. (s : Story) → (links : List Link) → (core : CoreState) → (first : ℕ) → Stands (state connections.old.items links core first) s → TakeFault s (Ends n) e) }
@@ -180,11 +167,11 @@ pub(crate) fn finish_client(connections: &mut Vec<Connection>, n: u64) -> Result
     let Some(i) = connection_place(connections, n) else {
         return Err(EngineFault::NotAccepted);
     };
-    end(&mut connections[i]);
+    end(connections.at_mut(i));
     Ok(())
 }
 
-pub(crate) fn lose_client(connections: &mut Vec<Connection>, n: u64) -> Result<(), EngineFault>
+pub(crate) fn lose_client(connections: &mut Connections, n: u64) -> Result<(), EngineFault>
     ensures ok { OnOk result ((s : Story) → (links : List Link) → (core : CoreState) → (first : ℕ) → Stands (state connections.old.items links core first) s
         → Takes s (Leaves n) (state connections.new.items links core first)) }
     ensures fault { IfErr result (λ e. (s : Story) → (links : List Link) → (core : CoreState) → (first : ℕ) → Stands (state connections.old.items links core first) s → TakeFault s (Leaves n) e) }
@@ -195,16 +182,11 @@ pub(crate) fn lose_client(connections: &mut Vec<Connection>, n: u64) -> Result<(
     let Some(i) = connection_place(connections, n) else {
         return Err(EngineFault::NotAccepted);
     };
-    lose(&mut connections[i]);
+    lose(connections.at_mut(i));
     Ok(())
 }
 
-pub(crate) fn answer(
-    links: &mut Vec<Link>,
-    first: u64,
-    l: u64,
-    bytes: &[u8],
-) -> Result<(), EngineFault>
+pub(crate) fn answer(links: &mut Links, first: u64, l: u64, bytes: &[u8]) -> Result<(), EngineFault>
     ensures ok { OnOk result ((s : Story) → (connections : List Connection) → (core : CoreState) → Stands (state connections links.old.items core first) s
         → Takes s (Hears l bytes.now) (state connections links.new.items core first)) }
     ensures fault { IfErr result (λ e. (s : Story) → (connections : List Connection) → (core : CoreState) → Stands (state connections links.old.items core first) s → TakeFault s (Hears l bytes.now) e) }
@@ -215,13 +197,13 @@ pub(crate) fn answer(
     let Some(j) = link_place(links, first, l) else {
         return Err(EngineFault::WrongNumber);
     };
-    match hear(&mut links[j], bytes) {
+    match hear(links.at_mut(j), bytes) {
         Ok(()) => Ok(()),
         Err(_) => Err(EngineFault::OutOfMemory),
     }
 }
 
-pub(crate) fn shut_link(links: &mut Vec<Link>, first: u64, l: u64) -> Result<(), EngineFault>
+pub(crate) fn shut_link(links: &mut Links, first: u64, l: u64) -> Result<(), EngineFault>
     ensures ok { OnOk result ((s : Story) → (connections : List Connection) → (core : CoreState) → Stands (state connections links.old.items core first) s
         → Takes s (Shuts l) (state connections links.new.items core first)) }
     ensures fault { IfErr result (λ e. (s : Story) → (connections : List Connection) → (core : CoreState) → Stands (state connections links.old.items core first) s → TakeFault s (Shuts l) e) }
@@ -232,12 +214,12 @@ pub(crate) fn shut_link(links: &mut Vec<Link>, first: u64, l: u64) -> Result<(),
     let Some(j) = link_place(links, first, l) else {
         return Err(EngineFault::WrongNumber);
     };
-    close_link(&mut links[j]);
+    close_link(links.at_mut(j));
     Ok(())
 }
 
 pub(crate) fn break_link(
-    links: &mut Vec<Link>,
+    links: &mut Links,
     first: u64,
     l: u64,
     kind: FailKind,
@@ -252,6 +234,6 @@ pub(crate) fn break_link(
     let Some(j) = link_place(links, first, l) else {
         return Err(EngineFault::WrongNumber);
     };
-    fail_link(&mut links[j], kind);
+    fail_link(links.at_mut(j), kind);
     Ok(())
 }

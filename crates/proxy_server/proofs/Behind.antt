@@ -2,16 +2,14 @@
 use Rattle.std.proofs.Common.{◌≡◌, ◌≢◌, ◌⊎◌, inl, inr, ℕ, zero, suc, ◌+◌, ◌<◌, ◌≤◌, List, [], ◌∷◌, ◌++◌, length, get_or, refl, sym, ap, ◌∙◌, subst, arith, true, false, Option, None, Some}
 use Rattle.std.proofs.lemmas.Bool.{cases_lt}
 use Rattle.std.proofs.lemmas.List.{append_assoc}
-use Rattle.std.specs.List.{AllByRecursion}
-use Rattle.hx_allow.specs.Lines.{Table}
 use Rattle.proxy_script.specs.Script.{Said as Item}
 use Rattle.proxy_script.specs.declared.effect_list.Effect.{Effect}
 use Rattle.proxy_script.specs.declared.effect_list.Effect.TheVariants as effects
 use Rattle.proxy_engine.specs.Happenings.{Said as Happening}
 use Rattle.proxy_engine.specs.Story.{Story, ConnStory, heard, connection_at, no_connection}
-use Rattle.proxy_engine.specs.Orderly.{IsOrderly, IsOpen, IsClosed, NamesOpen, Stays, BeginsOrderly, TakesInOrder, ActsInOrder, TakesStay, ActsStay}
-use Rattle.proxy_server.specs.Played.{Deed, Works, effects_of, Scene, beginning, Plays, HappenedIf, happening_of}
-use Rattle.proxy_server.specs.Closes.{client_of, NeverNames, EndsWithItsClose}
+use Rattle.proxy_engine.specs.Orderly.{IsOrderly, IsOpen, IsClosed, NamesOpen, Stays, TakesInOrder, ActsInOrder, TakesStay, ActsStay}
+use Rattle.proxy_server.specs.Played.{Deed, Works, effects_of, Scene, Plays, HappenedIf, happening_of}
+use Rattle.proxy_server.specs.Closes.{NeverNames, EndsWithItsClose}
 
 -- the connection of this number was accepted, and is closed
 pub record IsShut (s : Story) (n : ℕ) : Type 0 where

@@ -14,4 +14,4 @@ pub record IsRun (table : Table) (effects : List Effect) (last : Scene) : Type 0
   pub steps : List Step
   pub lives : Lives (beginning table).story steps last.story
   pub told : told_of steps ≡ effects
-  pub run : IsCoreRun table table.capacity 1 steps last.story.core
+  pub run : IsCoreRun table table.capacity 1 (beginning table).story steps last.story

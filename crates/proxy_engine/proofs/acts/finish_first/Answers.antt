@@ -7,7 +7,7 @@ use Rattle.proxy_engine.proofs.acts.finish_first.Goals as goal
 
 pub returns-in-Ok-clause-ok : goal.returns-in-Ok-clause-ok
 returns-in-Ok-clause-ok g c = λ s lost h.
-    let ks = c.find_finished.new.links.items in
+    let ks = c.find_finished.new.self.items in
     let j = c.in-Ok-Some.j in
     let found = subst (λ (o : Option ℕ). FoundLinks ks o) c.in-Ok-Some.field-0-is c.in-Ok-Some.ensures.found in
     let d = some_part ks j found.within in
@@ -17,7 +17,7 @@ returns-in-Ok-clause-ok g c = λ s lost h.
 
 pub returns-in-Err-finish-clause-fault : goal.returns-in-Err-finish-clause-fault
 returns-in-Err-finish-clause-fault g c = λ s lost h.
-    let ks = c.find_finished.new.links.items in
+    let ks = c.find_finished.new.self.items in
     let j = c.in-Ok-Some.j in
     let found = subst (λ (o : Option ℕ). FoundLinks ks o) c.in-Ok-Some.field-0-is c.in-Ok-Some.ensures.found in
     let d = some_part ks j found.within in

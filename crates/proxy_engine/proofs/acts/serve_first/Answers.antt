@@ -7,7 +7,7 @@ use Rattle.proxy_engine.proofs.acts.serve_first.Goals as goal
 
 pub returns-in-Ok-clause-ok : goal.returns-in-Ok-clause-ok
 returns-in-Ok-clause-ok g c = λ s lost stood h.
-    let cs = c.find_due.new.connections.items in
+    let cs = c.find_due.new.self.items in
     let i = c.in-Ok-Some.i in
     let found = subst (λ (o : Option ℕ). FoundConnections cs o) c.in-Ok-Some.field-0-is c.in-Ok-Some.ensures.found in
     let d = some_part cs i found.within in
@@ -17,7 +17,7 @@ returns-in-Ok-clause-ok g c = λ s lost stood h.
 
 pub returns-in-Err-serve-clause-fault : goal.returns-in-Err-serve-clause-fault
 returns-in-Err-serve-clause-fault g c = λ s lost stood h.
-    let cs = c.find_due.new.connections.items in
+    let cs = c.find_due.new.self.items in
     let i = c.in-Ok-Some.i in
     let found = subst (λ (o : Option ℕ). FoundConnections cs o) c.in-Ok-Some.field-0-is c.in-Ok-Some.ensures.found in
     let d = some_part cs i found.within in

@@ -1,69 +1,57 @@
-use Rattle.std.proofs.Common.{rules, ◌≡◌, ◌+◌, ◌<◌, ◌≤◌, ◌^◌, ◌∙◌, ◌++◌, ◌∷◌, [], ℕ, List, length, get_or, set, sym, ap, subst, arith, Option, None, sum_by}
+use Rattle.std.proofs.Common.{rules, ◌≡◌, ◌+◌, ◌≤◌, ◌^◌, ◌∙◌, ◌++◌, ◌∷◌, [], ℕ, List, length, get_or, set, sym, ap, subst, arith, None, sum_by}
 use Rattle.proxy_script.specs.declared.effect_list.Effect.{Effect}
 use Rattle.proxy_script.specs.declared.effect_list.Effect.TheVariants.{Drop}
-use Rattle.proxy_core.specs.declared.exchange.Exchange.{Exchange}
-use Rattle.proxy_core.specs.Outcomes.{find_exchange}
 use Rattle.proxy_engine.specs.Story.{no_link}
 use Rattle.proxy_engine.specs.Due.{Finish, Finishes}
 use Rattle.proxy_engine.specs.Acts.{came_at, effects_on}
-use Rattle.proxy_engine.specs.State.{LinkStands, Stands, state, Done, link_load, lost_load, gone_load}
-use Rattle.proxy_engine.specs.Wiring.{at, links_of, owners_of}
+use Rattle.proxy_engine.specs.State.{LinkStands, Stands, state, Done, link_load}
+use Rattle.proxy_engine.specs.Wiring.{owners_of}
 use Rattle.proxy_engine.specs.Wishes.{EndFault}
-use Rattle.proxy_engine.specs.declared.ends.Connection.{Connection}
 use Rattle.proxy_engine.specs.declared.ends.Link.{Link}
 use Rattle.proxy_engine.proofs.Parts.{both_length, both_here}
 use Rattle.proxy_engine.proofs.Searching.{some_part}
-use Rattle.proxy_engine.proofs.Wishing.{finish_known, same_place, told_one}
+use Rattle.proxy_engine.proofs.Wishing.{finish_known, told_one}
 use Rattle.proxy_engine.proofs.Ending.{remains}
 use Rattle.proxy_engine.proofs.Wires.{within_connections, due_link, is_open, linked_load, same_default, wired_finished}
 use Rattle.proxy_engine.proofs.Stepping.{finished_done, end_failed, link_counts}
 use Rattle.proxy_engine.proofs.finishing.finish.Goals as goal
 
-pub overflow_add-i : goal.overflow_add-i
-overflow_add-i g c =
-    let same = c.room_for_link.ensures.items in
-    let x = c.index.result.now in
-    let here = subst (λ (ls : List Link). x ≡ get_or ls c.args.j x) same c.index.ensures in
+pub prove-unreachable-requires : goal.prove-unreachable-requires
+prove-unreachable-requires g c =
+    let same = c.reserve_one.ensures.items in
+    let x = c.at.result.now in
+    let here = subst (λ (ls : List Link). x ≡ get_or ls c.args.j x) same c.at.ensures in
     let link = due_link c.args.connections.now.items c.args.links.now.items c.args.core.now.exchanges c.args.j x c.requires.within here (c.requires.due x) c.requires.wired in
     let within = within_connections c.args.connections.now.items x.connection c.args.j link in
-    search (rules, within)
-
-pub overflow_add-i-2 : goal.overflow_add-i-2
-overflow_add-i-2 g c =
-    let same = c.room_for_link.ensures.items in
-    let x = c.index.result.now in
-    let here = subst (λ (ls : List Link). x ≡ get_or ls c.args.j x) same c.index.ensures in
-    let link = due_link c.args.connections.now.items c.args.links.now.items c.args.core.now.exchanges c.args.j x c.requires.within here (c.requires.due x) c.requires.wired in
-    let within = within_connections c.args.connections.now.items x.connection c.args.j link in
-    search (rules, within)
+    absurd (omega (arith, within, c.if-prove.true, c.len-count.ensures))
 
 pub way_again-requires : goal.way_again-requires
 way_again-requires g c =
     let cs = c.args.connections.now.items in
     let ks = c.args.links.now.items in
-    let x = c.index.result.now in
-    let here = subst (λ (ls : List Link). x ≡ get_or ls c.args.j x) c.room_for_link.ensures.items c.index.ensures in
+    let x = c.at.result.now in
+    let here = subst (λ (ls : List Link). x ≡ get_or ls c.args.j x) c.reserve_one.ensures.items c.at.ensures in
     is_open cs ks c.args.core.now.exchanges x.connection c.args.j (due_link cs ks c.args.core.now.exchanges c.args.j x c.requires.within here (c.requires.due x) c.requires.wired) c.requires.wired
 
 pub end-requires-clause-open : goal.end-requires-clause-open
 end-requires-clause-open g c =
     let cs = c.args.connections.now.items in
     let ks = c.args.links.now.items in
-    let x = c.index.result.now in
-    let here = subst (λ (ls : List Link). x ≡ get_or ls c.args.j x) c.room_for_link.ensures.items c.index.ensures in
+    let x = c.at.result.now in
+    let here = subst (λ (ls : List Link). x ≡ get_or ls c.args.j x) c.reserve_one.ensures.items c.at.ensures in
     is_open cs ks c.args.core.now.exchanges x.connection c.args.j (due_link cs ks c.args.core.now.exchanges c.args.j x c.requires.within here (c.requires.due x) c.requires.wired) c.requires.wired
 
 pub returns-in-Err-clause-fault : goal.returns-in-Err-clause-fault
 returns-in-Err-clause-fault g c = λ s f k shown due h.
     let ks = c.args.links.now.items in
-    let y = c.index-2.result.now in
-    let here = subst (λ (ls : List Link). y ≡ get_or ls c.args.j y) c.room_for_link.ensures.items c.index-2.ensures in
+    let y = c.at-2.result.now in
+    let here = subst (λ (ls : List Link). y ≡ get_or ls c.args.j y) c.reserve_one.ensures.items c.at-2.ensures in
     let ended = c.in-Err.ensures.fault in
     let same : f ≡ ended.0 = finish_known ks c.args.j y k ended.0 f c.requires.within here ended.1 shown in
     let links = both_length LinkStands ks s.links h.links in
     let first_is : c.args.first ≡ s.first = h.first in
-    let count : c.len.result ≡ length c.room_for_link.new.links.items = search rules in
-    let sizes = ap length c.room_for_link.ensures.items in
+    let count : c.len.result ≡ length c.reserve_one.new.self.items = search rules in
+    let sizes = ap length c.reserve_one.ensures.items in
     end_failed s c.args.j f c.is_spent-spent.result c.in-Err.fault (subst (λ (x : Finish). EndFault c.is_spent-spent.result x c.in-Err.fault) (sym same) ended.2)
     (λ t. let many = c.is_spent-spent.ensures.spent t in omega (arith, many, count, sizes, links)) due
 
@@ -72,11 +60,11 @@ returns-clause-wired g c =
     let cs = c.args.connections.now.items in
     let ks = c.args.links.now.items in
     let core = c.args.core.now in
-    let x = c.index.result.now in
-    let here = subst (λ (ls : List Link). x ≡ get_or ls c.args.j x) c.room_for_link.ensures.items c.index.ensures in
+    let x = c.at.result.now in
+    let here = subst (λ (ls : List Link). x ≡ get_or ls c.args.j x) c.reserve_one.ensures.items c.at.ensures in
     let link = due_link cs ks core.exchanges c.args.j x c.requires.within here (c.requires.due x) c.requires.wired in
     let there = is_open cs ks core.exchanges x.connection c.args.j link c.requires.wired in
-    let owners : owners_of c.free.new.links.items ≡ set (owners_of ks) c.args.j None = c.free.ensures.owners ∙ ap (λ (ls : List Link). set (owners_of ls) c.args.j None) c.room_for_link.ensures.items in
+    let owners : owners_of c.free.new.links.items ≡ set (owners_of ks) c.args.j None = c.free.ensures.owners ∙ ap (λ (ls : List Link). set (owners_of ls) c.args.j None) c.reserve_one.ensures.items in
     wired_finished cs c.free.new.connections.items c.carry_out.new.connections.items ks c.free.new.links.items c.carry_out.new.links.items core.exchanges c.end.new.core.exchanges x.connection c.args.j c.in-Ok-end.outcome link c.free.ensures.wires owners
     c.carry_out.ensures.links c.carry_out.ensures.owners there (remains core c.end.new.core c.args.now (x.connection + 1) c.in-Ok-end.ensures.ok.0 c.in-Ok-end.outcome there c.in-Ok-end.ensures.ok.3) c.requires.wired
 
@@ -84,16 +72,16 @@ pub returns-clause-less : goal.returns-clause-less
 returns-clause-less g c =
     let cs = c.args.connections.now.items in
     let ks = c.args.links.now.items in
-    let rooms = c.room_for_link.new.links.items in
+    let rooms = c.reserve_one.new.self.items in
     let j = c.args.j in
-    let i = c.index.result.now.connection in
-    let same = c.room_for_link.ensures.items in
-    let y = c.index-2.result.now in
-    let here = subst (λ (ls : List Link). y ≡ get_or ls j y) same c.index-2.ensures in
-    let there = subst (λ (ls : List Link). c.index.result.now ≡ get_or ls j c.index.result.now) same c.index.ensures in
+    let i = c.at.result.now.connection in
+    let same = c.reserve_one.ensures.items in
+    let y = c.at-2.result.now in
+    let here = subst (λ (ls : List Link). y ≡ get_or ls j y) same c.at-2.ensures in
+    let there = subst (λ (ls : List Link). c.at.result.now ≡ get_or ls j c.at.result.now) same c.at.ensures in
     let counts : link_load y ≡ 2 = link_counts y c.in-Ok-end.ensures.ok.0 c.in-Ok-end.ensures.ok.1 in
-    let stood : link_load (get_or rooms j y) ≡ link_load y = ap link_load (sym c.index-2.ensures) in
-    let link = due_link cs ks c.args.core.now.exchanges j c.index.result.now c.requires.within there (c.requires.due c.index.result.now) c.requires.wired in
+    let stood : link_load (get_or rooms j y) ≡ link_load y = ap link_load (sym c.at-2.ensures) in
+    let link = due_link cs ks c.args.core.now.exchanges j c.at.result.now c.requires.within there (c.requires.due c.at.result.now) c.requires.wired in
     let within = within_connections cs i j link in
     let x = get_or cs i (some_part cs i within) in
     let lost = linked_load cs i j x (same_default cs i (some_part cs i within) within) link in
@@ -109,18 +97,18 @@ returns-clause-ok g c = λ s f k shown h.
     let ks = c.args.links.now.items in
     let core = c.args.core.now in
     let j = c.args.j in
-    let x = c.index.result.now in
+    let x = c.at.result.now in
     let i = x.connection in
-    let y = c.index-2.result.now in
-    let items = c.room_for_link.ensures.items in
-    let here = subst (λ (ls : List Link). y ≡ get_or ls j y) items c.index-2.ensures in
-    let there = subst (λ (ls : List Link). x ≡ get_or ls j x) items c.index.ensures in
+    let y = c.at-2.result.now in
+    let items = c.reserve_one.ensures.items in
+    let here = subst (λ (ls : List Link). y ≡ get_or ls j y) items c.at-2.ensures in
+    let there = subst (λ (ls : List Link). x ≡ get_or ls j x) items c.at.ensures in
     let ended = c.in-Ok-end.ensures.ok in
     let same : f ≡ ended.0 = finish_known ks j y k ended.0 f c.requires.within here ended.1 shown in
     let links = both_length LinkStands ks s.links h.links in
     let first_is : c.args.first ≡ s.first = h.first in
     let numbers : s.first + length s.links ≤ 2 ^ 64 = h.numbers in
-    let count : c.len.result ≡ length c.room_for_link.new.links.items = search rules in
+    let count : c.len.result ≡ length c.reserve_one.new.self.items = search rules in
     let sizes = ap length items in
     let number : c.number_at.result ≡ c.args.first + j = c.number_at.ensures (omega (arith, links, c.requires.within)) in
     let owner = both_here LinkStands ks s.links j x no_link c.requires.within there h.links in

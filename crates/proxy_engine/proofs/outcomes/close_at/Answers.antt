@@ -6,7 +6,7 @@ use Rattle.proxy_engine.proofs.outcomes.close_at.Goals as goal
 
 pub returns-clause-stands : goal.returns-clause-stands
 returns-clause-stands c = λ s links core first h.
-    changed_connection (closing c.args.close) c.args.connections.now.items links core first s c.args.i c.index_mut.result.now c.close.new.connection c.requires.within c.index_mut.ensures.value c.close.ensures.stands h
+    changed_connection (closing c.args.close) c.args.connections.now.items links core first s c.args.i c.at_mut.result.now c.close.new.connection c.requires.within c.at_mut.ensures.value c.close.ensures.stands h
 
 pub returns-clause-links : goal.returns-clause-links
-returns-clause-links c = map_kept link_of c.args.connections.now.items c.args.i c.index_mut.result.now c.close.new.connection c.index_mut.ensures.value c.close.ensures.link
+returns-clause-links c = map_kept link_of c.args.connections.now.items c.args.i c.at_mut.result.now c.close.new.connection c.at_mut.ensures.value c.close.ensures.link

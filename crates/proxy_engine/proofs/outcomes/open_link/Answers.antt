@@ -12,8 +12,8 @@ returns-clause-stands c = λ s core first most small h.
     let cs = c.args.connections.now.items in
     let ks = c.args.links.now.items in
     let len : c.len.result ≡ length ks = search rules in
-    subst (λ (ls : List Link). Stands (state (set cs c.args.i c.link_to.new.connection) ls core first) (with_opened s c.args.i c.args.to_head)) (sym c.put_link.ensures)
-    (opened_link cs ks core first c.args.max_body c.len.result c.args.to_head s c.args.i c.index_mut.result.now c.link_to.new.connection c.new.result c.requires.within c.index_mut.ensures.value len c.link_to.ensures.stands most c.new.ensures.stands small h)
+    subst (λ (ls : List Link). Stands (state (set cs c.args.i c.link_to.new.connection) ls core first) (with_opened s c.args.i c.args.to_head)) (sym c.put.ensures)
+    (opened_link cs ks core first c.args.max_body c.len.result c.args.to_head s c.args.i c.at_mut.result.now c.link_to.new.connection c.new.result c.requires.within c.at_mut.ensures.value len c.link_to.ensures.stands most c.new.ensures.stands small h)
 
 pub returns-clause-links : goal.returns-clause-links
 returns-clause-links c =

@@ -7,8 +7,8 @@ use Rattle.proxy_engine.proofs.serving.send_continue.Goals as goal
 
 pub returns-clause-ok : goal.returns-clause-ok
 returns-clause-ok c = λ s links core first now d due h.
-    continued s c.args.connections.now.items links core first now c.args.i c.index_mut.result.now c.pass.new.connection d c.put.new.effects.items c.requires c.index_mut.ensures.value due c.pass.ensures.stands
+    continued s c.args.connections.now.items links core first now c.args.i c.at_mut.result.now c.pass.new.connection d c.put.new.effects.items c.requires c.at_mut.ensures.value due c.pass.ensures.stands
     (told_one c.in_ok-effects.effects.items c.put.new.effects.items _ c.put.ensures.items c.in_ok-effects.ensures.items ∙ ap (λ (b : List ℕ). Client (c.args.i + 1) b ∷ []) c.in_ok-bytes.ensures) h
 
 pub returns-clause-links : goal.returns-clause-links
-returns-clause-links c = map_kept link_of c.args.connections.now.items c.args.i c.index_mut.result.now c.pass.new.connection c.index_mut.ensures.value c.pass.ensures.link
+returns-clause-links c = map_kept link_of c.args.connections.now.items c.args.i c.at_mut.result.now c.pass.new.connection c.at_mut.ensures.value c.pass.ensures.link
