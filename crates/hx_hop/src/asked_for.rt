@@ -10,7 +10,6 @@ use std::alloc::{AllocError, Global};
 
 /// A request as every later rule sees it: its target read, without the fields of its connection and the
 /// Host field.
-#[derive(Drop)]
 pub struct Asked {
     /// Methods compare with their case (RFC 9110, section 9.1).
     pub method: Method,
@@ -24,6 +23,20 @@ pub struct Asked {
     pub content: Option<Bytes>,
     /// Whether the client's connection closes after the answer.
     pub close: bool,
+}
+
+/// One call drops it, wherever that is, so the cases of its method stand in one proof alone.
+impl Drop for Asked {
+    fn drop(self) {
+        let Asked {
+            method: _,
+            minor: _,
+            target: _,
+            fields: _,
+            content: _,
+            close: _,
+        } = self;
+    }
 }
 
 /// A copy of a content.

@@ -15,7 +15,6 @@ use std::alloc::{AllocError, Global};
 use std::marker::Model;
 
 /// A stored response, with what is kept of the request that it answered.
-#[derive(Drop)]
 pub struct Entry {
     /// Its number, which no other entry ever has.
     pub serial: u64,
@@ -31,6 +30,22 @@ pub struct Entry {
     pub content: Bytes,
     /// The moments from which its age is counted.
     pub times: Times,
+}
+
+/// One call drops it, wherever that is, so the cases of its parts stand in one proof alone.
+impl Drop for Entry {
+    fn drop(self) {
+        let Entry {
+            serial: _,
+            key: _,
+            nominated: _,
+            status: _,
+            fields: _,
+            directives: _,
+            content: _,
+            times: _,
+        } = self;
+    }
 }
 
 impl Model for Entry {
