@@ -1,7 +1,7 @@
 //! Where content in chunks stands (RFC 9112, section 7.1).
 
 /// What comes next.
-#[derive(Clone, Copy, Debug, PartialEq, Eq)]
+#[derive(Clone, Copy)]
 pub(crate) enum Phase {
     /// A size line.
     Size,

@@ -21,7 +21,7 @@ use crate::size_line::{MOST_SIZE_LINE_BYTES, ends_in_cr, size_at};
 const MOST_TRAILER_BYTES: usize = 32768;
 
 /// What stands at the front of the bytes.
-#[derive(Clone, Copy, Debug, PartialEq, Eq)]
+#[derive(Clone, Copy)]
 pub(crate) enum Piece {
     /// Nothing, or a part of a piece.
     Short,

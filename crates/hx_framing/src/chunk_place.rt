@@ -3,7 +3,7 @@
 use crate::chunk_phase::Phase;
 
 /// What comes next, and what the limits leave.
-#[derive(Clone, Copy, Debug, PartialEq, Eq)]
+#[derive(Clone, Copy)]
 pub(crate) struct Place {
     pub(crate) phase: Phase,
     /// Bytes of data that are still to come of this chunk.

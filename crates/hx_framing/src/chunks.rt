@@ -15,7 +15,7 @@ use std::marker::Model;
 use std::mem;
 
 /// How far the content has come.
-#[derive(Debug, Drop)]
+#[derive(Drop)]
 pub(crate) struct Chunks {
     place: Place,
     content: Vec<u8>,

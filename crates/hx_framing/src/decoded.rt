@@ -3,7 +3,7 @@
 use crate::fault::FrameFault;
 
 /// How far the bytes that were given went: how many of them were taken.
-#[derive(Clone, Copy, Debug, PartialEq, Eq)]
+#[derive(Clone, Copy)]
 pub(crate) enum Decoded {
     /// More are needed. What wasn't taken has to stand at the front of what is given next.
     More(usize),

@@ -4,7 +4,7 @@ use crate::content::Content;
 use crate::fault::FrameFault;
 
 /// What is due, and how many bytes it takes. H is a head, M a message.
-#[derive(Debug, Drop)]
+#[derive(Drop)]
 pub(crate) enum Found<H, M> {
     /// Nothing yet.
     Incomplete(usize),

@@ -1,7 +1,7 @@
 //! What a head says of the content behind it.
 
 /// How long a content is.
-#[derive(Clone, Copy, Debug, PartialEq, Eq)]
+#[derive(Clone, Copy)]
 pub(crate) enum Framing {
     /// There is none.
     Nothing,
@@ -14,7 +14,7 @@ pub(crate) enum Framing {
 }
 
 /// What a request head says of its content.
-#[derive(Clone, Copy, Debug, PartialEq, Eq)]
+#[derive(Clone, Copy)]
 pub(crate) struct Plan {
     pub(crate) framing: Framing,
     /// The client waits for a continue before it sends the content.

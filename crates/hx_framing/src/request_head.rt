@@ -4,10 +4,13 @@ ghost use Rattle.http_header.specs.Token.{IsToken};
 ghost use Rattle.httparse.specs.Grammar.{RequestHead};
 ghost use Rattle.httparse.specs.Spans.{IsRequestAt, IsRequestWithin, span_bytes};
 ghost use Rattle.hx_framing.specs.Head.{IsHead, Judges, head_at, head_fault};
+ghost use Rattle.hx_framing.specs.RequestReading.{request_of};
 
 use crate::fault::FrameFault;
+use crate::lengths::without_lengths;
 use crate::lines::copy_fields;
 use crate::places::MOST_FIELD_LINES;
+use crate::requests::Request;
 use crate::version::request_has_other_version;
 use http::Method;
 use http::method::MethodError;
@@ -17,12 +20,44 @@ use hx_fields::{Bytes, Fields};
 use std::alloc::{AllocError, Global};
 
 /// A head: its request line and its field lines.
-#[derive(Debug, Drop)]
 pub(crate) struct Head {
     pub(crate) method: Method,
     pub(crate) target: Bytes,
     pub(crate) minor: u8,
     pub(crate) fields: Fields,
+}
+
+/// One call drops it, wherever that is, so the cases of its method stand in one proof alone.
+impl Drop for Head {
+    fn drop(self) {
+        let Head {
+            method: _,
+            target: _,
+            minor: _,
+            fields: _,
+        } = self;
+    }
+}
+
+impl Head {
+    /// A head with its content, without its length fields.
+    pub(crate) fn into_request(self, content: Option<Bytes>) -> Request
+        ensures { result ≡ request_of self content }
+    {
+        let Head {
+            method,
+            target,
+            minor,
+            fields,
+        } = self;
+        Request {
+            method,
+            target,
+            minor,
+            fields: without_lengths(fields),
+            content,
+        }
+    }
 }
 
 /// Where the parts of a head are, if just these bytes are one.

@@ -4,7 +4,7 @@ use crate::content::Content;
 use crate::fault::FrameFault;
 use crate::request_head::Head;
 
-#[derive(Debug, Drop)]
+#[derive(Drop)]
 pub(crate) enum RequestPhase {
     /// Before a head, or in it.
     BeforeHead,

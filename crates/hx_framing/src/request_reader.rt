@@ -11,21 +11,33 @@ use crate::fault::FrameFault;
 use crate::found::Found;
 use crate::request_head::Head;
 use crate::request_phase::RequestPhase;
-use crate::request_reading::{read_request, request_of};
+use crate::request_reading::read_request;
 use crate::requests::Request;
 use crate::taken::Taken;
 use crate::unread::Unread;
 use std::alloc::{AllocError, Global};
+use std::fmt::{self, Debug, Formatter};
 use std::marker::Model;
 use std::mem::{drop, replace};
 
 /// A reader of a stream of requests.
-#[derive(Debug, Drop)]
 pub struct RequestReader {
     max_body: u64,
     unread: Unread,
     ended: bool,
     phase: RequestPhase,
+}
+
+/// One call drops it, wherever that is.
+impl Drop for RequestReader {
+    fn drop(self) {
+        let RequestReader {
+            max_body: _,
+            unread: _,
+            ended: _,
+            phase: _,
+        } = self;
+    }
 }
 
 impl Model for RequestReader {
@@ -40,6 +52,12 @@ impl Model for RequestReader {
       ended = r.ended;
       phase = r.phase;
     } };
+}
+
+impl Debug for RequestReader {
+    fn fmt<W: fmt::Write>(&self, f: &mut Formatter<W>) -> fmt::Result {
+        f.debug_struct("RequestReader").finish_non_exhaustive()
+    }
 }
 
 impl RequestReader {
@@ -191,7 +209,7 @@ impl RequestReader {
                 drop(content);
                 self.unread.take_front(n);
                 self.phase = RequestPhase::BeforeHead;
-                Ok(Next::Message(request_of(head, whole)))
+                Ok(Next::Message(head.into_request(whole)))
             }
         }
     }

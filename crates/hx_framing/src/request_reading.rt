@@ -4,39 +4,18 @@ ghost use Rattle.std.specs.Prelude.{◌≡◌, ◌<◌, IfOk, Some, None, Ok, Er
 ghost use Rattle.hx_framing.specs.Places.{head_length, most_head_bytes};
 ghost use Rattle.hx_framing.specs.Head.{Judges};
 ghost use Rattle.hx_framing.specs.Lengths.{plan_of};
-ghost use Rattle.hx_framing.specs.RequestReading.{request_of};
 ghost use Rattle.hx_framing.specs.RequestFound.{IsFound};
 
 use crate::content::Content;
 use crate::fault::FrameFault;
 use crate::found::Found;
-use crate::lengths::{plan_of, without_lengths};
+use crate::lengths::plan_of;
 use crate::places::{MOST_HEAD_BYTES, blank_length, head_within, rest_from};
 use crate::plan::Plan;
 use crate::request_head::{Head, judge_head};
 use crate::requests::Request;
 use crate::taken::Taken;
-use hx_fields::Bytes;
 use std::alloc::{AllocError, Global};
-
-/// A head with its content, without its length fields.
-pub(crate) fn request_of(head: Head, content: Option<Bytes>) -> Request
-    ensures { result ≡ request_of head content }
-{
-    let Head {
-        method,
-        target,
-        minor,
-        fields,
-    } = head;
-    Request {
-        method,
-        target,
-        minor,
-        fields: without_lengths(fields),
-        content,
-    }
-}
 
 /// Where no head ends within the limit.
 fn without_head(max_body: u64, ended: bool, bytes: &[u8]) -> Found<Head, Request>
@@ -78,7 +57,7 @@ fn with_plan(
         Taken::Short(_) if ended => Ok(Found::Faulty(FrameFault::Truncated)),
         Taken::Short(n) => Ok(Found::Going(head, content, at + n)),
         Taken::Bad(fault) => Ok(Found::Faulty(fault)),
-        Taken::Whole(content, n) => Ok(Found::Message(request_of(head, content), at + n)),
+        Taken::Whole(content, n) => Ok(Found::Message(head.into_request(content), at + n)),
     }
 }
 

@@ -4,7 +4,7 @@ use crate::content::Content;
 use crate::fault::FrameFault;
 use crate::status_head::StatusHead;
 
-#[derive(Debug, Drop)]
+#[derive(Drop)]
 pub(crate) enum ResponsePhase {
     /// Before the head of the final response, or in it.
     BeforeHead,

@@ -16,17 +16,30 @@ use crate::status_head::StatusHead;
 use crate::taken::Taken;
 use crate::unread::Unread;
 use std::alloc::{AllocError, Global};
+use std::fmt::{self, Debug, Formatter};
 use std::marker::Model;
 use std::mem::{drop, replace};
 
 /// A reader of a stream of one response.
-#[derive(Debug, Drop)]
 pub struct ResponseReader {
     max_body: u64,
     to_head: bool,
     unread: Unread,
     ended: bool,
     phase: ResponsePhase,
+}
+
+/// One call drops it, wherever that is.
+impl Drop for ResponseReader {
+    fn drop(self) {
+        let ResponseReader {
+            max_body: _,
+            to_head: _,
+            unread: _,
+            ended: _,
+            phase: _,
+        } = self;
+    }
 }
 
 impl Model for ResponseReader {
@@ -42,6 +55,12 @@ impl Model for ResponseReader {
       ended = r.ended;
       phase = r.phase;
     } };
+}
+
+impl Debug for ResponseReader {
+    fn fmt<W: fmt::Write>(&self, f: &mut Formatter<W>) -> fmt::Result {
+        f.debug_struct("ResponseReader").finish_non_exhaustive()
+    }
 }
 
 impl ResponseReader {

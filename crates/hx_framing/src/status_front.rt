@@ -3,7 +3,7 @@
 use crate::fault::FrameFault;
 use crate::status_head::StatusHead;
 
-#[derive(Debug, Drop)]
+#[derive(Drop)]
 pub(crate) enum StatusFront {
     /// They take so many bytes, and no head ends behind them.
     Open(usize),

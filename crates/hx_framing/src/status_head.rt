@@ -14,7 +14,7 @@ use hx_fields::Fields;
 use std::alloc::{AllocError, Global};
 
 /// A head: the status, the minor version and the field lines.
-#[derive(Debug, Drop)]
+#[derive(Drop)]
 pub(crate) struct StatusHead {
     pub(crate) status: u16,
     pub(crate) minor: u8,

@@ -4,7 +4,7 @@ use crate::fault::FrameFault;
 use hx_fields::Bytes;
 
 /// A content, as far as the bytes go.
-#[derive(Debug, Drop)]
+#[derive(Drop)]
 pub(crate) enum Taken {
     /// It goes on behind so many bytes.
     Short(usize),

@@ -36,6 +36,6 @@ returns-in-Bad c =
 pub returns-in-Whole : goal.returns-in-Whole
 returns-in-Whole c =
     let b : Begins c.args.max_body c.args.bytes.now c.args.at c.args.head c.args.plan = record { place = c.requires.place; judged = c.requires.judged; plan_is = c.requires.plan } in
-    subst (λ (m : Request). IsFound c.args.max_body c.args.ended c.args.bytes.now (found.Message m (c.args.at + c.in-Whole.n))) (sym c.request_of.ensures)
+    subst (λ (m : Request). IsFound c.args.max_body c.args.ended c.args.bytes.now (found.Message m (c.args.at + c.in-Whole.n))) (sym c.into_request.ensures)
     (found_message _ _ _ _ _ c.args.plan _ _ c.in-Whole.content c.in-Whole.n b c.requires.some c.if-plan.false c.in-Whole.is
     (took _ c.args.plan c.args.bytes.now c.args.at _ _ _ _ c.rest_from.ensures c.begun-content.ensures c.in_ok-advance.ensures.ok))

@@ -1,7 +1,7 @@
 use Rattle.std.proofs.Common.{sym, ap, ◌∙◌, subst, IfOk}
 use Rattle.hx_framing.specs.declared.requests.Request.{Request}
 use Rattle.hx_framing.specs.declared.request_phase.RequestPhase.{RequestPhase}
-use Rattle.hx_framing.specs.Progress.{Progress}
+use Rattle.hx_framing.specs.Progress.{Progress, moved}
 use Rattle.hx_framing.specs.RequestStream.{Answers}
 use Rattle.hx_framing.specs.RequestState.{State, StandsFor}
 use Rattle.hx_framing.proofs.request_reader.RequestReader.next.Goals as goal
@@ -16,3 +16,14 @@ returns-in-BeforeHead-clause-answers c =
       phase = f;
     }) (c.replace.ensures.after ∙ sym c.in-BeforeHead.is ∙ c.replace.ensures.value) ∙ c.self.view_is in
     subst (λ (s : State). IfOk c.read_head.result (λ answer. (p : Progress Request) → StandsFor s p → Answers p answer)) same c.read_head.ensures.answers
+
+pub returns-in-BeforeHead-clause-stands : goal.returns-in-BeforeHead-clause-stands
+returns-in-BeforeHead-clause-stands c =
+    let same = ap (λ (f : RequestPhase). record {
+      max_body = c.self.inside.max_body;
+      unread = c.self.inside.unread.items;
+      spare = c.self.inside.unread.spare;
+      ended = c.self.inside.ended;
+      phase = f;
+    }) (c.replace.ensures.after ∙ sym c.in-BeforeHead.is ∙ c.replace.ensures.value) ∙ c.self.view_is in
+    subst (λ (s : State). IfOk c.read_head.result (λ answer. (p : Progress Request) → StandsFor s p → StandsFor c.read_head.new.self (moved p answer))) same c.read_head.ensures.stands

@@ -46,15 +46,15 @@ returns-in-Ok-Bad-clause-stands c = λ p h.
 pub returns-in-Ok-Whole-clause-answers : goal.returns-in-Ok-Whole-clause-answers
 returns-in-Ok-Whole-clause-answers c = λ p h.
     let k = took c.args.self.now _ _ _ _ _ (taken.Whole c.in-Ok-Whole.whole c.in-Ok-Whole.n) c.as_slice.ensures (ap (λ (s : State). s.unread) c.self.view_is) c.in-Ok-Whole.field-0-is c.in-Ok-Whole.ensures.ok in
-    answers_by p _ (Spelled c.request_of.result (drop c.in-Ok-Whole.n c.args.self.now.unread)) h
-    (subst (λ (m : Request). Reads p.max_body p.ended p.told h.rest (Spelled m (drop c.in-Ok-Whole.n c.args.self.now.unread))) (sym c.request_of.ensures)
+    answers_by p _ (Spelled c.into_request.result (drop c.in-Ok-Whole.n c.args.self.now.unread)) h
+    (subst (λ (m : Request). Reads p.max_body p.ended p.told h.rest (Spelled m (drop c.in-Ok-Whole.n c.args.self.now.unread))) (sym c.into_request.ensures)
     (whole_reads c.args.self.now p c.args.head _ c.advance.new.self c.in-Ok-Whole.whole c.in-Ok-Whole.n k h))
 
 pub returns-in-Ok-Whole-clause-stands : goal.returns-in-Ok-Whole-clause-stands
 returns-in-Ok-Whole-clause-stands c = λ p h.
     let k = took c.args.self.now _ _ _ _ _ (taken.Whole c.in-Ok-Whole.whole c.in-Ok-Whole.n) c.as_slice.ensures (ap (λ (s : State). s.unread) c.self.view_is) c.in-Ok-Whole.field-0-is c.in-Ok-Whole.ensures.ok in
     let left = c.take_front-in-Ok-Whole.ensures ∙ ap (drop c.in-Ok-Whole.n) (ap (λ (s : State). s.unread) c.self.view_is) in
-    stands_given _ _ p c.request_of.result (ap (λ (s : State). s.max_body) c.self.view_is) (ap (λ (s : State). s.ended) c.self.view_is) refl h
-    (subst (λ (u : List ℕ). Reads p.max_body p.ended p.told h.rest (Spelled c.request_of.result u)) (sym left)
-    (subst (λ (m : Request). Reads p.max_body p.ended p.told h.rest (Spelled m (drop c.in-Ok-Whole.n c.args.self.now.unread))) (sym c.request_of.ensures)
+    stands_given _ _ p c.into_request.result (ap (λ (s : State). s.max_body) c.self.view_is) (ap (λ (s : State). s.ended) c.self.view_is) refl h
+    (subst (λ (u : List ℕ). Reads p.max_body p.ended p.told h.rest (Spelled c.into_request.result u)) (sym left)
+    (subst (λ (m : Request). Reads p.max_body p.ended p.told h.rest (Spelled m (drop c.in-Ok-Whole.n c.args.self.now.unread))) (sym c.into_request.ensures)
     (whole_reads c.args.self.now p c.args.head _ c.advance.new.self c.in-Ok-Whole.whole c.in-Ok-Whole.n k h)))
