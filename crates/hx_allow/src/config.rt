@@ -12,13 +12,25 @@ use std::alloc::Global;
 use std::marker::Model;
 
 /// The operator's table: the proxy's name, its limits, and which requests go to which origin.
-#[derive(Drop)]
 pub struct Config {
     pub(crate) name: String,
     pub(crate) capacity: usize,
     pub(crate) max_body: u64,
     pub(crate) max_stored: u64,
     pub(crate) lines: Vec<Line>,
+}
+
+/// One call drops it, wherever that is.
+impl Drop for Config {
+    fn drop(self) {
+        let Config {
+            name: _,
+            capacity: _,
+            max_body: _,
+            max_stored: _,
+            lines: _,
+        } = self;
+    }
 }
 
 impl Model for Config {

@@ -6,13 +6,22 @@ use hx_fields::Bytes;
 use std::alloc::{AllocError, Global};
 
 /// What a request asks for, of the store by its key and of the operator's table by its table path.
-#[derive(Drop)]
 pub struct Target {
     /// What a stored response is found by.
     pub key: Key,
     /// The path as the operator's table compares it: without query and dot segments, with escapes of
     /// unreserved characters decoded and the other ones in upper case (RFC 3986, section 6.2.2).
     pub table_path: Bytes,
+}
+
+/// One call drops it, wherever that is.
+impl Drop for Target {
+    fn drop(self) {
+        let Target {
+            key: _,
+            table_path: _,
+        } = self;
+    }
 }
 
 impl Target {

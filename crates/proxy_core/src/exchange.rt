@@ -5,7 +5,6 @@ use hx_hop::Asked;
 use hx_reuse::ReuseRule;
 
 /// An open exchange.
-#[derive(Drop)]
 pub struct Exchange {
     pub id: u64,
     pub asked: Asked,
@@ -19,4 +18,19 @@ pub struct Exchange {
     pub condition: Option<Condition>,
     /// Whether its key was invalidated since (RFC 9111, section 4.4).
     pub overtaken: bool,
+}
+
+/// One call drops it, wherever that is.
+impl Drop for Exchange {
+    fn drop(self) {
+        let Exchange {
+            id: _,
+            asked: _,
+            line: _,
+            rule: _,
+            request_time: _,
+            condition: _,
+            overtaken: _,
+        } = self;
+    }
 }

@@ -16,12 +16,23 @@ use std::alloc::Global;
 use std::marker::Model;
 
 /// One thread's proxy. Contracts see its `State`.
-#[derive(Drop)]
 pub struct Core<S: Shelf> {
     pub(crate) config: Config,
     pub(crate) shelf: S,
     pub(crate) exchanges: Vec<Exchange>,
     pub(crate) next: Option<u64>,
+}
+
+/// One call drops it, wherever that is.
+impl<S: Shelf + Drop> Drop for Core<S> {
+    fn drop(self) {
+        let Core {
+            config: _,
+            shelf: _,
+            exchanges: _,
+            next: _,
+        } = self;
+    }
 }
 
 impl<S: Shelf> Model for Core<S> {

@@ -5,7 +5,6 @@ use crate::response_watch::ResponseWatch;
 use hx_status::FailKind;
 
 /// A client's connection.
-#[derive(Drop)]
 pub(crate) struct Connection {
     pub(crate) watch: RequestWatch,
     /// The client sends no more.
@@ -18,8 +17,20 @@ pub(crate) struct Connection {
     pub(crate) link: Option<usize>,
 }
 
+/// One call drops it, wherever that is.
+impl Drop for Connection {
+    fn drop(self) {
+        let Connection {
+            watch: _,
+            ended: _,
+            gone: _,
+            closed: _,
+            link: _,
+        } = self;
+    }
+}
+
 /// A link to an origin.
-#[derive(Drop)]
 pub(crate) struct Link {
     pub(crate) watch: ResponseWatch,
     /// The origin closed it.
@@ -28,4 +39,17 @@ pub(crate) struct Link {
     pub(crate) dropped: bool,
     /// The place of the connection whose request went forward on it.
     pub(crate) connection: usize,
+}
+
+/// One call drops it, wherever that is.
+impl Drop for Link {
+    fn drop(self) {
+        let Link {
+            watch: _,
+            ended: _,
+            failed: _,
+            dropped: _,
+            connection: _,
+        } = self;
+    }
 }

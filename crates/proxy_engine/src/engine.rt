@@ -18,12 +18,23 @@ use std::marker::Model;
 ///
 /// Contracts see its `State`, and speak of the stories that it stands for: the streams as they came, the messages
 /// that were used of them, and what was done.
-#[derive(Drop)]
 pub struct Engine<S: Shelf> {
     connections: Connections,
     links: Links,
     core: Core<S>,
     first_link: u64,
+}
+
+/// One call drops it, wherever that is.
+impl<S: Shelf + Drop> Drop for Engine<S> {
+    fn drop(self) {
+        let Engine {
+            connections: _,
+            links: _,
+            core: _,
+            first_link: _,
+        } = self;
+    }
 }
 
 impl<S: Shelf> Model for Engine<S> {

@@ -12,7 +12,7 @@ use std::alloc::{AllocError, Global};
 use std::marker::Model;
 
 /// What is known of the next answer.
-#[derive(Debug, Drop)]
+#[derive(Drop)]
 pub(crate) enum RequestAhead {
     Unknown,
     Quiet,
@@ -20,10 +20,19 @@ pub(crate) enum RequestAhead {
 }
 
 /// A reader of requests whose next answer is kept until it is used.
-#[derive(Debug, Drop)]
 pub struct RequestWatch {
     reader: RequestReader,
     ahead: RequestAhead,
+}
+
+/// One call drops it, wherever that is.
+impl Drop for RequestWatch {
+    fn drop(self) {
+        let RequestWatch {
+            reader: _,
+            ahead: _,
+        } = self;
+    }
 }
 
 impl Model for RequestWatch {

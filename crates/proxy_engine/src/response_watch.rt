@@ -12,7 +12,7 @@ use std::alloc::{AllocError, Global};
 use std::marker::Model;
 
 /// What is known of the next answer.
-#[derive(Debug, Drop)]
+#[derive(Drop)]
 pub(crate) enum ResponseAhead {
     Unknown,
     Quiet,
@@ -20,10 +20,19 @@ pub(crate) enum ResponseAhead {
 }
 
 /// A reader of an answer whose next answer is kept until it is used.
-#[derive(Debug, Drop)]
 pub struct ResponseWatch {
     reader: ResponseReader,
     ahead: ResponseAhead,
+}
+
+/// One call drops it, wherever that is.
+impl Drop for ResponseWatch {
+    fn drop(self) {
+        let ResponseWatch {
+            reader: _,
+            ahead: _,
+        } = self;
+    }
 }
 
 impl Model for ResponseWatch {
