@@ -49,40 +49,41 @@ fn a_script_is_read_item_by_item(rt: HostRuntime) -> Result<(), Fail> {
     }
 }
 
+static LINES: &[(&str, (&str, u64))] = &[
+    ("at 253402300799\n", ("at", 253_402_300_799)),
+    ("at 253402300800\n", ("wrong", 0)),
+    (
+        "accept 18446744073709551615\n",
+        ("accept", 18_446_744_073_709_551_615),
+    ),
+    ("accept 18446744073709551616\n", ("wrong", 0)),
+    ("accept 01\n", ("wrong", 0)),
+    ("accept 0\n", ("accept", 0)),
+    ("accept +1\n", ("wrong", 0)),
+    ("accept 1 \n", ("wrong", 0)),
+    ("accept\n", ("wrong", 0)),
+    (" accept 1\n", ("wrong", 0)),
+    ("accept 1\r\n", ("wrong", 0)),
+    ("accept 1", ("cut", 0)),
+    ("", ("cut", 0)),
+    ("\n", ("wrong", 0)),
+    ("client 1 2\nhi\n", ("client", 1)),
+    ("client 1 2\nhi", ("cut", 0)),
+    ("client 1 2\nhix", ("wrong", 0)),
+    ("link 3 0\n\n", ("link", 3)),
+    ("end 1\n", ("end", 1)),
+    ("gone 1\n", ("gone", 1)),
+    ("shut 7\n", ("shut", 7)),
+    ("fail 1 refused\n", ("refused", 1)),
+    ("fail 1 timed-out\n", ("timed-out", 1)),
+    ("fail 1 closed\n", ("closed", 1)),
+    ("fail 1 broken\n", ("wrong", 0)),
+    ("config 0\n\n", ("wrong", 0)),
+];
+
 #[test]
 fn each_line_is_told(rt: HostRuntime) -> Result<(), Fail> {
-    let lines: [(&str, (&str, u64)); 26] = [
-        ("at 253402300799\n", ("at", 253_402_300_799)),
-        ("at 253402300800\n", ("wrong", 0)),
-        (
-            "accept 18446744073709551615\n",
-            ("accept", 18_446_744_073_709_551_615),
-        ),
-        ("accept 18446744073709551616\n", ("wrong", 0)),
-        ("accept 01\n", ("wrong", 0)),
-        ("accept 0\n", ("accept", 0)),
-        ("accept +1\n", ("wrong", 0)),
-        ("accept 1 \n", ("wrong", 0)),
-        ("accept\n", ("wrong", 0)),
-        (" accept 1\n", ("wrong", 0)),
-        ("accept 1\r\n", ("wrong", 0)),
-        ("accept 1", ("cut", 0)),
-        ("", ("cut", 0)),
-        ("\n", ("wrong", 0)),
-        ("client 1 2\nhi\n", ("client", 1)),
-        ("client 1 2\nhi", ("cut", 0)),
-        ("client 1 2\nhix", ("wrong", 0)),
-        ("link 3 0\n\n", ("link", 3)),
-        ("end 1\n", ("end", 1)),
-        ("gone 1\n", ("gone", 1)),
-        ("shut 7\n", ("shut", 7)),
-        ("fail 1 refused\n", ("refused", 1)),
-        ("fail 1 timed-out\n", ("timed-out", 1)),
-        ("fail 1 closed\n", ("closed", 1)),
-        ("fail 1 broken\n", ("wrong", 0)),
-        ("config 0\n\n", ("wrong", 0)),
-    ];
-    for (line, wanted) in &lines {
+    for (line, wanted) in LINES {
         let (word, number) = told(read_item(false, line.as_bytes()));
         assert!(rt; word == wanted.0, "at {line}");
         assert_eq!(rt; number, wanted.1, "at {line}");

@@ -1,12 +1,12 @@
 //! Chunks of requests (RFC 9112, section 7.1). The answers are written as `plays.rt` says, and were written down
 //! before any reader was run.
 
-use crate::framing::plays::{Vector, is_empty, requests_report};
+use crate::framing::plays::{Vector, requests_hold};
 use std::test::Fail;
 
 const CHUNKED: &[u8] = b"POST /a HTTP/1.1\r\nHost: h\r\nTransfer-Encoding: chunked\r\n\r\n";
 
-static CHUNKS: &[Vector] = &[
+static CHUNKS_TAKEN: &[Vector] = &[
     ("one chunk", b"5\r\nhello\r\n0\r\n\r\n", "[hello] | end"),
     (
         "two chunks",
@@ -36,21 +36,6 @@ static CHUNKS: &[Vector] = &[
         "[hello] | end",
     ),
     (
-        "16 digits",
-        b"0000000000000005\r\nhello\r\n0\r\n\r\n",
-        "refused 6 |",
-    ),
-    (
-        "22 digits",
-        b"0000000000000000000005\r\nhello\r\n0\r\n\r\n",
-        "refused 6 |",
-    ),
-    (
-        "16 digits before the line's end",
-        b"0000000000000005",
-        "| refused 9",
-    ),
-    (
         "line ends as data",
         b"4\r\n\r\n\r\n\r\n0\r\n\r\n",
         "[\r\n\r\n] | end",
@@ -60,34 +45,6 @@ static CHUNKS: &[Vector] = &[
         b"5\r\n0\r\n\r\n\r\n0\r\n\r\n",
         "[0\r\n\r\n] | end",
     ),
-    (
-        "15 digits that are too large",
-        b"FFFFFFFFFFFFFFF\r\n",
-        "refused 7 |",
-    ),
-    (
-        "16 digits that are too large",
-        b"FFFFFFFFFFFFFFFF\r\n",
-        "refused 6 |",
-    ),
-    (
-        "2^64 and 5",
-        b"10000000000000005\r\nhello\r\n0\r\n\r\n",
-        "refused 6 |",
-    ),
-    (
-        "2^32 and 5",
-        b"100000005\r\nhello\r\n0\r\n\r\n",
-        "refused 7 |",
-    ),
-    ("1,001 bytes", b"3E9\r\n", "refused 7 |"),
-    ("1,001 bytes before the line's end", b"3E9\r", "| refused 9"),
-    (
-        "1,001 bytes in two chunks",
-        b"5\r\nhello\r\n3e4\r\n",
-        "refused 7 |",
-    ),
-    ("too large and no size", b"3E9 x\r\n", "refused 6 |"),
     (
         "an extension",
         b"5;x=1\r\nhello\r\n0\r\n\r\n",
@@ -129,6 +86,79 @@ static CHUNKS: &[Vector] = &[
         "[hello] | end",
     ),
     ("an extension of the last chunk", b"0;x\r\n\r\n", "[] | end"),
+    (
+        "a trailer",
+        b"5\r\nhello\r\n0\r\nT: 1\r\n\r\n",
+        "[hello] | end",
+    ),
+    (
+        "two trailers",
+        b"5\r\nhello\r\n0\r\nT: 1\r\nU: 2\r\n\r\n",
+        "[hello] | end",
+    ),
+    (
+        "length fields as trailers",
+        b"0\r\nContent-Length: 5\r\nTransfer-Encoding: x\r\n\r\n",
+        "[] | end",
+    ),
+    (
+        "a trailer that is no field",
+        b"0\r\n\x00 \x01\x7f\r\n\r\n",
+        "[] | end",
+    ),
+    ("a folded trailer", b"0\r\nT: 1\r\n 2\r\n\r\n", "[] | end"),
+    ("CR CR LF is a trailer line", b"0\r\n\r\r\n\r\n", "[] | end"),
+    ("a CR inside a trailer", b"0\r\nT\rU\r\n\r\n", "[] | end"),
+    (
+        "a request behind the chunks",
+        b"2\r\nhi\r\n0\r\n\r\nGET /b HTTP/1.1\r\nHost: h\r\n\r\n",
+        "[hi] none | end",
+    ),
+    (
+        "a request behind a trailer",
+        b"0\r\nT: 1\r\n\r\nGET /b HTTP/1.1\r\nHost: h\r\n\r\n",
+        "[] none | end",
+    ),
+];
+
+static CHUNKS_REFUSED: &[Vector] = &[
+    (
+        "16 digits",
+        b"0000000000000005\r\nhello\r\n0\r\n\r\n",
+        "refused 6 |",
+    ),
+    (
+        "22 digits",
+        b"0000000000000000000005\r\nhello\r\n0\r\n\r\n",
+        "refused 6 |",
+    ),
+    (
+        "15 digits that are too large",
+        b"FFFFFFFFFFFFFFF\r\n",
+        "refused 7 |",
+    ),
+    (
+        "16 digits that are too large",
+        b"FFFFFFFFFFFFFFFF\r\n",
+        "refused 6 |",
+    ),
+    (
+        "2^64 and 5",
+        b"10000000000000005\r\nhello\r\n0\r\n\r\n",
+        "refused 6 |",
+    ),
+    (
+        "2^32 and 5",
+        b"100000005\r\nhello\r\n0\r\n\r\n",
+        "refused 7 |",
+    ),
+    ("1,001 bytes", b"3E9\r\n", "refused 7 |"),
+    (
+        "1,001 bytes in two chunks",
+        b"5\r\nhello\r\n3e4\r\n",
+        "refused 7 |",
+    ),
+    ("too large and no size", b"3E9 x\r\n", "refused 6 |"),
     (
         "a control byte in an extension",
         b"5;\x01\r\nhello\r\n0\r\n\r\n",
@@ -215,7 +245,6 @@ static CHUNKS: &[Vector] = &[
         "refused 6 |",
     ),
     ("a byte too many", b"2\r\nhi!", "refused 6 |"),
-    ("before the byte too many", b"2\r\nhi", "| refused 9"),
     ("data ended by LF", b"2\r\nhi\n0\r\n\r\n", "refused 6 |"),
     ("data ended by CR", b"2\r\nhi\r0\r\n\r\n", "refused 6 |"),
     (
@@ -233,27 +262,6 @@ static CHUNKS: &[Vector] = &[
         b"6\r\nhello\r\n0\r\n\r\n",
         "refused 6 |",
     ),
-    (
-        "a trailer",
-        b"5\r\nhello\r\n0\r\nT: 1\r\n\r\n",
-        "[hello] | end",
-    ),
-    (
-        "two trailers",
-        b"5\r\nhello\r\n0\r\nT: 1\r\nU: 2\r\n\r\n",
-        "[hello] | end",
-    ),
-    (
-        "length fields as trailers",
-        b"0\r\nContent-Length: 5\r\nTransfer-Encoding: x\r\n\r\n",
-        "[] | end",
-    ),
-    (
-        "a trailer that is no field",
-        b"0\r\n\x00 \x01\x7f\r\n\r\n",
-        "[] | end",
-    ),
-    ("a folded trailer", b"0\r\nT: 1\r\n 2\r\n\r\n", "[] | end"),
     ("a trailer ended by LF", b"0\r\nT: 1\n\r\n", "refused 6 |"),
     ("an empty line of LF", b"0\r\n\n", "refused 6 |"),
     (
@@ -262,22 +270,20 @@ static CHUNKS: &[Vector] = &[
         "refused 6 |",
     ),
     ("a last chunk ended by LF", b"0\n\r\n", "refused 6 |"),
-    ("CR CR LF is a trailer line", b"0\r\n\r\r\n\r\n", "[] | end"),
+];
+
+static CHUNKS_CUT_OFF: &[Vector] = &[
+    (
+        "16 digits before the line's end",
+        b"0000000000000005",
+        "| refused 9",
+    ),
+    ("1,001 bytes before the line's end", b"3E9\r", "| refused 9"),
+    ("before the byte too many", b"2\r\nhi", "| refused 9"),
     (
         "CR CR LF isn't the empty line",
         b"0\r\n\r\r\n",
         "| refused 9",
-    ),
-    ("a CR inside a trailer", b"0\r\nT\rU\r\n\r\n", "[] | end"),
-    (
-        "a request behind the chunks",
-        b"2\r\nhi\r\n0\r\n\r\nGET /b HTTP/1.1\r\nHost: h\r\n\r\n",
-        "[hi] none | end",
-    ),
-    (
-        "a request behind a trailer",
-        b"0\r\nT: 1\r\n\r\nGET /b HTTP/1.1\r\nHost: h\r\n\r\n",
-        "[] none | end",
     ),
     ("bytes behind the chunks", b"0\r\n\r\nX", "[] | refused 9"),
     ("an end before the size", b"", "| refused 9"),
@@ -308,8 +314,16 @@ static CHUNKS: &[Vector] = &[
 ];
 
 #[test]
-fn chunks(rt: HostRuntime) -> Result<(), Fail> {
-    let report = requests_report(rt.alloc(), CHUNKED, CHUNKS)?;
-    is_empty(&rt, report.as_str());
-    Ok(())
+fn chunks_are_taken(rt: HostRuntime) -> Result<(), Fail> {
+    requests_hold(&rt, rt.alloc(), CHUNKED, CHUNKS_TAKEN)
+}
+
+#[test]
+fn chunks_are_refused(rt: HostRuntime) -> Result<(), Fail> {
+    requests_hold(&rt, rt.alloc(), CHUNKED, CHUNKS_REFUSED)
+}
+
+#[test]
+fn chunks_are_cut_off(rt: HostRuntime) -> Result<(), Fail> {
+    requests_hold(&rt, rt.alloc(), CHUNKED, CHUNKS_CUT_OFF)
 }

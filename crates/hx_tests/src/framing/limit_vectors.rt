@@ -1,7 +1,7 @@
 //! Streams at their limits and past them. The answers are written as `plays.rt` says, and were written down
 //! before any reader was run.
 
-use crate::framing::plays::{LongVector, is_empty, long_requests_report, long_responses_report};
+use crate::framing::plays::{LongVector, long_requests_hold, long_responses_hold};
 use std::test::Fail;
 
 const GET: &[u8] = b"GET /a HTTP/1.1\r\nHost: h\r\n\r\n";
@@ -643,35 +643,25 @@ static RESPONSES: &[LongVector] = &[
 
 #[test]
 fn heads(rt: HostRuntime) -> Result<(), Fail> {
-    let report = long_requests_report(rt.alloc(), HEADS)?;
-    is_empty(&rt, report.as_str());
-    Ok(())
+    long_requests_hold(&rt, rt.alloc(), HEADS)
 }
 
 #[test]
 fn contents(rt: HostRuntime) -> Result<(), Fail> {
-    let report = long_requests_report(rt.alloc(), CONTENTS)?;
-    is_empty(&rt, report.as_str());
-    Ok(())
+    long_requests_hold(&rt, rt.alloc(), CONTENTS)
 }
 
 #[test]
 fn size_lines(rt: HostRuntime) -> Result<(), Fail> {
-    let report = long_requests_report(rt.alloc(), SIZE_LINES)?;
-    is_empty(&rt, report.as_str());
-    Ok(())
+    long_requests_hold(&rt, rt.alloc(), SIZE_LINES)
 }
 
 #[test]
 fn trailer_lines(rt: HostRuntime) -> Result<(), Fail> {
-    let report = long_requests_report(rt.alloc(), TRAILER_LINES)?;
-    is_empty(&rt, report.as_str());
-    Ok(())
+    long_requests_hold(&rt, rt.alloc(), TRAILER_LINES)
 }
 
 #[test]
 fn responses(rt: HostRuntime) -> Result<(), Fail> {
-    let report = long_responses_report(rt.alloc(), RESPONSES)?;
-    is_empty(&rt, report.as_str());
-    Ok(())
+    long_responses_hold(&rt, rt.alloc(), RESPONSES)
 }

@@ -9,6 +9,7 @@ use hx_fields::{Bytes, Field, Fields};
 use hx_framing::{Next, Request, RequestReader, Response, ResponseReader};
 use std::alloc::{AllocError, Global};
 use std::process::Abort;
+use std::test::Fail;
 
 /// What a stream is called, its bytes, and the answers.
 pub(crate) type Vector = (&'static str, &'static [u8], &'static str);
@@ -373,12 +374,13 @@ fn write_response_differences(
     write_differences(alloc, report, (&mut a, &mut b, &mut c), vector)
 }
 
+/// Nothing differs.
+fn is_empty(rt: &impl Abort, report: &str) {
+    assert!(rt; report.is_empty(), "{report}");
+}
+
 /// What differs where request streams begin so.
-pub(crate) fn requests_report(
-    alloc: Global,
-    front: &[u8],
-    vectors: &[Vector],
-) -> Result<String, AllocError> {
+fn requests_report(alloc: Global, front: &[u8], vectors: &[Vector]) -> Result<String, AllocError> {
     let mut report = String::new(alloc);
     for (label, back, answers) in vectors {
         let mut stream = Vec::from_slice(alloc, front)?;
@@ -388,8 +390,20 @@ pub(crate) fn requests_report(
     Ok(report)
 }
 
+/// The request streams that begin so give the answers that were expected.
+pub(crate) fn requests_hold(
+    rt: &impl Abort,
+    alloc: Global,
+    front: &[u8],
+    vectors: &[Vector],
+) -> Result<(), Fail> {
+    let report = requests_report(alloc, front, vectors)?;
+    is_empty(rt, report.as_str());
+    Ok(())
+}
+
 /// The same where the lines of the head differ.
-pub(crate) fn request_lines_report(
+fn request_lines_report(
     alloc: Global,
     front: &[u8],
     vectors: &[LineVector],
@@ -405,8 +419,20 @@ pub(crate) fn request_lines_report(
     Ok(report)
 }
 
+/// The same where the lines of the head differ.
+pub(crate) fn request_lines_hold(
+    rt: &impl Abort,
+    alloc: Global,
+    front: &[u8],
+    vectors: &[LineVector],
+) -> Result<(), Fail> {
+    let report = request_lines_report(alloc, front, vectors)?;
+    is_empty(rt, report.as_str());
+    Ok(())
+}
+
 /// What differs where response streams begin so.
-pub(crate) fn responses_report(
+fn responses_report(
     alloc: Global,
     to_head: bool,
     front: &[u8],
@@ -420,6 +446,19 @@ pub(crate) fn responses_report(
         write_response_differences(alloc, &mut report, to_head, vector)?;
     }
     Ok(report)
+}
+
+/// The response streams that begin so give the answers that were expected.
+pub(crate) fn responses_hold(
+    rt: &impl Abort,
+    alloc: Global,
+    to_head: bool,
+    front: &[u8],
+    vectors: &[Vector],
+) -> Result<(), Fail> {
+    let report = responses_report(alloc, to_head, front, vectors)?;
+    is_empty(rt, report.as_str());
+    Ok(())
 }
 
 /// The front, the piece so many times, and the back.
@@ -439,10 +478,7 @@ fn long_stream(
 }
 
 /// What differs where request streams are long.
-pub(crate) fn long_requests_report(
-    alloc: Global,
-    vectors: &[LongVector],
-) -> Result<String, AllocError> {
+fn long_requests_report(alloc: Global, vectors: &[LongVector]) -> Result<String, AllocError> {
     let mut report = String::new(alloc);
     for (label, front, piece, times, back, answers) in vectors {
         let stream = long_stream(alloc, *front, *piece, *times, *back)?;
@@ -453,11 +489,19 @@ pub(crate) fn long_requests_report(
     Ok(report)
 }
 
-/// What differs where response streams are long.
-pub(crate) fn long_responses_report(
+/// Long request streams give the answers that were expected.
+pub(crate) fn long_requests_hold(
+    rt: &impl Abort,
     alloc: Global,
     vectors: &[LongVector],
-) -> Result<String, AllocError> {
+) -> Result<(), Fail> {
+    let report = long_requests_report(alloc, vectors)?;
+    is_empty(rt, report.as_str());
+    Ok(())
+}
+
+/// What differs where response streams are long.
+fn long_responses_report(alloc: Global, vectors: &[LongVector]) -> Result<String, AllocError> {
     let mut report = String::new(alloc);
     for (label, front, piece, times, back, answers) in vectors {
         let stream = long_stream(alloc, *front, *piece, *times, *back)?;
@@ -468,9 +512,15 @@ pub(crate) fn long_responses_report(
     Ok(report)
 }
 
-/// Nothing differs.
-pub(crate) fn is_empty(rt: &impl Abort, report: &str) {
-    assert!(rt; report.is_empty(), "{report}");
+/// Long response streams give the answers that were expected.
+pub(crate) fn long_responses_hold(
+    rt: &impl Abort,
+    alloc: Global,
+    vectors: &[LongVector],
+) -> Result<(), Fail> {
+    let report = long_responses_report(alloc, vectors)?;
+    is_empty(rt, report.as_str());
+    Ok(())
 }
 
 /// The first request of a stream in full, behind a continue if one is due.
@@ -495,7 +545,7 @@ fn first_request(alloc: Global, stream: &[u8]) -> Result<String, AllocError> {
 }
 
 /// What differs in the parts of the first request of each stream.
-pub(crate) fn parts_report(alloc: Global, vectors: &[Vector]) -> Result<String, AllocError> {
+fn parts_report(alloc: Global, vectors: &[Vector]) -> Result<String, AllocError> {
     let mut report = String::new(alloc);
     for (label, stream, parts) in vectors {
         let text = first_request(alloc, *stream)?;
@@ -504,4 +554,11 @@ pub(crate) fn parts_report(alloc: Global, vectors: &[Vector]) -> Result<String, 
         }
     }
     Ok(report)
+}
+
+/// The first request of each stream has the parts that were expected.
+pub(crate) fn parts_hold(rt: &impl Abort, alloc: Global, vectors: &[Vector]) -> Result<(), Fail> {
+    let report = parts_report(alloc, vectors)?;
+    is_empty(rt, report.as_str());
+    Ok(())
 }

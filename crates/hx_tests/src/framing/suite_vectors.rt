@@ -3,10 +3,86 @@
 //! of this project's rules, which aren't always theirs. They are written as `plays.rt` says, and were written
 //! down before any reader was run.
 
-use crate::framing::plays::{Vector, is_empty, requests_report, responses_report};
+use crate::framing::plays::{Vector, requests_hold, responses_hold};
 use std::test::Fail;
 
-static REQUESTS: &[Vector] = &[
+static REQUESTS_TAKEN: &[Vector] = &[
+    (
+        "trafficserver headers/syntax: a length of 11 three times",
+        b"POST / HTTP/1.1\r\nHost: h\r\nContent-Length: 11\r\nContent-Length: 11\r\nContent-Length: 11\r\n\r\nhello world",
+        "[hello world] | end",
+    ),
+    (
+        "trafficserver good_request_after_bad: brackets in the target",
+        b"GET /bob<> HTTP/1.1\r\nHost: bob\r\n\r\nGET / HTTP/1.1\r\nHost: boa\r\n\r\n",
+        "none none | end",
+    ),
+    (
+        "trafficserver good_request_after_bad: a method in lower case",
+        b"gET /bob HTTP/1.1\r\nHost: bob\r\n\r\nGET / HTTP/1.1\r\nHost: boa\r\n\r\n",
+        "none none | end",
+    ),
+    (
+        "trafficserver chunked_trailer_dropped: a trailer",
+        b"POST / HTTP/1.1\r\nHost: h\r\nTransfer-Encoding: chunked\r\nTrailer: foo\r\n\r\n3\r\nabc\r\n0\r\nfoo: bar\r\n\r\n",
+        "[abc] | end",
+    ),
+    (
+        "varnish b00007: leading zeros in a size",
+        b"POST / HTTP/1.1\r\nHost: h\r\nTransfer-Encoding: chunked\r\n\r\n00000003\r\nabc\r\n00000000\r\n\r\n",
+        "[abc] | end",
+    ),
+    (
+        "varnish r01612: no chunk",
+        b"POST / HTTP/1.1\r\nHost: h\r\nTransfer-Encoding: chunked\r\n\r\n0\r\n\r\n",
+        "[] | end",
+    ),
+    (
+        "varnish r01843: POST without a length",
+        b"POST / HTTP/1.1\r\nHost: h\r\n\r\n",
+        "none | end",
+    ),
+    (
+        "varnish b00049: no space behind a colon",
+        b"GET / HTTP/1.1\r\nHost:h\r\nfoo:bar\r\n\r\n",
+        "none | end",
+    ),
+    (
+        "varnish b00013: pipelined requests",
+        b"GET /foo HTTP/1.1\r\nHost: h\r\n\r\nGET /bar HTTP/1.1\r\nHost: h\r\n\r\nGET /baz HTTP/1.1\r\nHost: h\r\n\r\n",
+        "none none none | end",
+    ),
+    (
+        "varnish r00262: a line end between requests",
+        b"GET / HTTP/1.1\r\nHost: h\r\n\r\n\r\nGET / HTTP/1.1\r\nHost: h\r\n\r\n",
+        "none none | end",
+    ),
+    (
+        "varnish c00018: a continue though the content is there",
+        b"PUT / HTTP/1.1\r\nHost: h\r\nExpect: 100-continue\r\nContent-Length: 10\r\n\r\n0123456789",
+        "continue [0123456789] | end",
+    ),
+    (
+        "haproxy h1_to_h1: GET with content",
+        b"GET / HTTP/1.1\r\nHost: h\r\nContent-Length: 3\r\n\r\nabcGET / HTTP/1.1\r\nHost: h\r\n\r\n",
+        "[abc] none | end",
+    ),
+    ("squid: HTTP/1.0", b"GET / HTTP/1.0\r\n\r\n", "none | end"),
+    ("squid: HTTP/1.1", b"GET / HTTP/1.1\r\n\r\n", "none | end"),
+    (
+        "squid: an unknown method",
+        b"HELLOWORLD / HTTP/1.1\r\n\r\n",
+        "none | end",
+    ),
+    ("squid: LF alone", b"GET / HTTP/1.1\n\n", "none | end"),
+    (
+        "squid: empty lines first",
+        b"\r\n\r\n\nGET / HTTP/1.1\r\n\r\n",
+        "none | end",
+    ),
+];
+
+static REQUESTS_REFUSED: &[Vector] = &[
     (
         "varnish r01729, haproxy http_transfer_encoding, trafficserver headers/syntax: both lengths",
         b"POST / HTTP/1.1\r\nHost: h\r\nContent-Length: 31\r\nTransfer-Encoding: chunked\r\n\r\n0\r\n\r\nGET / HTTP/1.1\r\nHost: h\r\n\r\n",
@@ -16,11 +92,6 @@ static REQUESTS: &[Vector] = &[
         "trafficserver headers/syntax: lengths of 11, 10 and 9",
         b"POST / HTTP/1.1\r\nHost: h\r\nContent-Length: 11\r\nContent-Length: 10\r\nContent-Length: 9\r\n\r\nhello world",
         "refused 4 |",
-    ),
-    (
-        "trafficserver headers/syntax: a length of 11 three times",
-        b"POST / HTTP/1.1\r\nHost: h\r\nContent-Length: 11\r\nContent-Length: 11\r\nContent-Length: 11\r\n\r\nhello world",
-        "[hello world] | end",
     ),
     (
         "trafficserver headers/syntax: a space before a colon",
@@ -78,11 +149,6 @@ static REQUESTS: &[Vector] = &[
         "refused 1 |",
     ),
     (
-        "trafficserver good_request_after_bad: brackets in the target",
-        b"GET /bob<> HTTP/1.1\r\nHost: bob\r\n\r\nGET / HTTP/1.1\r\nHost: boa\r\n\r\n",
-        "none none | end",
-    ),
-    (
         "trafficserver good_request_after_bad: HTTP/11.1",
         b"GET /bob HTTP/11.1\r\nHost: bob\r\n\r\nGET / HTTP/1.1\r\nHost: boa\r\n\r\n",
         "refused 1 |",
@@ -91,11 +157,6 @@ static REQUESTS: &[Vector] = &[
         "trafficserver good_request_after_bad: a random coding",
         b"POST /bob HTTP/1.1\r\nHost: bob\r\nTransfer-Encoding: random\r\n\r\nGET / HTTP/1.1\r\nHost: boa\r\n\r\n",
         "refused 4 |",
-    ),
-    (
-        "trafficserver good_request_after_bad: a method in lower case",
-        b"gET /bob HTTP/1.1\r\nHost: bob\r\n\r\nGET / HTTP/1.1\r\nHost: boa\r\n\r\n",
-        "none none | end",
     ),
     (
         "trafficserver malformed_chunked_header: a size of 16 digits",
@@ -123,29 +184,9 @@ static REQUESTS: &[Vector] = &[
         "refused 4 |",
     ),
     (
-        "trafficserver chunked_trailer_dropped: a trailer",
-        b"POST / HTTP/1.1\r\nHost: h\r\nTransfer-Encoding: chunked\r\nTrailer: foo\r\n\r\n3\r\nabc\r\n0\r\nfoo: bar\r\n\r\n",
-        "[abc] | end",
-    ),
-    (
         "varnish f00001: a size of 22 digits",
         b"POST / HTTP/1.1\r\nHost: h\r\nTransfer-Encoding: chunked\r\n\r\nffffffffffffffffffffff\r\nabc\r\n0\r\n\r\n",
         "refused 6 |",
-    ),
-    (
-        "varnish b00007: leading zeros in a size",
-        b"POST / HTTP/1.1\r\nHost: h\r\nTransfer-Encoding: chunked\r\n\r\n00000003\r\nabc\r\n00000000\r\n\r\n",
-        "[abc] | end",
-    ),
-    (
-        "varnish r01612: no chunk",
-        b"POST / HTTP/1.1\r\nHost: h\r\nTransfer-Encoding: chunked\r\n\r\n0\r\n\r\n",
-        "[] | end",
-    ),
-    (
-        "varnish r01843: POST without a length",
-        b"POST / HTTP/1.1\r\nHost: h\r\n\r\n",
-        "none | end",
     ),
     (
         "varnish b00040: a space before a field's name",
@@ -173,11 +214,6 @@ static REQUESTS: &[Vector] = &[
         "refused 1 |",
     ),
     (
-        "varnish b00049: no space behind a colon",
-        b"GET / HTTP/1.1\r\nHost:h\r\nfoo:bar\r\n\r\n",
-        "none | end",
-    ),
-    (
         "varnish r02148: a slash in a name",
         b"GET / HTTP/1.1\r\nHost: h\r\nfo/o: bar\r\n\r\n",
         "refused 1 |",
@@ -186,16 +222,6 @@ static REQUESTS: &[Vector] = &[
         "varnish c00039: a folded line",
         b"GET / HTTP/1.1\r\nHost: h\r\nfoo: bar\r\n baz\r\n\r\n",
         "refused 1 |",
-    ),
-    (
-        "varnish b00013: pipelined requests",
-        b"GET /foo HTTP/1.1\r\nHost: h\r\n\r\nGET /bar HTTP/1.1\r\nHost: h\r\n\r\nGET /baz HTTP/1.1\r\nHost: h\r\n\r\n",
-        "none none none | end",
-    ),
-    (
-        "varnish r00262: a line end between requests",
-        b"GET / HTTP/1.1\r\nHost: h\r\n\r\n\r\nGET / HTTP/1.1\r\nHost: h\r\n\r\n",
-        "none none | end",
     ),
     (
         "varnish c00018: another expectation",
@@ -207,18 +233,6 @@ static REQUESTS: &[Vector] = &[
         b"PUT / HTTP/1.1\r\nHost: h\r\nExpect: 100-continue\r\nContent-Length: 10\r\n\r\n",
         "continue | refused 9",
     ),
-    (
-        "varnish c00018: a continue though the content is there",
-        b"PUT / HTTP/1.1\r\nHost: h\r\nExpect: 100-continue\r\nContent-Length: 10\r\n\r\n0123456789",
-        "continue [0123456789] | end",
-    ),
-    (
-        "haproxy h1_to_h1: GET with content",
-        b"GET / HTTP/1.1\r\nHost: h\r\nContent-Length: 3\r\n\r\nabcGET / HTTP/1.1\r\nHost: h\r\n\r\n",
-        "[abc] none | end",
-    ),
-    ("squid: HTTP/1.0", b"GET / HTTP/1.0\r\n\r\n", "none | end"),
-    ("squid: HTTP/1.1", b"GET / HTTP/1.1\r\n\r\n", "none | end"),
     ("squid: HTTP/1.2", b"GET / HTTP/1.2\r\n\r\n", "refused 2 |"),
     (
         "squid: HTTP/10.12",
@@ -240,17 +254,6 @@ static REQUESTS: &[Vector] = &[
         "refused 1 |",
     ),
     ("squid: a method alone", b"A\r\n\r\n", "refused 1 |"),
-    (
-        "squid: an unknown method",
-        b"HELLOWORLD / HTTP/1.1\r\n\r\n",
-        "none | end",
-    ),
-    ("squid: LF alone", b"GET / HTTP/1.1\n\n", "none | end"),
-    (
-        "squid: empty lines first",
-        b"\r\n\r\n\nGET / HTTP/1.1\r\n\r\n",
-        "none | end",
-    ),
     (
         "squid: a CR first",
         b"\rGET / HTTP/1.1\r\n\r\n",
@@ -408,15 +411,16 @@ static RESPONSES: &[Vector] = &[
 ];
 
 #[test]
-fn requests(rt: HostRuntime) -> Result<(), Fail> {
-    let report = requests_report(rt.alloc(), b"", REQUESTS)?;
-    is_empty(&rt, report.as_str());
-    Ok(())
+fn requests_are_taken(rt: HostRuntime) -> Result<(), Fail> {
+    requests_hold(&rt, rt.alloc(), b"", REQUESTS_TAKEN)
+}
+
+#[test]
+fn requests_are_refused(rt: HostRuntime) -> Result<(), Fail> {
+    requests_hold(&rt, rt.alloc(), b"", REQUESTS_REFUSED)
 }
 
 #[test]
 fn responses(rt: HostRuntime) -> Result<(), Fail> {
-    let report = responses_report(rt.alloc(), false, b"", RESPONSES)?;
-    is_empty(&rt, report.as_str());
-    Ok(())
+    responses_hold(&rt, rt.alloc(), false, b"", RESPONSES)
 }

@@ -5,6 +5,7 @@ use hx_fields::Fields;
 use hx_target::{TargetFault, read_target};
 use std::alloc::{AllocError, Global};
 use std::process::Abort;
+use std::test::Fail;
 
 /// A target, the values of the Host lines, and the answer.
 pub(crate) type Vector = (&'static [u8], &'static [&'static [u8]], &'static str);
@@ -56,7 +57,7 @@ pub(crate) fn answer(alloc: Global, target: &[u8], fields: &Fields) -> Result<St
 }
 
 /// The answers that aren't the expected ones.
-pub(crate) fn report(alloc: Global, vectors: &[Vector]) -> Result<String, AllocError> {
+fn report(alloc: Global, vectors: &[Vector]) -> Result<String, AllocError> {
     let mut report = String::new(alloc);
     for (target, hosts, expected) in vectors {
         let fields = with_hosts(alloc, hosts)?;
@@ -73,6 +74,13 @@ pub(crate) fn report(alloc: Global, vectors: &[Vector]) -> Result<String, AllocE
     Ok(report)
 }
 
-pub(crate) fn is_empty(rt: &impl Abort, report: &str) {
+fn is_empty(rt: &impl Abort, report: &str) {
     assert!(rt; report.is_empty(), "{report}");
+}
+
+/// The targets are read as it was expected.
+pub(crate) fn are_read(rt: &impl Abort, alloc: Global, vectors: &[Vector]) -> Result<(), Fail> {
+    let report = report(alloc, vectors)?;
+    is_empty(rt, report.as_str());
+    Ok(())
 }

@@ -1,6 +1,6 @@
 //! Several faults at once: the least number is answered.
 
-use crate::target::answers::{Vector, is_empty, report};
+use crate::target::answers::{Vector, are_read};
 use std::test::Fail;
 
 static SEVERAL: &[Vector] = &[
@@ -36,7 +36,5 @@ static SEVERAL: &[Vector] = &[
 
 #[test]
 fn the_least_of_several_faults_is_answered(rt: HostRuntime) -> Result<(), Fail> {
-    let report = report(rt.alloc(), SEVERAL)?;
-    is_empty(&rt, report.as_str());
-    Ok(())
+    are_read(&rt, rt.alloc(), SEVERAL)
 }

@@ -3,7 +3,7 @@ ghost use Rattle.std.specs.Prelude.{Some};
 
 use super::rows::{FIRST_EFFECTS, FIRST_RUN};
 use super::told;
-use proxy_server::{ReplayFault, replay};
+use proxy_server::replay;
 use std::alloc::Global;
 use std::io;
 use std::io::{ErrorKind, Read, Write};
@@ -66,12 +66,7 @@ impl Write for Sink {
     }
 }
 
-fn read_from(
-    alloc: Global,
-    most: usize,
-    calls: u64,
-    kind: ErrorKind,
-) -> (Result<(), ReplayFault>, Vec<u8>) {
+fn read_from(alloc: Global, most: usize, calls: u64, kind: ErrorKind) -> (&'static str, Vec<u8>) {
     let mut source = Source {
         bytes: FIRST_RUN.as_bytes(),
         most,
@@ -80,15 +75,10 @@ fn read_from(
     };
     let mut text = Vec::new(alloc);
     let result = replay(alloc, &mut source, &mut text);
-    (result, text)
+    (told(&result).0, text)
 }
 
-fn written_to(
-    alloc: Global,
-    most: usize,
-    calls: u64,
-    kind: ErrorKind,
-) -> (Result<(), ReplayFault>, Vec<u8>) {
+fn written_to(alloc: Global, most: usize, calls: u64, kind: ErrorKind) -> (&'static str, Vec<u8>) {
     let mut script = FIRST_RUN.as_bytes();
     let mut sink = Sink {
         text: Vec::new(alloc),
@@ -97,14 +87,14 @@ fn written_to(
         kind,
     };
     let result = replay(alloc, &mut script, &mut sink);
-    (result, sink.text)
+    (told(&result).0, sink.text)
 }
 
 #[test]
 fn a_reader_may_give_few_bytes_at_a_time(rt: HostRuntime) {
     for most in 1..9usize {
-        let (result, text) = read_from(rt.alloc(), most, u64::MAX, ErrorKind::Other);
-        assert!(rt; told(&result).0 == "done", "at {most}");
+        let (word, text) = read_from(rt.alloc(), most, u64::MAX, ErrorKind::Other);
+        assert!(rt; word == "done", "at {most}");
         assert!(rt; text.as_slice() == FIRST_EFFECTS.as_bytes(), "at {most}");
     }
 }
@@ -113,14 +103,14 @@ fn a_reader_may_give_few_bytes_at_a_time(rt: HostRuntime) {
 fn a_reader_that_fails_ends_the_replay(rt: HostRuntime) -> Result<(), Fail> {
     let mut longest = 0usize;
     for calls in 0..100u64 {
-        let (result, text) = read_from(rt.alloc(), 7, calls, ErrorKind::Other);
-        if result.is_ok() {
+        let (word, text) = read_from(rt.alloc(), 7, calls, ErrorKind::Other);
+        if word == "done" {
             assert!(rt; text.as_slice() == FIRST_EFFECTS.as_bytes());
             assert!(rt; calls == 62);
             assert!(rt; longest == FIRST_EFFECTS.len());
             return Ok(());
         }
-        assert!(rt; told(&result).0 == "read", "at {calls}");
+        assert!(rt; word == "read", "at {calls}");
         assert!(rt; FIRST_EFFECTS.as_bytes().starts_with(&text), "at {calls}");
         // The forward, then the drop with the reply, then the second reply: whole happenings alone.
         assert!(rt; matches!(text.len(), 0 | 91 | 273 | 441), "at {calls}");
@@ -132,11 +122,11 @@ fn a_reader_that_fails_ends_the_replay(rt: HostRuntime) -> Result<(), Fail> {
 #[test]
 fn an_interrupted_call_is_made_again(rt: HostRuntime) {
     for calls in 0..20u64 {
-        let (result, text) = read_from(rt.alloc(), 30, calls, ErrorKind::Interrupted);
-        assert!(rt; told(&result).0 == "done", "at {calls}");
+        let (word, text) = read_from(rt.alloc(), 30, calls, ErrorKind::Interrupted);
+        assert!(rt; word == "done", "at {calls}");
         assert!(rt; text.as_slice() == FIRST_EFFECTS.as_bytes(), "at {calls}");
-        let (result, text) = written_to(rt.alloc(), 30, calls, ErrorKind::Interrupted);
-        assert!(rt; told(&result).0 == "done", "at {calls}");
+        let (word, text) = written_to(rt.alloc(), 30, calls, ErrorKind::Interrupted);
+        assert!(rt; word == "done", "at {calls}");
         assert!(rt; text.as_slice() == FIRST_EFFECTS.as_bytes(), "at {calls}");
     }
 }
@@ -144,8 +134,8 @@ fn an_interrupted_call_is_made_again(rt: HostRuntime) {
 #[test]
 fn a_writer_may_take_few_bytes_at_a_time(rt: HostRuntime) {
     for most in 1..9usize {
-        let (result, text) = written_to(rt.alloc(), most, u64::MAX, ErrorKind::Other);
-        assert!(rt; told(&result).0 == "done", "at {most}");
+        let (word, text) = written_to(rt.alloc(), most, u64::MAX, ErrorKind::Other);
+        assert!(rt; word == "done", "at {most}");
         assert!(rt; text.as_slice() == FIRST_EFFECTS.as_bytes(), "at {most}");
     }
 }
@@ -153,12 +143,12 @@ fn a_writer_may_take_few_bytes_at_a_time(rt: HostRuntime) {
 #[test]
 fn a_writer_that_fails_ends_the_replay(rt: HostRuntime) -> Result<(), Fail> {
     for calls in 0..100u64 {
-        let (result, text) = written_to(rt.alloc(), 7, calls, ErrorKind::Other);
-        if result.is_ok() {
+        let (word, text) = written_to(rt.alloc(), 7, calls, ErrorKind::Other);
+        if word == "done" {
             assert!(rt; text.as_slice() == FIRST_EFFECTS.as_bytes());
             return Ok(());
         }
-        assert!(rt; told(&result).0 == "write", "at {calls}");
+        assert!(rt; word == "write", "at {calls}");
         assert!(rt; FIRST_EFFECTS.as_bytes().starts_with(&text), "at {calls}");
         assert!(rt; text.len() as u64 <= 7 * calls, "at {calls}");
     }
@@ -167,8 +157,8 @@ fn a_writer_that_fails_ends_the_replay(rt: HostRuntime) -> Result<(), Fail> {
 
 #[test]
 fn a_write_that_takes_nothing_is_a_failure(rt: HostRuntime) {
-    let (result, text) = written_to(rt.alloc(), 0, u64::MAX, ErrorKind::Other);
-    assert!(rt; told(&result).0 == "write");
+    let (word, text) = written_to(rt.alloc(), 0, u64::MAX, ErrorKind::Other);
+    assert!(rt; word == "write");
     assert!(rt; text.is_empty());
 }
 
