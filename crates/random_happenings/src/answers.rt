@@ -81,6 +81,15 @@ const FAULTS: &[&str] = &[
     "Content-Length: 5000\r\n",
 ];
 
+/// Lines that an answer may have, each of them once in so many answers.
+static FIELDS: &[(&[&str], usize)] = &[
+    (DIRECTIVES, 1),
+    (VALIDATORS, 2),
+    (VARIANTS, 6),
+    (OTHERS, 5),
+    (FAULTS, 60),
+];
+
 /// What an origin was asked.
 #[derive(Drop)]
 pub struct Question {
@@ -160,14 +169,8 @@ pub fn push_answer(
     let status = status(dice, question);
     let echo = question.echo.as_str();
     write!(text, "HTTP/1.1 {status}\r\n{echo}")?;
-    for (lines, rarity) in [
-        (DIRECTIVES, 1usize),
-        (VALIDATORS, 2),
-        (VARIANTS, 6),
-        (OTHERS, 5),
-        (FAULTS, 60),
-    ] {
-        if !dice.once_in(8) && dice.once_in(rarity) {
+    for (lines, rarity) in FIELDS {
+        if !dice.once_in(8) && dice.once_in(*rarity) {
             text.push_str(dice.pick(lines))?;
         }
     }

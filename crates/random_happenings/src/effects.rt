@@ -24,22 +24,26 @@ fn block<'a>(length: &[u8], rest: &'a [u8]) -> Option<(&'a [u8], &'a [u8])> {
     }
 }
 
+fn client<'a>(line: &[u8], rest: &'a [u8]) -> Option<(Effect<'a>, &'a [u8])> {
+    let (number, length) = line.split_once_str(b" ")?;
+    let (bytes, rest) = block(length, rest)?;
+    Some((Effect::Client(number_of(number)?, bytes), rest))
+}
+
+fn forward<'a>(line: &'a [u8], rest: &'a [u8]) -> Option<(Effect<'a>, &'a [u8])> {
+    let (number, line) = line.split_once_str(b" ")?;
+    let (address, length) = line.split_once_str(b" ")?;
+    let (bytes, rest) = block(length, rest)?;
+    Some((Effect::Forward(number_of(number)?, address, bytes), rest))
+}
+
 /// The first effect of a text, and what follows it.
 pub fn read_effect(text: &[u8]) -> Option<(Effect<'_>, &[u8])> {
     let (line, rest) = text.split_once_str(b"\n")?;
     let (word, line) = line.split_once_str(b" ")?;
     match word {
-        b"client" => {
-            let (number, length) = line.split_once_str(b" ")?;
-            let (bytes, rest) = block(length, rest)?;
-            Some((Effect::Client(number_of(number)?, bytes), rest))
-        }
-        b"forward" => {
-            let (number, line) = line.split_once_str(b" ")?;
-            let (address, length) = line.split_once_str(b" ")?;
-            let (bytes, rest) = block(length, rest)?;
-            Some((Effect::Forward(number_of(number)?, address, bytes), rest))
-        }
+        b"client" => client(line, rest),
+        b"forward" => forward(line, rest),
         b"close" => Some((Effect::Close(number_of(line)?), rest)),
         b"drop" => Some((Effect::Drop(number_of(line)?), rest)),
         _ => None,

@@ -3,20 +3,7 @@
 use hx_status::FailKind;
 use proxy_engine::Happening;
 use proxy_script::{Failure, Item};
-use std::alloc::AllocError;
-
-fn push_line(script: &mut Vec<u8>, line: &str) -> Result<(), AllocError> {
-    script.extend_from_slice(line.as_bytes())?;
-    script.push(b'\n')?;
-    Ok(())
-}
-
-fn push_block(script: &mut Vec<u8>, line: &str, bytes: &[u8]) -> Result<(), AllocError> {
-    push_line(script, line)?;
-    script.extend_from_slice(bytes)?;
-    script.push(b'\n')?;
-    Ok(())
-}
+use std::alloc::{AllocError, Global};
 
 fn word(failure: Failure) -> &'static str {
     match failure {
@@ -26,43 +13,44 @@ fn word(failure: Failure) -> &'static str {
     }
 }
 
+/// The line of an item, without its LF.
+fn line_of(alloc: Global, item: Item<'_>) -> Result<String, AllocError> {
+    match item {
+        Item::Config(table) => format!(in alloc; "config {}", table.len()),
+        Item::At(moment) => format!(in alloc; "at {moment}"),
+        Item::Accept(n) => format!(in alloc; "accept {n}"),
+        Item::Client(n, bytes) => format!(in alloc; "client {n} {}", bytes.len()),
+        Item::Link(l, bytes) => format!(in alloc; "link {l} {}", bytes.len()),
+        Item::End(n) => format!(in alloc; "end {n}"),
+        Item::Gone(n) => format!(in alloc; "gone {n}"),
+        Item::Shut(l) => format!(in alloc; "shut {l}"),
+        Item::Fail(l, failure) => format!(in alloc; "fail {l} {}", word(failure)),
+    }
+}
+
+/// The block behind the line of an item, where one follows.
+fn block_of(item: Item<'_>) -> Option<&[u8]> {
+    match item {
+        Item::Config(table) => Some(table),
+        Item::Client(_, bytes) => Some(bytes),
+        Item::Link(_, bytes) => Some(bytes),
+        _ => None,
+    }
+}
+
+fn push_line(script: &mut Vec<u8>, line: &[u8]) -> Result<(), AllocError> {
+    script.extend_from_slice(line)?;
+    script.push(b'\n')?;
+    Ok(())
+}
+
 /// Writes an item behind a script.
 pub fn push_item(script: &mut Vec<u8>, item: Item<'_>) -> Result<(), AllocError> {
-    let alloc = *script.allocator();
-    match item {
-        Item::Config(table) => {
-            let length = table.len();
-            push_block(
-                script,
-                format!(in alloc; "config {length}")?.as_str(),
-                table,
-            )
-        }
-        Item::At(moment) => push_line(script, format!(in alloc; "at {moment}")?.as_str()),
-        Item::Accept(n) => push_line(script, format!(in alloc; "accept {n}")?.as_str()),
-        Item::Client(n, bytes) => {
-            let length = bytes.len();
-            push_block(
-                script,
-                format!(in alloc; "client {n} {length}")?.as_str(),
-                bytes,
-            )
-        }
-        Item::Link(l, bytes) => {
-            let length = bytes.len();
-            push_block(
-                script,
-                format!(in alloc; "link {l} {length}")?.as_str(),
-                bytes,
-            )
-        }
-        Item::End(n) => push_line(script, format!(in alloc; "end {n}")?.as_str()),
-        Item::Gone(n) => push_line(script, format!(in alloc; "gone {n}")?.as_str()),
-        Item::Shut(l) => push_line(script, format!(in alloc; "shut {l}")?.as_str()),
-        Item::Fail(l, failure) => {
-            let word = word(failure);
-            push_line(script, format!(in alloc; "fail {l} {word}")?.as_str())
-        }
+    let line = line_of(*script.allocator(), item)?;
+    push_line(script, line.as_bytes())?;
+    match block_of(item) {
+        Some(block) => push_line(script, block),
+        None => Ok(()),
     }
 }
 

@@ -59,6 +59,15 @@ const FAULTS: &[&str] = &[
     "Transfer-Encoding: gzip\r\n",
 ];
 
+/// Lines that a request may have, each of them once in so many requests.
+static FIELDS: &[(&[&str], usize)] = &[
+    (LANGUAGES, 2),
+    (DIRECTIVES, 3),
+    (CONDITIONS, 6),
+    (CONNECTIONS, 20),
+    (FAULTS, 60),
+];
+
 /// A request of a client: which of the connection's it is, counted from 1, and what it asks for.
 #[derive(Drop)]
 pub struct Asked {
@@ -144,10 +153,24 @@ fn push_content(text: &mut String, dice: &mut Dice, is_usual: bool) -> Result<()
     }
 }
 
-/// The whole of a request, with fields that its answer is known by.
-pub fn push_request(text: &mut String, dice: &mut Dice, asked: &Asked) -> Result<(), AllocError> {
+/// The head up to the fields that the answer is known by.
+fn push_front(
+    text: &mut String,
+    method: &str,
+    version: &str,
+    asked: &Asked,
+) -> Result<(), AllocError> {
     let (host, path) = (asked.host, asked.path);
     let (connection, ordinal) = (asked.connection, asked.ordinal);
+    write!(text, "{method} {path} {version}\r\nHost: {host}\r\n")?;
+    write!(
+        text,
+        "X-Id: {connection}.{ordinal}\r\nX-Target: {host}{path}\r\n"
+    )
+}
+
+/// The whole of a request, with fields that its answer is known by.
+pub fn push_request(text: &mut String, dice: &mut Dice, asked: &Asked) -> Result<(), AllocError> {
     let method = if dice.once_in(5) {
         dice.pick(UNUSUAL_METHODS)
     } else {
@@ -158,19 +181,9 @@ pub fn push_request(text: &mut String, dice: &mut Dice, asked: &Asked) -> Result
     } else {
         "HTTP/1.1"
     };
-    write!(text, "{method} {path} {version}\r\nHost: {host}\r\n")?;
-    write!(
-        text,
-        "X-Id: {connection}.{ordinal}\r\nX-Target: {host}{path}\r\n"
-    )?;
-    for (lines, rarity) in [
-        (LANGUAGES, 2usize),
-        (DIRECTIVES, 3),
-        (CONDITIONS, 6),
-        (CONNECTIONS, 20),
-        (FAULTS, 60),
-    ] {
-        if dice.once_in(rarity) {
+    push_front(text, method, version, asked)?;
+    for (lines, rarity) in FIELDS {
+        if dice.once_in(*rarity) {
             text.push_str(dice.pick(lines))?;
         }
     }
