@@ -101,6 +101,16 @@ fn takes(rt: &impl Abort, alloc: Global, engine: &mut Engine<ListShelf>, happeni
     assert!(rt; take(alloc, engine, happening).is_ok());
 }
 
+fn refuses(
+    rt: &impl Abort,
+    alloc: Global,
+    engine: &mut Engine<ListShelf>,
+    happening: Happening<'_>,
+    fault: EngineFault,
+) {
+    assert_eq!(rt; take(alloc, engine, happening), Err(fault));
+}
+
 /// One act with this text is due at the moment, and then none.
 fn does(rt: &impl Abort, alloc: Global, engine: &mut Engine<ListShelf>, now: u64, text: &[u8])
     requires { now < 253402300800 }
@@ -226,18 +236,24 @@ fn numbers_run_out(rt: HostRuntime) -> Result<(), Fail> {
 #[test]
 fn unknown_ends_are_refused(rt: HostRuntime) -> Result<(), Fail> {
     let mut engine = engine(rt.alloc(), 1)?;
-    let wrong = Err(EngineFault::WrongNumber);
-    assert_eq!(&rt; take(rt.alloc(), &mut engine, Happening::Accept(2)), wrong);
-    assert_eq!(&rt;
-        take(rt.alloc(), &mut engine, Happening::Link(1, b"a")),
-        wrong
+    let wrong = EngineFault::WrongNumber;
+    refuses(&rt, rt.alloc(), &mut engine, Happening::Accept(2), wrong);
+    refuses(
+        &rt,
+        rt.alloc(),
+        &mut engine,
+        Happening::Link(1, b"a"),
+        wrong,
     );
-    assert_eq!(&rt; take(rt.alloc(), &mut engine, Happening::Shut(1)), wrong);
-    let unknown = Err(EngineFault::NotAccepted);
-    assert_eq!(&rt;
-        take(rt.alloc(), &mut engine, Happening::Client(3, b"")),
-        unknown
+    refuses(&rt, rt.alloc(), &mut engine, Happening::Shut(1), wrong);
+    let unknown = EngineFault::NotAccepted;
+    refuses(
+        &rt,
+        rt.alloc(),
+        &mut engine,
+        Happening::Client(3, b""),
+        unknown,
     );
-    assert_eq!(&rt; take(rt.alloc(), &mut engine, Happening::Gone(1)), unknown);
+    refuses(&rt, rt.alloc(), &mut engine, Happening::Gone(1), unknown);
     Ok(())
 }

@@ -137,16 +137,26 @@ static LINES: &[(&str, &str, u8)] = &[
     ("config 0\n\n", "config fault 3", 2),
 ];
 
+/// A fault is told by this line and this exit status.
+fn is_named(
+    rt: &impl Abort,
+    alloc: Global,
+    fault: &ReplayFault,
+    line: &str,
+    status: u8,
+) -> Result<(), AllocError> {
+    let text = format!(in alloc; "{fault}")?;
+    assert!(rt; text.as_str() == line, "at {line}: {text}");
+    assert!(rt; fault.exit_status() == status, "at {line}");
+    Ok(())
+}
+
 #[test]
 fn a_fault_is_named_on_one_line(rt: HostRuntime) -> Result<(), Fail> {
     for (script, line, status) in LINES {
         match whole(rt.alloc(), script.as_bytes()) {
             Ok(_) => assert!(rt; false, "at {script}"),
-            Err(fault) => {
-                let text = format!(in rt.alloc(); "{fault}")?;
-                assert!(rt; text.as_str() == *line, "at {script}: {text}");
-                assert!(rt; fault.exit_status() == *status, "at {script}");
-            }
+            Err(fault) => is_named(&rt, rt.alloc(), &fault, line, *status)?,
         }
     }
     Ok(())
@@ -154,25 +164,15 @@ fn a_fault_is_named_on_one_line(rt: HostRuntime) -> Result<(), Fail> {
 
 #[test]
 fn a_fault_without_a_script_is_named(rt: HostRuntime) -> Result<(), Fail> {
-    for (fault, line, status) in [
-        (ReplayFault::Engine(EngineFault::Spent), "engine fault 4", 1),
-        (
-            ReplayFault::Config(ConfigFault::OutOfMemory),
-            "no memory",
-            1,
-        ),
-        (
-            ReplayFault::Config(ConfigFault::BadPath(2)),
-            "config fault 7 line 2",
-            2,
-        ),
-        (ReplayFault::Read, "read fault", 1),
-        (ReplayFault::Write, "write fault", 1),
-        (ReplayFault::OutOfMemory, "no memory", 1),
-    ] {
-        let text = format!(in rt.alloc(); "{fault}")?;
-        assert!(rt; text.as_str() == line, "at {line}: {text}");
-        assert!(rt; fault.exit_status() == status, "at {line}");
-    }
+    let (rt, alloc) = (&rt, rt.alloc());
+    let spent = ReplayFault::Engine(EngineFault::Spent);
+    is_named(rt, alloc, &spent, "engine fault 4", 1)?;
+    let memory = ReplayFault::Config(ConfigFault::OutOfMemory);
+    is_named(rt, alloc, &memory, "no memory", 1)?;
+    let path = ReplayFault::Config(ConfigFault::BadPath(2));
+    is_named(rt, alloc, &path, "config fault 7 line 2", 2)?;
+    is_named(rt, alloc, &ReplayFault::Read, "read fault", 1)?;
+    is_named(rt, alloc, &ReplayFault::Write, "write fault", 1)?;
+    is_named(rt, alloc, &ReplayFault::OutOfMemory, "no memory", 1)?;
     Ok(())
 }
