@@ -1,4 +1,4 @@
-//! Tests of the caches' libraries: each public call once with ample memory, and tables of cases from the
+//! Tests of the caches' libraries above messages: each public call once with ample memory, and tables of cases from the
 //! standards and from the suites of other caches.
 //!
 //! They stand in a crate of their own so that no library is proved again for its tests.
@@ -12,8 +12,6 @@ mod allow;
 mod directives;
 #[cfg(test)]
 mod fields;
-#[cfg(test)]
-mod framing;
 #[cfg(test)]
 mod hop;
 #[cfg(test)]

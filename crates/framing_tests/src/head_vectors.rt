@@ -1,7 +1,7 @@
 //! Heads of requests, versions, the parts of a request, and streams of several (RFC 9112, sections 2 to 5 and
 //! 9.3). The answers are written as `plays.rt` says, and were written down before any reader was run.
 
-use crate::framing::plays::{LineVector, Vector, parts_hold, request_lines_hold, requests_hold};
+use crate::plays::{LineVector, Vector, parts_hold, request_lines_hold, requests_hold};
 use std::test::Fail;
 
 const GET: &[u8] = b"GET /a HTTP/1.1\r\nHost: h\r\n";

@@ -1,7 +1,7 @@
 //! Chunks of requests (RFC 9112, section 7.1). The answers are written as `plays.rt` says, and were written down
 //! before any reader was run.
 
-use crate::framing::plays::{Vector, requests_hold};
+use crate::plays::{Vector, requests_hold};
 use std::test::Fail;
 
 const CHUNKED: &[u8] = b"POST /a HTTP/1.1\r\nHost: h\r\nTransfer-Encoding: chunked\r\n\r\n";

@@ -2,9 +2,7 @@
 //! where the first is refused (RFC 9112, sections 6.3 and 11.2). The answers are written as `plays.rt` says, and
 //! were written down before any reader was run.
 
-use crate::framing::plays::{
-    LineVector, Vector, request_lines_hold, requests_hold, responses_hold,
-};
+use crate::plays::{LineVector, Vector, request_lines_hold, requests_hold, responses_hold};
 use std::test::Fail;
 
 const POST: &[u8] = b"POST / HTTP/1.1\r\nHost: h\r\n";

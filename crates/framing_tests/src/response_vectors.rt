@@ -1,7 +1,7 @@
 //! Responses (RFC 9112, sections 4, 6 and 9.3). The answers are written as `plays.rt` says, and were written
 //! down before any reader was run.
 
-use crate::framing::plays::{Vector, responses_hold};
+use crate::plays::{Vector, responses_hold};
 use std::test::Fail;
 
 static LENGTHS: &[Vector] = &[

@@ -1,7 +1,7 @@
 //! Streams at their limits and past them. The answers are written as `plays.rt` says, and were written down
 //! before any reader was run.
 
-use crate::framing::plays::{LongVector, long_requests_hold, long_responses_hold};
+use crate::plays::{LongVector, long_requests_hold, long_responses_hold};
 use std::test::Fail;
 
 const GET: &[u8] = b"GET /a HTTP/1.1\r\nHost: h\r\n\r\n";

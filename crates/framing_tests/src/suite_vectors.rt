@@ -3,7 +3,7 @@
 //! of this project's rules, which aren't always theirs. They are written as `plays.rt` says, and were written
 //! down before any reader was run.
 
-use crate::framing::plays::{Vector, requests_hold, responses_hold};
+use crate::plays::{Vector, requests_hold, responses_hold};
 use std::test::Fail;
 
 static REQUESTS_TAKEN: &[Vector] = &[

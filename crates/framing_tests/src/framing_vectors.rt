@@ -1,7 +1,7 @@
 //! Lengths, codings and expectations of requests (RFC 9112, section 6; RFC 9110, section 10.1.1). The answers
 //! are written as `plays.rt` says, and were written down before any reader was run.
 
-use crate::framing::plays::{LineVector, request_lines_hold};
+use crate::plays::{LineVector, request_lines_hold};
 use std::test::Fail;
 
 const POST: &[u8] = b"POST /a HTTP/1.1\r\nHost: h\r\n";
