@@ -81,7 +81,7 @@ const FAULTS: &[&str] = &[
     "Content-Length: 5000\r\n",
 ];
 
-/// Lines that an answer may have, each of them once in so many answers.
+/// Lines that an answer may have, and in how many answers one of them is tried once.
 static FIELDS: &[(&[&str], usize)] = &[
     (DIRECTIVES, 1),
     (VALIDATORS, 2),

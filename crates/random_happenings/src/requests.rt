@@ -59,7 +59,7 @@ const FAULTS: &[&str] = &[
     "Transfer-Encoding: gzip\r\n",
 ];
 
-/// Lines that a request may have, each of them once in so many requests.
+/// Lines that a request may have, and in how many requests one of them stands once.
 static FIELDS: &[(&[&str], usize)] = &[
     (LANGUAGES, 2),
     (DIRECTIVES, 3),
