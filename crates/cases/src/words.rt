@@ -1,0 +1,28 @@
+//! What answers are written with: the names of faults, and bytes as a text.
+
+use case_text::push_shown;
+use hx_framing::FrameFault;
+use std::alloc::AllocError;
+
+/// The name of a fault of a stream.
+pub fn frame_word(fault: FrameFault) -> &'static str {
+    match fault {
+        FrameFault::Head => "head",
+        FrameFault::Version => "version",
+        FrameFault::BothLengths => "both-lengths",
+        FrameFault::Length => "length",
+        FrameFault::Coding => "coding",
+        FrameFault::Chunk => "chunk",
+        FrameFault::TooLarge => "too-large",
+        FrameFault::Expect => "expect",
+        FrameFault::Truncated => "truncated",
+        FrameFault::Status => "status",
+    }
+}
+
+/// Appends bytes as a text in brackets.
+pub fn push_shown_in_brackets(text: &mut String, bytes: &[u8]) -> Result<(), AllocError> {
+    text.push('[')?;
+    push_shown(text, bytes)?;
+    text.push(']')
+}
