@@ -2,7 +2,7 @@
 
 use crate::case_file::Case;
 use crate::lines::{Fault, Line};
-use crate::streams;
+use crate::{scripts, steps, streams};
 use std::alloc::Global;
 
 /// What a file plays.
@@ -12,6 +12,10 @@ pub enum Driver {
     RequestParts,
     ResponsesToGet,
     ResponsesToHead,
+    Steps,
+    FirstItems,
+    LaterItems,
+    Replays,
 }
 
 impl Driver {
@@ -22,6 +26,10 @@ impl Driver {
             "parts of requests" => Some(Driver::RequestParts),
             "responses to GET" => Some(Driver::ResponsesToGet),
             "responses to HEAD" => Some(Driver::ResponsesToHead),
+            "steps" => Some(Driver::Steps),
+            "first items of scripts" => Some(Driver::FirstItems),
+            "later items of scripts" => Some(Driver::LaterItems),
+            "replays" => Some(Driver::Replays),
             _ => None,
         }
     }
@@ -39,5 +47,9 @@ pub fn answer(
         Driver::RequestParts => streams::request_parts(alloc, front, case),
         Driver::ResponsesToGet => streams::responses(alloc, false, front, case),
         Driver::ResponsesToHead => streams::responses(alloc, true, front, case),
+        Driver::Steps => steps::steps(alloc, front, case),
+        Driver::FirstItems => scripts::items(alloc, true, case),
+        Driver::LaterItems => scripts::items(alloc, false, case),
+        Driver::Replays => scripts::replays(alloc, front, case),
     }
 }

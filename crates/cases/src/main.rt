@@ -6,8 +6,11 @@
 
 mod case_file;
 mod driver;
+mod field_lines;
 mod files;
 mod lines;
+mod scripts;
+mod steps;
 mod streams;
 mod words;
 

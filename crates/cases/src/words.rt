@@ -2,6 +2,7 @@
 
 use case_text::push_shown;
 use hx_framing::FrameFault;
+use hx_status::FailKind;
 use std::alloc::AllocError;
 
 /// The name of a fault of a stream.
@@ -25,4 +26,16 @@ pub fn push_shown_in_brackets(text: &mut String, bytes: &[u8]) -> Result<(), All
     text.push('[')?;
     push_shown(text, bytes)?;
     text.push(']')
+}
+
+/// The way in which an origin fails, of a word.
+pub fn fail_kind(word: &str) -> Option<FailKind> {
+    match word {
+        "refused" => Some(FailKind::Refused),
+        "closed" => Some(FailKind::Closed),
+        "timed-out" => Some(FailKind::TimedOut),
+        "bad-answer" => Some(FailKind::BadAnswer),
+        "too-large" => Some(FailKind::TooLarge),
+        _ => None,
+    }
 }

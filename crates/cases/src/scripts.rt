@@ -1,0 +1,82 @@
+//! Scripts: the item at the front of a text, and whole replays.
+
+use crate::case_file::{Case, stream_of};
+use crate::lines::{Fault, Line, push_spelled};
+use crate::words::push_shown_in_brackets;
+use proxy_script::{Failure, Front, Item, read_item};
+use proxy_server::replay;
+use std::alloc::{AllocError, Global};
+
+fn failure_word(failure: Failure) -> &'static str {
+    match failure {
+        Failure::Refused => "refused",
+        Failure::TimedOut => "timed-out",
+        Failure::Closed => "closed",
+    }
+}
+
+fn write_item(text: &mut String, item: Item<'_>) -> Result<(), AllocError> {
+    match item {
+        Item::Config(table) => {
+            text.push_str("config ")?;
+            push_shown_in_brackets(text, table)
+        }
+        Item::At(moment) => write!(text, "at {moment}"),
+        Item::Accept(client) => write!(text, "accept {client}"),
+        Item::Client(client, bytes) => {
+            write!(text, "client {client} ")?;
+            push_shown_in_brackets(text, bytes)
+        }
+        Item::Link(link, bytes) => {
+            write!(text, "link {link} ")?;
+            push_shown_in_brackets(text, bytes)
+        }
+        Item::End(client) => write!(text, "end {client}"),
+        Item::Gone(client) => write!(text, "gone {client}"),
+        Item::Shut(link) => write!(text, "shut {link}"),
+        Item::Fail(link, failure) => write!(text, "fail {link} {}", failure_word(failure)),
+    }
+}
+
+fn spelled_by(alloc: Global, lines: &[Line<'_>]) -> Result<Vec<u8>, Fault> {
+    let mut bytes = Vec::new(alloc);
+    for line in lines {
+        push_spelled(&mut bytes, *line, line.text)?;
+    }
+    Ok(bytes)
+}
+
+/// The item at the front of a text, the first of a script or a later one: with its bytes in brackets, and what is behind it.
+pub fn items(alloc: Global, first: bool, case: &Case<'_>) -> Result<String, Fault> {
+    let script = spelled_by(alloc, case.input.as_slice())?;
+    let mut text = String::new(alloc);
+    match read_item(first, script.as_slice()) {
+        Front::Found(item, rest) => {
+            write_item(&mut text, item)?;
+            if !rest.is_empty() {
+                text.push_str(" then ")?;
+                push_shown_in_brackets(&mut text, rest)?;
+            }
+        }
+        Front::Cut => text.push_str("cut")?,
+        Front::Wrong => text.push_str("wrong")?,
+    }
+    Ok(text)
+}
+
+/// Replays a script, the group's front and the case: how it ends, with the exit status of a fault, and the effects' text.
+pub fn replays(alloc: Global, front: &[Line<'_>], case: &Case<'_>) -> Result<String, Fault> {
+    let script = stream_of(alloc, front, case)?;
+    let mut reader = script.as_slice();
+    let mut effects = Vec::new(alloc);
+    let mut text = String::new(alloc);
+    match replay(alloc, &mut reader, &mut effects) {
+        Ok(()) => text.push_str("done")?,
+        Err(fault) => write!(text, "{fault}, status {}", fault.exit_status())?,
+    }
+    if !effects.is_empty() {
+        text.push(' ')?;
+        push_shown_in_brackets(&mut text, effects.as_slice())?;
+    }
+    Ok(text)
+}

@@ -1,0 +1,298 @@
+//! Steps of the core, one after another, each with what it must give.
+//!
+//! The group's front is the operator's table. A case is a scenario: `at MOMENT, ID asks METHOD PATH`, `at MOMENT, ID is answered
+//! STATUS` or `at MOMENT, ID fails KIND`, with field lines below it and `with content TEXT` behind these; then `gives forward`
+//! or `gives reply` with what is stored, used and removed, and the message below it. The answer is the number of steps.
+
+use crate::case_file::Case;
+use crate::field_lines::{fields_of, push_fields};
+use crate::lines::{Fault, Line, push_spelled};
+use crate::words::fail_kind;
+use case_text::push_shown;
+use http::Method;
+use hx_allow::Config;
+use hx_fields::{Bytes, Fields};
+use hx_framing::{Request, Response};
+use hx_hop::{Asked, ask};
+use hx_status::FailKind;
+use hx_store::ListShelf;
+use proxy_core::{Core, CoreFault, Outcome, Reply};
+use std::alloc::{AllocError, Global};
+
+/// What happens to an exchange.
+#[derive(Clone, Copy)]
+enum What<'a> {
+    /// A request: its method and its path.
+    Asks(&'a str, &'a str),
+    /// The origin's answer: its status.
+    Answered(u16),
+    /// The origin fails.
+    Fails(FailKind),
+}
+
+/// The moment, the exchange and what happens to it.
+#[derive(Clone, Copy)]
+struct Happens<'a> {
+    now: u64,
+    id: u64,
+    what: What<'a>,
+}
+
+/// A step as it is written.
+#[derive(Clone, Copy)]
+struct Step<'a, 'b> {
+    head: Line<'a>,
+    /// The field lines, and the content.
+    lines: &'b [Line<'a>],
+    gives: Line<'a>,
+    /// The message that is given.
+    message: &'b [Line<'a>],
+}
+
+fn what_of(words: &str) -> Option<What<'_>> {
+    if let Some(request) = words.strip_prefix("asks ") {
+        let (method, path) = request.split_once(' ')?;
+        return Some(What::Asks(method, path));
+    }
+    if let Some(status) = words.strip_prefix("is answered ") {
+        return Some(What::Answered(status.parse::<u16>().ok()?));
+    }
+    Some(What::Fails(fail_kind(words.strip_prefix("fails ")?)?))
+}
+
+fn happens_of(text: &str) -> Option<Happens<'_>> {
+    let (now, rest) = text.strip_prefix("at ")?.split_once(", ")?;
+    let (id, words) = rest.split_once(' ')?;
+    Some(Happens {
+        now: now.parse::<u64>().ok()?,
+        id: id.parse::<u64>().ok()?,
+        what: what_of(words)?,
+    })
+}
+
+fn split_before<'a, 'b>(lines: &'b [Line<'a>], word: &str) -> (&'b [Line<'a>], &'b [Line<'a>]) {
+    let place = lines.iter().position(|line| line.text.starts_with(word));
+    match lines.split_at_checked(place.unwrap_or(lines.len())) {
+        Some(parts) => parts,
+        None => (lines, &[]),
+    }
+}
+
+/// The first step of some lines, and the lines behind it.
+fn step_of<'a, 'b>(lines: &'b [Line<'a>]) -> Result<Option<(Step<'a, 'b>, &'b [Line<'a>])>, Fault> {
+    let Some((head, rest)) = lines.split_first() else {
+        return Ok(None);
+    };
+    let (lines, rest) = split_before(rest, "gives ");
+    let Some((gives, rest)) = rest.split_first() else {
+        return Err(head.fault("a step that gives nothing"));
+    };
+    let (message, rest) = split_before(rest, "at ");
+    let step = Step {
+        head: *head,
+        lines,
+        gives: *gives,
+        message,
+    };
+    Ok(Some((step, rest)))
+}
+
+/// The field lines of a step, and the text of its content.
+fn parts_of<'a, 'b>(lines: &'b [Line<'a>]) -> (&'b [Line<'a>], Option<Line<'a>>) {
+    match lines.split_last() {
+        Some((last, front)) => match last.text.strip_prefix("with content ") {
+            Some(text) => (
+                front,
+                Some(Line {
+                    number: last.number,
+                    text,
+                }),
+            ),
+            None => (lines, None),
+        },
+        None => (lines, None),
+    }
+}
+
+fn content_of(alloc: Global, content: Option<Line<'_>>) -> Result<Bytes, Fault> {
+    let mut bytes = Vec::new(alloc);
+    if let Some(line) = content {
+        push_spelled(&mut bytes, line, line.text)?;
+    }
+    Ok(Bytes::from_vec(bytes))
+}
+
+/// The lines of a request behind its Host line.
+fn fields_asked(alloc: Global, lines: &[Line<'_>]) -> Result<Fields, Fault> {
+    let mut fields = Fields::new(alloc);
+    fields.push(b"Host", b"h")?;
+    push_fields(alloc, &mut fields, lines)?;
+    Ok(fields)
+}
+
+fn asked_of(alloc: Global, step: Step<'_, '_>, method: &str, path: &str) -> Result<Asked, Fault> {
+    let Ok(method) = Method::from_bytes(alloc, method.as_bytes()) else {
+        return Err(step.head.fault("no method"));
+    };
+    let (lines, content) = parts_of(step.lines);
+    let content = match content {
+        Some(line) => Some(content_of(alloc, Some(line))?),
+        None => None,
+    };
+    let request = Request {
+        method,
+        target: Bytes::copy_of(alloc, path.as_bytes())?,
+        minor: 1,
+        fields: fields_asked(alloc, lines)?,
+        content,
+    };
+    match ask(alloc, &request) {
+        Ok(asked) => Ok(asked),
+        Err(_) => Err(step.head.fault("no request that can be asked")),
+    }
+}
+
+fn response_of(alloc: Global, step: Step<'_, '_>, status: u16) -> Result<Response, Fault> {
+    let (lines, content) = parts_of(step.lines);
+    Ok(Response {
+        status,
+        fields: fields_of(alloc, lines)?,
+        content: content_of(alloc, content)?,
+        announced: None,
+    })
+}
+
+fn arrive(
+    alloc: Global,
+    core: &mut Core<ListShelf>,
+    happens: Happens<'_>,
+    asked: &Asked,
+) -> Result<Outcome, CoreFault> {
+    core.arrive(alloc, happens.now, happens.id, asked)
+}
+
+fn answer(
+    alloc: Global,
+    core: &mut Core<ListShelf>,
+    happens: Happens<'_>,
+    response: &Response,
+) -> Result<Outcome, CoreFault> {
+    core.answer(alloc, happens.now, happens.id, response)
+}
+
+/// What a step gives, or the core's refusal.
+fn outcome_of(
+    alloc: Global,
+    core: &mut Core<ListShelf>,
+    step: Step<'_, '_>,
+) -> Result<Result<Outcome, CoreFault>, Fault> {
+    let Some(happens) = happens_of(step.head.text) else {
+        return Err(step.head.fault("not `at MOMENT, ID` with what happens"));
+    };
+    match happens.what {
+        What::Asks(method, path) => {
+            let asked = asked_of(alloc, step, method, path)?;
+            Ok(arrive(alloc, core, happens, &asked))
+        }
+        What::Answered(status) => {
+            let response = response_of(alloc, step, status)?;
+            Ok(answer(alloc, core, happens, &response))
+        }
+        What::Fails(_) if !step.lines.is_empty() => Err(step.head.fault("a failure has no lines")),
+        What::Fails(kind) => Ok(core.fail(alloc, happens.now, happens.id, kind)),
+    }
+}
+
+/// Writes what a reply stores, uses and removes.
+fn write_changes(text: &mut String, reply: &Reply) -> Result<(), AllocError> {
+    text.push_str("gives reply")?;
+    if let Some(serial) = reply.stored {
+        write!(text, ", stored {serial}")?;
+    }
+    if let Some(serial) = reply.used {
+        write!(text, ", used {serial}")?;
+    }
+    if !reply.removed.is_empty() {
+        text.push_str(", removed")?;
+    }
+    for serial in reply.removed.as_slice() {
+        write!(text, " {serial}")?;
+    }
+    Ok(())
+}
+
+/// What differs from what a step is to give.
+fn difference(
+    alloc: Global,
+    step: Step<'_, '_>,
+    gives: &str,
+    bytes: &[u8],
+) -> Result<Option<String>, Fault> {
+    let mut wanted = Vec::new(alloc);
+    for line in step.message {
+        push_spelled(&mut wanted, *line, line.text)?;
+    }
+    if gives == step.gives.text && bytes == wanted.as_slice() {
+        return Ok(None);
+    }
+    let mut text = String::new(alloc);
+    write!(text, "at line {}: {gives} ", step.head.number)?;
+    push_shown(&mut text, bytes)?;
+    Ok(Some(text))
+}
+
+/// Does a step, and tells what differs from what it is to give.
+fn done(
+    alloc: Global,
+    core: &mut Core<ListShelf>,
+    step: Step<'_, '_>,
+) -> Result<Option<String>, Fault> {
+    match outcome_of(alloc, core, step)? {
+        Ok(Outcome::Reply(reply)) => {
+            let mut gives = String::new(alloc);
+            write_changes(&mut gives, &reply)?;
+            difference(alloc, step, gives.as_str(), reply.bytes.as_slice())
+        }
+        Ok(Outcome::Forward(_, bytes)) => difference(
+            alloc,
+            step,
+            "gives forward",
+            bytes.as_slice(),
+        ),
+        Ok(Outcome::Ended) => difference(alloc, step, "gives an end", b""),
+        Err(_) => difference(alloc, step, "gives a refusal of the core", b""),
+    }
+}
+
+fn core_of(alloc: Global, front: &[Line<'_>], case: &Case<'_>) -> Result<Core<ListShelf>, Fault> {
+    let mut table = Vec::new(alloc);
+    for line in front {
+        push_spelled(&mut table, *line, line.text)?;
+        table.push(b'\n').map_err(AllocError::from)?;
+    }
+    match Config::read(alloc, table.as_slice()) {
+        Ok(config) => {
+            let shelf = ListShelf::new(alloc, config.capacity());
+            Ok(Core::new(alloc, config, shelf, 1))
+        }
+        Err(_) => Err(case.label.fault("the group's front is no table")),
+    }
+}
+
+/// Does the steps of a case, and gives their number or the first that gives something else.
+pub fn steps(alloc: Global, front: &[Line<'_>], case: &Case<'_>) -> Result<String, Fault> {
+    let mut core = core_of(alloc, front, case)?;
+    let mut rest = case.input.as_slice();
+    let mut count = 0usize;
+    for _ in 0..case.input.len() {
+        let Some((step, behind)) = step_of(rest)? else {
+            break;
+        };
+        if let Some(text) = done(alloc, &mut core, step)? {
+            return Ok(text);
+        }
+        count = count.saturating_add(1);
+        rest = behind;
+    }
+    Ok(format!(in alloc; "{count} steps")?)
+}
