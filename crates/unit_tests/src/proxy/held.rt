@@ -1,28 +1,11 @@
 //! What a core holds over random events, against a direct count over what its steps did.
 
-use super::{answer, arrive, reply, request, response};
+use super::cores::{answer, arrive, core, reply, request, response};
 use http::Method;
-use hx_allow::Config;
-use hx_fields::{Bytes, Fields};
-use hx_framing::Response;
 use hx_store::ListShelf;
 use proxy_core::{Core, Outcome};
 use std::alloc::Global;
-use std::process::Abort;
 use std::test::Fail;
-
-const TABLE: &str = "version = 1
-name = \"edge\"
-capacity = 2
-max_body = 1000
-max_stored = 10
-
-[[line]]
-host = \"*\"
-methods = [\"GET\", \"POST\"]
-path = \"/\"
-origin = \"127.0.0.1:8081\"
-";
 
 /// As many as the table's capacity.
 const ROOM: usize = 2;
@@ -34,12 +17,6 @@ struct Done {
     stored: Option<u64>,
     used: Option<u64>,
     removed: Option<u64>,
-}
-
-fn core(alloc: Global) -> Result<Core<ListShelf>, Fail> {
-    let config = Config::read(alloc, TABLE.as_bytes()).ok().ok_or("a table")?;
-    let shelf = ListShelf::new(alloc, config.capacity());
-    Ok(Core::new(alloc, config, shelf, 1))
 }
 
 fn path_text(path: u64) -> &'static str {
@@ -107,23 +84,14 @@ fn held_for(history: &[Done], path: u64) -> Option<u64> {
     None
 }
 
-fn no_content(alloc: Global) -> Result<Response, Fail> {
-    let mut fields = Fields::new(alloc);
-    fields.push(b"Date", b"Thu, 01 Jan 1970 00:01:41 GMT")?;
-    Ok(Response {
-        status: 204,
-        fields,
-        content: Bytes::new(alloc),
-        announced: None,
-    })
-}
-
 /// A POST that succeeds.
 fn post(alloc: Global, core: &mut Core<ListShelf>, path: u64) -> Result<Done, Fail> {
     let asked = request(alloc, Method::POST, path_text(path))?;
-    let _ = super::forward(arrive(alloc, core, 101, 1, &asked))?;
-    let response = no_content(alloc)?;
-    let reply = reply(answer(alloc, core, 101, 1, &response))?;
+    if !matches!(arrive(alloc, core, 1, &asked), Ok(Outcome::Forward(_, _))) {
+        return Err("a forward".into());
+    }
+    let response = response(alloc, 204, b"max-age=60", b"")?;
+    let reply = reply(answer(alloc, core, 1, &response))?;
     Ok(Done {
         path,
         stored: reply.stored,
@@ -136,10 +104,10 @@ fn post(alloc: Global, core: &mut Core<ListShelf>, path: u64) -> Result<Done, Fa
 fn get(alloc: Global, core: &mut Core<ListShelf>, path: u64, may: bool) -> Result<Done, Fail> {
     let asked = request(alloc, Method::GET, path_text(path))?;
     let control = if may { "max-age=60" } else { "no-store" };
-    let reply = match arrive(alloc, core, 101, 1, &asked) {
+    let reply = match arrive(alloc, core, 1, &asked) {
         Ok(Outcome::Forward(_, _)) => {
-            let response = response(alloc, control.as_bytes(), b"hi")?;
-            reply(answer(alloc, core, 101, 1, &response))?
+            let response = response(alloc, 200, control.as_bytes(), b"hi")?;
+            reply(answer(alloc, core, 1, &response))?
         }
         step => reply(step)?,
     };
@@ -161,7 +129,7 @@ fn next_number(choice: u64) -> u64 {
 #[test]
 fn what_is_held_is_counted(rt: HostRuntime) -> Result<(), Fail> {
     let alloc = rt.alloc();
-    let mut core = core(alloc)?;
+    let mut core = core(alloc, 1)?;
     let mut history: Vec<Done> = Vec::new(alloc);
     let mut choice = 88_172_645_463_325_252;
     let mut hits = 0u64;

@@ -2,7 +2,6 @@
 ghost use Rattle.std.specs.Prelude.{◌<◌};
 
 use hx_allow::Config;
-use hx_status::FailKind;
 use hx_store::ListShelf;
 use proxy_engine::{Engine, EngineFault, Happening, Work};
 use proxy_script::effects_text;
@@ -25,14 +24,6 @@ origin = \"127.0.0.1:8081\"
 
 const ASK: &[u8] = b"GET /a HTTP/1.1\r\nHost: h\r\n\r\n";
 
-const ANSWER: &[u8] = b"HTTP/1.1 200 OK\r
-Date: Thu, 01 Jan 1970 00:01:41 GMT\r
-Cache-Control: max-age=60\r
-ETag: \"v1\"\r
-Content-Length: 2\r
-\r
-hi";
-
 const FORWARDED: &[u8] = b"forward 1 127.0.0.1:8081 62
 GET /a HTTP/1.1\r
 Host: h\r
@@ -40,30 +31,6 @@ Via: 1.1 edge\r
 Connection: close\r
 \r
 
-";
-
-const MISS: &[u8] = b"drop 1
-client 1 161
-HTTP/1.1 200 \r
-Date: Thu, 01 Jan 1970 00:01:41 GMT\r
-Cache-Control: max-age=60\r
-ETag: \"v1\"\r
-Cache-Status: edge;fwd=uri-miss;ttl=59;stored\r
-Content-Length: 2\r
-\r
-hi
-";
-
-const HIT: &[u8] = b"client 2 154
-HTTP/1.1 200 \r
-Date: Thu, 01 Jan 1970 00:01:41 GMT\r
-Cache-Control: max-age=60\r
-ETag: \"v1\"\r
-Age: 30\r
-Cache-Status: edge;hit;ttl=30\r
-Content-Length: 2\r
-\r
-hi
 ";
 
 fn engine(alloc: Global, first_link: u64) -> Result<Engine<ListShelf>, Fail> {
@@ -128,96 +95,18 @@ fn rests(rt: &impl Abort, alloc: Global, engine: &mut Engine<ListShelf>, now: u6
     assert!(rt; matches!(work(alloc, engine, now), Ok(None)));
 }
 
+/// A refused happening and an act that is done leave the engine so that the next act is the one that is due.
 #[test]
-fn first_run(rt: HostRuntime) -> Result<(), Fail> {
+fn acts_are_done_in_turn(rt: HostRuntime) -> Result<(), Fail> {
     let mut engine = engine(rt.alloc(), 1)?;
     rests(&rt, rt.alloc(), &mut engine, 100);
     takes(&rt, rt.alloc(), &mut engine, Happening::Accept(1));
     takes(&rt, rt.alloc(), &mut engine, Happening::Client(1, ASK));
-    does(&rt, rt.alloc(), &mut engine, 100, FORWARDED);
-    takes(&rt, rt.alloc(), &mut engine, Happening::Link(1, ANSWER));
-    does(&rt, rt.alloc(), &mut engine, 101, MISS);
-    takes(&rt, rt.alloc(), &mut engine, Happening::Accept(2));
-    takes(&rt, rt.alloc(), &mut engine, Happening::Client(2, ASK));
-    does(&rt, rt.alloc(), &mut engine, 130, HIT);
-    takes(&rt, rt.alloc(), &mut engine, Happening::End(1));
-    does(&rt, rt.alloc(), &mut engine, 130, b"close 1\n");
-    Ok(())
-}
-
-#[test]
-fn gone_client_abandons(rt: HostRuntime) -> Result<(), Fail> {
-    let mut engine = engine(rt.alloc(), 1)?;
-    takes(&rt, rt.alloc(), &mut engine, Happening::Accept(1));
-    takes(&rt, rt.alloc(), &mut engine, Happening::Client(1, ASK));
+    let wrong = EngineFault::WrongNumber;
+    refuses(&rt, rt.alloc(), &mut engine, Happening::Shut(1), wrong);
     does(&rt, rt.alloc(), &mut engine, 100, FORWARDED);
     takes(&rt, rt.alloc(), &mut engine, Happening::Gone(1));
     does(&rt, rt.alloc(), &mut engine, 100, b"drop 1\n");
-    takes(&rt, rt.alloc(), &mut engine, Happening::Link(1, ANSWER));
-    rests(&rt, rt.alloc(), &mut engine, 101);
-    Ok(())
-}
-
-#[test]
-fn a_failed_link_is_a_bad_gateway(rt: HostRuntime) -> Result<(), Fail> {
-    let mut engine = engine(rt.alloc(), 1)?;
-    takes(&rt, rt.alloc(), &mut engine, Happening::Accept(1));
-    takes(&rt, rt.alloc(), &mut engine, Happening::Client(1, ASK));
-    does(&rt, rt.alloc(), &mut engine, 100, FORWARDED);
-    takes(
-        &rt,
-        rt.alloc(),
-        &mut engine,
-        Happening::Fail(1, FailKind::Refused),
-    );
-    does(
-        &rt,
-        rt.alloc(),
-        &mut engine,
-        101,
-        b"drop 1
-client 1 165
-HTTP/1.1 502 \r
-Date: Thu, 01 Jan 1970 00:01:41 GMT\r
-Content-Type: text/plain\r
-Refusal: origin refused;fwd=uri-miss\r
-Content-Length: 27\r
-\r
-origin refused;fwd=uri-miss
-",
-    );
-    Ok(())
-}
-
-#[test]
-fn no_request_is_refused_and_closed(rt: HostRuntime) -> Result<(), Fail> {
-    let mut engine = engine(rt.alloc(), 1)?;
-    takes(&rt, rt.alloc(), &mut engine, Happening::Accept(1));
-    takes(
-        &rt,
-        rt.alloc(),
-        &mut engine,
-        Happening::Client(1, b"GET\r\n\r\n"),
-    );
-    does(
-        &rt,
-        rt.alloc(),
-        &mut engine,
-        101,
-        b"client 1 156
-HTTP/1.1 400 \r
-Date: Thu, 01 Jan 1970 00:01:41 GMT\r
-Content-Type: text/plain\r
-Refusal: refused: head\r
-Content-Length: 13\r
-Connection: close\r
-\r
-refused: head
-close 1
-",
-    );
-    takes(&rt, rt.alloc(), &mut engine, Happening::Client(1, ASK));
-    rests(&rt, rt.alloc(), &mut engine, 101);
     Ok(())
 }
 

@@ -1,4 +1,4 @@
-//! Replays whose every byte is told.
+//! The first run, as a script and its effects.
 
 /// The first run: a request goes forward, its answer is stored, and the next request is answered by it.
 pub(super) const FIRST_RUN: &str = "config 165
@@ -66,20 +66,4 @@ Cache-Status: edge;hit;ttl=30\r
 Content-Length: 2\r
 \r
 hi
-";
-
-/// A script of the table alone.
-pub(super) const TABLE: &str = "config 165
-version = 1
-name = \"edge\"
-capacity = 2
-max_body = 1000
-max_stored = 1000
-
-[[line]]
-host = \"*\"
-methods = [\"GET\", \"HEAD\", \"POST\"]
-path = \"/\"
-origin = \"127.0.0.1:8081\"
-
 ";

@@ -1,9 +1,8 @@
 //! Readers that give few bytes at a time, are interrupted or fail, and writers that take few, fail or take none.
 ghost use Rattle.std.specs.Prelude.{Some};
 
-use super::rows::{FIRST_EFFECTS, FIRST_RUN};
-use super::told;
-use proxy_server::replay;
+use super::first_run::{FIRST_EFFECTS, FIRST_RUN};
+use proxy_server::{ReplayFault, replay};
 use std::alloc::Global;
 use std::io;
 use std::io::{ErrorKind, Read, Write};
@@ -66,6 +65,16 @@ impl Write for Sink {
     }
 }
 
+/// How a replay ends, in a word.
+fn told(ended: &Result<(), ReplayFault>) -> &'static str {
+    match ended {
+        Ok(()) => "done",
+        Err(ReplayFault::Read) => "read",
+        Err(ReplayFault::Write) => "write",
+        Err(_) => "another fault",
+    }
+}
+
 fn read_from(alloc: Global, most: usize, calls: u64, kind: ErrorKind) -> (&'static str, Vec<u8>) {
     let mut source = Source {
         bytes: FIRST_RUN.as_bytes(),
@@ -75,7 +84,7 @@ fn read_from(alloc: Global, most: usize, calls: u64, kind: ErrorKind) -> (&'stat
     };
     let mut text = Vec::new(alloc);
     let result = replay(alloc, &mut source, &mut text);
-    (told(&result).0, text)
+    (told(&result), text)
 }
 
 fn written_to(alloc: Global, most: usize, calls: u64, kind: ErrorKind) -> (&'static str, Vec<u8>) {
@@ -87,7 +96,7 @@ fn written_to(alloc: Global, most: usize, calls: u64, kind: ErrorKind) -> (&'sta
         kind,
     };
     let result = replay(alloc, &mut script, &mut sink);
-    (told(&result).0, sink.text)
+    (told(&result), sink.text)
 }
 
 #[test]
@@ -184,6 +193,6 @@ impl Read for Endless {
 fn a_script_past_the_limit_is_no_longer_read(rt: HostRuntime) {
     let mut text = Vec::new(rt.alloc());
     let result = replay(rt.alloc(), &mut Endless { line: false }, &mut text);
-    assert!(rt; told(&result).0 == "read");
+    assert!(rt; told(&result) == "read");
     assert!(rt; text.is_empty());
 }

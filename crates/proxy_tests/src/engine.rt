@@ -1,4 +1,0 @@
-//! Tests, by what they follow.
-
-mod engines;
-mod watches;

@@ -1,0 +1,11 @@
+//! The core, the engine, scripts and replays, with ample memory: what clauses say can only be refused by memory is found here.
+
+mod cores;
+mod engines;
+mod first_run;
+mod held;
+mod replays;
+mod runs;
+mod scripts;
+mod streams;
+mod watches;

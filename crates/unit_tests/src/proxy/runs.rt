@@ -1,0 +1,119 @@
+//! Whole runs, and where they stop.
+
+use super::cores::{TABLE, request, response};
+use http::Method;
+use hx_allow::Config;
+use hx_status::FailKind;
+use hx_store::ListShelf;
+use proxy_core::{CoreFault, Event, Outcome, Run, run};
+use std::alloc::Global;
+use std::process::Abort;
+use std::test::Fail;
+
+fn arrives(
+    alloc: Global,
+    events: &mut Vec<Event>,
+    now: u64,
+    id: u64,
+    method: Method,
+    path: &str,
+) -> Result<(), Fail> {
+    let asked = request(alloc, method, path)?;
+    events.push(Event::Arrive(now, id, asked))?;
+    Ok(())
+}
+
+fn answers(alloc: Global, events: &mut Vec<Event>, now: u64, id: u64) -> Result<(), Fail> {
+    let given = response(alloc, 200, b"max-age=60", b"hi")?;
+    events.push(Event::Answer(now, id, given))?;
+    Ok(())
+}
+
+fn ran(alloc: Global, events: &[Event]) -> Result<Run, Fail> {
+    let config = Config::read(alloc, TABLE.as_bytes()).ok().ok_or("a table")?;
+    let shelf = ListShelf::new(alloc, config.capacity());
+    Ok(run(alloc, config, shelf, 1, events))
+}
+
+fn stops(rt: &impl Abort, ran: &Run, count: usize, fault: Option<CoreFault>) {
+    assert_eq!(rt; ran.outcomes.len(), count);
+    assert_eq!(rt; ran.stopped, fault);
+}
+
+fn goes_forward(rt: &impl Abort, ran: &Run, at: usize) {
+    assert!(rt; matches!(ran.outcomes.get(at), Some(Outcome::Forward(1, _))));
+}
+
+fn ends(rt: &impl Abort, ran: &Run, at: usize) {
+    assert!(rt; matches!(ran.outcomes.get(at), Some(Outcome::Ended)));
+}
+
+#[test]
+fn core_faults_id_taken(rt: HostRuntime) -> Result<(), Fail> {
+    let mut events = Vec::new(rt.alloc());
+    arrives(rt.alloc(), &mut events, 0, 7, Method::GET, "/a")?;
+    arrives(rt.alloc(), &mut events, 0, 7, Method::GET, "/a")?;
+    let ran = ran(rt.alloc(), &events)?;
+    stops(&rt, &ran, 1, Some(CoreFault::IdTaken));
+    goes_forward(&rt, &ran, 0);
+    Ok(())
+}
+
+#[test]
+fn core_faults_unknown_id(rt: HostRuntime) -> Result<(), Fail> {
+    let mut events = Vec::new(rt.alloc());
+    answers(rt.alloc(), &mut events, 0, 9)?;
+    let ran = ran(rt.alloc(), &events)?;
+    stops(&rt, &ran, 0, Some(CoreFault::UnknownId));
+    Ok(())
+}
+
+#[test]
+fn core_faults_moment_too_late(rt: HostRuntime) -> Result<(), Fail> {
+    let mut events = Vec::new(rt.alloc());
+    let late = 253_402_300_800;
+    arrives(rt.alloc(), &mut events, late, 1, Method::GET, "/a")?;
+    let ran = ran(rt.alloc(), &events)?;
+    stops(&rt, &ran, 0, Some(CoreFault::MomentTooLate));
+    Ok(())
+}
+
+#[test]
+fn core_faults_late_answer(rt: HostRuntime) -> Result<(), Fail> {
+    let mut events = Vec::new(rt.alloc());
+    arrives(rt.alloc(), &mut events, 0, 7, Method::GET, "/a")?;
+    events.push(Event::Abandon(7))?;
+    answers(rt.alloc(), &mut events, 0, 7)?;
+    let ran = ran(rt.alloc(), &events)?;
+    stops(&rt, &ran, 2, Some(CoreFault::UnknownId));
+    ends(&rt, &ran, 1);
+    Ok(())
+}
+
+/// What is stored by the second exchange is sent when the third fails, and a method that no line allows is denied.
+fn whole_run(alloc: Global) -> Result<Vec<Event>, Fail> {
+    let mut events = Vec::new(alloc);
+    arrives(alloc, &mut events, 20, 1, Method::GET, "/a")?;
+    arrives(alloc, &mut events, 20, 2, Method::GET, "/a")?;
+    answers(alloc, &mut events, 20, 1)?;
+    events.push(Event::Fail(30, 2, FailKind::Refused))?;
+    arrives(alloc, &mut events, 30, 3, Method::HEAD, "/a")?;
+    Ok(events)
+}
+
+fn used(ran: &Run, at: usize) -> Option<Option<u64>> {
+    match ran.outcomes.get(at) {
+        Some(Outcome::Reply(reply)) => Some(reply.used),
+        _ => None,
+    }
+}
+
+#[test]
+fn reuse_after_an_error(rt: HostRuntime) -> Result<(), Fail> {
+    let events = whole_run(rt.alloc())?;
+    let ran = ran(rt.alloc(), &events)?;
+    stops(&rt, &ran, 5, None);
+    assert_eq!(rt; used(&ran, 3), Some(Some(1)));
+    assert_eq!(rt; used(&ran, 4), Some(None));
+    Ok(())
+}
