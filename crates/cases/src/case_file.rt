@@ -68,7 +68,7 @@ pub fn stream_of(alloc: Global, front: &[Line<'_>], case: &Case<'_>) -> Result<V
 }
 
 /// What became of a file's cases.
-#[derive(Clone, Copy, Debug)]
+#[derive(Clone, Copy)]
 pub struct Tally {
     /// How many hold.
     pub hold: usize,
@@ -77,7 +77,7 @@ pub struct Tally {
 }
 
 /// A file as it is played.
-#[derive(Drop)]
+#[derive(Clone, Copy)]
 struct Player<'a> {
     name: &'a str,
     driver: Driver,

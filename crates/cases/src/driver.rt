@@ -6,7 +6,7 @@ use crate::{scripts, steps, streams};
 use std::alloc::Global;
 
 /// What a file plays.
-#[derive(Clone, Copy, Debug, PartialEq, Eq)]
+#[derive(Clone, Copy)]
 pub enum Driver {
     Requests,
     RequestParts,

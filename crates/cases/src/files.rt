@@ -8,7 +8,9 @@ use std::{env, fs, io};
 /// The names of the arguments behind the program's own.
 fn named<R: Env + AllocGlobal>(rt: &R) -> io::Result<Vec<String>> {
     let mut names = Vec::new(rt.alloc());
-    for name in env::args(rt)?.skip(1) {
+    let mut arguments = env::args(rt)?;
+    let _program = arguments.next();
+    for name in arguments {
         names.push(name)?;
     }
     Ok(names)

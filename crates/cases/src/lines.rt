@@ -7,7 +7,7 @@ use std::alloc::{AllocError, Global};
 const INDENT: &str = "    ";
 
 /// What is wrong with a case file, and in which line.
-#[derive(Clone, Copy, Debug, PartialEq, Eq)]
+#[derive(Clone, Copy)]
 pub enum Fault {
     /// The number of a line, from 1 on, and what is wrong with it.
     At(usize, &'static str),
@@ -22,7 +22,7 @@ impl From<AllocError> for Fault {
 }
 
 /// A line of a case file: its number, from 1 on, and its text without the indent.
-#[derive(Clone, Copy, Debug)]
+#[derive(Clone, Copy)]
 pub struct Line<'a> {
     pub number: usize,
     pub text: &'a str,

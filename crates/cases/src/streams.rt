@@ -19,7 +19,7 @@ const MOST_CONTENT: u64 = 1000;
 const LONG_STREAM: usize = 2000;
 
 /// How a play goes on.
-#[derive(Clone, Copy, Debug, PartialEq, Eq)]
+#[derive(Clone, Copy, PartialEq, Eq)]
 enum Turn {
     /// A further answer may be due.
     Ask,
