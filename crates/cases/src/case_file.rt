@@ -148,6 +148,20 @@ fn driver_of(block: Option<&Block<'_>>) -> Result<Driver, Fault> {
     }
 }
 
+/// What the cases of a group have in common: the lines below its name.
+fn front_of<'a, 'b>(blocks: &'b [Block<'a>], group: Option<usize>) -> &'b [Line<'a>] {
+    match group.and_then(|place| blocks.get(place)) {
+        Some(block) => block.body.as_slice(),
+        None => &[],
+    }
+}
+
+fn name_of<'a>(blocks: &[Block<'a>], group: Option<usize>) -> Option<Line<'a>> {
+    group
+        .and_then(|place| blocks.get(place))
+        .map(|block| block.head)
+}
+
 /// Plays all cases of a text, the file of this name.
 pub fn play_text(
     alloc: Global,
@@ -156,6 +170,7 @@ pub fn play_text(
     report: &mut String,
 ) -> Result<Tally, Fault> {
     let blocks = blocks_of(alloc, text)?;
+    let blocks = blocks.as_slice();
     let mut player = Player {
         name,
         driver: driver_of(blocks.first())?,
@@ -163,17 +178,15 @@ pub fn play_text(
         in_group: 0,
     };
     let mut group = None;
-    let mut front: &[Line<'_>] = &[];
-    for block in blocks.iter().skip(1) {
+    for (place, block) in blocks.iter().enumerate().skip(1) {
         if block.head.text.starts_with('[') {
-            player.end_group(group)?;
-            group = Some(block.head);
-            front = block.body.as_slice();
+            player.end_group(name_of(blocks, group))?;
+            group = Some(place);
         } else {
-            player.play(alloc, report, front, block)?;
+            player.play(alloc, report, front_of(blocks, group), block)?;
         }
     }
-    player.end_group(group)?;
+    player.end_group(name_of(blocks, group))?;
     if player.tally.hold == 0 && player.tally.differ == 0 {
         return Err(Fault::At(1, "a file without cases"));
     }

@@ -38,16 +38,8 @@ struct Happens<'a> {
     what: What<'a>,
 }
 
-/// A step as it is written.
-#[derive(Clone, Copy)]
-struct Step<'a, 'b> {
-    head: Line<'a>,
-    /// The field lines, and the content.
-    lines: &'b [Line<'a>],
-    gives: Line<'a>,
-    /// The message that is given.
-    message: &'b [Line<'a>],
-}
+/// A step as it is written: what happens, field lines and content, what it gives, and the message.
+type Step<'a, 'b> = &'b [Line<'a>];
 
 fn what_of(words: &str) -> Option<What<'_>> {
     if let Some(request) = words.strip_prefix("asks ") {
@@ -70,31 +62,35 @@ fn happens_of(text: &str) -> Option<Happens<'_>> {
     })
 }
 
-fn split_before<'a, 'b>(lines: &'b [Line<'a>], word: &str) -> (&'b [Line<'a>], &'b [Line<'a>]) {
-    let place = lines.iter().position(|line| line.text.starts_with(word));
-    match lines.split_at_checked(place.unwrap_or(lines.len())) {
-        Some(parts) => parts,
-        None => (lines, &[]),
+/// Where the first line from a place on stands that begins with this word, or else the end.
+fn place_of(lines: &[Line<'_>], from: usize, word: &str) -> usize {
+    for (place, line) in lines.iter().enumerate() {
+        if place >= from && line.text.starts_with(word) {
+            return place;
+        }
+    }
+    lines.len()
+}
+
+/// The lines between two places.
+fn between<'a, 'b>(lines: &'b [Line<'a>], from: usize, to: usize) -> &'b [Line<'a>] {
+    lines.get(from..to).unwrap_or(&[])
+}
+
+/// The first line of a step.
+fn head_of<'a>(step: Step<'a, '_>) -> Line<'a> {
+    match step.first() {
+        Some(line) => *line,
+        None => Line {
+            number: 0,
+            text: "",
+        },
     }
 }
 
-/// The first step of some lines, and the lines behind it.
-fn step_of<'a, 'b>(lines: &'b [Line<'a>]) -> Result<Option<(Step<'a, 'b>, &'b [Line<'a>])>, Fault> {
-    let Some((head, rest)) = lines.split_first() else {
-        return Ok(None);
-    };
-    let (lines, rest) = split_before(rest, "gives ");
-    let Some((gives, rest)) = rest.split_first() else {
-        return Err(head.fault("a step that gives nothing"));
-    };
-    let (message, rest) = split_before(rest, "at ");
-    let step = Step {
-        head: *head,
-        lines,
-        gives: *gives,
-        message,
-    };
-    Ok(Some((step, rest)))
+/// The lines between what happens and what it gives.
+fn lines_of<'a, 'b>(step: Step<'a, 'b>) -> &'b [Line<'a>] {
+    between(step, 1, place_of(step, 1, "gives "))
 }
 
 /// The field lines of a step, and the text of its content.
@@ -132,9 +128,9 @@ fn fields_asked(alloc: Global, lines: &[Line<'_>]) -> Result<Fields, Fault> {
 
 fn asked_of(alloc: Global, step: Step<'_, '_>, method: &str, path: &str) -> Result<Asked, Fault> {
     let Ok(method) = Method::from_bytes(alloc, method.as_bytes()) else {
-        return Err(step.head.fault("no method"));
+        return Err(head_of(step).fault("no method"));
     };
-    let (lines, content) = parts_of(step.lines);
+    let (lines, content) = parts_of(lines_of(step));
     let content = match content {
         Some(line) => Some(content_of(alloc, Some(line))?),
         None => None,
@@ -148,12 +144,12 @@ fn asked_of(alloc: Global, step: Step<'_, '_>, method: &str, path: &str) -> Resu
     };
     match ask(alloc, &request) {
         Ok(asked) => Ok(asked),
-        Err(_) => Err(step.head.fault("no request that can be asked")),
+        Err(_) => Err(head_of(step).fault("no request that can be asked")),
     }
 }
 
 fn response_of(alloc: Global, step: Step<'_, '_>, status: u16) -> Result<Response, Fault> {
-    let (lines, content) = parts_of(step.lines);
+    let (lines, content) = parts_of(lines_of(step));
     Ok(Response {
         status,
         fields: fields_of(alloc, lines)?,
@@ -186,8 +182,8 @@ fn outcome_of(
     core: &mut Core<ListShelf>,
     step: Step<'_, '_>,
 ) -> Result<Result<Outcome, CoreFault>, Fault> {
-    let Some(happens) = happens_of(step.head.text) else {
-        return Err(step.head.fault("not `at MOMENT, ID` with what happens"));
+    let Some(happens) = happens_of(head_of(step).text) else {
+        return Err(head_of(step).fault("not `at MOMENT, ID` with what happens"));
     };
     match happens.what {
         What::Asks(method, path) => {
@@ -198,7 +194,9 @@ fn outcome_of(
             let response = response_of(alloc, step, status)?;
             Ok(answer(alloc, core, happens, &response))
         }
-        What::Fails(_) if !step.lines.is_empty() => Err(step.head.fault("a failure has no lines")),
+        What::Fails(_) if !lines_of(step).is_empty() => Err(head_of(step).fault(
+            "a failure has no lines",
+        )),
         What::Fails(kind) => Ok(core.fail(alloc, happens.now, happens.id, kind)),
     }
 }
@@ -228,17 +226,32 @@ fn difference(
     gives: &str,
     bytes: &[u8],
 ) -> Result<Option<String>, Fault> {
-    let mut wanted = Vec::new(alloc);
-    for line in step.message {
-        push_spelled(&mut wanted, *line, line.text)?;
-    }
-    if gives == step.gives.text && bytes == wanted.as_slice() {
+    let place = place_of(step, 1, "gives ");
+    let Some(wanted) = step.get(place) else {
+        return Err(head_of(step).fault("a step that gives nothing"));
+    };
+    let message = message_of(alloc, between(step, place.saturating_add(1), step.len()))?;
+    if gives == wanted.text && bytes == message.as_slice() {
         return Ok(None);
     }
+    Ok(Some(told(alloc, head_of(step).number, gives, bytes)?))
+}
+
+/// The bytes that a message's lines spell.
+fn message_of(alloc: Global, lines: &[Line<'_>]) -> Result<Vec<u8>, Fault> {
+    let mut bytes = Vec::new(alloc);
+    for line in lines {
+        push_spelled(&mut bytes, *line, line.text)?;
+    }
+    Ok(bytes)
+}
+
+/// What a step in this line gave.
+fn told(alloc: Global, line: usize, gives: &str, bytes: &[u8]) -> Result<String, AllocError> {
     let mut text = String::new(alloc);
-    write!(text, "at line {}: {gives} ", step.head.number)?;
+    write!(text, "at line {line}: {gives} ")?;
     push_shown(&mut text, bytes)?;
-    Ok(Some(text))
+    Ok(text)
 }
 
 /// Does a step, and tells what differs from what it is to give.
@@ -282,17 +295,18 @@ fn core_of(alloc: Global, front: &[Line<'_>], case: &Case<'_>) -> Result<Core<Li
 /// Does the steps of a case, and gives their number or the first that gives something else.
 pub fn steps(alloc: Global, front: &[Line<'_>], case: &Case<'_>) -> Result<String, Fault> {
     let mut core = core_of(alloc, front, case)?;
-    let mut rest = case.input.as_slice();
+    let lines = case.input.as_slice();
+    let mut from = 0usize;
     let mut count = 0usize;
-    for _ in 0..case.input.len() {
-        let Some((step, behind)) = step_of(rest)? else {
-            break;
-        };
-        if let Some(text) = done(alloc, &mut core, step)? {
+    for _ in 0..lines.len() {
+        let end = place_of(lines, from.saturating_add(1), "at ");
+        if from < end
+            && let Some(text) = done(alloc, &mut core, between(lines, from, end))?
+        {
             return Ok(text);
         }
-        count = count.saturating_add(1);
-        rest = behind;
+        count = count.saturating_add(usize::from(from < end));
+        from = end;
     }
     Ok(format!(in alloc; "{count} steps")?)
 }
