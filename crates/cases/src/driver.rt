@@ -2,7 +2,7 @@
 
 use crate::case_file::Case;
 use crate::lines::{Fault, Line};
-use crate::streams;
+use crate::{cache_status, passing, reuse, storing, streams, tables, targets, validation, values};
 use std::alloc::Global;
 
 /// What a file plays.
@@ -12,6 +12,25 @@ pub enum Driver {
     RequestParts,
     ResponsesToGet,
     ResponsesToHead,
+    Targets,
+    TargetFaults,
+    Paths,
+    Values,
+    Tables,
+    ChangedTables,
+    Verdicts,
+    Storing,
+    Reuse,
+    OnError,
+    Validating,
+    Freshening,
+    ClientConditions,
+    NotModified,
+    Stripping,
+    PassedResponses,
+    Forwarding,
+    Members,
+    Refusals,
 }
 
 impl Driver {
@@ -22,6 +41,25 @@ impl Driver {
             "parts of requests" => Some(Driver::RequestParts),
             "responses to GET" => Some(Driver::ResponsesToGet),
             "responses to HEAD" => Some(Driver::ResponsesToHead),
+            "targets" => Some(Driver::Targets),
+            "faults of targets" => Some(Driver::TargetFaults),
+            "paths" => Some(Driver::Paths),
+            "values" => Some(Driver::Values),
+            "tables" => Some(Driver::Tables),
+            "changed tables" => Some(Driver::ChangedTables),
+            "verdicts" => Some(Driver::Verdicts),
+            "storing" => Some(Driver::Storing),
+            "reuse" => Some(Driver::Reuse),
+            "reuse on error" => Some(Driver::OnError),
+            "answers to validation" => Some(Driver::Validating),
+            "freshening" => Some(Driver::Freshening),
+            "client conditions" => Some(Driver::ClientConditions),
+            "304s to clients" => Some(Driver::NotModified),
+            "fields of a connection" => Some(Driver::Stripping),
+            "responses passed on" => Some(Driver::PassedResponses),
+            "requests passed on" => Some(Driver::Forwarding),
+            "members of Cache-Status" => Some(Driver::Members),
+            "refusals" => Some(Driver::Refusals),
             _ => None,
         }
     }
@@ -39,5 +77,24 @@ pub fn answer(
         Driver::RequestParts => streams::request_parts(alloc, front, case),
         Driver::ResponsesToGet => streams::responses(alloc, false, front, case),
         Driver::ResponsesToHead => streams::responses(alloc, true, front, case),
+        Driver::Targets => targets::targets(alloc, front, case),
+        Driver::TargetFaults => targets::target_faults(alloc, front, case),
+        Driver::Paths => targets::paths(alloc, front, case),
+        Driver::Values => values::values(alloc, front, case),
+        Driver::Tables => tables::tables(alloc, front, case),
+        Driver::ChangedTables => tables::changed_tables(alloc, front, case),
+        Driver::Verdicts => tables::verdicts(alloc, front, case),
+        Driver::Storing => storing::storing(alloc, front, case),
+        Driver::Reuse => reuse::reuse(alloc, front, case),
+        Driver::OnError => reuse::on_error(alloc, front, case),
+        Driver::Validating => validation::validating(alloc, front, case),
+        Driver::Freshening => validation::freshening(alloc, front, case),
+        Driver::ClientConditions => validation::client_conditions(alloc, front, case),
+        Driver::NotModified => validation::not_modified_lines(alloc, front, case),
+        Driver::Stripping => passing::stripping(alloc, front, case),
+        Driver::PassedResponses => passing::responses(alloc, front, case),
+        Driver::Forwarding => passing::forwarding(alloc, front, case),
+        Driver::Members => cache_status::members(alloc, front, case),
+        Driver::Refusals => cache_status::refusals(alloc, front, case),
     }
 }
