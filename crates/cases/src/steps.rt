@@ -1,19 +1,19 @@
 //! Steps of the core, one after another, each with what it must give.
 //!
 //! The group's front is the operator's table. A case is a scenario: `at MOMENT, ID asks METHOD PATH`, `at MOMENT, ID is answered
-//! STATUS` or `at MOMENT, ID fails KIND`, with field lines below it and `with content TEXT` behind these; then `gives forward`
-//! or `gives reply` with what is stored, used and removed, and the message below it. The answer is the number of steps.
+//! STATUS` or `at MOMENT, ID fails KIND`, the first two perhaps `with content TEXT` and with field lines below; then `gives
+//! forward` or `gives reply` with what is stored, used and removed, and the message below. The answer is the number of steps.
 
 use crate::case_file::Case;
-use crate::field_lines::{fields_of, push_fields};
-use crate::lines::{Fault, Line, push_spelled};
+use crate::lines::{Fault, Line, push_spelled, spelled};
+use crate::parts::fields_of;
+use crate::requests::asked_of;
 use crate::words::fail_kind;
 use case_text::push_shown;
-use http::Method;
 use hx_allow::Config;
-use hx_fields::{Bytes, Fields};
-use hx_framing::{Request, Response};
-use hx_hop::{Asked, ask};
+use hx_fields::Bytes;
+use hx_framing::Response;
+use hx_hop::Asked;
 use hx_status::FailKind;
 use hx_store::ListShelf;
 use proxy_core::{Core, CoreFault, Outcome, Reply};
@@ -23,9 +23,9 @@ use std::alloc::{AllocError, Global};
 #[derive(Clone, Copy)]
 enum What<'a> {
     /// A request: its method and its path.
-    Asks(&'a str, &'a str),
-    /// The origin's answer: its status.
-    Answered(u16),
+    Asks(&'a str),
+    /// The origin's answer: its status, and its content.
+    Answered(u16, &'a str),
     /// The origin fails.
     Fails(FailKind),
 }
@@ -41,13 +41,18 @@ struct Happens<'a> {
 /// A step as it is written: what happens, field lines and content, what it gives, and the message.
 type Step<'a, 'b> = &'b [Line<'a>];
 
+/// A status, and the content behind it.
+fn answered_of(words: &str) -> Option<What<'_>> {
+    let (status, content) = words.split_once(" with content ").unwrap_or((words, ""));
+    Some(What::Answered(status.parse::<u16>().ok()?, content))
+}
+
 fn what_of(words: &str) -> Option<What<'_>> {
     if let Some(request) = words.strip_prefix("asks ") {
-        let (method, path) = request.split_once(' ')?;
-        return Some(What::Asks(method, path));
+        return Some(What::Asks(request));
     }
-    if let Some(status) = words.strip_prefix("is answered ") {
-        return Some(What::Answered(status.parse::<u16>().ok()?));
+    if let Some(answer) = words.strip_prefix("is answered ") {
+        return answered_of(answer);
     }
     Some(What::Fails(fail_kind(words.strip_prefix("fails ")?)?))
 }
@@ -93,67 +98,21 @@ fn lines_of<'a, 'b>(step: Step<'a, 'b>) -> &'b [Line<'a>] {
     between(step, 1, place_of(step, 1, "gives "))
 }
 
-/// The field lines of a step, and the text of its content.
-fn parts_of<'a, 'b>(lines: &'b [Line<'a>]) -> (&'b [Line<'a>], Option<Line<'a>>) {
-    match lines.split_last() {
-        Some((last, front)) => match last.text.strip_prefix("with content ") {
-            Some(text) => (
-                front,
-                Some(Line {
-                    number: last.number,
-                    text,
-                }),
-            ),
-            None => (lines, None),
-        },
-        None => (lines, None),
-    }
+fn asked_by(alloc: Global, step: Step<'_, '_>, request: &str) -> Result<Asked, Fault> {
+    let fields = fields_of(alloc, lines_of(step))?;
+    asked_of(alloc, head_of(step), request, &fields)
 }
 
-fn content_of(alloc: Global, content: Option<Line<'_>>) -> Result<Bytes, Fault> {
-    let mut bytes = Vec::new(alloc);
-    if let Some(line) = content {
-        push_spelled(&mut bytes, line, line.text)?;
-    }
-    Ok(Bytes::from_vec(bytes))
-}
-
-/// The lines of a request behind its Host line.
-fn fields_asked(alloc: Global, lines: &[Line<'_>]) -> Result<Fields, Fault> {
-    let mut fields = Fields::new(alloc);
-    fields.push(b"Host", b"h")?;
-    push_fields(alloc, &mut fields, lines)?;
-    Ok(fields)
-}
-
-fn asked_of(alloc: Global, step: Step<'_, '_>, method: &str, path: &str) -> Result<Asked, Fault> {
-    let Ok(method) = Method::from_bytes(alloc, method.as_bytes()) else {
-        return Err(head_of(step).fault("no method"));
-    };
-    let (lines, content) = parts_of(lines_of(step));
-    let content = match content {
-        Some(line) => Some(content_of(alloc, Some(line))?),
-        None => None,
-    };
-    let request = Request {
-        method,
-        target: Bytes::copy_of(alloc, path.as_bytes())?,
-        minor: 1,
-        fields: fields_asked(alloc, lines)?,
-        content,
-    };
-    match ask(alloc, &request) {
-        Ok(asked) => Ok(asked),
-        Err(_) => Err(head_of(step).fault("no request that can be asked")),
-    }
-}
-
-fn response_of(alloc: Global, step: Step<'_, '_>, status: u16) -> Result<Response, Fault> {
-    let (lines, content) = parts_of(lines_of(step));
+fn response_of(
+    alloc: Global,
+    step: Step<'_, '_>,
+    status: u16,
+    content: &str,
+) -> Result<Response, Fault> {
     Ok(Response {
         status,
-        fields: fields_of(alloc, lines)?,
-        content: content_of(alloc, content)?,
+        fields: fields_of(alloc, lines_of(step))?,
+        content: Bytes::from_vec(spelled(alloc, head_of(step), content)?),
         announced: None,
     })
 }
@@ -186,12 +145,12 @@ fn outcome_of(
         return Err(head_of(step).fault("not `at MOMENT, ID` with what happens"));
     };
     match happens.what {
-        What::Asks(method, path) => {
-            let asked = asked_of(alloc, step, method, path)?;
+        What::Asks(request) => {
+            let asked = asked_by(alloc, step, request)?;
             Ok(arrive(alloc, core, happens, &asked))
         }
-        What::Answered(status) => {
-            let response = response_of(alloc, step, status)?;
+        What::Answered(status, content) => {
+            let response = response_of(alloc, step, status, content)?;
             Ok(answer(alloc, core, happens, &response))
         }
         What::Fails(_) if !lines_of(step).is_empty() => Err(head_of(step).fault(
