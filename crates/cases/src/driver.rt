@@ -2,7 +2,10 @@
 
 use crate::case_file::Case;
 use crate::lines::{Fault, Line};
-use crate::{scripts, steps, streams};
+use crate::{
+    cache_status, passing, reuse, scripts, steps, storing, streams, tables, targets, validation,
+    values,
+};
 use std::alloc::Global;
 
 /// What a file plays.
@@ -16,6 +19,25 @@ pub enum Driver {
     FirstItems,
     LaterItems,
     Replays,
+    Targets,
+    TargetFaults,
+    Paths,
+    Values,
+    Tables,
+    ChangedTables,
+    Verdicts,
+    Storing,
+    Reuse,
+    OnError,
+    Validating,
+    Freshening,
+    ClientConditions,
+    NotModified,
+    Stripping,
+    PassedResponses,
+    Forwarding,
+    Members,
+    Refusals,
 }
 
 impl Driver {
@@ -30,6 +52,25 @@ impl Driver {
             "first items of scripts" => Some(Driver::FirstItems),
             "later items of scripts" => Some(Driver::LaterItems),
             "replays" => Some(Driver::Replays),
+            "targets" => Some(Driver::Targets),
+            "faults of targets" => Some(Driver::TargetFaults),
+            "paths" => Some(Driver::Paths),
+            "values" => Some(Driver::Values),
+            "tables" => Some(Driver::Tables),
+            "changed tables" => Some(Driver::ChangedTables),
+            "verdicts" => Some(Driver::Verdicts),
+            "storing" => Some(Driver::Storing),
+            "reuse" => Some(Driver::Reuse),
+            "reuse on error" => Some(Driver::OnError),
+            "answers to validation" => Some(Driver::Validating),
+            "freshening" => Some(Driver::Freshening),
+            "client conditions" => Some(Driver::ClientConditions),
+            "304s to clients" => Some(Driver::NotModified),
+            "fields of a connection" => Some(Driver::Stripping),
+            "responses passed on" => Some(Driver::PassedResponses),
+            "requests passed on" => Some(Driver::Forwarding),
+            "members of Cache-Status" => Some(Driver::Members),
+            "refusals" => Some(Driver::Refusals),
             _ => None,
         }
     }
@@ -51,5 +92,24 @@ pub fn answer(
         Driver::FirstItems => scripts::items(alloc, true, case),
         Driver::LaterItems => scripts::items(alloc, false, case),
         Driver::Replays => scripts::replays(alloc, front, case),
+        Driver::Targets => targets::targets(alloc, front, case),
+        Driver::TargetFaults => targets::target_faults(alloc, front, case),
+        Driver::Paths => targets::paths(alloc, front, case),
+        Driver::Values => values::values(alloc, front, case),
+        Driver::Tables => tables::tables(alloc, front, case),
+        Driver::ChangedTables => tables::changed_tables(alloc, front, case),
+        Driver::Verdicts => tables::verdicts(alloc, front, case),
+        Driver::Storing => storing::storing(alloc, front, case),
+        Driver::Reuse => reuse::reuse(alloc, front, case),
+        Driver::OnError => reuse::on_error(alloc, front, case),
+        Driver::Validating => validation::validating(alloc, front, case),
+        Driver::Freshening => validation::freshening(alloc, front, case),
+        Driver::ClientConditions => validation::client_conditions(alloc, front, case),
+        Driver::NotModified => validation::not_modified_lines(alloc, front, case),
+        Driver::Stripping => passing::stripping(alloc, front, case),
+        Driver::PassedResponses => passing::responses(alloc, front, case),
+        Driver::Forwarding => passing::forwarding(alloc, front, case),
+        Driver::Members => cache_status::members(alloc, front, case),
+        Driver::Refusals => cache_status::refusals(alloc, front, case),
     }
 }

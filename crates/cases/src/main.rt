@@ -4,14 +4,24 @@
 //! the program runs. A line a file tells how many cases hold, and a line each what doesn't.
 #![tactic(auto)]
 
+mod cache_status;
 mod case_file;
 mod driver;
 mod field_lines;
 mod files;
 mod lines;
+mod parts;
+mod passing;
+mod requests;
+mod reuse;
 mod scripts;
 mod steps;
+mod storing;
 mod streams;
+mod tables;
+mod targets;
+mod validation;
+mod values;
 mod words;
 
 use std::process::ExitCode;

@@ -3,6 +3,7 @@
 use case_text::push_shown;
 use hx_framing::FrameFault;
 use hx_status::FailKind;
+use hx_target::TargetFault;
 use std::alloc::AllocError;
 
 /// The name of a fault of a stream.
@@ -18,6 +19,21 @@ pub fn frame_word(fault: FrameFault) -> &'static str {
         FrameFault::Expect => "expect",
         FrameFault::Truncated => "truncated",
         FrameFault::Status => "status",
+    }
+}
+
+/// The name of a fault of a target.
+pub fn target_word(fault: TargetFault) -> &'static str {
+    match fault {
+        TargetFault::Form => "form",
+        TargetFault::Scheme => "scheme",
+        TargetFault::Host => "host",
+        TargetFault::Port => "port",
+        TargetFault::Userinfo => "userinfo",
+        TargetFault::Escape => "escape",
+        TargetFault::DotSegment => "dot-segment",
+        TargetFault::TooLong => "too-long",
+        TargetFault::OutOfMemory => "out-of-memory",
     }
 }
 

@@ -1,0 +1,200 @@
+//! What the proxy says of an answer: its member of Cache-Status, and its own answers.
+//!
+//! A case is its input: `hit; ttl 30`, `forward UriMiss; stored`, `origin: refused, NoMaxStale, TooStale`.
+
+use crate::case_file::Case;
+use crate::lines::{Fault, Line};
+use crate::parts::only_line;
+use crate::words::{fail_kind, frame_word, target_word};
+use case_text::push_shown;
+use hx_framing::FrameFault;
+use hx_reuse::{ErrorRule, ReuseRule};
+use hx_status::{Cause, Detail, How, Status, member, refusal};
+use hx_target::TargetFault;
+use std::alloc::Global;
+
+static REUSE_RULES: [(&str, ReuseRule); 17] = [
+    ("Method", ReuseRule::Method),
+    ("Content", ReuseRule::Content),
+    ("Range", ReuseRule::Range),
+    ("Precondition", ReuseRule::Precondition),
+    ("UriMiss", ReuseRule::UriMiss),
+    ("VaryMiss", ReuseRule::VaryMiss),
+    ("ResponseNoCache", ReuseRule::ResponseNoCache),
+    ("RequestNoCache", ReuseRule::RequestNoCache),
+    ("AboveMaxAge", ReuseRule::AboveMaxAge),
+    ("BelowMinFresh", ReuseRule::BelowMinFresh),
+    ("MustRevalidate", ReuseRule::MustRevalidate),
+    ("NoLifetime", ReuseRule::NoLifetime),
+    ("StaleNoCache", ReuseRule::StaleNoCache),
+    ("NoMaxStale", ReuseRule::NoMaxStale),
+    ("PastMaxStale", ReuseRule::PastMaxStale),
+    ("StaleMaxAge", ReuseRule::StaleMaxAge),
+    ("StaleMinFresh", ReuseRule::StaleMinFresh),
+];
+
+static ERROR_RULES: [(&str, ErrorRule); 6] = [
+    ("NoCache", ErrorRule::NoCache),
+    ("MustRevalidate", ErrorRule::MustRevalidate),
+    ("NoLifetime", ErrorRule::NoLifetime),
+    ("RequestNoCache", ErrorRule::RequestNoCache),
+    ("NoDirective", ErrorRule::NoDirective),
+    ("TooStale", ErrorRule::TooStale),
+];
+
+static FRAME_FAULTS: [FrameFault; 8] = [
+    FrameFault::Head,
+    FrameFault::Version,
+    FrameFault::BothLengths,
+    FrameFault::Length,
+    FrameFault::Coding,
+    FrameFault::Chunk,
+    FrameFault::TooLarge,
+    FrameFault::Expect,
+];
+
+static TARGET_FAULTS: [TargetFault; 8] = [
+    TargetFault::Form,
+    TargetFault::Scheme,
+    TargetFault::Host,
+    TargetFault::Port,
+    TargetFault::Userinfo,
+    TargetFault::Escape,
+    TargetFault::DotSegment,
+    TargetFault::TooLong,
+];
+
+fn reuse_rule(name: &str) -> Option<ReuseRule> {
+    for (known, rule) in &REUSE_RULES {
+        if *known == name {
+            return Some(*rule);
+        }
+    }
+    None
+}
+
+fn error_rule(name: &str) -> Option<ErrorRule> {
+    for (known, rule) in &ERROR_RULES {
+        if *known == name {
+            return Some(*rule);
+        }
+    }
+    None
+}
+
+fn frame_fault(name: &str) -> Option<FrameFault> {
+    for fault in &FRAME_FAULTS {
+        if frame_word(*fault) == name {
+            return Some(*fault);
+        }
+    }
+    None
+}
+
+fn target_fault(name: &str) -> Option<TargetFault> {
+    for fault in &TARGET_FAULTS {
+        if target_word(*fault) == name {
+            return Some(*fault);
+        }
+    }
+    None
+}
+
+fn detail_of(name: &str) -> Option<Detail> {
+    match name {
+        "StaleIfError" => Some(Detail::StaleIfError),
+        "ReuseAfterError" => Some(Detail::ReuseAfterError),
+        "ReuseAfter304" => Some(Detail::ReuseAfter304),
+        _ => None,
+    }
+}
+
+fn how_of(text: &str) -> Option<How> {
+    match text.strip_prefix("forward ") {
+        Some(rule) => Some(How::Fwd(reuse_rule(rule)?)),
+        None if text == "hit" => Some(How::Hit),
+        None => None,
+    }
+}
+
+/// A value with its word, or a word alone.
+fn with_word(mut status: Status, text: &str) -> Option<Status> {
+    match text.split_once(' ') {
+        Some(("ttl", seconds)) => status.ttl = Some(seconds.parse::<i64>().ok()?),
+        Some(("status", code)) => status.fwd_status = Some(code.parse::<u16>().ok()?),
+        Some(_) => return None,
+        None if text == "stored" => status.stored = true,
+        None if text == "collapsed" => status.collapsed = true,
+        None => status.detail = Some(detail_of(text)?),
+    }
+    Some(status)
+}
+
+fn status_of(text: &str) -> Option<Status> {
+    let mut words = text.split("; ");
+    let mut status = Status {
+        how: how_of(words.next()?)?,
+        fwd_status: None,
+        ttl: None,
+        stored: false,
+        collapsed: false,
+        detail: None,
+    };
+    for word in words {
+        status = with_word(status, word)?;
+    }
+    Some(status)
+}
+
+/// The member of Cache-Status for what is told of an answer.
+pub fn members(alloc: Global, front: &[Line<'_>], case: &Case<'_>) -> Result<String, Fault> {
+    let line = only_line(front, case)?;
+    let Some(status) = status_of(line.text) else {
+        return Err(line.fault("nothing that Cache-Status tells"));
+    };
+    let mut text = String::new(alloc);
+    push_shown(&mut text, member(alloc, "edge", &status)?.as_slice())?;
+    Ok(text)
+}
+
+/// How an origin failed, the reuse rule, and the error rule if one follows.
+fn origin_cause(text: &str) -> Option<Cause> {
+    let (kind, rules) = text.split_once(", ")?;
+    let kind = fail_kind(kind)?;
+    match rules.split_once(", ") {
+        Some((rule, error)) => Some(Cause::Origin(
+            kind,
+            reuse_rule(rule)?,
+            Some(error_rule(error)?),
+        )),
+        None => Some(Cause::Origin(kind, reuse_rule(rules)?, None)),
+    }
+}
+
+fn cause_of(text: &str) -> Option<Cause> {
+    if text == "no line" {
+        return Some(Cause::NoLine);
+    }
+    let (what, which) = text.split_once(": ")?;
+    match what {
+        "denied by line" => Some(Cause::Denied(which.parse::<u16>().ok()?)),
+        "only-if-cached" => Some(Cause::OnlyIfCached(reuse_rule(which)?)),
+        "origin" => origin_cause(which),
+        "stream" => Some(Cause::Frame(frame_fault(which)?)),
+        "target" => Some(Cause::Target(target_fault(which)?)),
+        _ => None,
+    }
+}
+
+/// The status and the text of the proxy's own answer.
+pub fn refusals(alloc: Global, front: &[Line<'_>], case: &Case<'_>) -> Result<String, Fault> {
+    let line = only_line(front, case)?;
+    let Some(cause) = cause_of(line.text) else {
+        return Err(line.fault("no cause of an answer of the proxy's own"));
+    };
+    let (status, answer) = refusal(alloc, cause)?;
+    let mut text = status.to_string(alloc)?;
+    text.push(' ')?;
+    push_shown(&mut text, answer.as_slice())?;
+    Ok(text)
+}

@@ -1,0 +1,209 @@
+//! Stored responses that may be sent. A case has them one by one: `stored 1 at 0`, with the number that is answered and the
+//! moment when it came, or `stored 1 at 2, asked for at 0`, and its lines; behind `for` the lines of the request that it
+//! answered. Last comes the request, as `at 59 GET`.
+//!
+//! A response without a Date is given that of its moment. `hit 1` is answered, or `forward` with the number and the name of
+//! the least rule against it, and which response that one is about.
+
+use crate::case_file::Case;
+use crate::lines::{Fault, Line};
+use crate::parts::{Part, parts_of, word};
+use crate::requests::asked_of;
+use hx_age::Times;
+use hx_directives::Directives;
+use hx_fields::{Bytes, Fields};
+use hx_hop::{Asked, dated};
+use hx_reuse::{Decision, ErrorRule, decide, may_serve_on_error};
+use hx_store::{Entry, ListShelf, Shelf};
+use hx_vary::{Nominated, Nomination};
+use std::alloc::{AllocError, Global};
+
+/// The first second of the year 10000, which no date names.
+pub const END_OF_TIME: u64 = 253_402_300_800;
+
+/// The most responses of a case.
+const MOST_STORED: usize = 9;
+
+/// What the line of a stored response says.
+#[derive(Clone, Copy)]
+struct Stored {
+    serial: u64,
+    asked_at: u64,
+    stored_at: u64,
+}
+
+fn stored_line(text: &str) -> Option<Stored> {
+    let (serial, moments) = text.strip_prefix("stored ")?.split_once(" at ")?;
+    let (stored_at, asked_at) = moments
+        .split_once(", asked for at ")
+        .unwrap_or((moments, moments));
+    Some(Stored {
+        serial: serial.parse::<u64>().ok()?,
+        asked_at: asked_at.parse::<u64>().ok()?,
+        stored_at: stored_at.parse::<u64>().ok()?,
+    })
+}
+
+fn nominated(
+    alloc: Global,
+    line: Line<'_>,
+    fields: &Fields,
+    asked: &Asked,
+) -> Result<Nominated, Fault> {
+    match Nominated::of(alloc, fields, &asked.fields)? {
+        Nomination::Names(nominated) => Ok(nominated),
+        Nomination::Star => Err(line.fault("with a star in Vary it is never stored")),
+    }
+}
+
+/// A stored response of the content `hi`, which answered this request. Faults name `line`.
+pub fn entry_of(
+    alloc: Global,
+    line: Line<'_>,
+    serial: u64,
+    asked: &Asked,
+    fields: Fields,
+    times: Times,
+) -> Result<Entry, Fault> {
+    let nominated = nominated(alloc, line, &fields, asked)?;
+    let directives = Directives::of(alloc, &fields)?;
+    Ok(Entry {
+        serial,
+        key: asked.target.key.copy(alloc)?,
+        nominated,
+        status: 200,
+        times,
+        fields,
+        directives,
+        content: Bytes::copy_of(alloc, b"hi")?,
+    })
+}
+
+/// A copy of the lines, with a Date.
+fn dated_at(alloc: Global, line: Line<'_>, fields: &Fields, now: u64) -> Result<Fields, Fault> {
+    if now < END_OF_TIME {
+        Ok(dated(fields.copy(alloc)?, now)?)
+    } else {
+        Err(line.fault("a moment that no date names"))
+    }
+}
+
+/// The response of a part that begins with `stored`, which answered a GET of these lines.
+fn stored_of(alloc: Global, part: &Part<'_>, asked: &Fields) -> Result<Entry, Fault> {
+    let line = part.head;
+    let Some(stored) = stored_line(line.text) else {
+        return Err(line.fault("no `stored NUMBER at SECOND`"));
+    };
+    let asked = asked_of(alloc, line, "GET", asked)?;
+    let fields = dated_at(alloc, line, &part.fields, stored.stored_at)?;
+    let times = Times::of(&fields, stored.asked_at, stored.stored_at);
+    entry_of(alloc, line, stored.serial, &asked, fields, times)
+}
+
+fn put(shelf: &mut ListShelf, line: Line<'_>, entry: Entry) -> Result<(), Fault> {
+    if shelf.contains(entry.serial) {
+        return Err(line.fault("a number that stands twice"));
+    }
+    match shelf.put(entry, &[]) {
+        Ok(None) => Ok(()),
+        Ok(Some(_)) => Err(line.fault("more than nine stored responses")),
+        Err(_) => Err(Fault::OutOfMemory),
+    }
+}
+
+fn is_for(parts: &[Part<'_>], i: usize) -> bool {
+    match parts.get(i) {
+        Some(part) => part.head.text == "for",
+        None => false,
+    }
+}
+
+/// The lines of the request that the response at a place answered.
+fn asked_behind(alloc: Global, parts: &[Part<'_>], i: usize) -> Result<Fields, AllocError> {
+    match parts.get(i.saturating_add(1)) {
+        Some(part) if part.head.text == "for" => part.fields.copy(alloc),
+        _ => Ok(Fields::new(alloc)),
+    }
+}
+
+fn shelf_of(alloc: Global, parts: &[Part<'_>]) -> Result<ListShelf, Fault> {
+    let mut shelf = ListShelf::new(alloc, MOST_STORED);
+    for (i, part) in parts.iter().enumerate() {
+        if part.head.text != "for" {
+            let asked = asked_behind(alloc, parts, i)?;
+            put(&mut shelf, part.head, stored_of(alloc, part, &asked)?)?;
+        } else if i == 0 || is_for(parts, i.saturating_sub(1)) {
+            return Err(part.head.fault("`for` without a stored response before it"));
+        }
+    }
+    Ok(shelf)
+}
+
+/// The moment and the request of a part that begins with `at`.
+fn asked_at(alloc: Global, part: &Part<'_>) -> Result<(u64, Asked), Fault> {
+    let Some((now, request)) = at_line(part.head.text) else {
+        return Err(part.head.fault("no `at SECOND` with a request"));
+    };
+    Ok((now, asked_of(alloc, part.head, request, &part.fields)?))
+}
+
+fn at_line(text: &str) -> Option<(u64, &str)> {
+    let (now, request) = text.strip_prefix("at ")?.split_once(' ')?;
+    Some((now.parse::<u64>().ok()?, request))
+}
+
+fn decided(
+    alloc: Global,
+    shelf: &ListShelf,
+    asked: &Asked,
+    now: u64,
+) -> Result<Decision, AllocError> {
+    let serials = shelf.find(alloc, &asked.target.key)?;
+    let directives = Directives::of(alloc, &asked.fields)?;
+    decide(alloc, asked, &directives, shelf, serials.as_slice(), now)
+}
+
+fn decision_text(alloc: Global, decision: Decision) -> Result<String, AllocError> {
+    match decision {
+        Decision::Hit(serial) => format!(in alloc; "hit {serial}"),
+        Decision::Forward(rule, None) => format!(in alloc; "forward {} {:?}", rule.number(), rule),
+        Decision::Forward(rule, Some(serial)) => {
+            format!(in alloc; "forward {} {:?} {serial}", rule.number(), rule)
+        }
+    }
+}
+
+/// What is decided of a request.
+pub fn reuse(alloc: Global, front: &[Line<'_>], case: &Case<'_>) -> Result<String, Fault> {
+    let parts = parts_of(alloc, front, case)?;
+    let [stored @ .., request] = parts.as_slice() else {
+        return Err(case.label.fault("no request"));
+    };
+    let shelf = shelf_of(alloc, stored)?;
+    let (now, asked) = asked_at(alloc, request)?;
+    let decision = decided(alloc, &shelf, &asked, now)?;
+    Ok(decision_text(alloc, decision)?)
+}
+
+fn on_error_at(
+    alloc: Global,
+    stored: &Part<'_>,
+    request: &Part<'_>,
+) -> Result<Result<(), ErrorRule>, Fault> {
+    let entry = stored_of(alloc, stored, &Fields::new(alloc))?;
+    let (now, asked) = asked_at(alloc, request)?;
+    let directives = Directives::of(alloc, &asked.fields)?;
+    Ok(may_serve_on_error(&directives, &entry, now))
+}
+
+/// Whether a stored response may be sent in place of an error.
+pub fn on_error(alloc: Global, front: &[Line<'_>], case: &Case<'_>) -> Result<String, Fault> {
+    let parts = parts_of(alloc, front, case)?;
+    let [stored, request] = parts.as_slice() else {
+        return Err(case.label.fault("not a stored response and a request"));
+    };
+    match on_error_at(alloc, stored, request)? {
+        Ok(()) => word(alloc, "sent"),
+        Err(rule) => Ok(format!(in alloc; "{} {:?}", rule.number(), rule)?),
+    }
+}

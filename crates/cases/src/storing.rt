@@ -1,0 +1,107 @@
+//! Answers that may be stored: a request with its lines, an answer's status with its lines, and what else is known.
+//!
+//! `stored` is answered, or the number and the name of the least rule against it.
+
+ghost use Rattle.std.specs.Prelude.{◌≡◌};
+ghost use Rattle.hx_directives.specs.Occurrences.{occurrences_of};
+
+use crate::case_file::Case;
+use crate::lines::{Fault, Line};
+use crate::parts::{Part, parts_of, word};
+use crate::requests::asked_of;
+use hx_age::Lifetime;
+use hx_directives::Directives;
+use hx_fields::Fields;
+use hx_hop::{Answered, Asked};
+use hx_storable::{Facts, StoreRule, first_rule_against};
+use hx_validate::has_validator;
+use hx_vary::{Nominated, Nomination};
+use std::alloc::{AllocError, Global};
+
+/// An answer of the status that heads it.
+pub fn answered_of(alloc: Global, part: &Part<'_>) -> Result<Answered, Fault> {
+    let Ok(status) = part.head.text.parse::<u16>() else {
+        return Err(part.head.fault("no status"));
+    };
+    Ok(Answered {
+        status,
+        fields: part.fields.copy(alloc)?,
+    })
+}
+
+fn is_star(alloc: Global, asked: &Asked, fields: &Fields) -> Result<bool, AllocError> {
+    match Nominated::of(alloc, fields, &asked.fields)? {
+        Nomination::Star => Ok(true),
+        Nomination::Names(_) => Ok(false),
+    }
+}
+
+/// What the lines of an answer say, and nothing else.
+fn facts_of(
+    alloc: Global,
+    asked: &Asked,
+    fields: &Fields,
+    directives: &Directives,
+) -> Result<Facts, AllocError>
+    requires { directives.now ≡ occurrences_of fields.now }
+{
+    Ok(Facts {
+        vary_star: is_star(alloc, asked, fields)?,
+        listed: false,
+        explicit: Lifetime::of(fields, directives).explicit,
+        validator: has_validator(fields),
+        too_large: false,
+        overtaken: false,
+        no_serial: false,
+    })
+}
+
+/// What is known, with what a line says besides.
+fn with_line(mut facts: Facts, line: Line<'_>) -> Result<Facts, Fault> {
+    match line.text {
+        "Connection names a cache field" => facts.listed = true,
+        "too large" => facts.too_large = true,
+        "overtaken" => facts.overtaken = true,
+        "no serial left" => facts.no_serial = true,
+        _ => return Err(line.fault("nothing that is known of an answer")),
+    }
+    Ok(facts)
+}
+
+fn rule_against(
+    alloc: Global,
+    asked: &Asked,
+    answered: &Answered,
+    known: &[Part<'_>],
+) -> Result<Option<StoreRule>, Fault> {
+    let asked_directives = Directives::of(alloc, &asked.fields)?;
+    let directives = Directives::of(alloc, &answered.fields)?;
+    let mut facts = facts_of(alloc, asked, &answered.fields, &directives)?;
+    for part in known {
+        facts = with_line(facts, part.head)?;
+    }
+    Ok(first_rule_against(asked, &asked_directives, answered, &directives, facts))
+}
+
+fn rule_of(
+    alloc: Global,
+    request: &Part<'_>,
+    answer: &Part<'_>,
+    known: &[Part<'_>],
+) -> Result<Option<StoreRule>, Fault> {
+    let asked = asked_of(alloc, request.head, request.head.text, &request.fields)?;
+    let answered = answered_of(alloc, answer)?;
+    rule_against(alloc, &asked, &answered, known)
+}
+
+/// Whether an answer may be stored, or the least rule against it.
+pub fn storing(alloc: Global, front: &[Line<'_>], case: &Case<'_>) -> Result<String, Fault> {
+    let parts = parts_of(alloc, front, case)?;
+    let [request, answer, known @ ..] = parts.as_slice() else {
+        return Err(case.label.fault("no request with an answer"));
+    };
+    match rule_of(alloc, request, answer, known)? {
+        None => word(alloc, "stored"),
+        Some(rule) => Ok(format!(in alloc; "{} {:?}", rule as u8, rule)?),
+    }
+}

@@ -1,0 +1,142 @@
+//! Validation: a stored response that came at 100, under `stored`, and what a 304 or a client's condition makes of it.
+
+use crate::case_file::Case;
+use crate::lines::{Fault, Line};
+use crate::parts::{Part, parts_of, shown_fields, word};
+use crate::requests::asked_of;
+use crate::reuse::entry_of;
+use crate::storing::answered_of;
+use hx_age::Times;
+use hx_fields::{Bytes, Fields};
+use hx_hop::{Answered, Asked, Conditions};
+use hx_store::Entry;
+use hx_validate::{answers, client_wants_304, conditions, freshened, has_validator, not_modified};
+use std::alloc::{AllocError, Global};
+
+/// The moments of a response that was made, asked for and received in this second.
+fn times_at(moment: u64) -> Times {
+    Times {
+        date: moment,
+        age_value: 0,
+        request_time: moment,
+        response_time: moment,
+    }
+}
+
+fn get(alloc: Global, part: &Part<'_>) -> Result<Asked, Fault> {
+    asked_of(alloc, part.head, part.head.text, &part.fields)
+}
+
+/// The stored response, which answered a GET without lines.
+fn stored_of(alloc: Global, part: &Part<'_>) -> Result<Entry, Fault> {
+    part.begins("stored")?;
+    let asked = asked_of(alloc, part.head, "GET", &Fields::new(alloc))?;
+    let fields = part.fields.copy(alloc)?;
+    entry_of(alloc, part.head, 7, &asked, fields, times_at(100))
+}
+
+fn answer_of(alloc: Global, part: &Part<'_>) -> Result<Answered, Fault> {
+    part.begins("304")?;
+    answered_of(alloc, part)
+}
+
+fn value_of(alloc: Global, fields: &Fields, name: &[u8]) -> Result<Option<Bytes>, AllocError> {
+    match fields.value(name) {
+        Some(value) => Ok(Some(Bytes::copy_of(alloc, value)?)),
+        None => Ok(None),
+    }
+}
+
+/// Conditions as the proxy sends them: an If-None-Match and an If-Modified-Since.
+pub fn conditions_of(alloc: Global, part: &Part<'_>) -> Result<Conditions, Fault> {
+    part.begins("conditions")?;
+    let etag = value_of(alloc, &part.fields, b"If-None-Match")?;
+    let modified = value_of(alloc, &part.fields, b"If-Modified-Since")?;
+    let known = usize::from(etag.is_some()).saturating_add(usize::from(modified.is_some()));
+    if part.fields.len() == known {
+        Ok(Conditions { etag, modified })
+    } else {
+        Err(part.head.fault("other lines than one If-None-Match and one If-Modified-Since"))
+    }
+}
+
+fn is_answered(
+    alloc: Global,
+    entry: &Entry,
+    sent: &Conditions,
+    answer: &Part<'_>,
+) -> Result<String, Fault> {
+    let answered = answer_of(alloc, answer)?;
+    let told = if !has_validator(&entry.fields) {
+        "no validator"
+    } else if answers(entry, sent, &answered) {
+        "answers"
+    } else {
+        "answers nothing"
+    };
+    word(alloc, told)
+}
+
+/// Whether a 304 answers the stored response, to its own conditions or to those that are given.
+pub fn validating(alloc: Global, front: &[Line<'_>], case: &Case<'_>) -> Result<String, Fault> {
+    let parts = parts_of(alloc, front, case)?;
+    match parts.as_slice() {
+        [stored, answer] => {
+            let entry = stored_of(alloc, stored)?;
+            let sent = conditions(alloc, &entry)?;
+            is_answered(alloc, &entry, &sent, answer)
+        }
+        [stored, sent, answer] => {
+            let entry = stored_of(alloc, stored)?;
+            let sent = conditions_of(alloc, sent)?;
+            is_answered(alloc, &entry, &sent, answer)
+        }
+        _ => Err(case.label.fault("no stored response with a 304")),
+    }
+}
+
+/// The lines of the stored response behind a 304 that came at 160 to the request between them.
+pub fn freshening(alloc: Global, front: &[Line<'_>], case: &Case<'_>) -> Result<String, Fault> {
+    let parts = parts_of(alloc, front, case)?;
+    let [stored, request, answer] = parts.as_slice() else {
+        return Err(
+            case.label
+                .fault("not a stored response, a request and a 304"),
+        );
+    };
+    let entry = stored_of(alloc, stored)?;
+    let asked = get(alloc, request)?;
+    let answered = answer_of(alloc, answer)?;
+    let entry = freshened(alloc, &entry, &answered, &asked, times_at(160))?;
+    Ok(shown_fields(alloc, &entry.fields)?)
+}
+
+/// Whether a client gets the stored response or a 304.
+pub fn client_conditions(
+    alloc: Global,
+    front: &[Line<'_>],
+    case: &Case<'_>,
+) -> Result<String, Fault> {
+    let parts = parts_of(alloc, front, case)?;
+    let [stored, request] = parts.as_slice() else {
+        return Err(case.label.fault("not a stored response and a request"));
+    };
+    let entry = stored_of(alloc, stored)?;
+    let asked = get(alloc, request)?;
+    let is_304 = client_wants_304(&asked, &entry);
+    word(alloc, if is_304 { "304" } else { "200" })
+}
+
+/// The lines of the 304 that a client gets for the stored response.
+pub fn not_modified_lines(
+    alloc: Global,
+    front: &[Line<'_>],
+    case: &Case<'_>,
+) -> Result<String, Fault> {
+    let parts = parts_of(alloc, front, case)?;
+    let [stored] = parts.as_slice() else {
+        return Err(case.label.fault("not one stored response"));
+    };
+    let fields = not_modified(alloc, &stored_of(alloc, stored)?)?;
+    Ok(shown_fields(alloc, &fields)?)
+}
