@@ -1,15 +1,15 @@
 //! What the proxy says of an answer: its member of Cache-Status, and its own answers.
 //!
-//! A case is its input: `hit; ttl 30`, `forward UriMiss; stored`, `origin: Refused, NoMaxStale, TooStale`.
+//! A case is its input: `hit; ttl 30`, `forward UriMiss; stored`, `origin: refused, NoMaxStale, TooStale`.
 
 use crate::case_file::Case;
 use crate::lines::{Fault, Line};
 use crate::parts::only_line;
-use crate::words::{frame_word, target_word};
+use crate::words::{fail_kind, frame_word, target_word};
 use case_text::push_shown;
 use hx_framing::FrameFault;
 use hx_reuse::{ErrorRule, ReuseRule};
-use hx_status::{Cause, Detail, FailKind, How, Status, member, refusal};
+use hx_status::{Cause, Detail, How, Status, member, refusal};
 use hx_target::TargetFault;
 use std::alloc::Global;
 
@@ -98,17 +98,6 @@ fn target_fault(name: &str) -> Option<TargetFault> {
         }
     }
     None
-}
-
-fn fail_kind(name: &str) -> Option<FailKind> {
-    match name {
-        "Refused" => Some(FailKind::Refused),
-        "TimedOut" => Some(FailKind::TimedOut),
-        "Closed" => Some(FailKind::Closed),
-        "BadAnswer" => Some(FailKind::BadAnswer),
-        "TooLarge" => Some(FailKind::TooLarge),
-        _ => None,
-    }
 }
 
 fn detail_of(name: &str) -> Option<Detail> {

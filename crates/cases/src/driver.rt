@@ -15,6 +15,10 @@ pub enum Driver {
     RequestParts,
     ResponsesToGet,
     ResponsesToHead,
+    Steps,
+    FirstItems,
+    LaterItems,
+    Replays,
     Targets,
     TargetFaults,
     Paths,
@@ -34,10 +38,6 @@ pub enum Driver {
     Forwarding,
     Members,
     Refusals,
-    Steps,
-    FirstItems,
-    LaterItems,
-    Replays,
 }
 
 impl Driver {
@@ -48,6 +48,10 @@ impl Driver {
             "parts of requests" => Some(Driver::RequestParts),
             "responses to GET" => Some(Driver::ResponsesToGet),
             "responses to HEAD" => Some(Driver::ResponsesToHead),
+            "steps" => Some(Driver::Steps),
+            "first items of scripts" => Some(Driver::FirstItems),
+            "later items of scripts" => Some(Driver::LaterItems),
+            "replays" => Some(Driver::Replays),
             "targets" => Some(Driver::Targets),
             "faults of targets" => Some(Driver::TargetFaults),
             "paths" => Some(Driver::Paths),
@@ -67,10 +71,6 @@ impl Driver {
             "requests passed on" => Some(Driver::Forwarding),
             "members of Cache-Status" => Some(Driver::Members),
             "refusals" => Some(Driver::Refusals),
-            "steps" => Some(Driver::Steps),
-            "first items of scripts" => Some(Driver::FirstItems),
-            "later items of scripts" => Some(Driver::LaterItems),
-            "replays" => Some(Driver::Replays),
             _ => None,
         }
     }
@@ -88,6 +88,10 @@ pub fn answer(
         Driver::RequestParts => streams::request_parts(alloc, front, case),
         Driver::ResponsesToGet => streams::responses(alloc, false, front, case),
         Driver::ResponsesToHead => streams::responses(alloc, true, front, case),
+        Driver::Steps => steps::steps(alloc, front, case),
+        Driver::FirstItems => scripts::items(alloc, true, case),
+        Driver::LaterItems => scripts::items(alloc, false, case),
+        Driver::Replays => scripts::replays(alloc, front, case),
         Driver::Targets => targets::targets(alloc, front, case),
         Driver::TargetFaults => targets::target_faults(alloc, front, case),
         Driver::Paths => targets::paths(alloc, front, case),
@@ -107,9 +111,5 @@ pub fn answer(
         Driver::Forwarding => passing::forwarding(alloc, front, case),
         Driver::Members => cache_status::members(alloc, front, case),
         Driver::Refusals => cache_status::refusals(alloc, front, case),
-        Driver::Steps => steps::steps(alloc, front, case),
-        Driver::FirstItems => scripts::items(alloc, true, case),
-        Driver::LaterItems => scripts::items(alloc, false, case),
-        Driver::Replays => scripts::replays(alloc, front, case),
     }
 }

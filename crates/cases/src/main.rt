@@ -7,6 +7,7 @@
 mod cache_status;
 mod case_file;
 mod driver;
+mod field_lines;
 mod files;
 mod lines;
 mod parts;

@@ -1,7 +1,8 @@
 //! Cases of field lines: parts of a line that says what begins, and of the field lines behind it.
 
 use crate::case_file::Case;
-use crate::lines::{Fault, Line, spelled};
+use crate::field_lines::push_field;
+use crate::lines::{Fault, Line};
 use case_text::push_shown;
 use hx_fields::{Field, Fields, is_token};
 use std::alloc::{AllocError, Global};
@@ -57,43 +58,17 @@ impl<'a> Part<'a> {
     }
 }
 
-/// The name and the value of a field line.
-fn field_of<'a>(line: Line<'a>) -> Option<(&'a str, &'a str)> {
-    let (name, value) = line.text.split_once(':')?;
-    if is_token(name.as_bytes()) {
-        Some((name, value.strip_prefix(' ').unwrap_or(value)))
-    } else {
-        None
+/// Whether a line is a field line: a token stands before its colon.
+fn is_field(line: Line<'_>) -> bool {
+    match line.text.split_once(':') {
+        Some((name, _)) => is_token(name.as_bytes()),
+        None => false,
     }
-}
-
-fn push_field(
-    alloc: Global,
-    fields: &mut Fields,
-    line: Line<'_>,
-    name: &str,
-    value: &str,
-) -> Result<(), Fault> {
-    let value = spelled(alloc, line, value)?;
-    Ok(fields.push(name.as_bytes(), value.as_slice())?)
 }
 
 /// A line that spells nothing, which stands where there are no lines.
 fn is_empty(line: Line<'_>) -> bool {
     line.text == "\\."
-}
-
-/// Field lines alone.
-pub fn fields_of(alloc: Global, lines: &[Line<'_>]) -> Result<Fields, Fault> {
-    let mut fields = Fields::new(alloc);
-    for line in lines {
-        match field_of(*line) {
-            Some((name, value)) => push_field(alloc, &mut fields, *line, name, value)?,
-            None if is_empty(*line) => {}
-            None => return Err(line.fault("no field line")),
-        }
-    }
-    Ok(fields)
 }
 
 fn push_head<'a>(
@@ -105,15 +80,15 @@ fn push_head<'a>(
     Ok(parts.push(Part { head, fields })?)
 }
 
-fn push_behind(
-    alloc: Global,
-    parts: &mut Vec<Part<'_>>,
-    line: Line<'_>,
-    name: &str,
-    value: &str,
-) -> Result<(), Fault> {
+fn push_line<'a>(alloc: Global, parts: &mut Vec<Part<'a>>, line: Line<'a>) -> Result<(), Fault> {
+    if is_empty(line) {
+        return Ok(());
+    }
+    if !is_field(line) {
+        return Ok(push_head(alloc, parts, line)?);
+    }
     match parts.last_mut() {
-        Some(part) => push_field(alloc, &mut part.fields, line, name, value),
+        Some(part) => push_field(alloc, &mut part.fields, line),
         None => Err(line.fault("a field line before anything begins")),
     }
 }
@@ -127,11 +102,7 @@ pub fn parts_of<'a>(
     let lines = lines_of(alloc, front, case)?;
     let mut parts = Vec::new(alloc);
     for line in &lines {
-        match field_of(*line) {
-            Some((name, value)) => push_behind(alloc, &mut parts, *line, name, value)?,
-            None if is_empty(*line) => {}
-            None => push_head(alloc, &mut parts, *line)?,
-        }
+        push_line(alloc, &mut parts, *line)?;
     }
     Ok(parts)
 }

@@ -1,8 +1,9 @@
 //! What goes on of a message: its lines without those of one connection, and what the proxy adds to them.
 
 use crate::case_file::Case;
+use crate::field_lines::fields_of;
 use crate::lines::{Fault, Line};
-use crate::parts::{Part, fields_of, lines_of, parts_of, shown_fields};
+use crate::parts::{Part, lines_of, parts_of, shown_fields};
 use crate::requests::asked_of;
 use crate::reuse::END_OF_TIME;
 use crate::validation::conditions_of;

@@ -111,32 +111,30 @@ fn put(shelf: &mut ListShelf, line: Line<'_>, entry: Entry) -> Result<(), Fault>
     }
 }
 
-/// Puts the first response of these parts, and gives the parts behind it.
-fn put_first<'p, 'a>(
-    alloc: Global,
-    shelf: &mut ListShelf,
-    parts: &'p [Part<'a>],
-) -> Result<&'p [Part<'a>], Fault> {
-    match parts {
-        [] => Ok(parts),
-        [stored, asked, rest @ ..] if asked.head.text == "for" => {
-            put(shelf, stored.head, stored_of(alloc, stored, &asked.fields)?)?;
-            Ok(rest)
-        }
-        [stored, rest @ ..] => {
-            let none = Fields::new(alloc);
-            put(shelf, stored.head, stored_of(alloc, stored, &none)?)?;
-            Ok(rest)
-        }
+fn is_for(parts: &[Part<'_>], i: usize) -> bool {
+    match parts.get(i) {
+        Some(part) => part.head.text == "for",
+        None => false,
+    }
+}
+
+/// The lines of the request that the response at a place answered.
+fn asked_behind(alloc: Global, parts: &[Part<'_>], i: usize) -> Result<Fields, AllocError> {
+    match parts.get(i.saturating_add(1)) {
+        Some(part) if part.head.text == "for" => part.fields.copy(alloc),
+        _ => Ok(Fields::new(alloc)),
     }
 }
 
 fn shelf_of(alloc: Global, parts: &[Part<'_>]) -> Result<ListShelf, Fault> {
     let mut shelf = ListShelf::new(alloc, MOST_STORED);
-    let mut rest = parts;
-    // Each turn takes a part at least.
-    for _ in 0..parts.len() {
-        rest = put_first(alloc, &mut shelf, rest)?;
+    for (i, part) in parts.iter().enumerate() {
+        if part.head.text != "for" {
+            let asked = asked_behind(alloc, parts, i)?;
+            put(&mut shelf, part.head, stored_of(alloc, part, &asked)?)?;
+        } else if i == 0 || is_for(parts, i.saturating_sub(1)) {
+            return Err(part.head.fault("`for` without a stored response before it"));
+        }
     }
     Ok(shelf)
 }

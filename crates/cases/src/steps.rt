@@ -5,8 +5,8 @@
 //! forward` or `gives reply` with what is stored, used and removed, and the message below. The answer is the number of steps.
 
 use crate::case_file::Case;
+use crate::field_lines::fields_of;
 use crate::lines::{Fault, Line, push_spelled, spelled};
-use crate::parts::fields_of;
 use crate::requests::asked_of;
 use crate::words::fail_kind;
 use case_text::push_shown;

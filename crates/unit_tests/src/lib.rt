@@ -8,4 +8,6 @@
 #[cfg(test)]
 mod framing;
 #[cfg(test)]
+mod hx;
+#[cfg(test)]
 mod proxy;

@@ -1,0 +1,125 @@
+//! A store of few entries, through each call.
+
+use super::entries::{entry, key};
+use hx_store::{ListShelf, Serials, Shelf};
+use hx_target::Key;
+use std::alloc::{AllocError, Global};
+use std::process::Abort;
+use std::test::Fail;
+
+/// Puts an entry of a new serial in place of one of another serial, and gives the serial that is handed back.
+fn put(
+    alloc: Global,
+    shelf: &mut ListShelf,
+    (serial, path, replaced): (u64, &str, u64),
+) -> Result<Option<u64>, Fail> {
+    let entry = entry(alloc, serial, path, &[])?;
+    if shelf.contains(entry.serial) {
+        return Err("a new serial".into());
+    }
+    match shelf.put(entry, &[replaced]) {
+        Ok(Some(evicted)) => Ok(Some(evicted.serial)),
+        Ok(None) => Ok(None),
+        Err(_) => Err("room for the entry".into()),
+    }
+}
+
+/// Putting these entries hands back the last of them that is given.
+fn hands_back(
+    rt: &impl Abort,
+    alloc: Global,
+    shelf: &mut ListShelf,
+    puts: &[(u64, &str, u64)],
+    serial: Option<u64>,
+) -> Result<(), Fail> {
+    let mut last = None;
+    for one in puts {
+        last = put(alloc, shelf, *one)?.or(last);
+    }
+    assert_eq!(rt; last, serial);
+    Ok(())
+}
+
+#[test]
+fn shelf_calls(rt: HostRuntime) -> Result<(), Fail> {
+    let alloc = rt.alloc();
+    let mut shelf = ListShelf::new(alloc, 2);
+    let first = [(1, "/a", 0), (2, "/b", 0), (3, "/c", 2)];
+    hands_back(&rt, alloc, &mut shelf, &first, None)?;
+    hands_back(&rt, alloc, &mut shelf, &[(4, "/d", 0)], Some(1))?;
+    assert!(rt; shelf.promote(3));
+    assert!(rt; shelf.remove(9).is_none());
+    hands_back(&rt, alloc, &mut shelf, &[(5, "/e", 0)], Some(4))
+}
+
+/// Freshens a held entry, and gives the serial of its old form.
+fn freshen(alloc: Global, shelf: &mut ListShelf, serial: u64, path: &str) -> Result<u64, Fail> {
+    let entry = entry(alloc, serial, path, &[])?;
+    if !shelf.contains(entry.serial) {
+        return Err("a held serial".into());
+    }
+    match shelf.peek(entry.serial) {
+        Some(held) => {
+            if !held.key.is_same(&entry.key) {
+                return Err("the key of the held entry".into());
+            }
+        }
+        None => return Err("a held entry".into()),
+    }
+    Ok(shelf.freshen(entry).serial)
+}
+
+/// The serials of a key's entries.
+fn are_found(
+    rt: &impl Abort,
+    alloc: Global,
+    shelf: &ListShelf,
+    key: &Key,
+    serials: &[u64],
+) -> Result<(), AllocError> {
+    let found = shelf.find(alloc, key)?;
+    assert!(rt; found.as_slice() == serials);
+    Ok(())
+}
+
+#[test]
+fn entries_are_found_by_key(rt: HostRuntime) -> Result<(), Fail> {
+    let mut shelf = ListShelf::new(rt.alloc(), 3);
+    let puts = [(1, "/a", 0), (2, "/b", 0), (3, "/a", 0)];
+    hands_back(&rt, rt.alloc(), &mut shelf, &puts, None)?;
+    let a = key(rt.alloc(), "/a")?;
+    are_found(&rt, rt.alloc(), &shelf, &a, &[1, 3])?;
+    assert_eq!(rt; freshen(rt.alloc(), &mut shelf, 1, "/a")?, 1);
+    assert_eq!(rt; shelf.invalidate(&a), 2);
+    assert_eq!(rt; (shelf.len(), shelf.capacity()), (1, 3));
+    Ok(())
+}
+
+fn are_serials(rt: &impl Abort, serials: &Serials, wanted: &[u64]) {
+    assert_eq!(rt; serials.len(), wanted.len());
+    assert!(rt; serials.as_slice() == wanted);
+    assert_eq!(rt; serials.last(), wanted.last().copied());
+    assert!(rt; serials.is_empty() == wanted.is_empty());
+}
+
+#[test]
+fn serials_ascend(rt: HostRuntime) -> Result<(), Fail> {
+    let mut serials = Serials::new(rt.alloc());
+    are_serials(&rt, &serials, &[]);
+    for serial in [4, 9, 1] {
+        serials.insert(serial)?;
+    }
+    are_serials(&rt, &serials, &[1, 4, 9]);
+    are_serials(&rt, &serials.copy(rt.alloc())?, &[1, 4, 9]);
+    Ok(())
+}
+
+#[test]
+fn pushed_serials_keep_their_order(rt: HostRuntime) -> Result<(), Fail> {
+    let mut serials = Serials::new(rt.alloc());
+    for serial in [4, 9, 1, 9] {
+        serials.push(serial)?;
+    }
+    are_serials(&rt, &serials, &[4, 9, 1, 9]);
+    Ok(())
+}
