@@ -77,11 +77,15 @@ pub struct Tally {
 }
 
 /// A file as it is played.
-#[derive(Clone, Copy)]
+#[derive(Drop)]
 struct Player<'a> {
     name: &'a str,
     driver: Driver,
     tally: Tally,
+    /// The line with the group's name, if there is one.
+    group: Option<Line<'a>>,
+    /// What the group's cases have in common.
+    front: Vec<Line<'a>>,
     /// How many cases the group has so far.
     in_group: usize,
 }
@@ -101,15 +105,9 @@ fn push_difference(
 }
 
 impl<'a> Player<'a> {
-    fn play(
-        &mut self,
-        alloc: Global,
-        report: &mut String,
-        front: &[Line<'a>],
-        block: &Block<'a>,
-    ) -> Result<(), Fault> {
+    fn play(&mut self, alloc: Global, report: &mut String, block: &Block<'a>) -> Result<(), Fault> {
         let case = case_of(alloc, block)?;
-        let got = driver::answer(alloc, self.driver, front, &case)?;
+        let got = driver::answer(alloc, self.driver, self.front.as_slice(), &case)?;
         self.in_group = self.in_group.saturating_add(1);
         if got.as_str() == case.answer {
             self.tally.hold = self.tally.hold.saturating_add(1);
@@ -120,14 +118,28 @@ impl<'a> Player<'a> {
         }
     }
 
-    /// A group begins, or the file ends: the group before it has to have cases.
-    fn end_group(&mut self, group: Option<Line<'a>>) -> Result<(), Fault> {
-        match group {
+    /// A group ends: it has to have cases.
+    fn end_group(&mut self) -> Result<(), Fault> {
+        match self.group {
             Some(line) if self.in_group == 0 => Err(line.fault("a group without cases")),
-            _ => {
-                self.in_group = 0;
-                Ok(())
-            }
+            _ => Ok(()),
+        }
+    }
+
+    fn begin_group(&mut self, block: &Block<'a>) -> Result<(), Fault> {
+        self.end_group()?;
+        self.group = Some(block.head);
+        self.in_group = 0;
+        self.front.clear();
+        Ok(self.front.extend_from_slice(block.body.as_slice())?)
+    }
+
+    /// A group begins, or a case is played.
+    fn take(&mut self, alloc: Global, report: &mut String, block: &Block<'a>) -> Result<(), Fault> {
+        if block.head.text.starts_with('[') {
+            self.begin_group(block)
+        } else {
+            self.play(alloc, report, block)
         }
     }
 }
@@ -148,45 +160,26 @@ fn driver_of(block: Option<&Block<'_>>) -> Result<Driver, Fault> {
     }
 }
 
-/// What the cases of a group have in common: the lines below its name.
-fn front_of<'a, 'b>(blocks: &'b [Block<'a>], group: Option<usize>) -> &'b [Line<'a>] {
-    match group.and_then(|place| blocks.get(place)) {
-        Some(block) => block.body.as_slice(),
-        None => &[],
-    }
-}
-
-fn name_of<'a>(blocks: &[Block<'a>], group: Option<usize>) -> Option<Line<'a>> {
-    group
-        .and_then(|place| blocks.get(place))
-        .map(|block| block.head)
-}
-
 /// Plays all cases of a text, the file of this name.
-pub fn play_text(
+pub fn play_text<'a>(
     alloc: Global,
-    name: &str,
-    text: &str,
+    name: &'a str,
+    text: &'a str,
     report: &mut String,
 ) -> Result<Tally, Fault> {
     let blocks = blocks_of(alloc, text)?;
-    let blocks = blocks.as_slice();
     let mut player = Player {
         name,
         driver: driver_of(blocks.first())?,
         tally: Tally { hold: 0, differ: 0 },
+        group: None,
+        front: Vec::new(alloc),
         in_group: 0,
     };
-    let mut group = None;
-    for (place, block) in blocks.iter().enumerate().skip(1) {
-        if block.head.text.starts_with('[') {
-            player.end_group(name_of(blocks, group))?;
-            group = Some(place);
-        } else {
-            player.play(alloc, report, front_of(blocks, group), block)?;
-        }
+    for block in blocks.iter().skip(1) {
+        player.take(alloc, report, block)?;
     }
-    player.end_group(name_of(blocks, group))?;
+    player.end_group()?;
     if player.tally.hold == 0 && player.tally.differ == 0 {
         return Err(Fault::At(1, "a file without cases"));
     }

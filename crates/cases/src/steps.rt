@@ -38,8 +38,14 @@ struct Happens<'a> {
     what: What<'a>,
 }
 
-/// A step as it is written: what happens, field lines and content, what it gives, and the message.
-type Step<'a, 'b> = &'b [Line<'a>];
+/// A step as it is written.
+#[derive(Drop)]
+struct Step<'a> {
+    happens: Line<'a>,
+    fields: Vec<Line<'a>>,
+    gives: Line<'a>,
+    message: Vec<Line<'a>>,
+}
 
 /// A status, and the content behind it.
 fn answered_of(words: &str) -> Option<What<'_>> {
@@ -78,41 +84,59 @@ fn place_of(lines: &[Line<'_>], from: usize, word: &str) -> usize {
 }
 
 /// The lines between two places.
-fn between<'a, 'b>(lines: &'b [Line<'a>], from: usize, to: usize) -> &'b [Line<'a>] {
-    lines.get(from..to).unwrap_or(&[])
+fn between<'a>(
+    alloc: Global,
+    lines: &[Line<'a>],
+    from: usize,
+    to: usize,
+) -> Result<Vec<Line<'a>>, AllocError> {
+    let mut part = Vec::new(alloc);
+    for (place, line) in lines.iter().enumerate() {
+        if from <= place && place < to {
+            part.push(*line)?;
+        }
+    }
+    Ok(part)
 }
 
-/// The first line of a step.
-fn head_of<'a>(step: Step<'a, '_>) -> Line<'a> {
-    match step.first() {
-        Some(line) => *line,
-        None => Line {
-            number: 0,
-            text: "",
-        },
+/// The step that stands from one place to another.
+fn step_of<'a>(
+    alloc: Global,
+    lines: &[Line<'a>],
+    from: usize,
+    to: usize,
+) -> Result<Step<'a>, Fault> {
+    let Some(happens) = lines.get(from).copied() else {
+        return Err(Fault::At(0, "no step"));
+    };
+    let behind = from.saturating_add(1);
+    let place = place_of(lines, behind, "gives ");
+    match lines.get(place).copied() {
+        Some(gives) if place < to => Ok(Step {
+            happens,
+            fields: between(alloc, lines, behind, place)?,
+            gives,
+            message: between(alloc, lines, place.saturating_add(1), to)?,
+        }),
+        _ => Err(happens.fault("a step that gives nothing")),
     }
 }
 
-/// The lines between what happens and what it gives.
-fn lines_of<'a, 'b>(step: Step<'a, 'b>) -> &'b [Line<'a>] {
-    between(step, 1, place_of(step, 1, "gives "))
-}
-
-fn asked_by(alloc: Global, step: Step<'_, '_>, request: &str) -> Result<Asked, Fault> {
-    let fields = fields_of(alloc, lines_of(step))?;
-    asked_of(alloc, head_of(step), request, &fields)
+fn asked_by(alloc: Global, step: &Step<'_>, request: &str) -> Result<Asked, Fault> {
+    let fields = fields_of(alloc, step.fields.as_slice())?;
+    asked_of(alloc, step.happens, request, &fields)
 }
 
 fn response_of(
     alloc: Global,
-    step: Step<'_, '_>,
+    step: &Step<'_>,
     status: u16,
     content: &str,
 ) -> Result<Response, Fault> {
     Ok(Response {
         status,
-        fields: fields_of(alloc, lines_of(step))?,
-        content: Bytes::from_vec(spelled(alloc, head_of(step), content)?),
+        fields: fields_of(alloc, step.fields.as_slice())?,
+        content: Bytes::from_vec(spelled(alloc, step.happens, content)?),
         announced: None,
     })
 }
@@ -139,10 +163,10 @@ fn answer(
 fn outcome_of(
     alloc: Global,
     core: &mut Core<ListShelf>,
-    step: Step<'_, '_>,
+    step: &Step<'_>,
 ) -> Result<Result<Outcome, CoreFault>, Fault> {
-    let Some(happens) = happens_of(head_of(step).text) else {
-        return Err(head_of(step).fault("not `at MOMENT, ID` with what happens"));
+    let Some(happens) = happens_of(step.happens.text) else {
+        return Err(step.happens.fault("not `at MOMENT, ID` with what happens"));
     };
     match happens.what {
         What::Asks(request) => {
@@ -153,9 +177,9 @@ fn outcome_of(
             let response = response_of(alloc, step, status, content)?;
             Ok(answer(alloc, core, happens, &response))
         }
-        What::Fails(_) if !lines_of(step).is_empty() => Err(head_of(step).fault(
-            "a failure has no lines",
-        )),
+        What::Fails(_) if !step.fields.is_empty() => Err(
+            step.happens.fault("a failure has no lines"),
+        ),
         What::Fails(kind) => Ok(core.fail(alloc, happens.now, happens.id, kind)),
     }
 }
@@ -181,19 +205,15 @@ fn write_changes(text: &mut String, reply: &Reply) -> Result<(), AllocError> {
 /// What differs from what a step is to give.
 fn difference(
     alloc: Global,
-    step: Step<'_, '_>,
+    step: &Step<'_>,
     gives: &str,
     bytes: &[u8],
 ) -> Result<Option<String>, Fault> {
-    let place = place_of(step, 1, "gives ");
-    let Some(wanted) = step.get(place) else {
-        return Err(head_of(step).fault("a step that gives nothing"));
-    };
-    let message = message_of(alloc, between(step, place.saturating_add(1), step.len()))?;
-    if gives == wanted.text && bytes == message.as_slice() {
+    let message = message_of(alloc, step.message.as_slice())?;
+    if gives == step.gives.text && bytes == message.as_slice() {
         return Ok(None);
     }
-    Ok(Some(told(alloc, head_of(step).number, gives, bytes)?))
+    Ok(Some(told(alloc, step.happens.number, gives, bytes)?))
 }
 
 /// The bytes that a message's lines spell.
@@ -217,7 +237,7 @@ fn told(alloc: Global, line: usize, gives: &str, bytes: &[u8]) -> Result<String,
 fn done(
     alloc: Global,
     core: &mut Core<ListShelf>,
-    step: Step<'_, '_>,
+    step: &Step<'_>,
 ) -> Result<Option<String>, Fault> {
     match outcome_of(alloc, core, step)? {
         Ok(Outcome::Reply(reply)) => {
@@ -259,12 +279,13 @@ pub fn steps(alloc: Global, front: &[Line<'_>], case: &Case<'_>) -> Result<Strin
     let mut count = 0usize;
     for _ in 0..lines.len() {
         let end = place_of(lines, from.saturating_add(1), "at ");
-        if from < end
-            && let Some(text) = done(alloc, &mut core, between(lines, from, end))?
-        {
+        if from == end {
+            break;
+        }
+        if let Some(text) = done(alloc, &mut core, &step_of(alloc, lines, from, end)?)? {
             return Ok(text);
         }
-        count = count.saturating_add(usize::from(from < end));
+        count = count.saturating_add(1);
         from = end;
     }
     Ok(format!(in alloc; "{count} steps")?)
