@@ -1,21 +1,48 @@
-//! Plays each row that lies where it runs, and compares what is written with what is written down.
+//! Plays rows and cases: those that lie where it runs, or those that its arguments name.
 //!
 //! A row NAME is a script, NAME.script, and the text of its effects, NAME.effects. Where the replay is to end by a
-//! fault, NAME.stderr has its line and NAME.status the exit status. Each is played once more with all bytes one at a time: the
-//! text is to be the same. A line a row is printed, in the order of names.
+//! fault, NAME.stderr has its line and NAME.status the exit status. A case NAME.case has both in one, written for people;
+//! data/README.md has its form. Each is played once more with all bytes one at a time: the text is to be the same. A line
+//! a row and a case is printed, in the order of names.
 #![tactic(auto)]
 
+mod case_lines;
+mod cases;
+mod effects;
+mod folder;
+mod form;
+mod items;
 mod pieces;
+mod played;
 mod rows;
+mod scenario;
+mod statements;
 
 use std::process::ExitCode;
+use std::rt::{Env, Files};
+use std::{env, io};
+
+/// Plays what the arguments name, or all that lies here, and tells whether all hold.
+fn run<R: Env + Files + Print + AllocGlobal + Clone + Drop>(rt: &R) -> io::Result<bool> {
+    let mut all = true;
+    let mut is_named = false;
+    for path in env::args(rt)?.skip(1) {
+        is_named = true;
+        all &= folder::play_named(rt, path.as_str())?;
+    }
+    if is_named {
+        Ok(all)
+    } else {
+        folder::play_all(rt)
+    }
+}
 
 fn main(rt: HostRuntime) -> ExitCode {
-    match rows::play_all(&rt) {
+    match run(&rt) {
         Ok(true) => ExitCode::SUCCESS,
         Ok(false) => ExitCode::FAILURE,
         Err(e) => {
-            let _ = eprintln!(&rt; "a row can't be played: {e}");
+            let _ = eprintln!(&rt; "a row or a case can't be played: {e}");
             ExitCode::FAILURE
         }
     }

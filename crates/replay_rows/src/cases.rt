@@ -1,0 +1,178 @@
+//! The play of a case.
+//!
+//! Behind each thing that happens the script up to it is replayed: what that writes more than the replay of the script before it
+//! has to be what is expected there, each effect in its order and no other. So an effect is looked for where it stands, and one
+//! that nobody expects is a difference.
+
+use crate::case_lines::entries;
+use crate::effects::{Effect, first_shown};
+use crate::form::{CaseFault, FormFault};
+use crate::items::push_item;
+use crate::pieces::byte_by_byte;
+use crate::played::Played;
+use crate::scenario::{Said, scenario};
+use crate::statements::Statement;
+use proxy_script::Item;
+use std::alloc::{AllocError, Global};
+use std::str;
+
+/// What the proxy does where a script is replayed; a fault counts as the last effect.
+fn told(alloc: Global, script: &[u8]) -> Result<Vec<u8>, AllocError> {
+    let played = Played::of(alloc, script)?;
+    let mut text = played.text;
+    if played.status != 0 {
+        let (status, line) = (played.status, played.line);
+        let line = format!(in alloc; "stops with status {status}: {line}")?;
+        Effect::Stop(line.as_bytes()).push_text(&mut text)?;
+    }
+    Ok(text)
+}
+
+/// The script that a case spells, and the text of its effects; where the replay stops, the line of that is behind them.
+#[derive(Drop)]
+pub struct Spelled {
+    pub script: Vec<u8>,
+    pub effects: Vec<u8>,
+}
+
+/// A case that is being played.
+struct Play {
+    alloc: Global,
+    /// All that has happened.
+    script: Vec<u8>,
+    /// All that the proxy has done, and what of it was expected.
+    told: Vec<u8>,
+    expected: Vec<u8>,
+    /// The line of what happened last.
+    line: usize,
+}
+
+// By hand, so that a scope that ends is one call to the prover and not the drop of each part.
+impl Drop for Play {
+    fn drop(self) {
+        let Play {
+            alloc: _,
+            script: _,
+            told: _,
+            expected: _,
+            line: _,
+        } = self;
+    }
+}
+
+impl Play {
+    fn new(alloc: Global) -> Play {
+        Play {
+            alloc,
+            script: Vec::new(alloc),
+            told: Vec::new(alloc),
+            expected: Vec::new(alloc),
+            line: 1,
+        }
+    }
+
+    fn into_spelled(self) -> Spelled {
+        let Play {
+            alloc: _,
+            script,
+            told: _,
+            expected: effects,
+            line: _,
+        } = self;
+        Spelled { script, effects }
+    }
+
+    fn differs(&self, line: usize, expected: String, rest: &[u8]) -> CaseFault {
+        match first_shown(self.alloc, rest) {
+            Ok(got) => CaseFault::Differs(line, expected, got),
+            Err(_) => CaseFault::OutOfMemory,
+        }
+    }
+
+    /// What was done behind all that was expected.
+    fn rest(&self) -> Result<&[u8], CaseFault> {
+        let told = self.told.as_slice();
+        match told.strip_prefix(self.expected.as_slice()) {
+            Some(rest) => Ok(rest),
+            None => {
+                let expected = String::from_str(self.alloc, "what the replay before it wrote")?;
+                Err(self.differs(self.line, expected, told))
+            }
+        }
+    }
+
+    /// Nothing more is expected behind what happened last.
+    fn settle(&self) -> Result<(), CaseFault> {
+        let rest = self.rest()?;
+        if rest.is_empty() {
+            return Ok(());
+        }
+        let nothing = String::from_str(self.alloc, "nothing")?;
+        Err(self.differs(self.line, nothing, rest))
+    }
+
+    fn happen(&mut self, line: usize, item: Item<'_>) -> Result<(), CaseFault> {
+        self.settle()?;
+        push_item(&mut self.script, item)?;
+        self.told = told(self.alloc, self.script.as_slice())?;
+        self.line = line;
+        Ok(())
+    }
+
+    fn expect(&mut self, line: usize, effect: Effect<'_>) -> Result<(), CaseFault> {
+        let mut text = Vec::new(self.alloc);
+        effect.push_text(&mut text)?;
+        let rest = self.rest()?;
+        if !rest.starts_with(text.as_slice()) {
+            let expected = effect.shown(self.alloc)?;
+            return Err(self.differs(line, expected, rest));
+        }
+        self.expected.extend_from_slice(text.as_slice())?;
+        Ok(())
+    }
+
+    /// Plays a whole case.
+    fn play(&mut self, said: &[Said<'_>]) -> Result<(), CaseFault> {
+        for one in said {
+            match one.statement {
+                Statement::Happens(item) => self.happen(one.line, item)?,
+                Statement::Expects(effect) => self.expect(one.line, effect)?,
+            }
+        }
+        self.settle()
+    }
+
+    /// Plays what has happened once more with all bytes one at a time. All that is expected comes in one.
+    fn play_cut(&mut self, said: &[Said<'_>]) -> Result<(), CaseFault> {
+        let pieces = byte_by_byte(self.alloc, self.script.as_slice())?;
+        self.told = told(self.alloc, pieces.as_slice())?;
+        self.expected.clear();
+        for one in said {
+            if let Statement::Expects(effect) = one.statement {
+                self.expect(one.line, effect)?;
+            }
+        }
+        self.settle()
+    }
+}
+
+fn text_of(file: &[u8]) -> Result<&str, CaseFault> {
+    match str::from_utf8(file) {
+        Ok(text) => Ok(text),
+        Err(fault) => {
+            let before = file.get(..fault.valid_up_to()).unwrap_or(&[]);
+            let lines = before.iter().filter(|byte| **byte == b'\n').count();
+            Err(CaseFault::Form(lines.saturating_add(1), FormFault::NotUtf8))
+        }
+    }
+}
+
+/// What a file spells that is a case and holds.
+pub fn judge(alloc: Global, file: &[u8]) -> Result<Spelled, CaseFault> {
+    let entries = entries(alloc, text_of(file)?)?;
+    let said = scenario(alloc, entries.as_slice())?;
+    let mut play = Play::new(alloc);
+    play.play(said.as_slice())?;
+    play.play_cut(said.as_slice())?;
+    Ok(play.into_spelled())
+}

@@ -1,0 +1,45 @@
+//! What the replay of a script gives.
+
+use proxy_server::replay;
+use std::alloc::{AllocError, Global};
+
+/// What a replay writes, the line of its fault and the exit status; where it ends well there is no line, and the status is 0.
+#[derive(Drop)]
+pub struct Played {
+    pub text: Vec<u8>,
+    pub line: String,
+    pub status: u8,
+}
+
+impl Played {
+    /// Replays a script.
+    pub fn of(alloc: Global, script: &[u8]) -> Result<Played, AllocError> {
+        let mut reader = script;
+        let mut text = Vec::new(alloc);
+        match replay(alloc, &mut reader, &mut text) {
+            Ok(()) => Ok(Played {
+                text,
+                line: String::new(alloc),
+                status: 0,
+            }),
+            Err(fault) => Ok(Played {
+                text,
+                line: format!(in alloc; "{fault}")?,
+                status: fault.exit_status(),
+            }),
+        }
+    }
+
+    /// The line on standard error and that of the exit status, as they are written down beside a script; nothing where it ends well.
+    pub fn written(&self, alloc: Global) -> Result<(String, String), AllocError> {
+        if self.status == 0 {
+            return Ok((String::new(alloc), String::new(alloc)));
+        }
+        let line = self.line.as_str();
+        let status = self.status;
+        Ok((
+            format!(in alloc; "{line}\n")?,
+            format!(in alloc; "{status}\n")?,
+        ))
+    }
+}
