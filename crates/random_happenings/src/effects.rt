@@ -41,11 +41,15 @@ fn forward<'a>(line: &'a [u8], rest: &'a [u8]) -> Option<(Effect<'a>, &'a [u8])>
 pub fn read_effect(text: &[u8]) -> Option<(Effect<'_>, &[u8])> {
     let (line, rest) = text.split_once_str(b"\n")?;
     let (word, line) = line.split_once_str(b" ")?;
-    match word {
-        b"client" => client(line, rest),
-        b"forward" => forward(line, rest),
-        b"close" => Some((Effect::Close(number_of(line)?), rest)),
-        b"drop" => Some((Effect::Drop(number_of(line)?), rest)),
-        _ => None,
+    if word == b"client".as_slice() {
+        client(line, rest)
+    } else if word == b"forward".as_slice() {
+        forward(line, rest)
+    } else if word == b"close".as_slice() {
+        Some((Effect::Close(number_of(line)?), rest))
+    } else if word == b"drop".as_slice() {
+        Some((Effect::Drop(number_of(line)?), rest))
+    } else {
+        None
     }
 }

@@ -28,8 +28,8 @@ fn tell<R: Print + Eprint>(
 ) -> io::Result<bool> {
     match checked {
         Ok(counts) => {
-            eprintln!(rt; "{counts}")?;
             println!(rt; "{happenings} happenings: the property holds")?;
+            println!(rt; "{counts}")?;
             Ok(true)
         }
         Err(Wrong::OutOfMemory) => {

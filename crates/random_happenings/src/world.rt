@@ -49,7 +49,7 @@ const MOST_ACTS: u32 = 10_000;
 const LAST_MOMENT: u64 = 80_000;
 
 /// Why no script was made.
-#[derive(Debug, Drop)]
+#[derive(Drop)]
 pub enum Stopped {
     OutOfMemory,
     /// The engine refused what happened, or the table.

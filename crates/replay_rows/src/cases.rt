@@ -28,8 +28,14 @@ fn told(alloc: Global, script: &[u8]) -> Result<Vec<u8>, AllocError> {
     Ok(text)
 }
 
-/// A case that is being played.
+/// The script that a case spells, and the text of its effects; where the replay stops, the line of that is behind them.
 #[derive(Drop)]
+pub struct Spelled {
+    pub script: Vec<u8>,
+    pub effects: Vec<u8>,
+}
+
+/// A case that is being played.
 struct Play {
     alloc: Global,
     /// All that has happened.
@@ -41,6 +47,19 @@ struct Play {
     line: usize,
 }
 
+// By hand, so that a scope that ends is one call to the prover and not the drop of each part.
+impl Drop for Play {
+    fn drop(self) {
+        let Play {
+            alloc: _,
+            script: _,
+            told: _,
+            expected: _,
+            line: _,
+        } = self;
+    }
+}
+
 impl Play {
     fn new(alloc: Global) -> Play {
         Play {
@@ -50,6 +69,17 @@ impl Play {
             expected: Vec::new(alloc),
             line: 1,
         }
+    }
+
+    fn into_spelled(self) -> Spelled {
+        let Play {
+            alloc: _,
+            script,
+            told: _,
+            expected: effects,
+            line: _,
+        } = self;
+        Spelled { script, effects }
     }
 
     fn differs(&self, line: usize, expected: String, rest: &[u8]) -> CaseFault {
@@ -137,13 +167,6 @@ fn text_of(file: &[u8]) -> Result<&str, CaseFault> {
     }
 }
 
-/// The script that a case spells, and the text of its effects; where the replay stops, the line of that is behind them.
-#[derive(Drop)]
-pub struct Spelled {
-    pub script: Vec<u8>,
-    pub effects: Vec<u8>,
-}
-
 /// What a file spells that is a case and holds.
 pub fn judge(alloc: Global, file: &[u8]) -> Result<Spelled, CaseFault> {
     let entries = entries(alloc, text_of(file)?)?;
@@ -151,8 +174,5 @@ pub fn judge(alloc: Global, file: &[u8]) -> Result<Spelled, CaseFault> {
     let mut play = Play::new(alloc);
     play.play(said.as_slice())?;
     play.play_cut(said.as_slice())?;
-    Ok(Spelled {
-        script: play.script,
-        effects: play.expected,
-    })
+    Ok(play.into_spelled())
 }

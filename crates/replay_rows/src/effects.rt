@@ -50,13 +50,18 @@ fn forward_at<'a>(line: &'a [u8], rest: &'a [u8]) -> Option<(Effect<'a>, &'a [u8
 fn effect_at(text: &[u8]) -> Option<(Effect<'_>, &[u8])> {
     let (line, rest) = text.split_once_str(b"\n")?;
     let (word, numbers) = line.split_once_str(b" ")?;
-    match word {
-        b"client" => client_at(numbers, rest),
-        b"forward" => forward_at(numbers, rest),
-        b"close" => Some((Effect::Close(number_of(numbers)?), rest)),
-        b"drop" => Some((Effect::Drop(number_of(numbers)?), rest)),
-        b"stops" => Some((Effect::Stop(line), rest)),
-        _ => None,
+    if word == b"client".as_slice() {
+        client_at(numbers, rest)
+    } else if word == b"forward".as_slice() {
+        forward_at(numbers, rest)
+    } else if word == b"close".as_slice() {
+        Some((Effect::Close(number_of(numbers)?), rest))
+    } else if word == b"drop".as_slice() {
+        Some((Effect::Drop(number_of(numbers)?), rest))
+    } else if word == b"stops".as_slice() {
+        Some((Effect::Stop(line), rest))
+    } else {
+        None
     }
 }
 

@@ -95,12 +95,22 @@ pub fn play_all<R: Files + Print + AllocGlobal + Clone + Drop>(rt: &R) -> io::Re
     Ok(all)
 }
 
+/// Whether a file belongs to a row or a case beside it. `rt try` hands a program only the files that its arguments name.
+fn is_beside(path: &str) -> bool {
+    path.ends_with(".effects")
+        || path.ends_with(".stderr")
+        || path.ends_with(".status")
+        || path.ends_with(".refusal")
+}
+
 /// Plays the row or the case that a path names.
 fn play_path<R: Files + Print + AllocGlobal>(rt: &R, path: &str) -> io::Result<bool> {
     if let Some(name) = path.strip_suffix(".case") {
         play_case(rt, name)
     } else if let Some(name) = path.strip_suffix(".script") {
         play_row(rt, name)
+    } else if is_beside(path) {
+        Ok(true)
     } else {
         println!(rt; "{path}: neither a script nor a case")?;
         Ok(false)
