@@ -57,13 +57,16 @@ fn facts_of(
 }
 
 /// What is known, with what a line says besides.
-fn with_line(mut facts: Facts, line: Line<'_>) -> Result<Facts, Fault> {
-    match line.text {
+fn with_part(mut facts: Facts, part: &Part<'_>) -> Result<Facts, Fault> {
+    if part.fields.len() > 0 {
+        return Err(part.head.fault("field lines behind what is known besides"));
+    }
+    match part.head.text {
         "Connection names a cache field" => facts.listed = true,
         "too large" => facts.too_large = true,
         "overtaken" => facts.overtaken = true,
         "no serial left" => facts.no_serial = true,
-        _ => return Err(line.fault("nothing that is known of an answer")),
+        _ => return Err(part.head.fault("nothing that is known of an answer")),
     }
     Ok(facts)
 }
@@ -78,7 +81,7 @@ fn rule_against(
     let directives = Directives::of(alloc, &answered.fields)?;
     let mut facts = facts_of(alloc, asked, &answered.fields, &directives)?;
     for part in known {
-        facts = with_line(facts, part.head)?;
+        facts = with_part(facts, part)?;
     }
     Ok(first_rule_against(asked, &asked_directives, answered, &directives, facts))
 }
