@@ -1,13 +1,15 @@
 //! Steps of the core, one after another, each with what it must give.
 //!
-//! The group's front is the operator's table. A case is a scenario: `at MOMENT, ID asks METHOD PATH`, `at MOMENT, ID is answered
-//! STATUS` or `at MOMENT, ID fails KIND`, the first two perhaps `with content TEXT` and with field lines below; then `gives
-//! forward` or `gives reply` with what is stored, used and removed, and the message below. The answer is the number of steps.
+//! The group's front is the operator's table. A case is a scenario: `at MOMENT, ID asks METHOD PATH`, `at MOMENT, ID is
+//! answered STATUS` or `at MOMENT, ID fails KIND`, the first two perhaps `with content TEXT` and with field lines below; then
+//! `gives forward`, by the table's first line, or `gives reply` with what is stored, used and removed, and the message below.
+//! The answer is the number of steps.
 
 use crate::case_file::Case;
 use crate::field_lines::fields_of;
 use crate::lines::{Fault, Line, push_spelled, spelled};
 use crate::requests::asked_of;
+use crate::tables::text_of;
 use crate::words::fail_kind;
 use case_text::push_shown;
 use hx_allow::Config;
@@ -245,24 +247,24 @@ fn done(
             write_changes(&mut gives, &reply)?;
             difference(alloc, step, gives.as_str(), reply.bytes.as_slice())
         }
-        Ok(Outcome::Forward(_, bytes)) => difference(
-            alloc,
-            step,
-            "gives forward",
-            bytes.as_slice(),
-        ),
+        Ok(Outcome::Forward(1, bytes)) => {
+            difference(alloc, step, "gives forward", bytes.as_slice())
+        }
+        Ok(Outcome::Forward(_, bytes)) => {
+            difference(
+                alloc,
+                step,
+                "gives forward by a later line",
+                bytes.as_slice(),
+            )
+        }
         Ok(Outcome::Ended) => difference(alloc, step, "gives an end", b""),
         Err(_) => difference(alloc, step, "gives a refusal of the core", b""),
     }
 }
 
 fn core_of(alloc: Global, front: &[Line<'_>], case: &Case<'_>) -> Result<Core<ListShelf>, Fault> {
-    let mut table = Vec::new(alloc);
-    for line in front {
-        push_spelled(&mut table, *line, line.text)?;
-        table.push(b'\n').map_err(AllocError::from)?;
-    }
-    match Config::read(alloc, table.as_slice()) {
+    match Config::read(alloc, text_of(alloc, front)?.as_slice()) {
         Ok(config) => {
             let shelf = ListShelf::new(alloc, config.capacity());
             Ok(Core::new(alloc, config, shelf, 1))

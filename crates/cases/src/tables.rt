@@ -40,7 +40,7 @@ fn told(alloc: Global, text: &[u8]) -> Result<String, Fault> {
 }
 
 /// The text of these lines, each with its end.
-fn text_of(alloc: Global, lines: &[Line<'_>]) -> Result<Vec<u8>, Fault> {
+pub fn text_of(alloc: Global, lines: &[Line<'_>]) -> Result<Vec<u8>, Fault> {
     let mut text = Vec::new(alloc);
     for line in lines {
         push_spelled(&mut text, *line, line.text)?;
