@@ -3,8 +3,8 @@
 use crate::case_file::Case;
 use crate::lines::{Fault, Line};
 use crate::{
-    cache_status, passing, reuse, scripts, steps, storing, streams, tables, targets, validation,
-    values,
+    ages, cache_status, passing, reuse, scripts, steps, storing, streams, tables, targets,
+    validation, values,
 };
 use std::alloc::Global;
 
@@ -26,6 +26,8 @@ pub enum Driver {
     Tables,
     ChangedTables,
     Verdicts,
+    Directives,
+    Ages,
     Storing,
     Reuse,
     OnError,
@@ -59,6 +61,8 @@ impl Driver {
             "tables" => Some(Driver::Tables),
             "changed tables" => Some(Driver::ChangedTables),
             "verdicts" => Some(Driver::Verdicts),
+            "directives" => Some(Driver::Directives),
+            "ages" => Some(Driver::Ages),
             "storing" => Some(Driver::Storing),
             "reuse" => Some(Driver::Reuse),
             "reuse on error" => Some(Driver::OnError),
@@ -99,6 +103,8 @@ pub fn answer(
         Driver::Tables => tables::tables(alloc, front, case),
         Driver::ChangedTables => tables::changed_tables(alloc, front, case),
         Driver::Verdicts => tables::verdicts(alloc, front, case),
+        Driver::Directives => ages::directives(alloc, front, case),
+        Driver::Ages => ages::ages(alloc, front, case),
         Driver::Storing => storing::storing(alloc, front, case),
         Driver::Reuse => reuse::reuse(alloc, front, case),
         Driver::OnError => reuse::on_error(alloc, front, case),

@@ -4,6 +4,7 @@
 //! the program runs. A line a file tells how many cases hold, and a line each what doesn't.
 #![tactic(auto)]
 
+mod ages;
 mod cache_status;
 mod case_file;
 mod driver;
