@@ -1,9 +1,9 @@
 //! Steps of the core, one after another, each with what it must give.
 //!
 //! The group's front is the operator's table. A case is a scenario: `at MOMENT, ID asks METHOD PATH`, `at MOMENT, ID is
-//! answered STATUS` or `at MOMENT, ID fails KIND`, the first two perhaps `with content TEXT` and with field lines below; then
-//! `gives forward`, by the table's first line, or `gives reply` with what is stored, used and removed, and the message below.
-//! The answer is the number of steps.
+//! answered STATUS`, `at MOMENT, ID fails KIND` or `at MOMENT, ID is abandoned`, the first two perhaps `with content TEXT` and
+//! with field lines below; then `gives forward`, by the table's first line, `gives reply` with what is stored, used and removed,
+//! each with the message below, `gives refusal` with the core's fault, or `gives an end`. The answer is the number of steps.
 
 use crate::case_file::Case;
 use crate::field_lines::fields_of;
@@ -30,6 +30,8 @@ enum What<'a> {
     Answered(u16, &'a str),
     /// The origin fails.
     Fails(FailKind),
+    /// The client is gone.
+    Abandoned,
 }
 
 /// The moment, the exchange and what happens to it.
@@ -61,6 +63,9 @@ fn what_of(words: &str) -> Option<What<'_>> {
     }
     if let Some(answer) = words.strip_prefix("is answered ") {
         return answered_of(answer);
+    }
+    if words == "is abandoned" {
+        return Some(What::Abandoned);
     }
     Some(What::Fails(fail_kind(words.strip_prefix("fails ")?)?))
 }
@@ -179,10 +184,11 @@ fn outcome_of(
             let response = response_of(alloc, step, status, content)?;
             Ok(answer(alloc, core, happens, &response))
         }
-        What::Fails(_) if !step.fields.is_empty() => Err(
-            step.happens.fault("a failure has no lines"),
+        _ if !step.fields.is_empty() => Err(
+            step.happens.fault("field lines where there is no message"),
         ),
         What::Fails(kind) => Ok(core.fail(alloc, happens.now, happens.id, kind)),
+        What::Abandoned => Ok(core.abandon(happens.id)),
     }
 }
 
@@ -259,7 +265,10 @@ fn done(
             )
         }
         Ok(Outcome::Ended) => difference(alloc, step, "gives an end", b""),
-        Err(_) => difference(alloc, step, "gives a refusal of the core", b""),
+        Err(fault) => {
+            let gives = format!(in alloc; "gives refusal {fault:?}")?;
+            difference(alloc, step, gives.as_str(), b"")
+        }
     }
 }
 

@@ -6,6 +6,5 @@ mod first_run;
 mod held;
 mod replays;
 mod runs;
-mod scripts;
 mod streams;
 mod watches;

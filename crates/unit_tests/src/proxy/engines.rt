@@ -121,28 +121,3 @@ fn numbers_run_out(rt: HostRuntime) -> Result<(), Fail> {
     assert!(&rt; matches!(work(rt.alloc(), &mut engine, 100), Err(EngineFault::Spent)));
     Ok(())
 }
-
-#[test]
-fn unknown_ends_are_refused(rt: HostRuntime) -> Result<(), Fail> {
-    let mut engine = engine(rt.alloc(), 1)?;
-    let wrong = EngineFault::WrongNumber;
-    refuses(&rt, rt.alloc(), &mut engine, Happening::Accept(2), wrong);
-    refuses(
-        &rt,
-        rt.alloc(),
-        &mut engine,
-        Happening::Link(1, b"a"),
-        wrong,
-    );
-    refuses(&rt, rt.alloc(), &mut engine, Happening::Shut(1), wrong);
-    let unknown = EngineFault::NotAccepted;
-    refuses(
-        &rt,
-        rt.alloc(),
-        &mut engine,
-        Happening::Client(3, b""),
-        unknown,
-    );
-    refuses(&rt, rt.alloc(), &mut engine, Happening::Gone(1), unknown);
-    Ok(())
-}

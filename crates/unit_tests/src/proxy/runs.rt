@@ -40,56 +40,6 @@ fn stops(rt: &impl Abort, ran: &Run, count: usize, fault: Option<CoreFault>) {
     assert_eq!(rt; ran.stopped, fault);
 }
 
-fn goes_forward(rt: &impl Abort, ran: &Run, at: usize) {
-    assert!(rt; matches!(ran.outcomes.get(at), Some(Outcome::Forward(1, _))));
-}
-
-fn ends(rt: &impl Abort, ran: &Run, at: usize) {
-    assert!(rt; matches!(ran.outcomes.get(at), Some(Outcome::Ended)));
-}
-
-#[test]
-fn core_faults_id_taken(rt: HostRuntime) -> Result<(), Fail> {
-    let mut events = Vec::new(rt.alloc());
-    arrives(rt.alloc(), &mut events, 0, 7, Method::GET, "/a")?;
-    arrives(rt.alloc(), &mut events, 0, 7, Method::GET, "/a")?;
-    let ran = ran(rt.alloc(), &events)?;
-    stops(&rt, &ran, 1, Some(CoreFault::IdTaken));
-    goes_forward(&rt, &ran, 0);
-    Ok(())
-}
-
-#[test]
-fn core_faults_unknown_id(rt: HostRuntime) -> Result<(), Fail> {
-    let mut events = Vec::new(rt.alloc());
-    answers(rt.alloc(), &mut events, 0, 9)?;
-    let ran = ran(rt.alloc(), &events)?;
-    stops(&rt, &ran, 0, Some(CoreFault::UnknownId));
-    Ok(())
-}
-
-#[test]
-fn core_faults_moment_too_late(rt: HostRuntime) -> Result<(), Fail> {
-    let mut events = Vec::new(rt.alloc());
-    let late = 253_402_300_800;
-    arrives(rt.alloc(), &mut events, late, 1, Method::GET, "/a")?;
-    let ran = ran(rt.alloc(), &events)?;
-    stops(&rt, &ran, 0, Some(CoreFault::MomentTooLate));
-    Ok(())
-}
-
-#[test]
-fn core_faults_late_answer(rt: HostRuntime) -> Result<(), Fail> {
-    let mut events = Vec::new(rt.alloc());
-    arrives(rt.alloc(), &mut events, 0, 7, Method::GET, "/a")?;
-    events.push(Event::Abandon(7))?;
-    answers(rt.alloc(), &mut events, 0, 7)?;
-    let ran = ran(rt.alloc(), &events)?;
-    stops(&rt, &ran, 2, Some(CoreFault::UnknownId));
-    ends(&rt, &ran, 1);
-    Ok(())
-}
-
 /// What is stored by the second exchange is sent when the third fails, and a method that no line allows is denied.
 fn whole_run(alloc: Global) -> Result<Vec<Event>, Fail> {
     let mut events = Vec::new(alloc);
