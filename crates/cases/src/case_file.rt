@@ -51,6 +51,7 @@ pub fn stream_of(alloc: Global, front: &[Line<'_>], case: &Case<'_>) -> Result<V
     }
     for line in front {
         match line.text.split_once('…') {
+            Some(_) if placed => return Err(line.fault("a second … in the group's front")),
             Some((before, behind)) => {
                 push_spelled(&mut bytes, *line, before)?;
                 push_lines(&mut bytes, case.input.as_slice())?;
@@ -134,12 +135,18 @@ impl<'a> Player<'a> {
         Ok(self.front.extend_from_slice(block.body.as_slice())?)
     }
 
-    /// A group begins, or a case is played.
+    /// A group begins, or a case is played. A case whose label begins with a bracket is neither.
     fn take(&mut self, alloc: Global, report: &mut String, block: &Block<'a>) -> Result<(), Fault> {
-        if block.head.text.starts_with('[') {
+        if !block.head.text.starts_with('[') {
+            self.play(alloc, report, block)
+        } else if block.head.text.ends_with(']') && !block.head.text.contains(" -> ") {
             self.begin_group(block)
         } else {
-            self.play(alloc, report, block)
+            Err(
+                block.head.fault(
+                    "a bracket at the left, and no name of a group: write \\x5b in a label",
+                ),
+            )
         }
     }
 }

@@ -1,7 +1,7 @@
 //! Scripts: the item at the front of a text, and whole replays.
 
 use crate::case_file::{Case, stream_of};
-use crate::lines::{Fault, Line, push_spelled};
+use crate::lines::{Fault, Line};
 use crate::words::push_shown_in_brackets;
 use proxy_script::{Failure, Front, Item, read_item};
 use proxy_server::replay;
@@ -38,17 +38,14 @@ fn write_item(text: &mut String, item: Item<'_>) -> Result<(), AllocError> {
     }
 }
 
-fn spelled_by(alloc: Global, lines: &[Line<'_>]) -> Result<Vec<u8>, Fault> {
-    let mut bytes = Vec::new(alloc);
-    for line in lines {
-        push_spelled(&mut bytes, *line, line.text)?;
-    }
-    Ok(bytes)
-}
-
 /// The item at the front of a text, the first of a script or a later one: with its bytes in brackets, and what is behind it.
-pub fn items(alloc: Global, first: bool, case: &Case<'_>) -> Result<String, Fault> {
-    let script = spelled_by(alloc, case.input.as_slice())?;
+pub fn items(
+    alloc: Global,
+    first: bool,
+    front: &[Line<'_>],
+    case: &Case<'_>,
+) -> Result<String, Fault> {
+    let script = stream_of(alloc, front, case)?;
     let mut text = String::new(alloc);
     match read_item(first, script.as_slice()) {
         Front::Found(item, rest) => {
