@@ -11,5 +11,5 @@ pub mod Meaning
 pub mod Driving
 pub mod Naming
 pub mod Sending
-pub mod Turns
+pub mod Pending
 pub mod Validating
