@@ -23,7 +23,7 @@ use Rattle.proxy_core.specs.declared.event.Event.TheVariants.{Arrive, Answer, Fa
 use Rattle.proxy_core.specs.Validating.{is_validation, validated}
 use Rattle.proxy_core.specs.Storing.{is_unasked, key_invalidated}
 use Rattle.proxy_core.specs.Outcomes.{find_exchange, id_of, fallback_for, failed, is_error_status, passed_unless, revalidated, answered, outcome_of, fault_of}
-use Rattle.proxy_core.specs.State.{State, after, open_after, opened, gone_out, invalidated_by}
+use Rattle.proxy_core.specs.State.{State, after, open_after, opened, goes_out, gone_out, invalidated_by}
 use Rattle.proxy_core.specs.Traces.{Item, Accepts}
 use Rattle.proxy_core.specs.Promises.{goes_forward, is_reply, is_arrival, sends_nothing_held, key_by_answer, key_by_step}
 use Rattle.proxy_core.proofs.ExchangeLists.{find-closed, find-push, find-gone_out, find-left_open, found-id, overtaken_by}
@@ -34,7 +34,7 @@ asked_of (Some x) = Some x.asked
 
 -- the exchange that went forward once more
 abbrev pub out_again : ℕ → Exchange → Exchange
-out_again now z = record z { request_time = now; condition = None; overtaken = false }
+out_again now z = goes_out now z.rule None z
 
 -- of a step of the exchange w of its own id, what becomes of the exchange x of an id
 pub data Move (id : ℕ) (w : Option Exchange) (event : Event) (o : Outcome) (x y : Option Exchange) : Type 0 where
@@ -158,9 +158,9 @@ answer_either table es now x r next d = by_304 (is_validation x r)
     again_or_sent None (decision.Hit serial) = refl
     again_or_sent None (decision.Forward rule against) = refl
 
-    by_rescue : (fallback : Fallback) → is_either (failed table es now x BadAnswer (Some r.status) fallback) ≡ true
-    by_rescue (Sends serial detail) = refl
-    by_rescue (Refuses rule error) = refl
+    by_fallback : (fallback : Fallback) → is_either (failed table es now x BadAnswer (Some r.status) fallback) ≡ true
+    by_fallback (Sends serial detail) = refl
+    by_fallback (Refuses rule error) = refl
 
     by_error : (e : Bool) (fallback : Fallback) → is_either (passed_unless table es now x r next e fallback) ≡ true
     by_error true (Sends serial detail) = refl
@@ -169,7 +169,7 @@ answer_either table es now x r next d = by_304 (is_validation x r)
 
     by_unasked : (b : Bool) → is_either (cond b (failed table es now x BadAnswer (Some r.status) (fallback_for es x.asked now d))
         (passed_unless table es now x r next (is_error_status r.status) (fallback_for es x.asked now d))) ≡ true
-    by_unasked true = by_rescue (fallback_for es x.asked now d)
+    by_unasked true = by_fallback (fallback_for es x.asked now d)
     by_unasked false = by_error (is_error_status r.status) (fallback_for es x.asked now d)
 
     by_304 : (b : Bool) → is_either (cond b (revalidated table es now x r (validated es x r now) d)

@@ -38,7 +38,7 @@ used_by (Remove serial) = Some serial
 used_by (Store e) = None
 
 abbrev pub reply_of : PendingReply → Outcome
-reply_of t = Reply (record { bytes = t.bytes; close = t.close; stored = stored_by t.change; used = used_by t.change; removed = t.removed })
+reply_of p = Reply (record { bytes = p.bytes; close = p.close; stored = stored_by p.change; used = used_by p.change; removed = p.removed })
 
 -- the held responses after a change, and after these serials are gone
 abbrev pub entries_by : ℕ → List ℕ → Change → List Stored → List Stored
@@ -50,12 +50,12 @@ entries_by limit removed (Store e) es = take limit (e ∷ without removed es)
 
 -- the core after a pending reply by which the exchange of this id ends, and by which this key may be invalidated
 abbrev pub finished : State → ℕ → PendingReply → Option Key → State
-finished s id t invalidated = record {
+finished s id p invalidated = record {
   table = s.table;
   limit = s.limit;
-  entries = entries_by s.limit t.removed t.change s.entries;
+  entries = entries_by s.limit p.removed p.change s.entries;
   exchanges = left_open invalidated id s.exchanges;
-  next = next_after s.next (stored_by t.change);
+  next = next_after s.next (stored_by p.change);
 }
 
 -- what is stored has the next serial
@@ -66,7 +66,7 @@ IsNext next (Freshen e) = Unit {0}
 IsNext next (Remove serial) = Unit {0}
 IsNext next (Store e) = next ≡ Some e.serial
 
--- and isn't held yet
+-- and isn'p held yet
 abbrev pub IsNew : Change → List Stored → Type 0
 IsNew Keep es = Unit {0}
 IsNew (Use serial) es = Unit {0}
@@ -100,25 +100,25 @@ IsPlain (Store e) = ⊥
 
 -- a pending reply leaves of the held responses what the step leaves of them
 abbrev pub Leaves : ℕ → List Stored → Exchange → Event → PendingReply → Type 0
-Leaves limit es x event t = entries_by limit t.removed t.change es ≡ entries_after limit es (Some x) event (reply_of t)
+Leaves limit es x event p = entries_by limit p.removed p.change es ≡ entries_after limit es (Some x) event (reply_of p)
 
 -- the outcome of an answer: the exchange ends, or goes forward once more
 abbrev pub outcome_after : Exchange → AfterAnswer → Outcome
-outcome_after x (Ends t) = reply_of t
+outcome_after x (Ends p) = reply_of p
 outcome_after x (GoesOn bytes) = Forward x.line bytes
 
 -- what an answer leaves where the exchange ends by it
 abbrev pub AfterLeaves : ℕ → List Stored → Exchange → Event → AfterAnswer → Type 0
-AfterLeaves limit es x event (Ends t) = Leaves limit es x event t
+AfterLeaves limit es x event (Ends p) = Leaves limit es x event p
 AfterLeaves limit es x event (GoesOn bytes) = Unit {0}
 
 -- what an answer stores has the next serial, and what it freshens is held
 abbrev pub AfterFits : Option ℕ → List Stored → AfterAnswer → Type 0
-AfterFits next es (Ends t) = IsNext next t.change × IsHeld t.change es
+AfterFits next es (Ends p) = IsNext next p.change × IsHeld p.change es
 AfterFits next es (GoesOn bytes) = Unit {0}
 
 abbrev pub IsPlainAfter : AfterAnswer → Type 0
-IsPlainAfter (Ends t) = IsPlain t.change
+IsPlainAfter (Ends p) = IsPlain p.change
 IsPlainAfter (GoesOn bytes) = Unit {0}
 
 -- a freshened response is kept, or let go
