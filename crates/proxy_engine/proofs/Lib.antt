@@ -14,4 +14,5 @@ pub mod Stepping
 pub mod Wires
 pub mod Ordering
 pub mod Living
+pub mod Doing
 pub mod Staying

@@ -26,6 +26,9 @@ mod wishes;
 
 pub use crate::engine::Engine;
 pub use crate::happening::{EngineFault, Happening, Work};
-pub use crate::laws::{due_once, effects_name_open_ends, lives_are_runs, what_ends_stays_ended};
+pub use crate::laws::{
+    a_life_has_one_trace, an_act_is_done_in_one_way, due_once, effects_name_open_ends,
+    lives_are_runs, what_ends_stays_ended,
+};
 pub use crate::request_watch::RequestWatch;
 pub use crate::response_watch::ResponseWatch;
