@@ -16,3 +16,4 @@ pub mod Ordering
 pub mod Living
 pub mod Doing
 pub mod Staying
+pub mod Dropping

@@ -2,6 +2,7 @@
 ghost use Rattle.std.specs.Prelude.{◌≡◌, Option};
 ghost use Rattle.proxy_engine.specs.Story.{Story};
 ghost use Rattle.proxy_engine.specs.Due.{Act, IsDueFirst};
+ghost use Rattle.proxy_engine.specs.Drops.{ActsAreShort, ActsTellDrops, TakesDropNone};
 ghost use Rattle.proxy_engine.specs.Lives.{ActsInOneWay, HasOneTrace, LivesAreRuns};
 ghost use Rattle.proxy_engine.specs.Orderly.{BeginsOrderly, TakesInOrder, ActsInOrder, TakesStay, ActsStay};
 
@@ -24,6 +25,17 @@ pub fn effects_name_open_ends()
 pub fn what_ends_stays_ended()
     ensures takes { TakesStay }
     ensures acts { ActsStay }
+{}
+
+/// An act has three effects at most: it drops one link at most, and does so first.
+pub fn an_act_has_three_effects_at_most()
+    ensures { ActsAreShort }
+{}
+
+/// A link that is dropped was dropped by an act that told it; what happens drops none.
+pub fn each_drop_is_told()
+    ensures acts { ActsTellDrops }
+    ensures takes { TakesDropNone }
 {}
 
 /// An act that is done has one story behind it, and its effects.
