@@ -5,3 +5,4 @@ pub mod Playing
 pub mod Running
 pub mod OnePlay
 pub mod Behind
+pub mod Overs

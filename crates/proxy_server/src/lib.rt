@@ -15,6 +15,9 @@ pub mod program;
 mod steps;
 
 pub use crate::faults::ReplayFault;
-pub use crate::laws::{a_play_is_a_run, a_script_has_one_play, nothing_follows_a_close};
+pub use crate::laws::{
+    a_play_is_a_run, a_script_has_one_play, each_link_is_dropped_once, nothing_follows_a_close,
+    nothing_follows_a_gone,
+};
 pub use crate::memory::replayed;
 pub use crate::play::replay;
