@@ -12,6 +12,7 @@ mod laws;
 mod memory;
 mod play;
 pub mod program;
+mod shelves;
 mod steps;
 
 pub use crate::faults::ReplayFault;

@@ -10,7 +10,7 @@ ghost use Rattle.proxy_server.specs.Steps.{Settled, Told, Untold};
 use crate::bytes::put;
 use crate::faults::ReplayFault;
 use hx_status::FailKind;
-use hx_store::ListShelf;
+use hx_store::Shelf;
 use proxy_engine::{Engine, EngineFault, Happening, Work};
 use proxy_script::{Effect, Failure, Item, effects_text};
 use std::alloc::Global;
@@ -54,9 +54,9 @@ pub(crate) fn moment_after(now: u64, item: Item<'_>) -> u64
 }
 
 /// Does all that is due, and gives the effects in order.
-fn settle(
+fn settle<S: Shelf>(
     alloc: Global,
-    engine: &mut Engine<ListShelf>,
+    engine: &mut Engine<S>,
     now: u64,
 ) -> Result<Vec<Effect>, EngineFault>
     requires { now < 253402300800 }
@@ -80,9 +80,9 @@ fn settle(
 }
 
 /// Takes what happened, does what is then due, and writes the text of it whole.
-fn tell<W: Write>(
+fn tell<S: Shelf, W: Write>(
     alloc: Global,
-    engine: &mut Engine<ListShelf>,
+    engine: &mut Engine<S>,
     now: u64,
     happening: Happening<'_>,
     writer: &mut W,
@@ -110,9 +110,9 @@ fn tell<W: Write>(
 }
 
 /// Plays an item at the moment that stands behind it.
-pub(crate) fn play_item<W: Write>(
+pub(crate) fn play_item<S: Shelf, W: Write>(
     alloc: Global,
-    engine: &mut Engine<ListShelf>,
+    engine: &mut Engine<S>,
     now: u64,
     item: Item<'_>,
     writer: &mut W,
