@@ -18,13 +18,13 @@ find-map f k id (x ∷ xs) =
       | false ↦ find-map f k id xs
     ]
 
-gone_out-id : (i now : ℕ) (x : Exchange) → (gone_out i now x).id ≡ x.id
+pub gone_out-id : (i now : ℕ) (x : Exchange) → (gone_out i now x).id ≡ x.id
 gone_out-id i now x = elim (eqb x.id i) as (λ b. (cond b (record x { request_time = now; condition = None; overtaken = false }) x).id ≡ x.id) [
   | true ↦ refl
   | false ↦ refl
 ]
 
-overtake-id : (key : Key) (x : Exchange) → (overtake key x).id ≡ x.id
+pub overtake-id : (key : Key) (x : Exchange) → (overtake key x).id ≡ x.id
 overtake-id key x = elim (same_key x.asked.target.key key) as (λ b. (cond b (record x { overtaken = true }) x).id ≡ x.id) [
   | true ↦ refl
   | false ↦ refl
@@ -46,19 +46,19 @@ collapse : (b : Bool) (o p q : Option Exchange) → cond b o (cond b p q) ≡ co
 collapse true o p q = refl
 collapse false o p q = refl
 
-swap : (a b : Bool) (p q r : Option Exchange) → (a ≡ true → b ≡ false) → cond a p (cond b q r) ≡ cond b q (cond a p r)
+pub swap : {X : Type 0} (a b : Bool) (p q r : Option X) → (a ≡ true → b ≡ false) → cond a p (cond b q r) ≡ cond b q (cond a p r)
 swap true b p q r h = sym (ap (λ b. cond b q p) (h refl))
 swap false b p q r h = refl
 
-cond_none : (b : Bool) (y : Exchange) (o : Option Exchange) → cond b (Some y) o ≡ None → (b ≡ false) × (o ≡ None)
+pub cond_none : {X : Type 0} (b : Bool) (y : X) (o : Option X) → cond b (Some y) o ≡ None → (b ≡ false) × (o ≡ None)
 cond_none true y o h = absurd (cc)
 cond_none false y o h = (refl, h)
 
-nones : (b : Bool) → ◌≡◌ {A = Option Exchange} None (cond b None None)
+pub nones : {X : Type 0} (b : Bool) → ◌≡◌ {A = Option X} None (cond b None None)
 nones true = refl
 nones false = refl
 
-not_both : (a b id : ℕ) → eqb a b ≡ false → eqb a id ≡ true → eqb b id ≡ false
+pub not_both : (a b id : ℕ) → eqb a b ≡ false → eqb a id ≡ true → eqb b id ≡ false
 not_both a b id h k = false_from_ne_true _ (λ q. false≢true (sym h ∙ eq-eqb a b (eqb-true a id k ∙ sym (eqb-true b id q))))
 
 pub find-closed : (i id : ℕ) (xs : List Exchange) → find_exchange id (closed i xs) ≡ cond (eqb i id) None (find_exchange id xs)

@@ -4,6 +4,7 @@ pub mod Stepping
 pub mod Storable
 pub mod Tracing
 pub mod ExchangeLists
+pub mod Arrivals
 pub mod Moves
 pub mod TwiceForward
 pub mod HeldEntries

@@ -3,6 +3,7 @@ pub mod Replies
 pub mod Storing
 pub mod Outcomes
 pub mod State
+pub mod Arrivals
 pub mod Traces
 pub mod Histories
 pub mod Promises

@@ -9,7 +9,6 @@ ghost use Rattle.proxy_core.specs.State.{Steps, Refuses};
 ghost use Rattle.proxy_core.specs.Turns.{reply_of, IsNext, Makes, outcome_of_course, CourseLeaves, CourseFits};
 
 use crate::exchange::Exchange;
-use crate::exchange_list;
 use crate::failing::{rescue, send_after, turn_after_failure};
 use crate::fault::CoreFault;
 use crate::moments::moment_fault;
@@ -179,7 +178,7 @@ impl<S: Shelf> Core<S> {
         ensures err { IfErr result (λ fault. Refuses self.old (Answer now id response.now) fault) }
         ensures unchanged { OnErr result (self.new ≡ self.old) }
     {
-        let x = match exchange_list::find(self.exchanges.as_slice(), id) {
+        let x = match self.exchanges.find(id) {
             Some(x) => x,
             None => return Err(CoreFault::UnknownId),
         };

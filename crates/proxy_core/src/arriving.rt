@@ -2,7 +2,7 @@
 ghost use Rattle.std.specs.Prelude.{◌≡◌, ◌<◌, ◌++◌, ◌∷◌, [], false, Some, None, IfOk, IfErr, OnOk, OnErr, option_copied};
 ghost use Rattle.hx_directives.specs.Occurrences.{occurrences_of};
 ghost use Rattle.hx_reuse.specs.Rules.{decision_of};
-ghost use Rattle.proxy_core.specs.Outcomes.{sent, refused, allowed, unanswered, forward_text, is_only_if_cached};
+ghost use Rattle.proxy_core.specs.Outcomes.{find_exchange, sent, refused, allowed, unanswered, forward_text, is_only_if_cached};
 ghost use Rattle.proxy_core.specs.Validating.{sent_with};
 ghost use Rattle.proxy_core.specs.declared.event.Event.TheVariants.{Arrive};
 ghost use Rattle.proxy_core.specs.State.{Steps, Refuses, after};
@@ -10,7 +10,6 @@ ghost use Rattle.proxy_core.specs.Turns.{reply_of, stored_by};
 
 use crate::condition::Condition;
 use crate::exchange::Exchange;
-use crate::exchange_list;
 use crate::fault::CoreFault;
 use crate::handling::Handling;
 use crate::judging::judge_by;
@@ -137,7 +136,7 @@ impl<S: Shelf> Core<S> {
         ensures err { IfErr result (λ fault. Refuses self.old (Arrive now id asked.now) fault) }
         ensures unchanged { OnErr result (self.new ≡ self.old) }
     {
-        match exchange_list::find(self.exchanges.as_slice(), id) {
+        match self.exchanges.find(id) {
             Some(_) => return Err(CoreFault::IdTaken),
             None => {}
         }
@@ -164,7 +163,8 @@ impl<S: Shelf> Core<S> {
         asked: &Asked,
         line: u16,
     ) -> Result<Outcome, AllocError>
-        requires { now < 253_402_300_800 }
+        requires early { now < 253_402_300_800 }
+        requires free { find_exchange id self.old.exchanges ≡ None }
         ensures outcome { IfOk result (λ outcome. outcome ≡ allowed self.old.table self.old.entries line now asked.now (decision_of self.old.entries asked.now now)) }
         ensures after { IfOk result (λ outcome. self.new ≡ after self.old (Arrive now id asked.now) outcome) }
         ensures unchanged { OnErr result (self.new ≡ self.old) }
@@ -198,6 +198,7 @@ impl<S: Shelf> Core<S> {
         rule: ReuseRule,
         condition: Option<Condition>,
     ) -> Result<Outcome, AllocError>
+        requires { find_exchange id self.old.exchanges ≡ None }
         ensures outcome { IfOk result (λ outcome. outcome ≡ Outcome.Forward line (forward_text self.old.table asked.now condition)) }
         ensures after { OnOk result (self.new ≡ record self.old { exchanges = self.old.exchanges ++ record { id = id; asked = asked.now; line = line; rule = rule; request_time = now; condition = condition; overtaken = false } ∷ [] }) }
         ensures unchanged { OnErr result (self.new ≡ self.old) }
@@ -212,7 +213,7 @@ impl<S: Shelf> Core<S> {
             condition,
             overtaken: false,
         };
-        self.exchanges.push(exchange)?;
+        self.exchanges.open(exchange)?;
         Ok(Outcome::Forward(line, bytes))
     }
 }

@@ -9,7 +9,6 @@ ghost use Rattle.proxy_core.specs.Turns.{reply_of, IsPlain};
 
 use crate::arriving::{refuse, send};
 use crate::exchange::Exchange;
-use crate::exchange_list;
 use crate::fault::CoreFault;
 use crate::handling::Handling;
 use crate::judging::judge_by;
@@ -137,7 +136,7 @@ impl<S: Shelf> Core<S> {
         ensures err { IfErr result (λ fault. Refuses self.old (Fail now id kind) fault) }
         ensures unchanged { OnErr result (self.new ≡ self.old) }
     {
-        let x = match exchange_list::find(self.exchanges.as_slice(), id) {
+        let x = match self.exchanges.find(id) {
             Some(x) => x,
             None => return Err(CoreFault::UnknownId),
         };

@@ -4,7 +4,6 @@ ghost use Rattle.hx_store.specs.Shelf.{holds, without};
 ghost use Rattle.proxy_core.specs.State.{taken, next_after, gone_out};
 ghost use Rattle.proxy_core.specs.Turns.{reply_of, entries_by, turned, IsNext, IsNew, IsHeld};
 
-use crate::exchange_list;
 use crate::outcome::{Outcome, Reply};
 use crate::proxy::Core;
 use crate::serial_numbers::serial_after;
@@ -85,7 +84,7 @@ impl<S: Shelf> Core<S> {
         ensures outcome { result ≡ Outcome.Forward line bytes }
         ensures after { self.new ≡ record self.old { exchanges = map (gone_out id now) self.old.exchanges } }
     {
-        exchange_list::go_out(self.exchanges.as_mut_slice(), id, now);
+        self.exchanges.go_out(id, now);
         Outcome::Forward(line, bytes)
     }
 
@@ -115,7 +114,7 @@ impl<S: Shelf> Core<S> {
             Ok(()) => {}
             Err(error) => return Err(error),
         }
-        exchange_list::leave(&mut self.exchanges, id, invalidated.as_ref());
+        self.exchanges.leave(id, invalidated.as_ref());
         self.next = next_after(self.next, stored);
         Ok(Outcome::Reply(Reply {
             bytes,

@@ -14,7 +14,7 @@ mod arriving;
 mod condition;
 mod event;
 mod exchange;
-mod exchange_list;
+mod exchanges;
 mod failing;
 mod fault;
 mod finishing;

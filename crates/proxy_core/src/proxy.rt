@@ -6,7 +6,7 @@ ghost use Rattle.proxy_core.specs.State.{State, Steps, Refuses};
 
 use crate::event::Event;
 use crate::exchange::Exchange;
-use crate::exchange_list;
+use crate::exchanges::Exchanges;
 use crate::fault::CoreFault;
 use crate::moments::moment_fault;
 use crate::outcome::Outcome;
@@ -19,7 +19,7 @@ use std::marker::Model;
 pub struct Core<S: Shelf> {
     pub(crate) config: Config,
     pub(crate) shelf: S,
-    pub(crate) exchanges: Vec<Exchange>,
+    pub(crate) exchanges: Exchanges,
     pub(crate) next: Option<u64>,
 }
 
@@ -40,7 +40,7 @@ impl<S: Shelf> Model for Core<S> {
 
     ghost Value = { State };
 
-    ghost view = { λ c. record { table = c.config; limit = S.limit c.shelf; entries = S.entries c.shelf; exchanges = c.exchanges.items; next = c.next } };
+    ghost view = { λ c. record { table = c.config; limit = S.limit c.shelf; entries = S.entries c.shelf; exchanges = c.exchanges; next = c.next } };
 
     ghost invariant = { λ c. NoneFrom c.next (S.entries c.shelf) };
 }
@@ -54,7 +54,7 @@ impl<S: Shelf> Core<S> {
         Core {
             config,
             shelf,
-            exchanges: Vec::new(alloc),
+            exchanges: Exchanges::new(alloc),
             next: Some(first_serial),
         }
     }
@@ -70,7 +70,7 @@ impl<S: Shelf> Core<S> {
     pub fn exchange(&self, id: u64) -> Option<&Exchange>
         ensures { option_copied result ≡ find_exchange id self.now.exchanges }
     {
-        exchange_list::find(self.exchanges.as_slice(), id)
+        self.exchanges.find(id)
     }
 
     /// The least fault that stands at an event, want of memory aside.
@@ -78,19 +78,19 @@ impl<S: Shelf> Core<S> {
         ensures { result ≡ fault_by self.now.exchanges event.now }
     {
         match event {
-            Event::Arrive(now, id, _) => match exchange_list::find(self.exchanges.as_slice(), *id) {
+            Event::Arrive(now, id, _) => match self.exchanges.find(*id) {
                 Some(_) => Some(CoreFault::IdTaken),
                 None => moment_fault(*now),
             },
-            Event::Answer(now, id, _) => match exchange_list::find(self.exchanges.as_slice(), *id) {
+            Event::Answer(now, id, _) => match self.exchanges.find(*id) {
                 Some(_) => moment_fault(*now),
                 None => Some(CoreFault::UnknownId),
             },
-            Event::Fail(now, id, _) => match exchange_list::find(self.exchanges.as_slice(), *id) {
+            Event::Fail(now, id, _) => match self.exchanges.find(*id) {
                 Some(_) => moment_fault(*now),
                 None => Some(CoreFault::UnknownId),
             },
-            Event::Abandon(id) => match exchange_list::find(self.exchanges.as_slice(), *id) {
+            Event::Abandon(id) => match self.exchanges.find(*id) {
                 Some(_) => None,
                 None => Some(CoreFault::UnknownId),
             },
@@ -103,10 +103,10 @@ impl<S: Shelf> Core<S> {
         ensures err { IfErr result (λ fault. fault_by self.old.exchanges (Abandon id) ≡ Some fault) }
         ensures unchanged { OnErr result (self.new ≡ self.old) }
     {
-        match exchange_list::find(self.exchanges.as_slice(), id) {
+        match self.exchanges.find(id) {
             None => Err(CoreFault::UnknownId),
             Some(_) => {
-                exchange_list::close(&mut self.exchanges, id);
+                self.exchanges.close(id);
                 Ok(Outcome::Ended)
             }
         }
