@@ -49,7 +49,7 @@ const MOST_ACTS: u32 = 10_000;
 const LAST_MOMENT: u64 = 80_000;
 
 /// Why no script was made.
-#[derive(Drop)]
+#[derive(Clone, Copy)]
 pub enum Stopped {
     OutOfMemory,
     /// The engine refused what happened, or the table.
@@ -84,7 +84,6 @@ impl fmt::Display for Stopped {
 }
 
 /// An open connection of a client.
-#[derive(Drop)]
 struct Caller {
     number: u64,
     /// How many requests it has begun.
@@ -93,8 +92,18 @@ struct Caller {
     rest: Vec<u8>,
 }
 
+// By hand, here and below, so that a scope that ends is one call to the prover and not the drop of each part.
+impl Drop for Caller {
+    fn drop(self) {
+        let Caller {
+            number: _,
+            begun: _,
+            rest: _,
+        } = self;
+    }
+}
+
 /// An open link to an origin.
-#[derive(Drop)]
 struct Link {
     number: u64,
     question: Question,
@@ -103,7 +112,17 @@ struct Link {
     rest: Vec<u8>,
 }
 
-#[derive(Drop)]
+impl Drop for Link {
+    fn drop(self) {
+        let Link {
+            number: _,
+            question: _,
+            has_begun: _,
+            rest: _,
+        } = self;
+    }
+}
+
 pub struct World {
     alloc: Global,
     dice: Dice,
@@ -114,6 +133,22 @@ pub struct World {
     accepted: u64,
     forwarded: u64,
     log: Log,
+}
+
+impl Drop for World {
+    fn drop(self) {
+        let World {
+            alloc: _,
+            dice: _,
+            engine: _,
+            now: _,
+            callers: _,
+            links: _,
+            accepted: _,
+            forwarded: _,
+            log: _,
+        } = self;
+    }
 }
 
 /// The next piece of what is to be sent, often all of it.
@@ -153,7 +188,18 @@ impl World {
 
     /// What happened, and what was done.
     pub fn into_log(self) -> Log {
-        self.log
+        let World {
+            alloc: _,
+            dice: _,
+            engine: _,
+            now: _,
+            callers: _,
+            links: _,
+            accepted: _,
+            forwarded: _,
+            log,
+        } = self;
+        log
     }
 
     /// One more happening.
