@@ -236,10 +236,10 @@ module _ (takes_order : TakesInOrder) (acts_order : ActsInOrder) (takes_stay : T
       by_closed true e same = inl (ap (λ (c : ConnStory). c.closed) same ∙ ap (λ b. (cond b (connection_at s (n - 1)) (record (connection_at s (n - 1)) { gone = true })).closed) e ∙ e)
       by_closed false e same = inr (ap (λ (c : ConnStory). c.gone) same ∙ ap (λ b. (cond b (connection_at s (n - 1)) (record (connection_at s (n - 1)) { gone = true })).gone) e)
 
-  pub nothing_follows_a_gone : (a : Scene) (items more : List Item) (n : ℕ) (told : List Effect) (c : Scene) → Plays a (items ++ item.Leaves n ∷ more) told c → IsOrderly a.story →
+  pub nothing_follows_a_gone : (a : Scene) (items more : List Item) (n : ℕ) (told : List Effect) (c : Scene) → Plays a (items ++ item.Happens (Leaves n) ∷ more) told c → IsOrderly a.story →
       (before behind : List Effect) × (there : Scene) × Plays a items before there × (told ≡ before ++ behind) × NeverNames client_of n behind
   nothing_follows_a_gone a items more n told c h o =
-      let p = parted items (item.Leaves n ∷ more) a told c h in
+      let p = parted items (item.Happens (Leaves n) ∷ more) a told c h in
       let orderly = plays_orderly items a p.before p.there p.plays o in
       let one = p.others.3.happened in
       let shut = gone_shut p.there.story n one.free in

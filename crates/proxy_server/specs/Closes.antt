@@ -8,6 +8,7 @@ use Rattle.std.specs.List.{AllByRecursion}
 use Rattle.hx_allow.specs.Lines.{Table}
 use Rattle.proxy_script.specs.Script.{Said as Item}
 use Rattle.proxy_script.specs.Script as item
+use Rattle.proxy_script.specs.Happenings as happening
 use Rattle.proxy_script.specs.declared.effect_list.Effect.{Effect}
 use Rattle.proxy_script.specs.declared.effect_list.Effect.TheVariants as effects
 use Rattle.proxy_engine.specs.Drops.{drop_of}
@@ -77,7 +78,7 @@ NothingFollowsAClose = (table : Table) (items : List Item) (told : List Effect) 
 
 abbrev pub NothingFollowsAGone : Type 0
 NothingFollowsAGone = (table : Table) (items more : List Item) (n : ℕ) (told : List Effect) (last : Scene) →
-    Plays (beginning table) (items ++ item.Leaves n ∷ more) told last → IsSilentBehind table items n told
+    Plays (beginning table) (items ++ item.Happens (happening.Leaves n) ∷ more) told last → IsSilentBehind table items n told
 
 abbrev pub EachLinkIsDroppedOnce : Type 0
 EachLinkIsDroppedOnce = (table : Table) (items : List Item) (told : List Effect) (last : Scene) → Plays (beginning table) items told last → IsDroppedOnce told last.story

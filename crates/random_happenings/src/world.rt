@@ -3,13 +3,14 @@ ghost use Rattle.std.specs.Prelude.{◌<◌};
 
 use crate::answers::{Question, push_answer};
 use crate::dice::Dice;
-use crate::items::{happening, push_item};
+use crate::items::push_item;
 use crate::log::{Log, Step, Told};
 use crate::requests::{Asked, push_request};
 use hx_allow::Config;
+use hx_status::FailKind;
 use hx_store::ListShelf;
 use proxy_engine::{Engine, EngineFault, Work};
-use proxy_script::{Effect, Failure, Item, effects_text};
+use proxy_script::{Effect, Happening, Item, effects_text};
 use std::alloc::{AllocError, Global};
 use std::{fmt, mem};
 
@@ -249,7 +250,7 @@ impl World {
             rest: Vec::new(self.alloc),
         };
         self.callers.push(caller).map_err(AllocError::from)?;
-        self.happen(Item::Accept(number), Told::Accepted(number))
+        self.happen(Happening::Accept(number), Told::Accepted(number))
     }
 
     /// A client sends a piece of a request, of a new one where the last was sent whole.
@@ -268,7 +269,7 @@ impl World {
         }
         let number = caller.number;
         let piece = cut_piece(&mut self.dice, &mut caller.rest)?;
-        self.happen(Item::Client(number, piece.as_slice()), Told::Other)
+        self.happen(Happening::Client(number, piece.as_slice()), Told::Other)
     }
 
     /// An origin sends a piece of its answer, and closes where all of it was sent.
@@ -284,10 +285,10 @@ impl World {
             push_answer(&mut text, &mut self.dice, &link.question)?;
             link.rest.extend_from_slice(text.as_bytes())?;
         } else if link.rest.is_empty() {
-            return self.happen(Item::Shut(number), Told::Other);
+            return self.happen(Happening::Shut(number), Told::Other);
         }
         let piece = cut_piece(&mut self.dice, &mut link.rest)?;
-        self.happen(Item::Link(number, piece.as_slice()), Told::Other)
+        self.happen(Happening::Link(number, piece.as_slice()), Told::Other)
     }
 
     /// A client sends no more, or goes away.
@@ -298,10 +299,10 @@ impl World {
         };
         let number = caller.number;
         if self.dice.once_in(2) {
-            return self.happen(Item::End(number), Told::Other);
+            return self.happen(Happening::End(number), Told::Other);
         }
         self.callers.retain(|caller| caller.number != number);
-        self.happen(Item::Gone(number), Told::Gone(number))
+        self.happen(Happening::Gone(number), Told::Gone(number))
     }
 
     /// A link fails, or its origin closes it.
@@ -311,13 +312,13 @@ impl World {
             return self.client_sends();
         };
         let number = link.number;
-        let item = match self.dice.below(4) {
-            0 => Item::Fail(number, Failure::Refused),
-            1 => Item::Fail(number, Failure::TimedOut),
-            2 => Item::Fail(number, Failure::Closed),
-            _ => Item::Shut(number),
+        let happening = match self.dice.below(4) {
+            0 => Happening::Fail(number, FailKind::Refused),
+            1 => Happening::Fail(number, FailKind::TimedOut),
+            2 => Happening::Fail(number, FailKind::Closed),
+            _ => Happening::Shut(number),
         };
-        self.happen(item, Told::Other)
+        self.happen(happening, Told::Other)
     }
 
     /// Something happens at an end that is over.
@@ -327,24 +328,22 @@ impl World {
         let is_open = self.callers.iter().any(|caller| caller.number == n);
         let is_linked = self.forwarded == 0 || self.links.iter().any(|link| link.number == l);
         match self.dice.below(6) {
-            0 if !is_open => self.happen(Item::Client(n, b"GET /late HTTP/1.1\r\n"), Told::Other),
-            1 if !is_open => self.happen(Item::End(n), Told::Other),
-            2 if !is_open => self.happen(Item::Gone(n), Told::Gone(n)),
-            3 if !is_linked => self.happen(Item::Fail(l, Failure::Closed), Told::Other),
-            4 if !is_linked => self.happen(Item::Shut(l), Told::Other),
-            _ if !is_linked => self.happen(Item::Link(l, b"late"), Told::Other),
+            0 if !is_open => self.happen(Happening::Client(n, b"GET /late HTTP/1.1\r\n"), Told::Other),
+            1 if !is_open => self.happen(Happening::End(n), Told::Other),
+            2 if !is_open => self.happen(Happening::Gone(n), Told::Gone(n)),
+            3 if !is_linked => self.happen(Happening::Fail(l, FailKind::Closed), Told::Other),
+            4 if !is_linked => self.happen(Happening::Shut(l), Told::Other),
+            _ if !is_linked => self.happen(Happening::Link(l, b"late"), Told::Other),
             _ => self.client_sends(),
         }
     }
 
     /// Writes what happened, and takes it.
-    fn happen(&mut self, item: Item<'_>, told: Told) -> Result<(), Stopped> {
-        push_item(&mut self.log.script, item)?;
+    fn happen(&mut self, happening: Happening<'_>, told: Told) -> Result<(), Stopped> {
+        push_item(&mut self.log.script, Item::Happens(happening))?;
         let before = self.log.effects.len();
-        if let Some(happening) = happening(item) {
-            self.engine.take(self.alloc, happening)?;
-            self.settle()?;
-        }
+        self.engine.take(self.alloc, happening)?;
+        self.settle()?;
         let length = self.log.effects.len().saturating_sub(before);
         self.log
             .steps

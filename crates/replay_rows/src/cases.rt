@@ -141,7 +141,7 @@ impl Play {
     fn play(&mut self, said: &[Said<'_>]) -> Result<(), CaseFault> {
         for one in said {
             match one.statement {
-                Statement::Happens(item) => self.happen(one.line, item)?,
+                Statement::Plays(item) => self.happen(one.line, item)?,
                 Statement::Expects(effect) => self.expect(one.line, effect)?,
             }
         }
