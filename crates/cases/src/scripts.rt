@@ -3,15 +3,35 @@
 use crate::case_file::{Case, stream_of};
 use crate::lines::{Fault, Line};
 use crate::words::push_shown_in_brackets;
-use proxy_script::{Failure, Front, Item, read_item};
+use hx_status::FailKind;
+use proxy_script::{Front, Happening, Item, read_item};
 use proxy_server::replay;
 use std::alloc::{AllocError, Global};
 
-fn failure_word(failure: Failure) -> &'static str {
-    match failure {
-        Failure::Refused => "refused",
-        Failure::TimedOut => "timed-out",
-        Failure::Closed => "closed",
+/// The word of a link's failure.
+fn failure_word(kind: FailKind) -> &'static str {
+    match kind {
+        FailKind::Refused => "refused",
+        FailKind::TimedOut => "timed-out",
+        _ => "closed",
+    }
+}
+
+fn write_happening(text: &mut String, happening: Happening<'_>) -> Result<(), AllocError> {
+    match happening {
+        Happening::Accept(client) => write!(text, "accept {client}"),
+        Happening::Client(client, bytes) => {
+            write!(text, "client {client} ")?;
+            push_shown_in_brackets(text, bytes)
+        }
+        Happening::Link(link, bytes) => {
+            write!(text, "link {link} ")?;
+            push_shown_in_brackets(text, bytes)
+        }
+        Happening::End(client) => write!(text, "end {client}"),
+        Happening::Gone(client) => write!(text, "gone {client}"),
+        Happening::Shut(link) => write!(text, "shut {link}"),
+        Happening::Fail(link, kind) => write!(text, "fail {link} {}", failure_word(kind)),
     }
 }
 
@@ -22,19 +42,7 @@ fn write_item(text: &mut String, item: Item<'_>) -> Result<(), AllocError> {
             push_shown_in_brackets(text, table)
         }
         Item::At(moment) => write!(text, "at {moment}"),
-        Item::Accept(client) => write!(text, "accept {client}"),
-        Item::Client(client, bytes) => {
-            write!(text, "client {client} ")?;
-            push_shown_in_brackets(text, bytes)
-        }
-        Item::Link(link, bytes) => {
-            write!(text, "link {link} ")?;
-            push_shown_in_brackets(text, bytes)
-        }
-        Item::End(client) => write!(text, "end {client}"),
-        Item::Gone(client) => write!(text, "gone {client}"),
-        Item::Shut(link) => write!(text, "shut {link}"),
-        Item::Fail(link, failure) => write!(text, "fail {link} {}", failure_word(failure)),
+        Item::Happens(happening) => write_happening(text, happening),
     }
 }
 

@@ -4,10 +4,9 @@ use Rattle.hx_allow.specs.Lines.{Table}
 use Rattle.proxy_core.specs.State.{State, Steps, after}
 use Rattle.proxy_core.specs.Traces.{Item, begun, left, Accepts, IsGood}
 use Rattle.proxy_core.specs.Driving.{HasRun, PromisesOfADrivenCore}
-use Rattle.proxy_core.proofs.Tracing.{same_table, denied_leave_no_trace}
+use Rattle.proxy_core.proofs.Tracing.{same_table}
 use Rattle.proxy_core.proofs.HeldLaw.{good_held, entries_are_held, exchanges_are_open, next_is_counted}
-use Rattle.proxy_core.proofs.TwiceForward.{twice_forward_one_reply}
-use Rattle.proxy_core.proofs.Unsent.{nothing_invalidated_is_sent}
+use Rattle.proxy_core.proofs.Headlines.{headline}
 
 -- good over the list that the core keeps
 record IsDriven (table : Table) (limit first : ℕ) (trace : List Item) (core : State) : Type 0 where
@@ -31,11 +30,10 @@ driven table limit first (item ∷ past) core h =
 pub promises_of_a_driven_core : PromisesOfADrivenCore
 promises_of_a_driven_core table limit first trace core h =
     let d = driven table limit first trace core h in
+    let good = good_held table limit first trace d.good in
     record {
-      good = good_held table limit first trace d.good;
-      denied_leave_no_trace = denied_leave_no_trace (begun table limit first) trace d.good;
-      nothing_invalidated_is_sent = nothing_invalidated_is_sent table limit first trace d.good;
-      twice_forward_one_reply = twice_forward_one_reply (begun table limit first) trace d.good;
+      good = good;
+      headline = headline table limit first trace good;
       entries_are = ap (λ (s : State). s.entries) d.leaves ∙ entries_are_held table limit first trace d.good;
       exchanges_are = ap (λ (s : State). s.exchanges) d.leaves ∙ exchanges_are_open table limit first trace d.good;
       next_is = ap (λ (s : State). s.next) d.leaves ∙ next_is_counted table limit first trace d.good;

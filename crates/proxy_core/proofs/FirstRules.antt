@@ -36,7 +36,9 @@ use Rattle.proxy_core.specs.Storing.{is_unasked}
 use Rattle.proxy_core.specs.Outcomes.{find_exchange, id_of, arrived, allowed, unanswered, is_only_if_cached, error_rule_at, fallback_by, fallback_for, failed, is_error_status, passed_unless, revalidated, answered, outcome_of}
 use Rattle.proxy_core.specs.Traces.{Item}
 use Rattle.proxy_core.specs.Histories.{IsGoodHistory, done_by, held_entries, open_exchanges, next_serial}
+use Rattle.proxy_core.specs.Carrying.{LeastAtItsArrival}
 use Rattle.proxy_core.specs.Naming.{NamesErrorRule, NamesFirst, NamesFirstRules}
+use Rattle.proxy_core.proofs.Carries.{least_at_its_arrival}
 use Rattle.proxy_core.proofs.HeldLaw.{good_plain, entries_are_held, stands_for}
 
 module _ (es : List Stored) (distinct : Distinct (serials es)) (now : ℕ) (asked : Asked) where
@@ -90,73 +92,78 @@ module _ (es : List Stored) (distinct : Distinct (serials es)) (now : ℕ) (aske
           let some : Some e ≡ error = cc in
           subst (IsRefused rule) some (subst (λ (r : ReuseRule). IsRefused r (Some e)) same (refused_by q s e d_is k))
 
-module _ (table : Table) (es : List Stored) (distinct : Distinct (serials es)) where
-  arrival_names : (x : Option Exchange) (now id : ℕ) (asked : Asked) → NamesFirst table es x (Arrive now id asked) (arrived table es now asked (verdict_of table.lines asked.method asked.target))
+-- what was held and open before an item, and that each open exchange keeps the least rule of its arrival
+module _ (table : Table) (limit : ℕ) (past : List Item) (distinct : Distinct (serials (held_entries limit past))) where
+  abbrev es : List Stored
+  es = held_entries limit past
+
+  arrival_names : (x : Option Exchange) (now id : ℕ) (asked : Asked) → NamesFirst table limit past x (Arrive now id asked) (arrived table es now asked (verdict_of table.lines asked.method asked.target))
   arrival_names x now id asked = by_verdict (verdict_of table.lines asked.method asked.target) refl
     where
       unless : (line : ℕ) (rule : ReuseRule) (against : Option ℕ) (b : Bool) → verdict_of table.lines asked.method asked.target ≡ verdict.Allowed line →
           decision_of es asked now ≡ decision.Forward rule against → is_only_if_cached asked ≡ b →
-          NamesFirst table es x (Arrive now id asked) (unanswered table line now asked rule (condition_at es against) b)
+          NamesFirst table limit past x (Arrive now id asked) (unanswered table line now asked rule (condition_at es against) b)
       unless line rule against true v d k = λ h. inr (inr (line, rule, v, k, (names_the_least es asked now rule against d).0, refl))
       unless line rule against false v d k = tt
 
       by_decision : (line : ℕ) (d : Decision) → verdict_of table.lines asked.method asked.target ≡ verdict.Allowed line → decision_of es asked now ≡ d →
-          NamesFirst table es x (Arrive now id asked) (allowed table es line now asked d)
+          NamesFirst table limit past x (Arrive now id asked) (allowed table es line now asked d)
       by_decision line (decision.Hit s) v k = λ h. absurd (false≢true h)
       by_decision line (decision.Forward rule against) v k = unless line rule against (is_only_if_cached asked) v k refl
 
-      by_verdict : (v : Verdict) → verdict_of table.lines asked.method asked.target ≡ v → NamesFirst table es x (Arrive now id asked) (arrived table es now asked v)
+      by_verdict : (v : Verdict) → verdict_of table.lines asked.method asked.target ≡ v → NamesFirst table limit past x (Arrive now id asked) (arrived table es now asked v)
       by_verdict (verdict.Allowed line) v = by_decision line (decision_of es asked now) v refl
       by_verdict (verdict.DeniedBy line) v = λ h. inl (line, v, refl)
       by_verdict verdict.NoLine v = λ h. inr (inl (v, refl))
 
   failure_names : (x : Exchange) (now id : ℕ) (kind : FailKind) (fallback : Fallback) → fallback_for es x.asked now (decision_of es x.asked now) ≡ fallback →
-      NamesFirst table es (Some x) (Fail now id kind) (failed table es now x kind None fallback)
+      NamesFirst table limit past (Some x) (Fail now id kind) (failed table es now x kind None fallback)
   failure_names x now id kind (Sends s detail) k = λ h. absurd (false≢true h)
   failure_names x now id kind (Refuses rule error) k = λ h.
       let r = refuses_is es distinct now x.asked (decision_of es x.asked now) rule error refl k in
       (rule, error, r.least, r.named, refl)
 
-  module _ (x : Exchange) (now id : ℕ) (r : Response) (next : Option ℕ) where
+  module _ (x : Exchange) (kept : LeastAtItsArrival limit x past) (now id : ℕ) (r : Response) (next : Option ℕ) where
     unasked_names : (fallback : Fallback) → is_unasked x.asked r ≡ true → fallback_for es x.asked now (decision_of es x.asked now) ≡ fallback →
-        NamesFirst table es (Some x) (Answer now id r) (failed table es now x BadAnswer (Some r.status) fallback)
+        NamesFirst table limit past (Some x) (Answer now id r) (failed table es now x BadAnswer (Some r.status) fallback)
     unasked_names (Sends s detail) u k = λ h. absurd (false≢true h)
     unasked_names (Refuses rule error) u k = λ h.
         let q = refuses_is es distinct now x.asked (decision_of es x.asked now) rule error refl k in
         inr (u, (rule, error, q.least, q.named, refl))
 
-    passed_names : (b : Bool) (fallback : Fallback) → NamesFirst table es (Some x) (Answer now id r) (passed_unless table es now x r next b fallback)
-    passed_names true (Sends s detail) = λ h. absurd (false≢true h)
-    passed_names true (Refuses rule error) = λ h. inl refl
-    passed_names false fallback = λ h. inl refl
+    passed_names : (b : Bool) (fallback : Fallback) → is_unasked x.asked r ≡ false → NamesFirst table limit past (Some x) (Answer now id r) (passed_unless table es now x r next b fallback)
+    passed_names true (Sends s detail) n = λ h. absurd (false≢true h)
+    passed_names true (Refuses rule error) n = λ h. inl (n, (kept, refl))
+    passed_names false fallback n = λ h. inl (n, (kept, refl))
 
-    validation_names : (o : Option Stored) (d : Decision) → NamesFirst table es (Some x) (Answer now id r) (revalidated table es now x r o d)
+    validation_names : (o : Option Stored) (d : Decision) → NamesFirst table limit past (Some x) (Answer now id r) (revalidated table es now x r o d)
     validation_names (Some e) d = λ h. absurd (false≢true h)
     validation_names None (decision.Hit s) = λ h. absurd (false≢true h)
     validation_names None (decision.Forward rule against) = tt
 
-    answer_names : NamesFirst table es (Some x) (Answer now id r) (answered table es now x r next (decision_of es x.asked now))
+    answer_names : NamesFirst table limit past (Some x) (Answer now id r) (answered table es now x r next (decision_of es x.asked now))
     answer_names = by_304 (is_validation x r)
       where
         by_unasked : (b : Bool) → is_unasked x.asked r ≡ b →
-            NamesFirst table es (Some x) (Answer now id r) (cond b (failed table es now x BadAnswer (Some r.status) (fallback_for es x.asked now (decision_of es x.asked now)))
+            NamesFirst table limit past (Some x) (Answer now id r) (cond b (failed table es now x BadAnswer (Some r.status) (fallback_for es x.asked now (decision_of es x.asked now)))
             (passed_unless table es now x r next (is_error_status r.status) (fallback_for es x.asked now (decision_of es x.asked now))))
         by_unasked true k = unasked_names (fallback_for es x.asked now (decision_of es x.asked now)) k refl
-        by_unasked false k = passed_names (is_error_status r.status) (fallback_for es x.asked now (decision_of es x.asked now))
+        by_unasked false k = passed_names (is_error_status r.status) (fallback_for es x.asked now (decision_of es x.asked now)) k
 
-        by_304 : (b : Bool) → NamesFirst table es (Some x) (Answer now id r) (cond b (revalidated table es now x r (validated es x r now) (decision_of es x.asked now))
+        by_304 : (b : Bool) → NamesFirst table limit past (Some x) (Answer now id r) (cond b (revalidated table es now x r (validated es x r now) (decision_of es x.asked now))
             (cond (is_unasked x.asked r) (failed table es now x BadAnswer (Some r.status) (fallback_for es x.asked now (decision_of es x.asked now)))
             (passed_unless table es now x r next (is_error_status r.status) (fallback_for es x.asked now (decision_of es x.asked now)))))
         by_304 true = validation_names (validated es x r now) (decision_of es x.asked now)
         by_304 false = by_unasked (is_unasked x.asked r) refl
 
-  names_by_event : (xs : List Exchange) (x : Option Exchange) (next : Option ℕ) (event : Event) → NamesFirst table es x event (outcome_of table es xs x next event)
-  names_by_event xs x next (Arrive now id asked) = arrival_names x now id asked
-  names_by_event xs (Some x) next (Answer now id r) = answer_names x now id r next
-  names_by_event xs None next (Answer now id r) = tt
-  names_by_event xs (Some x) next (Fail now id kind) = failure_names x now id kind (fallback_for es x.asked now (decision_of es x.asked now)) refl
-  names_by_event xs None next (Fail now id kind) = tt
-  names_by_event xs x next (Abandon id) = tt
+  names_by_event : (xs : List Exchange) (x : Option Exchange) (next : Option ℕ) (event : Event) → ((z : Exchange) → x ≡ Some z → LeastAtItsArrival limit z past) →
+      NamesFirst table limit past x event (outcome_of table es xs x next event)
+  names_by_event xs x next (Arrive now id asked) kept = arrival_names x now id asked
+  names_by_event xs (Some x) next (Answer now id r) kept = answer_names x (kept x refl) now id r next
+  names_by_event xs None next (Answer now id r) kept = tt
+  names_by_event xs (Some x) next (Fail now id kind) kept = failure_names x now id kind (fallback_for es x.asked now (decision_of es x.asked now)) refl
+  names_by_event xs None next (Fail now id kind) kept = tt
+  names_by_event xs x next (Abandon id) kept = tt
 
 -- no serial is held twice
 pub held_distinct : (table : Table) (limit first : ℕ) (past : List Item) → IsGoodHistory table limit first past → Distinct (serials (held_entries limit past))
@@ -167,7 +174,8 @@ held_distinct table limit first past g =
 
 pub names_first_rules : NamesFirstRules
 names_first_rules table limit first item past g =
-    let es = held_entries limit past in
     let xs = open_exchanges limit past in
     let x = find_exchange (id_of item.event) xs in
-    subst (NamesFirst table es x item.event) (sym g.0.outcome_is) (names_by_event table es (held_distinct table limit first past g.1) xs x (next_serial first past) item.event)
+    subst (NamesFirst table limit past x item.event) (sym g.0.outcome_is)
+    (names_by_event table limit past (held_distinct table limit first past g.1) xs x (next_serial first past) item.event
+    (λ z h. least_at_its_arrival table limit first (id_of item.event) past z g.1 h))

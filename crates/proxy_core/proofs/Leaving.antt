@@ -34,7 +34,7 @@ unanswered_by : (c : Option Condition) (r : Response) (now : ℕ) (e : Stored) �
 unanswered_by None r now e h = refl
 unanswered_by (Some c) r now e h = and_left (r.status == 304) ((c.serial == e.serial) && answers304 e c.sent (answered_of r now)) h
 
-unanswered : (x : Exchange) (r : Response) (now : ℕ) (e : Stored) → is_validation x r ≡ false → is_answered x r now e ≡ false
+pub unanswered : (x : Exchange) (r : Response) (now : ℕ) (e : Stored) → is_validation x r ≡ false → is_answered x r now e ≡ false
 unanswered x r now e h = unanswered_by x.condition r now e h
 
 module _ (limit : ℕ) (es : List Stored) (x : Exchange) (now id : ℕ) where
@@ -230,7 +230,7 @@ other_serial x (Some c) r now s es e h found = elim (cases_Bool (c.serial == e.s
     and_false false = refl
 
 module _ (limit : ℕ) (es : List Stored) (x : Exchange) (now id : ℕ) (r : Response) (none : validated es x r now ≡ None) where
-  same_at : (s : ℕ) (e : Stored) → find_entry s es ≡ Some e → used_form (Some x) (Answer now id r) e ≡ e
+  pub same_at : (s : ℕ) (e : Stored) → find_entry s es ≡ Some e → used_form (Some x) (Answer now id r) e ≡ e
   same_at s e found =
       ap (λ b. cond b (refreshed x r now e) e) (other_serial x x.condition r now s es e (λ f k. none_answered es x r now (asked_about es x) none f k) found)
 

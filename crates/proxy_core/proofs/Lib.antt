@@ -14,6 +14,10 @@ pub mod Marks
 pub mod Unsent
 pub mod OpenLaws
 pub mod Counting
+pub mod Carries
+pub mod InOrder
 pub mod FirstRules
 pub mod SendLaws
+pub mod SentResponses
+pub mod Headlines
 pub mod Driven

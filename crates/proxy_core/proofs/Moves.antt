@@ -55,7 +55,7 @@ failed_reply : (table : Table) (es : List Stored) (now : ℕ) (x : Exchange) (ki
 failed_reply table es now x kind came (Sends serial detail) = refl
 failed_reply table es now x kind came (Refuses rule error) = refl
 
-failed_back : (table : Table) (es : List Stored) (now : ℕ) (x : Exchange) (kind : FailKind) (came : Option ℕ) (fallback : Fallback) → goes_forward (failed table es now x kind came fallback) ≡ false
+pub failed_back : (table : Table) (es : List Stored) (now : ℕ) (x : Exchange) (kind : FailKind) (came : Option ℕ) (fallback : Fallback) → goes_forward (failed table es now x kind came fallback) ≡ false
 failed_back table es now x kind came (Sends serial detail) = refl
 failed_back table es now x kind came (Refuses rule error) = refl
 

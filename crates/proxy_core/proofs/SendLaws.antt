@@ -30,7 +30,6 @@ use Rattle.hx_status.specs.declared.status.Detail.{Detail}
 use Rattle.hx_status.specs.declared.status.Detail.TheVariants.{StaleIfError, ReuseAfterError}
 use Rattle.hx_status.specs.declared.cause.FailKind.{FailKind}
 use Rattle.hx_status.specs.declared.cause.FailKind.TheVariants.{BadAnswer}
-use Rattle.hx_status.specs.declared.cause.Cause.TheVariants.{Denied, NoLine, OnlyIfCached}
 use Rattle.proxy_core.specs.declared.condition.Condition.{Condition}
 use Rattle.proxy_core.specs.declared.exchange.Exchange.{Exchange}
 use Rattle.proxy_core.specs.declared.fallback.Fallback.{Fallback}
@@ -41,11 +40,11 @@ use Rattle.proxy_core.specs.declared.event.Event.{Event}
 use Rattle.proxy_core.specs.declared.event.Event.TheVariants.{Arrive, Answer, Fail, Abandon}
 use Rattle.proxy_core.specs.Validating.{condition_at, is_validation, validated, refreshed}
 use Rattle.proxy_core.specs.Storing.{is_unasked}
-use Rattle.proxy_core.specs.Outcomes.{find_exchange, id_of, arrived, allowed, unanswered, is_only_if_cached, error_rule_at, fallback_by, fallback_for, failed, is_error_status, passed_unless, revalidated, answered, outcome_of, outcome_by, forward_text, refused}
+use Rattle.proxy_core.specs.Outcomes.{find_exchange, id_of, arrived, allowed, unanswered, is_only_if_cached, error_rule_at, fallback_by, fallback_for, failed, is_error_status, passed_unless, revalidated, answered, outcome_of, outcome_by, forward_text}
 use Rattle.proxy_core.specs.State.{used_in}
 use Rattle.proxy_core.specs.Traces.{Item}
 use Rattle.proxy_core.specs.Histories.{IsGoodHistory, held_entries, open_exchanges, next_serial}
-use Rattle.proxy_core.specs.Sending.{IsReusable, MayBeSentInstead, IsRescue, MayBeSentAt, SendsStoredWhereItMay, SendsStoredNowhereElse, ForwardsWhereAllowed, ForwardsNowhereElse, ReachesWhereAllowed, RefusesWhereNotAllowed}
+use Rattle.proxy_core.specs.Sending.{IsReusable, MayBeSentInstead, IsRescue, MayBeSentAt, IsReached, IsTurnedAway, SendsStoredWhereItMay, SendsStoredNowhereElse, ForwardsWhereAllowed, ForwardsNowhereElse, ReachesWhereAllowed, RefusesWhereNotAllowed}
 use Rattle.proxy_core.proofs.Leaving.{serial_stays}
 use Rattle.proxy_core.proofs.FirstRules.{held_distinct}
 
@@ -59,14 +58,15 @@ module _ (es : List Stored) (distinct : Distinct (serials es)) (asked : Asked) (
   -- ---- after a failure
 
   -- what a rule names is the chosen response
-  record IsNamed (rule : ReuseRule) (s : ℕ) : Type 0 where
-    response : Stored
-    late : 6 < number_of rule
-    chosen : chosen_of es asked ≡ Some response
-    serial : response.serial ≡ s
-    rule_at : error_rule_at es s asked now ≡ error_rule_on response (occurrences_of asked.fields) now
+  pub record IsNamed (rule : ReuseRule) (s : ℕ) : Type 0 where
+    pub response : Stored
+    pub late : 6 < number_of rule
+    pub chosen : chosen_of es asked ≡ Some response
+    pub serial : response.serial ≡ s
+    pub found : find_entry s es ≡ Some response
+    pub rule_at : error_rule_at es s asked now ≡ error_rule_on response (occurrences_of asked.fields) now
 
-  named_is : (rule : ReuseRule) (s : ℕ) → decision_of es asked now ≡ decision.Forward rule (Some s) → IsNamed rule s
+  pub named_is : (rule : ReuseRule) (s : ℕ) → decision_of es asked now ≡ decision.Forward rule (Some s) → IsNamed rule s
   named_is rule s h = by_number (names_the_least es asked now rule (Some s) h).1
     where
       by_number : NamesTheResponse es asked rule (Some s) → IsNamed rule s
@@ -82,6 +82,7 @@ module _ (es : List Stored) (distinct : Distinct (serials es)) (asked : Asked) (
             late = high.0;
             chosen = high.1.1;
             serial = serial;
+            found = found;
             rule_at = ap (λ (o : Option Stored). option_and_then (λ (x : Stored). error_rule_on x (occurrences_of asked.fields) now) o) found;
           }
 
@@ -325,28 +326,17 @@ forwards_nothing_else table limit first now id line asked bytes item past g e h 
 -- ---- reaching cache or origin
 
 module _ (table : Table) (es : List Stored) (now : ℕ) (asked : Asked) where
-  abbrev Reaches : ℕ → Outcome → Type 0
-  Reaches line o =
-      ((s : ℕ) × (used_in o ≡ Some s))
-      ⊎ (((bytes : List ℕ) × (o ≡ Forward line bytes))
-      ⊎ ((rule : ReuseRule) × (is_only_if_cached asked ≡ true) × IsLeast es asked now rule × (o ≡ refused now (OnlyIfCached rule) asked)))
-
   reach_unless : (line : ℕ) (rule : ReuseRule) (against : Option ℕ) (b : Bool) → is_only_if_cached asked ≡ b → decision_of es asked now ≡ decision.Forward rule against →
-      Reaches line (unanswered table line now asked rule (condition_at es against) b)
+      IsReached es now asked line (unanswered table line now asked rule (condition_at es against) b)
   reach_unless line rule against true k d = inr (inr (rule, k, (names_the_least es asked now rule against d).0, refl))
   reach_unless line rule against false k d = inr (inl (forward_text table asked (condition_at es against), refl))
 
-  reach : (line : ℕ) (d : Decision) → decision_of es asked now ≡ d → Reaches line (allowed table es line now asked d)
+  reach : (line : ℕ) (d : Decision) → decision_of es asked now ≡ d → IsReached es now asked line (allowed table es line now asked d)
   reach line (decision.Hit s) d = inl (s, refl)
   reach line (decision.Forward rule against) d = reach_unless line rule against (is_only_if_cached asked) refl d
 
-  abbrev Refused : Outcome → Type 0
-  Refused o =
-      ((line : ℕ) × (verdict_of table.lines asked.method asked.target ≡ verdict.DeniedBy line) × (o ≡ refused now (Denied line) asked))
-      ⊎ ((verdict_of table.lines asked.method asked.target ≡ verdict.NoLine) × (o ≡ refused now NoLine asked))
-
   refuse : (v : Verdict) → verdict_of table.lines asked.method asked.target ≡ v → ((line : ℕ) → verdict_of table.lines asked.method asked.target ≢ verdict.Allowed line) →
-      Refused (arrived table es now asked v)
+      IsTurnedAway table now asked (arrived table es now asked v)
   refuse (verdict.Allowed line) v n = absurd (n line v)
   refuse (verdict.DeniedBy line) v n = inl (line, v, refl)
   refuse verdict.NoLine v n = inr (v, refl)
@@ -354,12 +344,12 @@ module _ (table : Table) (es : List Stored) (now : ℕ) (asked : Asked) where
 pub reaches_where_allowed : ReachesWhereAllowed
 reaches_where_allowed table limit first now id line asked item past g e v =
     let es = held_entries limit past in
-    subst (Reaches table es now asked line)
+    subst (IsReached es now asked line)
     (sym (arrival_is table limit first now id asked item past g e ∙ ap (λ (v : Verdict). arrived table es now asked v) v))
     (reach table es now asked line (decision_of es asked now) refl)
 
 pub refuses_where_not_allowed : RefusesWhereNotAllowed
 refuses_where_not_allowed table limit first now id asked item past g e n =
     let es = held_entries limit past in
-    subst (Refused table es now asked) (sym (arrival_is table limit first now id asked item past g e))
+    subst (IsTurnedAway table now asked) (sym (arrival_is table limit first now id asked item past g e))
     (refuse table es now asked (verdict_of table.lines asked.method asked.target) refl n)

@@ -5,9 +5,9 @@
 use Rattle.std.specs.Prelude.{◌≡◌, ℕ, List, [], ◌∷◌}
 use Rattle.hx_allow.specs.Lines.{Table}
 use Rattle.proxy_core.specs.State.{State, Steps}
-use Rattle.proxy_core.specs.Traces.{Item, begun, DeniedLeaveNoTrace}
+use Rattle.proxy_core.specs.Traces.{Item, begun}
 use Rattle.proxy_core.specs.Histories.{IsGoodHistory, held_entries, open_exchanges, next_serial}
-use Rattle.proxy_core.specs.Promises.{NothingInvalidatedIsSent, TwiceForwardOneReply}
+use Rattle.proxy_core.specs.Headline.{Headline}
 
 -- the core was begun, and went through these steps, the latest first
 abbrev pub HasRun : Table → ℕ → ℕ → List Item → State → Type 0
@@ -15,12 +15,10 @@ HasRun table limit first [] core = core ≡ begun table limit first
 HasRun table limit first (item ∷ past) core =
     (before : State) × HasRun table limit first past before × Steps before item.event item.outcome core
 
--- its trace is good, and keeps what every good trace keeps; the core has what is held, open and next after it
+-- its trace is good, and has the headline; the core has what is held, open and next after it
 pub record KeepsThePromises (table : Table) (limit first : ℕ) (trace : List Item) (core : State) : Type 0 where
   pub good : IsGoodHistory table limit first trace
-  pub denied_leave_no_trace : DeniedLeaveNoTrace table trace
-  pub nothing_invalidated_is_sent : NothingInvalidatedIsSent trace
-  pub twice_forward_one_reply : TwiceForwardOneReply trace
+  pub headline : Headline table limit trace
   pub entries_are : core.entries ≡ held_entries limit trace
   pub exchanges_are : core.exchanges ≡ open_exchanges limit trace
   pub next_is : core.next ≡ next_serial first trace

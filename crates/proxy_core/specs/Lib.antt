@@ -8,8 +8,10 @@ pub mod Traces
 pub mod Histories
 pub mod Promises
 pub mod Meaning
-pub mod Driving
+pub mod Carrying
 pub mod Naming
 pub mod Sending
+pub mod Headline
+pub mod Driving
 pub mod Pending
 pub mod Validating

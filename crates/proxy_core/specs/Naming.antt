@@ -2,9 +2,9 @@
 -- RFC 9211).
 --
 -- NamesAtArrival: the line of the table that denies, that none allows, or the rule where only-if-cached stands
--- NamesOnError: why nothing is sent in place of an error          NamesItsRule: of an answer that is passed on, its kept rule
+-- NamesOnError: why nothing is sent in place of an error          NamesItsRule: of an answer that is passed on, that of its arrival
 -- NamesFirst: of an item                                          NamesFirstRules: of each item of a good trace
-use Rattle.std.specs.Prelude.{◌≡◌, ◌⊎◌, ℕ, ◌<◌, ◌≤◌, true, List, ◌∷◌, Option, Some, None, is_some}
+use Rattle.std.specs.Prelude.{◌≡◌, ◌⊎◌, ℕ, ◌<◌, ◌≤◌, true, false, List, ◌∷◌, Option, Some, None, is_some}
 use Rattle.hx_directives.specs.Occurrences.{occurrences_of}
 use Rattle.hx_framing.specs.declared.responses.Response.{Response}
 use Rattle.hx_hop.specs.declared.asked_for.Asked.{Asked}
@@ -33,6 +33,7 @@ use Rattle.proxy_core.specs.Outcomes.{find_exchange, id_of, is_only_if_cached}
 use Rattle.proxy_core.specs.Traces.{Item}
 use Rattle.proxy_core.specs.Histories.{held_entries, open_exchanges, IsGoodHistory}
 use Rattle.proxy_core.specs.Promises.{sends_nothing_held}
+use Rattle.proxy_core.specs.Carrying.{LeastAtItsArrival}
 
 -- To a request that arrives the proxy answers by itself alone: the line of the table that denies it; that none matches; or
 -- the least reuse rule that stands, where the request takes no response but a stored one.
@@ -56,29 +57,31 @@ NamesOnError held now x kind bytes =
     (rule : ReuseRule) × (error : Option ErrorRule) × IsLeast held x.asked now rule × NamesErrorRule held now x.asked rule error
     × (bytes ≡ refused_text (date_text_of now) (Origin kind rule error) x.asked.close (is_head x.asked))
 
--- an answer that is passed on: the rule that its exchange has kept from its arrival on, in Cache-Status
-abbrev pub NamesItsRule : Table → ℕ → Exchange → Response → List ℕ → Option ℕ → Type 0
-NamesItsRule table now x r bytes stored = bytes ≡ passed_text table.name x r now (is_some stored)
+-- an answer that is passed on: the least rule that stood at the arrival of its exchange, which it has kept, in Cache-Status
+abbrev pub NamesItsRule : Table → ℕ → List Item → ℕ → Exchange → Response → List ℕ → Option ℕ → Type 0
+NamesItsRule table limit past now x r bytes stored =
+    LeastAtItsArrival limit x past × (bytes ≡ passed_text table.name x r now (is_some stored))
 
 -- by its event and the exchange that it is of; a 304 that nobody asked for is a failure
-abbrev pub NamesByEvent : Table → List Stored → Option Exchange → Event → List ℕ → Option ℕ → Type 0
-NamesByEvent table held x (Arrive now id asked) bytes stored = NamesAtArrival table held now asked bytes
-NamesByEvent table held (Some x) (Answer now id r) bytes stored =
-    NamesItsRule table now x r bytes stored ⊎ ((is_unasked x.asked r ≡ true) × NamesOnError held now x BadAnswer bytes)
-NamesByEvent table held (Some x) (Fail now id kind) bytes stored = NamesOnError held now x kind bytes
-NamesByEvent table held None (Answer now id r) bytes stored = ⊥
-NamesByEvent table held None (Fail now id kind) bytes stored = ⊥
-NamesByEvent table held x (Abandon id) bytes stored = ⊥
+abbrev pub NamesByEvent : Table → ℕ → List Item → Option Exchange → Event → List ℕ → Option ℕ → Type 0
+NamesByEvent table limit past x (Arrive now id asked) bytes stored = NamesAtArrival table (held_entries limit past) now asked bytes
+NamesByEvent table limit past (Some x) (Answer now id r) bytes stored =
+    ((is_unasked x.asked r ≡ false) × NamesItsRule table limit past now x r bytes stored)
+    ⊎ ((is_unasked x.asked r ≡ true) × NamesOnError (held_entries limit past) now x BadAnswer bytes)
+NamesByEvent table limit past (Some x) (Fail now id kind) bytes stored = NamesOnError (held_entries limit past) now x kind bytes
+NamesByEvent table limit past None (Answer now id r) bytes stored = ⊥
+NamesByEvent table limit past None (Fail now id kind) bytes stored = ⊥
+NamesByEvent table limit past x (Abandon id) bytes stored = ⊥
 
--- an item whose reply is no stored response
-abbrev pub NamesFirst : Table → List Stored → Option Exchange → Event → Outcome → Type 0
-NamesFirst table held x event (Reply r) = sends_nothing_held (Reply r) ≡ true → NamesByEvent table held x event r.bytes r.stored
-NamesFirst table held x event (Forward line bytes) = Unit {0}
-NamesFirst table held x event Ended = Unit {0}
+-- an item whose reply is no stored response, behind those before it
+abbrev pub NamesFirst : Table → ℕ → List Item → Option Exchange → Event → Outcome → Type 0
+NamesFirst table limit past x event (Reply r) = sends_nothing_held (Reply r) ≡ true → NamesByEvent table limit past x event r.bytes r.stored
+NamesFirst table limit past x event (Forward line bytes) = Unit {0}
+NamesFirst table limit past x event Ended = Unit {0}
 
 -- ---- the statement
 
 -- Each answer that isn't a stored response names the first rule against one, over what was held and open before it.
 abbrev pub NamesFirstRules : Type 0
 NamesFirstRules = (table : Table) (limit first : ℕ) (item : Item) (past : List Item) → IsGoodHistory table limit first (item ∷ past) →
-    NamesFirst table (held_entries limit past) (find_exchange (id_of item.event) (open_exchanges limit past)) item.event item.outcome
+    NamesFirst table limit past (find_exchange (id_of item.event) (open_exchanges limit past)) item.event item.outcome

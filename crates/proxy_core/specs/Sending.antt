@@ -2,7 +2,8 @@
 -- is held and open.
 --
 -- MayBeReused of hx_reuse: what RFC 9111 lets be sent      MayBeSentInstead: what RFC 5861 lets be sent in place of an error
--- MayBeSentAt: what may be sent at an event
+-- MayBeSentAt: what may be sent at an event                IsThatResponse: what is sent is that response
+-- IsReached, IsTurnedAway: what becomes of a request that is allowed, and of one that isn't
 -- Below them are the statements that the laws of `src/laws.rt` prove.
 use Rattle.std.specs.Prelude.{◌≡◌, ◌≢◌, ◌⊎◌, ℕ, ◌≤◌, ◌||◌, true, false, List, ◌∷◌, Option, Some, None}
 use Rattle.hx_directives.specs.Occurrences.{occurrences_of}
@@ -11,6 +12,7 @@ use Rattle.hx_allow.specs.Lines.{Table}
 use Rattle.hx_allow.specs.Matching.{verdict_of}
 use Rattle.hx_allow.specs.declared.verdicts.Verdict.TheVariants.{Allowed, DeniedBy, NoLine as Unmatched}
 use Rattle.hx_store.specs.Stored.{Stored}
+use Rattle.hx_store.specs.Shelf.{find_entry}
 use Rattle.hx_reuse.specs.Words.{number_of}
 use Rattle.hx_reuse.specs.Rules.{stands}
 use Rattle.hx_reuse.specs.Meaning.{IsChosen, IsLeast}
@@ -18,14 +20,19 @@ use Rattle.hx_reuse.specs.Reusable.{MayBeReused}
 use Rattle.hx_reuse.specs.OnError.{MayBeSentOnError}
 use Rattle.hx_reuse.specs.declared.rule.ReuseRule.{ReuseRule}
 use Rattle.hx_status.specs.declared.cause.Cause.TheVariants.{Denied, NoLine, OnlyIfCached}
+use Rattle.hx_status.specs.declared.status.Detail.{Detail}
 use Rattle.proxy_core.specs.declared.exchange.Exchange.{Exchange}
-use Rattle.proxy_core.specs.declared.outcome.Outcome.TheVariants.{Forward}
+use Rattle.proxy_core.specs.declared.stored_reply.CacheStatusInfo.{CacheStatusInfo}
+use Rattle.proxy_core.specs.declared.outcome.Reply.{Reply}
+use Rattle.proxy_core.specs.declared.outcome.Outcome.{Outcome}
+use Rattle.proxy_core.specs.declared.outcome.Outcome.TheVariants.{Reply as Replied, Forward}
 use Rattle.proxy_core.specs.declared.event.Event.{Event}
 use Rattle.proxy_core.specs.declared.event.Event.TheVariants.{Arrive, Answer, Fail, Abandon}
 use Rattle.proxy_core.specs.Storing.{is_unasked}
 use Rattle.proxy_core.specs.Validating.{is_validation, validated}
-use Rattle.proxy_core.specs.Outcomes.{find_exchange, id_of, is_only_if_cached, is_error_status, refused}
-use Rattle.proxy_core.specs.State.{used_in}
+use Rattle.proxy_core.specs.Replies.{stored_text}
+use Rattle.proxy_core.specs.Outcomes.{find_exchange, id_of, is_only_if_cached, is_error_status, refused, as_hit, forwarded_as}
+use Rattle.proxy_core.specs.State.{used_in, used_form}
 use Rattle.proxy_core.specs.Traces.{Item}
 use Rattle.proxy_core.specs.Histories.{held_entries, open_exchanges, IsGoodHistory}
 
@@ -60,6 +67,54 @@ MayBeSentAt table held None (Answer now id r) s = ⊥
 MayBeSentAt table held None (Fail now id kind) s = ⊥
 MayBeSentAt table held x (Abandon id) s = ⊥
 
+-- ---- an item
+
+-- A request that is allowed reaches the cache, which sends a stored response, or the origin of that line; or it takes no
+-- response but a stored one, and is told the rule against that.
+abbrev pub IsReached : List Stored → ℕ → Asked → ℕ → Outcome → Type 0
+IsReached held now asked line outcome =
+    ((s : ℕ) × (used_in outcome ≡ Some s))
+    ⊎ (((bytes : List ℕ) × (outcome ≡ Forward line bytes))
+    ⊎ ((rule : ReuseRule) × (is_only_if_cached asked ≡ true) × IsLeast held asked now rule × (outcome ≡ refused now (OnlyIfCached rule) asked)))
+
+-- any other is turned away, by the line that denies it or because none matches
+abbrev pub IsTurnedAway : Table → ℕ → Asked → Outcome → Type 0
+IsTurnedAway table now asked outcome =
+    ((line : ℕ) × (verdict_of table.lines asked.method asked.target ≡ DeniedBy line) × (outcome ≡ refused now (Denied line) asked))
+    ⊎ ((verdict_of table.lines asked.method asked.target ≡ Unmatched) × (outcome ≡ refused now NoLine asked))
+
+-- what Cache-Status tells of a stored response (RFC 9211): a hit, or why the request had gone forward, and what came
+abbrev pub TellsHow : Option Exchange → Event → CacheStatusInfo → Type 0
+TellsHow x (Arrive now id asked) h = h ≡ as_hit
+TellsHow (Some x) (Answer now id r) h = (detail : Option Detail) × (h ≡ forwarded_as x (Some r.status) detail)
+TellsHow (Some x) (Fail now id kind) h = (detail : Option Detail) × (h ≡ forwarded_as x None detail)
+TellsHow None (Answer now id r) h = ⊥
+TellsHow None (Fail now id kind) h = ⊥
+TellsHow x (Abandon id) h = ⊥
+
+-- the moment of an event, and the request that it is about
+abbrev pub IsAbout : Option Exchange → Event → ℕ → Asked → Type 0
+IsAbout x (Arrive t id a) now asked = (t ≡ now) × (a ≡ asked)
+IsAbout (Some x) (Answer t id r) now asked = (t ≡ now) × (x.asked ≡ asked)
+IsAbout (Some x) (Fail t id kind) now asked = (t ≡ now) × (x.asked ≡ asked)
+IsAbout None (Answer t id r) now asked = ⊥
+IsAbout None (Fail t id kind) now asked = ⊥
+IsAbout x (Abandon id) now asked = ⊥
+
+-- What is sent is the held response of this serial, freshened where the 304 answers it: its content, its head, or its 304 to the
+-- client's own conditions, by what `stored_text` says.
+pub record IsThatResponse (table : Table) (held : List Stored) (x : Option Exchange) (event : Event) (outcome : Outcome) (s : ℕ) : Type 0 where
+  pub response : Stored
+  pub is_held : find_entry s held ≡ Some response
+  pub now : ℕ
+  pub asked : Asked
+  pub about : IsAbout x event now asked
+  pub info : CacheStatusInfo
+  pub tells_how : TellsHow x event info
+  pub reply : Reply
+  pub outcome_is : outcome ≡ Replied reply
+  pub bytes_are : reply.bytes ≡ stored_text table.name (used_form x event response) now info asked
+
 -- ---- the statements
 
 -- A stored response is sent exactly where one is held that may be.
@@ -90,16 +145,15 @@ ForwardsNowhereElse = (table : Table) (limit first now id line : ℕ) (asked : A
 abbrev pub ReachesWhereAllowed : Type 0
 ReachesWhereAllowed = (table : Table) (limit first now id line : ℕ) (asked : Asked) (item : Item) (past : List Item) →
     IsGoodHistory table limit first (item ∷ past) → item.event ≡ Arrive now id asked →
-    verdict_of table.lines asked.method asked.target ≡ Allowed line →
-    ((s : ℕ) × (used_in item.outcome ≡ Some s))
-    ⊎ (((bytes : List ℕ) × (item.outcome ≡ Forward line bytes))
-    ⊎ ((rule : ReuseRule) × (is_only_if_cached asked ≡ true) × IsLeast (held_entries limit past) asked now rule
-    × (item.outcome ≡ refused now (OnlyIfCached rule) asked)))
+    verdict_of table.lines asked.method asked.target ≡ Allowed line → IsReached (held_entries limit past) now asked line item.outcome
 
 -- Any other is refused, by the line that denies it or because none matches.
 abbrev pub RefusesWhereNotAllowed : Type 0
 RefusesWhereNotAllowed = (table : Table) (limit first now id : ℕ) (asked : Asked) (item : Item) (past : List Item) →
     IsGoodHistory table limit first (item ∷ past) → item.event ≡ Arrive now id asked →
-    ((line : ℕ) → verdict_of table.lines asked.method asked.target ≢ Allowed line) →
-    ((line : ℕ) × (verdict_of table.lines asked.method asked.target ≡ DeniedBy line) × (item.outcome ≡ refused now (Denied line) asked))
-    ⊎ ((verdict_of table.lines asked.method asked.target ≡ Unmatched) × (item.outcome ≡ refused now NoLine asked))
+    ((line : ℕ) → verdict_of table.lines asked.method asked.target ≢ Allowed line) → IsTurnedAway table now asked item.outcome
+
+-- and what is sent is that response
+abbrev pub SendsWhatIsHeld : Type 0
+SendsWhatIsHeld = (table : Table) (limit first s : ℕ) (item : Item) (past : List Item) → IsGoodHistory table limit first (item ∷ past) → used_in item.outcome ≡ Some s →
+    IsThatResponse table (held_entries limit past) (find_exchange (id_of item.event) (open_exchanges limit past)) item.event item.outcome s

@@ -1,9 +1,11 @@
 //! What the definitions of a good trace come to, for a reader who has to believe them.
 
 ghost use Rattle.proxy_core.specs.Meaning.{OpenFromArrivalToEnd, OpenByArrivalAlone, HasItsRequest, KeepsItsRule, OvertakenWhereInvalidated, NextIsCounted, StoredHasTheNext, LeavesNoChoice, GoodOverWhatIsHeld, GoodOverTheList, KeepsWhatIsHeld, KeepsWhatIsOpen, KeepsTheNext};
+ghost use Rattle.proxy_core.specs.Carrying.{CarriesItsArrival, OpenInOrderOfArrival};
 ghost use Rattle.proxy_core.specs.Driving.{PromisesOfADrivenCore};
+ghost use Rattle.proxy_core.specs.Headline.{EveryGoodTraceHasIt};
 ghost use Rattle.proxy_core.specs.Naming.{NamesFirstRules};
-ghost use Rattle.proxy_core.specs.Sending.{SendsStoredWhereItMay, SendsStoredNowhereElse, ForwardsWhereAllowed, ForwardsNowhereElse, ReachesWhereAllowed, RefusesWhereNotAllowed};
+ghost use Rattle.proxy_core.specs.Sending.{SendsStoredWhereItMay, SendsStoredNowhereElse, SendsWhatIsHeld, ForwardsWhereAllowed, ForwardsNowhereElse, ReachesWhereAllowed, RefusesWhereNotAllowed};
 
 /// After a good trace an exchange is open from its arrival to its end and not else, with the request and the rule of its
 /// arrival.
@@ -12,6 +14,13 @@ pub fn open_from_arrival_to_end()
     ensures alone { OpenByArrivalAlone }
     ensures request { HasItsRequest }
     ensures rule { KeepsItsRule }
+{}
+
+/// After a good trace an open exchange goes to the line that allows its request, names the least rule that stood at its
+/// arrival, and has the conditions and the moment with which it went forward last. Open exchanges stand in the order of arrival.
+pub fn an_open_exchange_carries_its_arrival()
+    ensures carries { CarriesItsArrival }
+    ensures order { OpenInOrderOfArrival }
 {}
 
 /// After a good trace an open exchange is overtaken exactly where its key was invalidated since it last went forward.
@@ -54,16 +63,24 @@ pub fn a_request_reaches_cache_or_origin_where_it_is_allowed()
 {}
 
 /// In a good trace a stored response is sent exactly where one is held that RFC 9111, section 4 lets be reused for that
-/// request then, that a 304 validates, or that RFC 5861, section 4 lets be sent in place of an error.
+/// request then, that a 304 validates, or that RFC 5861, section 4 lets be sent in place of an error. What is sent is that
+/// response.
 pub fn a_stored_response_is_sent_where_one_may_be()
     ensures every { SendsStoredWhereItMay }
     ensures only { SendsStoredNowhereElse }
+    ensures itself { SendsWhatIsHeld }
 {}
 
 /// In a good trace each answer that isn't a stored response names the first rule against one: the line of the table, the
-/// least reuse rule that stands now with the least error rule, or where the answer is passed on the rule of the arrival.
+/// least reuse rule that stands now with the least error rule, or where the answer is passed on the least that stood at the
+/// arrival.
 pub fn each_answer_names_its_first_rule()
     ensures { NamesFirstRules }
+{}
+
+/// Every good trace has the headline.
+pub fn every_good_trace_has_the_headline()
+    ensures { EveryGoodTraceHasIt }
 {}
 
 /// Whoever drives a core by its public calls has gone through a good trace, with all that each good trace keeps.

@@ -1,9 +1,9 @@
 //! Whole runs: events in order, up to the first fault.
 ghost use Rattle.std.specs.Prelude.{◌≡◌, ◌≤◌, [], length, MatchOption, slice_get, IfOk, IfErr, OnErr};
 ghost use Rattle.proxy_core.specs.State.{Steps, Refuses};
-ghost use Rattle.proxy_core.specs.Traces.{trace_of, DeniedLeaveNoTrace};
+ghost use Rattle.proxy_core.specs.Traces.{trace_of};
 ghost use Rattle.proxy_core.specs.Histories.{IsGoodHistory, StopsAt, open_exchanges};
-ghost use Rattle.proxy_core.specs.Promises.{NothingInvalidatedIsSent, TwiceForwardOneReply};
+ghost use Rattle.proxy_core.specs.Headline.{Headline};
 
 use crate::event::Event;
 use crate::fault::CoreFault;
@@ -43,9 +43,7 @@ pub fn run<S: Shelf + Drop>(
     ensures good { IsGoodHistory config (S.limit shelf) first_serial (trace_of events.now result.outcomes.items) }
     ensures stopped { MatchOption result.stopped (length result.outcomes.items ≡ length events.now)
         (λ fault. StopsAt (open_exchanges (S.limit shelf) (trace_of events.now result.outcomes.items)) (slice_get events.now (length result.outcomes.items)) fault) }
-    ensures denied { DeniedLeaveNoTrace config (trace_of events.now result.outcomes.items) }
-    ensures nothing_invalidated_is_sent { NothingInvalidatedIsSent (trace_of events.now result.outcomes.items) }
-    ensures twice_forward_one_reply { TwiceForwardOneReply (trace_of events.now result.outcomes.items) }
+    ensures headline { Headline config (S.limit shelf) (trace_of events.now result.outcomes.items) }
 {
     let mut core = Core::new(alloc, config, shelf, first_serial);
     let mut outcomes = Vec::new(alloc);

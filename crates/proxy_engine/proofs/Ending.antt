@@ -24,7 +24,7 @@ use Rattle.proxy_engine.specs.Look.{Due}
 use Rattle.proxy_engine.specs.Due.{Finish, Gives, Breaks}
 use Rattle.proxy_engine.specs.Acts.{address_of}
 use Rattle.proxy_engine.specs.State.{finish_seen, finish_at}
-use Rattle.proxy_engine.specs.Wishes.{Ends, again_address}
+use Rattle.proxy_engine.specs.Wishes.{Ends, gives, goes_forward, again_address}
 use Rattle.proxy_engine.specs.declared.ends.Link.{Link}
 
 -- something stands on the link, and it shows a response
@@ -110,6 +110,18 @@ again_way core core1 now id (Gives r) o line bytes there h e =
     again_of core.table core.entries core.exchanges (find_exchange id core.exchanges) core.next now id r line bytes (sym h.outcome_is ∙ e)
 again_way core core1 now id (Breaks kind) o line bytes there h e =
     absurd (not_reply o line bytes (ap is_reply h.outcome_is ∙ failure_replies core.table core.entries core.exchanges (find_exchange id core.exchanges) core.next now id kind there) e)
+
+goes_by : (o : Outcome) → is_reply o ≡ true → goes_forward o ≡ false
+goes_by (outcomes.Reply r) e = refl
+goes_by (outcomes.Forward line bytes) e = absurd (cc)
+goes_by outcomes.Ended e = refl
+
+-- what goes forward once more was answered
+pub goes_given : (core core1 : CoreState) (now id : ℕ) (f : Finish) (o : Outcome) → is_some (find_exchange id core.exchanges) ≡ true → Ends core now id f o core1 → goes_forward o ≡ true → gives f ≡ true
+goes_given core core1 now id (Gives r) o there h goes = refl
+goes_given core core1 now id (Breaks kind) o there h goes =
+    let stays = goes_by o (ap is_reply h.outcome_is ∙ failure_replies core.table core.entries core.exchanges (find_exchange id core.exchanges) core.next now id kind there) in
+    let both : true ≡ false = sym goes ∙ stays in absurd (cc)
 
 -- ---- the exchanges that are left open
 

@@ -14,4 +14,6 @@ pub mod Stepping
 pub mod Wires
 pub mod Ordering
 pub mod Living
+pub mod Doing
 pub mod Staying
+pub mod Dropping

@@ -1,5 +1,5 @@
 -- The core's steps are a good run, whatever an engine lives through.
-use Rattle.std.proofs.Common.{◌≡◌, ◌⊎◌, inl, inr, ℕ, ◌+◌, List, [], ◌∷◌, ◌++◌, refl, sym, ap, ◌∙◌, subst, Bool, Result, Ok, Err}
+use Rattle.std.proofs.Common.{◌≡◌, ◌⊎◌, inl, inr, ℕ, List, [], ◌∷◌, ◌++◌, refl, sym, ap, ◌∙◌, subst, Bool, Result, Ok, Err}
 use Rattle.hx_allow.specs.Lines.{Table}
 use Rattle.hx_framing.specs.declared.requests.Request.{Request}
 use Rattle.hx_framing.specs.declared.fault.FrameFault.TheVariants as frame
@@ -8,67 +8,67 @@ use Rattle.hx_framing.specs.declared.answer.Next.TheVariants as next
 use Rattle.hx_hop.specs.declared.asked_for.Asked.{Asked}
 use Rattle.hx_status.specs.declared.cause.Cause.{Cause}
 use Rattle.proxy_core.specs.Driving.{HasRun}
-use Rattle.proxy_core.specs.Outcomes.{id_of}
 use Rattle.proxy_core.specs.State.{State as CoreState, Steps}
 use Rattle.proxy_core.specs.declared.event.Event.{Event}
 use Rattle.proxy_core.specs.Traces.{Item, begun as core_begun}
 use Rattle.proxy_core.proofs.Driven.{promises_of_a_driven_core}
 use Rattle.proxy_script.specs.declared.effect_list.Effect.{Effect}
-use Rattle.proxy_engine.specs.Admitted.{Refusal}
+use Rattle.proxy_engine.specs.Admitted.{Refusal, IsAdmitted}
 use Rattle.proxy_engine.specs.Happenings.{Said, Accepts as Accepted, Sends, Hears, Ends, Leaves, Shuts, Fails}
 use Rattle.proxy_engine.specs.Story.{Story, heard, with_core}
 use Rattle.proxy_engine.specs.Due.{Act, Abandons, Finishes, Serves, Gives, Breaks}
 use Rattle.proxy_engine.specs.Acts.{Came, Replies, Forwards, Nothing, came, after_on, effects_on, next_number, StepsOn, Does, Arrives, Served, Refuses as IsRefused, Closes as IsClosed}
 use Rattle.proxy_engine.specs.State.{begun}
-use Rattle.proxy_engine.specs.Lives.{Step, Took, Worked, Leads, Lives, place_of, drops_of, IsTold, IsOwn, Continues, Refuses, Closes, Tells, LivesAreRuns}
+use Rattle.proxy_engine.specs.Lives.{Step, Took, Worked, Leads, Lives, place_of, drops_of, IsEventOf, HasNoEvent, IsTold, IsOwn, Continues, Refuses, Closes, Tells, LivesAreRuns}
 
 module _ (table : Table) where
   -- an act is one step of the core, or none
   abbrev Goes : Story → ℕ → Act → List Effect → Story → Type 0
   Goes s now act told after =
-      ((item : Item) × Steps s.core item.event item.outcome after.core × IsTold table s act item told) ⊎ ((after.core ≡ s.core) × IsOwn now (place_of s act) told)
+      ((item : Item) × IsTold table s now act item told after) ⊎ ((after.core ≡ s.core) × HasNoEvent act × IsOwn now (place_of s act) told)
 
   core_after : (i : ℕ) (to_head : Bool) (q : Came) (s : Story) → (after_on i to_head q s).core ≡ s.core
   core_after i to_head (Replies bytes close) s = refl
   core_after i to_head (Forwards address bytes) s = refl
   core_after i to_head Nothing s = refl
 
-  stepped : (now : ℕ) (act : Act) (s t : Story) (to_head : Bool) (event : Event) (told : List Effect) (after : Story) → s.core.table ≡ table → id_of event ≡ place_of s act + 1
+  stepped : (now : ℕ) (act : Act) (s t : Story) (to_head : Bool) (event : Event) (told : List Effect) (after : Story) → s.core.table ≡ table → IsEventOf s now act event
       → StepsOn s t (place_of s act) to_head event (drops_of s act) told after → Goes s now act told after
-  stepped now act s t to_head event told after config id h =
+  stepped now act s t to_head event told after config is h =
       let item : Item = record { event = event; outcome = h.outcome } in
       let core : after.core ≡ h.core = ap (λ (u : Story). u.core) h.after_is ∙ core_after (place_of s act) to_head (came s.core.table h.outcome) (with_core t h.core) in
-      let is_told : IsTold table s act item told = record {
-        of_it = id;
+      let is_told : IsTold table s now act item told after = record {
+        event_is = is;
+        steps = subst (λ (u : CoreState). Steps s.core event h.outcome u) (sym core) h.steps;
         told_is = h.told_is ∙ ap (λ (c : Table). drops_of s act ++ effects_on (place_of s act) (next_number s) (came c h.outcome)) config;
       } in
-      inl (item, subst (λ (u : CoreState). Steps s.core event h.outcome u) (sym core) h.steps, is_told)
+      inl (item, is_told)
 
-  refused : (now : ℕ) (s : Story) (i : ℕ) (wish : Next Request) (why : Cause) (head : Bool) (told : List Effect) (after : Story) → IsRefused s now i why head told after → Goes s now (Serves i wish) told after
-  refused now s i wish why head told after h = inr (ap (λ (u : Story). u.core) h.after_is, Refuses why head h.told_is)
+  refused : (now : ℕ) (s : Story) (i : ℕ) (wish : Next Request) (why : Cause) (head : Bool) (told : List Effect) (after : Story) → HasNoEvent (Serves i wish) → IsRefused s now i why head told after → Goes s now (Serves i wish) told after
+  refused now s i wish why head told after none h = inr (ap (λ (u : Story). u.core) h.after_is, none, Refuses why head h.told_is)
 
-  shut : (now : ℕ) (s : Story) (i : ℕ) (wish : Next Request) (told : List Effect) (after : Story) → IsClosed s i told after → Goes s now (Serves i wish) told after
-  shut now s i wish told after h = inr (ap (λ (u : Story). u.core) h.1, Closes h.0)
+  shut : (now : ℕ) (s : Story) (i : ℕ) (wish : Next Request) (told : List Effect) (after : Story) → HasNoEvent (Serves i wish) → IsClosed s i told after → Goes s now (Serves i wish) told after
+  shut now s i wish told after none h = inr (ap (λ (u : Story). u.core) h.1, none, Closes h.0)
 
-  arrives : (now : ℕ) (s : Story) (i : ℕ) (r : Request) (judged : Result Asked Refusal) (told : List Effect) (after : Story) → s.core.table ≡ table → Arrives s now i r judged told after → Goes s now (Serves i (next.Message r)) told after
-  arrives now s i r (Ok asked) told after config h = stepped now (Serves i (next.Message r)) s _ _ _ told after config refl h.1
-  arrives now s i r (Err refusal) told after config h = refused now s i (next.Message r) _ _ told after h
+  arrives : (now : ℕ) (s : Story) (i : ℕ) (r : Request) (judged : Result Asked Refusal) (told : List Effect) (after : Story) → s.core.table ≡ table → IsAdmitted r judged → Arrives s now i r judged told after → Goes s now (Serves i (next.Message r)) told after
+  arrives now s i r (Ok asked) told after config a h = stepped now (Serves i (next.Message r)) s _ _ _ told after config (asked, a, refl) h.1
+  arrives now s i r (Err refusal) told after config a h = refused now s i (next.Message r) _ _ told after (refusal, a) h
 
   serves : (now : ℕ) (s : Story) (i : ℕ) (wish : Next Request) (told : List Effect) (after : Story) → s.core.table ≡ table → Served s now i wish told after → Goes s now (Serves i wish) told after
   serves now s i next.More told after config h = absurd h
-  serves now s i next.NeedsContinue told after config h = inr (ap (λ (u : Story). u.core) h.1, Continues h.0)
-  serves now s i (next.Message r) told after config h = arrives now s i r h.0 told after config h.2
-  serves now s i (next.Refused frame.Truncated) told after config h = shut now s i (next.Refused frame.Truncated) told after h
-  serves now s i (next.Refused frame.Head) told after config h = refused now s i (next.Refused frame.Head) _ _ told after h
-  serves now s i (next.Refused frame.Version) told after config h = refused now s i (next.Refused frame.Version) _ _ told after h
-  serves now s i (next.Refused frame.BothLengths) told after config h = refused now s i (next.Refused frame.BothLengths) _ _ told after h
-  serves now s i (next.Refused frame.Length) told after config h = refused now s i (next.Refused frame.Length) _ _ told after h
-  serves now s i (next.Refused frame.Coding) told after config h = refused now s i (next.Refused frame.Coding) _ _ told after h
-  serves now s i (next.Refused frame.Chunk) told after config h = refused now s i (next.Refused frame.Chunk) _ _ told after h
-  serves now s i (next.Refused frame.TooLarge) told after config h = refused now s i (next.Refused frame.TooLarge) _ _ told after h
-  serves now s i (next.Refused frame.Expect) told after config h = refused now s i (next.Refused frame.Expect) _ _ told after h
-  serves now s i (next.Refused frame.Status) told after config h = refused now s i (next.Refused frame.Status) _ _ told after h
-  serves now s i next.End told after config h = shut now s i next.End told after h
+  serves now s i next.NeedsContinue told after config h = inr (ap (λ (u : Story). u.core) h.1, tt, Continues h.0)
+  serves now s i (next.Message r) told after config h = arrives now s i r h.0 told after config h.1 h.2
+  serves now s i (next.Refused frame.Truncated) told after config h = shut now s i (next.Refused frame.Truncated) told after tt h
+  serves now s i (next.Refused frame.Head) told after config h = refused now s i (next.Refused frame.Head) _ _ told after tt h
+  serves now s i (next.Refused frame.Version) told after config h = refused now s i (next.Refused frame.Version) _ _ told after tt h
+  serves now s i (next.Refused frame.BothLengths) told after config h = refused now s i (next.Refused frame.BothLengths) _ _ told after tt h
+  serves now s i (next.Refused frame.Length) told after config h = refused now s i (next.Refused frame.Length) _ _ told after tt h
+  serves now s i (next.Refused frame.Coding) told after config h = refused now s i (next.Refused frame.Coding) _ _ told after tt h
+  serves now s i (next.Refused frame.Chunk) told after config h = refused now s i (next.Refused frame.Chunk) _ _ told after tt h
+  serves now s i (next.Refused frame.TooLarge) told after config h = refused now s i (next.Refused frame.TooLarge) _ _ told after tt h
+  serves now s i (next.Refused frame.Expect) told after config h = refused now s i (next.Refused frame.Expect) _ _ told after tt h
+  serves now s i (next.Refused frame.Status) told after config h = refused now s i (next.Refused frame.Status) _ _ told after tt h
+  serves now s i next.End told after config h = shut now s i next.End told after tt h
 
   acts : (now : ℕ) (act : Act) (s : Story) (told : List Effect) (after : Story) → s.core.table ≡ table → Does s now act told after → Goes s now act told after
   acts now (Abandons i l) s told after config h = stepped now (Abandons i l) s _ _ _ told after config refl h
@@ -96,15 +96,15 @@ module _ (table : Table) (limit first : ℕ) (begin : Story) where
   worked : (steps : List Step) (now : ℕ) (act : Act) (told : List Effect) (s t : Story) → Leads s (Worked now act told) t → (run : Runs steps s) → Goes table s now act told t → Runs (Worked now act told ∷ steps) t
   worked steps now act told s t leads run (inl h) = record {
     trace = h.0 ∷ run.trace;
-    has_run = (s.core, run.has_run, h.1);
-    config = ap (λ (u : CoreState). u.table) h.1.leaves ∙ run.config;
-    tells = (s, run.trace, run.tells, leads, inl (h.0, refl, h.2));
+    has_run = (s.core, run.has_run, h.1.steps);
+    config = ap (λ (u : CoreState). u.table) h.1.steps.leaves ∙ run.config;
+    tells = (s, run.trace, run.tells, leads, inl (h.0, refl, h.1));
   }
   worked steps now act told s t leads run (inr h) = record {
     trace = run.trace;
     has_run = subst (λ (u : CoreState). HasRun table limit first run.trace u) (sym h.0) run.has_run;
     config = ap (λ (u : CoreState). u.table) h.0 ∙ run.config;
-    tells = (s, run.trace, run.tells, leads, inr (refl, h.1));
+    tells = (s, run.trace, run.tells, leads, inr (refl, h.1, h.2));
   }
 
   step_on : (steps : List Step) (step : Step) (s t : Story) → Leads s step t → Runs steps s → Runs (step ∷ steps) t

@@ -41,7 +41,7 @@ IsDropped k = k.dropped ≡ true
 
 -- the same lists, under another core or none
 stays_here : (s : Story) (core : CoreState) → Stays s (with_core s core)
-stays_here s core = record { closed = λ i l e. e; gone = λ i l e. e; dropped = λ j l e. e; connections = omega arith; links = omega arith }
+stays_here s core = record { closed = λ i l e. e; gone = λ i l e. e; dropped = λ j l e. e; connections = omega arith; links = omega arith; first = refl }
 
 stays_on : (r s t : Story) → Stays r s → Stays s t → Stays r t
 stays_on r s t f g = record {
@@ -50,6 +50,7 @@ stays_on r s t f g = record {
   dropped = λ j l e. g.dropped j (omega (arith, l, f.links)) (f.dropped j l e);
   connections = omega (arith, f.connections, g.connections);
   links = omega (arith, f.links, g.links);
+  first = g.first ∙ f.first;
 }
 
 stays_connection : (s : Story) (i : ℕ) (f : ConnStory → ConnStory) → ((c : ConnStory) → IsShut c → IsShut (f c)) → ((c : ConnStory) → IsGone c → IsGone (f c)) → Stays s (with_connection s i f)
@@ -59,6 +60,7 @@ stays_connection s i f shuts goes = record {
   dropped = λ j l e. e;
   connections = let same = length-set s.connections i (f (connection_at s i)) in omega (arith, same);
   links = omega arith;
+  first = refl;
 }
 
 stays_link : (s : Story) (j : ℕ) (f : LinkStory → LinkStory) → ((k : LinkStory) → IsDropped k → IsDropped (f k)) → Stays s (with_link s j f)
@@ -68,6 +70,7 @@ stays_link s j f drops = record {
   dropped = λ k l e. stays_set IsDropped no_link s.links j (f (get_or s.links j no_link)) k (drops (get_or s.links j no_link)) e;
   connections = omega arith;
   links = let same = length-set s.links j (f (get_or s.links j no_link)) in omega (arith, same);
+  first = refl;
 }
 
 shut_by : (b : Bool) (c d : ConnStory) → d.closed ≡ c.closed → IsShut c → IsShut (cond b c d)
@@ -89,6 +92,7 @@ takes_stay s (Accepts n) = record {
   dropped = λ j l e. e;
   connections = let more = length_push s.connections (accepted s.core.table.max_body) in omega (arith, more);
   links = omega arith;
+  first = refl;
 }
 takes_stay s (Sends n bytes) = stays_connection s (n - 1) (sent bytes) (λ c e. shut_by (c.gone || (c.closed || c.progress.ended)) c (record c { progress = fed c.progress bytes }) refl e) (λ c e. gone_by (c.gone || (c.closed || c.progress.ended)) c (record c { progress = fed c.progress bytes }) (λ g. g) e)
 takes_stay s (Ends n) = stays_connection s (n - 1) ended (λ c e. shut_by (c.gone || c.closed) c (record c { progress = finished c.progress }) refl e) (λ c e. gone_by (c.gone || c.closed) c (record c { progress = finished c.progress }) (λ g. g) e)
@@ -115,6 +119,7 @@ stays_opened s i to_head =
       dropped = λ j l e. stays_push IsDropped no_link s.links (opened s.core.table.max_body to_head i) j l e;
       connections = let same = length-set s.connections i y in omega (arith, same);
       links = let more = length_push s.links (opened s.core.table.max_body to_head i) in omega (arith, more);
+      first = refl;
     }
 
 stays_after : (s : Story) (i : ℕ) (to_head : Bool) (o : Came) → Stays s (after_on i to_head o s)

@@ -33,9 +33,8 @@ use Rattle.proxy_engine.specs.Story.{Story, ConnStory, link_at, with_connection,
 use Rattle.proxy_engine.specs.Due.{Abandons, Finish, Gives, Breaks, Finishes, Serves, IsDueFirst}
 use Rattle.proxy_engine.specs.Acts.{Came, Forwards, StepsOn, Finished, address_of, asks_head, came, came_at, passing, freed, effects_on, after_on, next_number}
 use Rattle.proxy_engine.specs.State.{ConnStands, LinkStands, Stands, state, finish_seen, finish_at, finish_load, link_load, Done, Failed}
-use Rattle.proxy_engine.specs.Wishes.{verdict_address, again_address, MayGive, Ends, EndFault}
-use Rattle.proxy_engine.specs.declared.happening.EngineFault.{EngineFault}
-use Rattle.proxy_engine.specs.declared.happening.EngineFault.TheVariants.{WrongNumber, NotAccepted, OutOfMemory, Spent}
+use Rattle.proxy_engine.specs.Wishes.{verdict_address, again_address, gives, Ends, EndFault}
+use Rattle.proxy_engine.specs.declared.happening.EngineFault.TheVariants.{OutOfMemory, Spent}
 use Rattle.proxy_engine.specs.declared.ends.Connection.{Connection}
 use Rattle.proxy_engine.specs.declared.ends.Link.{Link}
 use Rattle.proxy_engine.proofs.Parts.{both_length}
@@ -138,12 +137,12 @@ finished_steps s core core1 first now i j event o to_head told steps is first_is
   after_is = refl;
 }
 
-finished_by : (s : Story) (core core1 : CoreState) (first now i j : ℕ) (f : Finish) (spent : Bool) (o : Outcome) (told : List Effect) → MayGive spent f → (spent ≡ false → next_number s < 2 ^ 64)
+finished_by : (s : Story) (core core1 : CoreState) (first now i j : ℕ) (f : Finish) (o : Outcome) (told : List Effect) → (gives f ≡ true → next_number s < 2 ^ 64)
     → Ends core now (i + 1) f o core1 → told ≡ effects.Drop (first + j) ∷ effects_on i (next_number s) (came core.table o) → first ≡ s.first → core ≡ s.core
     → Finished s now j i f told (after_on i (asks_head (find_exchange (i + 1) s.core.exchanges)) (came s.core.table o) (with_core (freed s j i) core1))
-finished_by s core core1 first now i j (Gives r) spent o told may left steps is first_is core_is =
-    (left may, finished_steps s core core1 first now i j (events.Answer now (i + 1) r) o (asks_head (find_exchange (i + 1) s.core.exchanges)) told steps is first_is core_is)
-finished_by s core core1 first now i j (Breaks kind) spent o told may left steps is first_is core_is =
+finished_by s core core1 first now i j (Gives r) o told left steps is first_is core_is =
+    (left refl, finished_steps s core core1 first now i j (events.Answer now (i + 1) r) o (asks_head (find_exchange (i + 1) s.core.exchanges)) told steps is first_is core_is)
+finished_by s core core1 first now i j (Breaks kind) o told left steps is first_is core_is =
     finished_steps s core core1 first now i j (events.Fail now (i + 1) kind) o (asks_head (find_exchange (i + 1) s.core.exchanges)) told steps is first_is core_is
 
 -- the way of an exchange that goes forward once more
@@ -155,12 +154,12 @@ ends_table core core1 now id (Gives r) o h = ap (λ (k : CoreState). k.table) h.
 ends_table core core1 now id (Breaks kind) o h = ap (λ (k : CoreState). k.table) h.leaves
 
 -- an exchange was finished, or goes forward once more
-pub finished_done : (s : Story) (cs1 cs2 : List Connection) (ks1 ks2 : List Link) (core core1 : CoreState) (first now i j max_body : ℕ) (f : Finish) (spent : Bool) (o : Outcome) (address : List ℕ) (to_head : Bool) (told : List Effect)
-    → is_some (find_exchange (i + 1) core.exchanges) ≡ true → MayGive spent f → (spent ≡ false → next_number s < 2 ^ 64) → Ends core now (i + 1) f o core1 → address ≡ again_address core.table (find_exchange (i + 1) core.exchanges) → max_body ≡ core.table.max_body
+pub finished_done : (s : Story) (cs1 cs2 : List Connection) (ks1 ks2 : List Link) (core core1 : CoreState) (first now i j max_body : ℕ) (f : Finish) (o : Outcome) (address : List ℕ) (to_head : Bool) (told : List Effect)
+    → is_some (find_exchange (i + 1) core.exchanges) ≡ true → (gives f ≡ true → next_number s < 2 ^ 64) → Ends core now (i + 1) f o core1 → address ≡ again_address core.table (find_exchange (i + 1) core.exchanges) → max_body ≡ core.table.max_body
     → to_head ≡ asks_head (find_exchange (i + 1) core.exchanges) → first + length ks1 ≡ next_number s → told ≡ effects.Drop (first + j) ∷ effects_on i (first + length ks1) (came_at address o) → first ≡ s.first → core ≡ s.core → i ≡ (link_at s j).connection
     → Stands (state cs1 ks1 core first) (freed s j i) → ((t : Story) (k : CoreState) → k.table.max_body ≡ max_body → Stands (state cs1 ks1 k first) t → Stands (state cs2 ks2 k first) (after_on i to_head (came_at address o) t))
     → Done s now (Finishes j f) told (state cs2 ks2 core1 first)
-finished_done s cs1 cs2 ks1 ks2 core core1 first now i j max_body f spent o address to_head told there may left steps way most head number is first_is core_is owner gone applies =
+finished_done s cs1 cs2 ks1 ks2 core core1 first now i j max_body f o address to_head told there left steps way most head number is first_is core_is owner gone applies =
     let behind = with_core (freed s j i) core1 in
     let coming : came_at address o ≡ came core.table o = finish_way core core1 now (i + 1) f o address there steps way in
     let tells : told ≡ effects.Drop (first + j) ∷ effects_on i (next_number s) (came core.table o) =
@@ -174,17 +173,23 @@ finished_done s cs1 cs2 ks1 ks2 core core1 first now i j max_body f spent o addr
     let after = after_on i (asks_head (find_exchange (i + 1) s.core.exchanges)) (came s.core.table o) behind in
     record {
       after = after;
-      does = subst (λ (n : ℕ). Finished s now j n f told after) owner (finished_by s core core1 first now i j f spent o told may left steps tells first_is core_is);
+      does = subst (λ (n : ℕ). Finished s now j n f told after) owner (finished_by s core core1 first now i j f o told left steps tells first_is core_is);
       stands = told_head;
     }
 
 -- an exchange that isn't finished, since no number is left
-pub end_failed : (s : Story) (j : ℕ) (f : Finish) (spent : Bool) (e : EngineFault) → EndFault spent f e → (spent ≡ true → 2 ^ 64 ≤ next_number s) → IsDueFirst s (Some (Finishes j f)) → Failed s e
-end_failed s j f spent WrongNumber h many due = absurd h
-end_failed s j f spent NotAccepted h many due = absurd h
-end_failed s j f spent OutOfMemory h many due = tt
-end_failed s j (Gives r) spent Spent h many due = (Finishes j (Gives r), due, tt, many h)
-end_failed s j (Breaks kind) spent Spent h many due = absurd h
+pub spent_failed : (s : Story) (j : ℕ) (f : Finish) → gives f ≡ true → 2 ^ 64 ≤ next_number s → IsDueFirst s (Some (Finishes j f)) → Failed s Spent
+spent_failed s j (Gives r) may many due = (Finishes j (Gives r), due, tt, many)
+spent_failed s j (Breaks kind) may many due = absurd (cc)
+
+pub spent_told : (spent : Bool) (f : Finish) → spent ≡ true → gives f ≡ true → EndFault spent f Spent
+spent_told spent (Gives r) none may = none
+spent_told spent (Breaks kind) none may = absurd (cc)
+
+-- one that isn't finished for want of memory, where a number is left or none is asked for
+pub memory_told : (spent : Bool) (f : Finish) → (gives f ≡ true → spent ≡ false) → EndFault spent f OutOfMemory
+memory_told spent (Gives r) left = left refl
+memory_told spent (Breaks kind) left = tt
 
 -- a link on which something stands counts two
 pub link_counts : (k : Link) (f : Finish) → finish_at k ≡ Some f → link_load k ≡ 2

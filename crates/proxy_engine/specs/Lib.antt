@@ -12,4 +12,5 @@ pub mod Marked
 pub mod Wishes
 pub mod Wiring
 pub mod Orderly
+pub mod Drops
 pub mod Lives

@@ -1,22 +1,28 @@
 -- What an engine lives through, and the run of its core: whoever takes happenings and does what is due.
 --
 -- Step, Lives: steps one after another, the latest first     told_of: what they did
--- IsTold, IsOwn: the effects of an act, for a step of the core or without one
--- Adds, Tells: each step of the core is told by its act      IsRun: the steps of the core are a good run
--- LivesAreRuns: the law
-use Rattle.std.specs.Prelude.{◌≡◌, ◌⊎◌, ℕ, ◌+◌, List, [], ◌∷◌, ◌++◌, Bool, true, None, Some}
+-- IsEventOf, HasNoEvent: what an act asks the core, or that it asks nothing
+-- IsTold, IsOwn: a step of the core with its effects, or effects without one
+-- Adds, Tells: each act is its step of the core, and tells it     IsRun: the steps of the core are a good run
+-- ActsInOneWay, HasOneTrace, LivesAreRuns: the laws
+use Rattle.std.specs.Prelude.{◌≡◌, ◌⊎◌, ℕ, ◌+◌, List, [], ◌∷◌, ◌++◌, Bool, true, None, Some, Ok, Err}
 use Rattle.hx_allow.specs.Lines.{Table}
+use Rattle.hx_framing.specs.declared.answer.Next.TheVariants as next
+use Rattle.hx_hop.specs.declared.asked_for.Asked.{Asked}
 use Rattle.hx_hop.specs.Moments.{date_text_of}
 use Rattle.hx_status.specs.declared.cause.Cause.{Cause}
 use Rattle.proxy_core.specs.Driving.{KeepsThePromises}
-use Rattle.proxy_core.specs.Outcomes.{id_of}
 use Rattle.proxy_core.specs.Replies.{refused_text}
+use Rattle.proxy_core.specs.State.{Steps}
+use Rattle.proxy_core.specs.declared.event.Event.{Event}
+use Rattle.proxy_core.specs.declared.event.Event.TheVariants as events
 use Rattle.proxy_core.specs.Traces.{Item, begun as core_begun}
 use Rattle.proxy_script.specs.declared.effect_list.Effect.{Effect}
 use Rattle.proxy_script.specs.declared.effect_list.Effect.TheVariants as effects
+use Rattle.proxy_engine.specs.Admitted.{Refusal, IsAdmitted}
 use Rattle.proxy_engine.specs.Happenings.{Said}
 use Rattle.proxy_engine.specs.Story.{Story, link_at, heard, fault_of}
-use Rattle.proxy_engine.specs.Due.{Act, Abandons, Finishes, Serves, IsDueFirst}
+use Rattle.proxy_engine.specs.Due.{Act, Abandons, Finishes, Serves, Gives, Breaks, IsDueFirst}
 use Rattle.proxy_engine.specs.Acts.{Does, came, effects_on, continue_text, next_number}
 use Rattle.proxy_engine.specs.State.{begun}
 
@@ -53,10 +59,33 @@ drops_of s (Abandons i l) = effects.Drop (s.first + l) ∷ []
 drops_of s (Finishes j finish) = effects.Drop (s.first + j) ∷ []
 drops_of s (Serves i wish) = []
 
--- The effects of an item of the core, which an act in this story did: its link is dropped, then come those on its connection,
--- whose number is the item's id. What goes forward names the number of the next link.
-pub record IsTold (table : Table) (s : Story) (act : Act) (item : Item) (told : List Effect) : Type 0 where
-  pub of_it : id_of item.event ≡ place_of s act + 1
+-- The event that an act asks the core about at a moment: the client's going away, the response that the origin's stream spells, the
+-- failure, or the request that the client's stream spells.
+abbrev pub IsEventOf : Story → ℕ → Act → Event → Type 0
+IsEventOf s now (Abandons i l) event = event ≡ events.Abandon (i + 1)
+IsEventOf s now (Finishes j (Gives r)) event = event ≡ events.Answer now ((link_at s j).connection + 1) r
+IsEventOf s now (Finishes j (Breaks kind)) event = event ≡ events.Fail now ((link_at s j).connection + 1) kind
+IsEventOf s now (Serves i (next.Message r)) event = (asked : Asked) × IsAdmitted r (Ok asked) × (event ≡ events.Arrive now (i + 1) asked)
+IsEventOf s now (Serves i next.More) event = ⊥
+IsEventOf s now (Serves i next.NeedsContinue) event = ⊥
+IsEventOf s now (Serves i (next.Refused fault)) event = ⊥
+IsEventOf s now (Serves i next.End) event = ⊥
+
+-- the act asks the core nothing: what the client's stream spells is no request that names a resource
+abbrev pub HasNoEvent : Act → Type 0
+HasNoEvent (Abandons i l) = ⊥
+HasNoEvent (Finishes j finish) = ⊥
+HasNoEvent (Serves i (next.Message r)) = (refusal : Refusal) × IsAdmitted r (Err refusal)
+HasNoEvent (Serves i next.More) = ⊥
+HasNoEvent (Serves i next.NeedsContinue) = Unit {0}
+HasNoEvent (Serves i (next.Refused fault)) = Unit {0}
+HasNoEvent (Serves i next.End) = Unit {0}
+
+-- An item of the core, which an act in this story did at this moment: its event is the act's, the core took the step, its link is
+-- dropped, and then come the effects on its connection. What goes forward names the number of the next link.
+pub record IsTold (table : Table) (s : Story) (now : ℕ) (act : Act) (item : Item) (told : List Effect) (after : Story) : Type 0 where
+  pub event_is : IsEventOf s now act item.event
+  pub steps : Steps s.core item.event item.outcome after.core
   pub told_is : told ≡ drops_of s act ++ effects_on (place_of s act) (next_number s) (came table item.outcome)
 
 -- effects without a step of the core, on the connection at a place: a continue, the proxy's answer to what is no request, or a
@@ -66,24 +95,32 @@ pub data IsOwn (now place : ℕ) (told : List Effect) : Type 0 where
   Refuses : (why : Cause) (head : Bool) → told ≡ effects.Client (place + 1) (refused_text (date_text_of now) why true head) ∷ effects.Close (place + 1) ∷ [] → IsOwn now place told
   Closes : told ≡ effects.Close (place + 1) ∷ [] → IsOwn now place told
 
--- a step in this story told the next item of the trace, or did no step of the core
-abbrev pub Adds : Table → Story → Step → List Item → List Item → Type 0
-Adds table s (Took h) past trace = trace ≡ past
-Adds table s (Worked now act told) past trace =
-    ((item : Item) × (trace ≡ item ∷ past) × IsTold table s act item told) ⊎ ((trace ≡ past) × IsOwn now (place_of s act) told)
+-- a step from this story to the next did the next item of the trace, or no step of the core
+abbrev pub Adds : Table → Story → Step → Story → List Item → List Item → Type 0
+Adds table s (Took h) after past trace = trace ≡ past
+Adds table s (Worked now act told) after past trace =
+    ((item : Item) × (trace ≡ item ∷ past) × IsTold table s now act item told after) ⊎ ((trace ≡ past) × HasNoEvent act × IsOwn now (place_of s act) told)
 
--- the steps that lead from s to t told the items of the trace, in order
+-- the steps that lead from s to t did the items of the trace, in order, and told them
 abbrev pub Tells : Table → Story → List Step → Story → List Item → Type 0
 Tells table s [] t trace = (t ≡ s) × (trace ≡ [])
 Tells table s (step ∷ steps) t trace =
-    (before : Story) × (past : List Item) × Tells table s steps before past × Leads before step t × Adds table before step past trace
+    (before : Story) × (past : List Item) × Tells table s steps before past × Leads before step t × Adds table before step t past trace
 
--- From a story whose core has begun, the steps of the core are a good run, with all that a good run keeps, and what they gave
--- was told.
+-- From a story whose core has begun, the steps of the core are a good run, with all that a good run keeps: its events are those
+-- that the acts ask about, one after another, and what they gave was told.
 pub record IsRun (table : Table) (limit first : ℕ) (begin : Story) (steps : List Step) (last : Story) : Type 0 where
   pub trace : List Item
   pub keeps : KeepsThePromises table limit first trace last.core
   pub tells : Tells table begin steps last trace
+
+-- an act has one story behind it, and its effects
+abbrev pub ActsInOneWay : Type 0
+ActsInOneWay = (s : Story) (now : ℕ) (act : Act) (told more : List Effect) (t u : Story) → Does s now act told t → Does s now act more u → (told ≡ more) × (t ≡ u)
+
+-- the same steps from the same story have one trace, and lead to one story
+abbrev pub HasOneTrace : Type 0
+HasOneTrace = (table : Table) (s : Story) (steps : List Step) (t u : Story) (trace other : List Item) → Tells table s steps t trace → Tells table s steps u other → (t ≡ u) × (trace ≡ other)
 
 -- whatever an engine lives through, the steps of its core are a good run
 abbrev pub LivesAreRuns : Type 0

@@ -60,6 +60,7 @@ pub record Stays (s after : Story) : Type 0 where
   pub dropped : (j : ℕ) → j < length s.links → (link_at s j).dropped ≡ true → (link_at after j).dropped ≡ true
   pub connections : length s.connections ≤ length after.connections
   pub links : length s.links ≤ length after.links
+  pub first : after.first ≡ s.first
 
 abbrev pub BeginsOrderly : Type 0
 BeginsOrderly = (core : CoreState) (first : ℕ) → core.exchanges ≡ [] → IsOrderly (begun core first)

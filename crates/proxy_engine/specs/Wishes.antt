@@ -2,7 +2,7 @@
 --
 -- IsWish: what a client's stream asks for, read as a request or refused
 -- verdict_address, again_address: the address that a verdict leads to, and that of an open exchange
--- Ends: the core's step that finishes an exchange     EndFault: why it isn't done
+-- Ends: the core's step that finishes an exchange     gives: it may go forward once more     EndFault: why it isn't done
 use Rattle.std.specs.Prelude.{◌≡◌, ℕ, List, [], Bool, true, false, Option, None, Some, is_some, if◌then◌else◌, Ok, Err}
 use Rattle.hx_framing.specs.declared.requests.Request.{Request}
 use Rattle.hx_framing.specs.declared.fault.FrameFault.{FrameFault}
@@ -69,16 +69,17 @@ abbrev pub Ends : CoreState → ℕ → ℕ → Finish → Outcome → CoreState
 Ends s now id (Gives r) outcome t = Steps s (events.Answer now id r) outcome t
 Ends s now id (Breaks kind) outcome t = Steps s (events.Fail now id kind) outcome t
 
--- an answer may go forward, and then needs a link
-abbrev pub MayGive : Bool → Finish → Type 0
-MayGive spent (Gives r) = spent ≡ false
-MayGive spent (Breaks kind) = Unit {0}
+-- an answer may go forward once more, and then needs a link
+abbrev pub gives : Finish → Bool
+gives (Gives r) = true
+gives (Breaks kind) = false
 
--- why an exchange isn't finished, where no link number is left or one is
+-- Why an exchange isn't finished, where no link number is left or one is. That none is left hides behind no want of memory.
 abbrev pub EndFault : Bool → Finish → EngineFault → Type 0
 EndFault spent finish WrongNumber = ⊥
 EndFault spent finish NotAccepted = ⊥
-EndFault spent finish OutOfMemory = Unit {0}
+EndFault spent (Gives r) OutOfMemory = spent ≡ false
+EndFault spent (Breaks kind) OutOfMemory = Unit {0}
 EndFault spent (Gives r) Spent = spent ≡ true
 EndFault spent (Breaks kind) Spent = ⊥
 

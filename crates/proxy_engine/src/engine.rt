@@ -5,12 +5,13 @@ ghost use Rattle.proxy_engine.specs.Happenings.{said, takes_memory};
 ghost use Rattle.proxy_engine.specs.State.{State, Stands, Takes, TakeFault, Did, Failed, Lessens, begun, load_at};
 
 use crate::connections::Connections;
-use crate::happening::{EngineFault, Happening, Work};
+use crate::happening::{EngineFault, Work};
 use crate::links::Links;
 use crate::{acts, takes};
 use hx_allow::Config;
 use hx_store::Shelf;
 use proxy_core::Core;
+use proxy_script::Happening;
 use std::alloc::Global;
 use std::marker::Model;
 

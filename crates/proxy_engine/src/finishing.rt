@@ -1,5 +1,5 @@
 //! An exchange ends: its origin has answered or failed, or its client is gone.
-ghost use Rattle.std.specs.Prelude.{◌≡◌, ℕ, ◌+◌, ◌<◌, ◌≤◌, ◌^◌, List, length, true, false, Some, is_some, IfOk, IfErr, OnOk, OnErr, slice_index_or};
+ghost use Rattle.std.specs.Prelude.{◌≡◌, ℕ, ◌+◌, ◌<◌, ◌≤◌, ◌^◌, nat_le, List, length, true, false, Some, is_some, IfOk, IfErr, OnOk, OnErr, slice_index_or};
 ghost use Rattle.hx_framing.specs.declared.responses.Response.{Response as Told};
 ghost use Rattle.hx_framing.specs.declared.answer.Next.{Next as Answer};
 ghost use Rattle.proxy_core.specs.declared.event.Event.TheVariants.{Fail};
@@ -10,7 +10,7 @@ ghost use Rattle.proxy_engine.specs.State.{Stands, state, finish_at, lost_load, 
 ghost use Rattle.proxy_core.specs.Outcomes.{find_exchange};
 ghost use Rattle.proxy_engine.specs.Wiring.{IsWired, at, links_of};
 ghost use Rattle.proxy_engine.specs.Acts.{asks_head};
-ghost use Rattle.proxy_engine.specs.Wishes.{Ends, MayGive, EndFault, again_address};
+ghost use Rattle.proxy_engine.specs.Wishes.{Ends, gives, EndFault, again_address};
 ghost use Rattle.proxy_engine.specs.declared.ends.Connection.{Connection};
 
 use crate::connections::Connections;
@@ -74,11 +74,10 @@ fn fail<S: Shelf>(
     now: u64,
     id: u64,
     kind: FailKind,
-) -> Result<Outcome, EngineFault>
+) -> Result<Outcome, AllocError>
     requires open { is_some (find_exchange id core.old.exchanges) ≡ true }
     requires early { now < 253402300800 }
     ensures ok { IfOk result (λ outcome. Steps core.old (Fail now id kind) outcome core.new) }
-    ensures fault { IfErr result (λ fault. fault ≡ EngineFault.OutOfMemory) }
     ensures err { OnErr result (core.new ≡ core.old) }
 {
     match core.fail(alloc, now, id, kind) {
@@ -94,26 +93,19 @@ fn end<S: Shelf>(
     alloc: Global,
     now: u64,
     id: u64,
-    spent: bool,
-) -> Result<Outcome, EngineFault>
+) -> Result<Outcome, AllocError>
     requires due { is_some (finish_at link.now) ≡ true }
     requires open { is_some (find_exchange id core.old.exchanges) ≡ true }
     requires early { now < 253402300800 }
-    ensures ok { IfOk result (λ outcome. (f : Finish) × (finish_at link.now ≡ Some f) × MayGive spent f × Ends core.old now id f outcome core.new) }
-    ensures fault { IfErr result (λ fault. (f : Finish) × (finish_at link.now ≡ Some f) × EndFault spent f fault) }
+    ensures ok { IfOk result (λ outcome. (f : Finish) × (finish_at link.now ≡ Some f) × Ends core.old now id f outcome core.new) }
     ensures err { OnErr result (core.new ≡ core.old) }
 {
     match link.watch.due() {
         Some(next) => match next {
-            Next::Message(response) => {
-                if spent {
-                    return Err(EngineFault::Spent);
-                }
-                match core.answer(alloc, now, id, response) {
-                    Ok(outcome) => Ok(outcome),
-                    Err(fault) => Err(lacks_memory(fault)),
-                }
-            }
+            Next::Message(response) => match core.answer(alloc, now, id, response) {
+                Ok(outcome) => Ok(outcome),
+                Err(fault) => Err(lacks_memory(fault)),
+            },
             Next::Refused(fault) => fail(core, alloc, now, id, kind_of(*fault)),
             Next::NeedsContinue => fail(core, alloc, now, id, FailKind::BadAnswer),
             Next::End => fail(core, alloc, now, id, FailKind::Closed),
@@ -156,7 +148,69 @@ pub(crate) fn abandon<S: Shelf>(
     Ok(effects)
 }
 
+/// Whether a whole answer stands on a link. Its exchange may go forward once more, and then needs a link.
+fn is_answered(link: &Link) -> bool
+    requires { is_some (finish_at link.now) ≡ true }
+    ensures { (f : Finish) → finish_at link.now ≡ Some f → result ≡ gives f }
+{
+    match link.watch.due() {
+        Some(next) => match next {
+            Next::Message(_) => true,
+            Next::Refused(_) => false,
+            Next::NeedsContinue => false,
+            Next::End => false,
+            Next::More => false,
+        },
+        None => false,
+    }
+}
+
 /// The exchange of a link is finished by what stands on it, or goes forward once more on a new one; the link is dropped.
+/// There is a number for it.
+fn complete<S: Shelf>(
+    connections: &mut Connections,
+    links: &mut Links,
+    core: &mut Core<S>,
+    alloc: Global,
+    first: u64,
+    now: u64,
+    j: usize,
+) -> Result<Vec<Effect>, AllocError>
+    requires within { j < length links.old.items }
+    requires due { (k : Link) → is_some (finish_at (slice_index_or links.old.items j k)) ≡ true }
+    requires left { (f : Finish) → (k : Link) → finish_at (slice_index_or links.old.items j k) ≡ Some f → gives f ≡ true → first + length links.old.items < 2 ^ 64 }
+    requires wired { IsWired (state connections.old.items links.old.items core.old first) }
+    requires early { now < 253402300800 }
+    ensures wired { IsWired (state connections.new.items links.new.items core.new first) }
+    ensures ok { IfOk result (λ effects. (s : Story) → (f : Finish) → (k : Link) → finish_at (slice_index_or links.old.items j k) ≡ Some f
+        → Stands (state connections.old.items links.old.items core.old first) s → Done s now (Finishes j f) effects.items (state connections.new.items links.new.items core.new first)) }
+    ensures less { OnOk result (load_of connections.new.items links.new.items < load_of connections.old.items links.old.items) }
+    ensures err { OnErr result ((connections.new.items ≡ connections.old.items) × (links.new.items ≡ links.old.items) × (core.new ≡ core.old)) }
+{
+    let mut effects = room(alloc)?;
+    links.reserve_one()?;
+    let i = links.at(j).connection;
+    let count = connections.len();
+    prove!(i < count);
+    let way = way_again(core, alloc, i as u64 + 1)?;
+    let outcome = end(links.at(j), core, alloc, now, i as u64 + 1)?;
+    free(connections, links, j, i);
+    put(&mut effects, Effect::Drop(number_at(first, j)));
+    carry_out(
+        connections,
+        links,
+        &mut effects,
+        alloc,
+        first,
+        i,
+        way,
+        outcome,
+    );
+    Ok(effects)
+}
+
+/// The exchange of a link is finished, unless it may go forward once more and no link number is left. That is told before
+/// any memory is asked for.
 pub(crate) fn finish<S: Shelf>(
     connections: &mut Connections,
     links: &mut Links,
@@ -174,38 +228,16 @@ pub(crate) fn finish<S: Shelf>(
     ensures ok { IfOk result (λ effects. (s : Story) → (f : Finish) → (k : Link) → finish_at (slice_index_or links.old.items j k) ≡ Some f
         → Stands (state connections.old.items links.old.items core.old first) s → Done s now (Finishes j f) effects.items (state connections.new.items links.new.items core.new first)) }
     ensures less { OnOk result (load_of connections.new.items links.new.items < load_of connections.old.items links.old.items) }
+    ensures spent { IfErr result (λ fault. (f : Finish) → (k : Link) → finish_at (slice_index_or links.old.items j k) ≡ Some f → EndFault (nat_le (2 ^ 64) (first + length links.old.items)) f fault) }
     ensures fault { IfErr result (λ fault. (s : Story) → (f : Finish) → (k : Link) → finish_at (slice_index_or links.old.items j k) ≡ Some f → IsDueFirst s (Some (Finishes j f))
         → Stands (state connections.old.items links.old.items core.old first) s → Failed s fault) }
     ensures err { OnErr result ((connections.new.items ≡ connections.old.items) × (links.new.items ≡ links.old.items) × (core.new ≡ core.old)) }
 {
-    let Ok(mut effects) = room(alloc) else {
-        return Err(EngineFault::OutOfMemory);
-    };
-    let Ok(()) = links.reserve_one() else {
-        return Err(EngineFault::OutOfMemory);
-    };
-    let i = links.at(j).connection;
-    let count = connections.len();
-    prove!(i < count);
-    let spent = is_spent(first, links.len());
-    let Ok(way) = way_again(core, alloc, i as u64 + 1) else {
-        return Err(EngineFault::OutOfMemory);
-    };
-    let outcome = match end(links.at(j), core, alloc, now, i as u64 + 1, spent) {
-        Ok(outcome) => outcome,
-        Err(fault) => return Err(fault),
-    };
-    free(connections, links, j, i);
-    put(&mut effects, Effect::Drop(number_at(first, j)));
-    carry_out(
-        connections,
-        links,
-        &mut effects,
-        alloc,
-        first,
-        i,
-        way,
-        outcome,
-    );
-    Ok(effects)
+    if is_spent(first, links.len()) && is_answered(links.at(j)) {
+        return Err(EngineFault::Spent);
+    }
+    match complete(connections, links, core, alloc, first, now, j) {
+        Ok(effects) => Ok(effects),
+        Err(_) => Err(EngineFault::OutOfMemory),
+    }
 }

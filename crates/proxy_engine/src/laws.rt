@@ -2,8 +2,11 @@
 ghost use Rattle.std.specs.Prelude.{◌≡◌, Option};
 ghost use Rattle.proxy_engine.specs.Story.{Story};
 ghost use Rattle.proxy_engine.specs.Due.{Act, IsDueFirst};
-ghost use Rattle.proxy_engine.specs.Lives.{LivesAreRuns};
+ghost use Rattle.proxy_engine.specs.Drops.{ActsAreShort, ActsTellDrops, TakesDropNone};
+ghost use Rattle.proxy_engine.specs.Lives.{ActsInOneWay, HasOneTrace, LivesAreRuns};
 ghost use Rattle.proxy_engine.specs.Orderly.{BeginsOrderly, TakesInOrder, ActsInOrder, TakesStay, ActsStay};
+
+use hx_hop::a_request_is_asked_in_one_way;
 
 /// One act is due first, or none is: so `work` has no choice.
 pub fn due_once()
@@ -24,9 +27,36 @@ pub fn what_ends_stays_ended()
     ensures acts { ActsStay }
 {}
 
+/// An act has three effects at most: it drops one link at most, and does so first.
+pub fn an_act_has_three_effects_at_most()
+    ensures { ActsAreShort }
+{}
+
+/// A link that is dropped was dropped by an act that told it; what happens drops none.
+pub fn each_drop_is_told()
+    ensures acts { ActsTellDrops }
+    ensures takes { TakesDropNone }
+{}
+
+/// An act that is done has one story behind it, and its effects.
+pub fn an_act_is_done_in_one_way()
+    ensures { ActsInOneWay }
+{
+    a_request_is_asked_in_one_way();
+}
+
+/// What an engine lives through has one trace: each act asks the core about one event, or about none.
+pub fn a_life_has_one_trace()
+    ensures { HasOneTrace }
+{
+    a_request_is_asked_in_one_way();
+}
+
 /// Whatever takes happenings and does what is due, from an engine to which nothing has happened on: the steps of its core are
-/// a good run over what is held by the count, and its effects are the texts of what the steps gave, in order. So whatever
-/// drives an engine, a script or sockets, has the promises of `proxy_core::run`.
+/// a good run over what is held by the count, with the headline. Its events are the requests that the clients' streams spell,
+/// the responses that the origins' streams spell, the failures and the clients that went away, each at its moment, and its
+/// effects are the texts of what the steps gave, in order. So whatever drives an engine, a script or sockets, has the promises of
+/// `proxy_core::run`.
 pub fn lives_are_runs()
     ensures { LivesAreRuns }
 {}

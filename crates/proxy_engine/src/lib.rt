@@ -25,7 +25,11 @@ mod takes;
 mod wishes;
 
 pub use crate::engine::Engine;
-pub use crate::happening::{EngineFault, Happening, Work};
-pub use crate::laws::{due_once, effects_name_open_ends, lives_are_runs, what_ends_stays_ended};
+pub use crate::happening::{EngineFault, Work};
+pub use crate::laws::{
+    a_life_has_one_trace, an_act_has_three_effects_at_most, an_act_is_done_in_one_way, due_once,
+    each_drop_is_told, effects_name_open_ends, lives_are_runs, what_ends_stays_ended,
+};
 pub use crate::request_watch::RequestWatch;
 pub use crate::response_watch::ResponseWatch;
+pub use proxy_script::Happening;

@@ -1,5 +1,5 @@
 //! What an outcome of the core does on the proxy's ends. Room is made first, so none of this takes memory.
-ghost use Rattle.std.specs.Prelude.{◌≡◌, ℕ, ◌+◌, ◌<◌, ◌≤◌, ◌^◌, ◌++◌, ◌∷◌, [], List, Bool, length, sum_by, true, false, IfOk, OnOk, None, Some, vec_len, vec_capacity, slice_index_or, slice_set};
+ghost use Rattle.std.specs.Prelude.{◌≡◌, ℕ, ◌+◌, ◌<◌, ◌≤◌, ◌^◌, nat_le, ◌++◌, ◌∷◌, [], List, Bool, length, sum_by, true, false, IfOk, OnOk, None, Some, vec_len, vec_capacity, slice_index_or, slice_set};
 ghost use Rattle.proxy_core.specs.Replies.{is_head};
 ghost use Rattle.proxy_core.specs.State.{State as CoreState};
 ghost use Rattle.proxy_engine.specs.Story.{Story, with_connection};
@@ -12,7 +12,6 @@ ghost use Rattle.proxy_engine.specs.declared.ends.Connection.{Connection};
 
 use crate::connections::Connections;
 use crate::ends::Link;
-use crate::happening::EngineFault;
 use crate::links::Links;
 use crate::marks;
 use crate::response_watch::ResponseWatch;
@@ -42,8 +41,7 @@ pub(crate) fn number_at(first: u64, place: usize) -> u64
 
 /// Whether no link number is left behind so many links.
 pub(crate) fn is_spent(first: u64, count: usize) -> bool
-    ensures spent { result ≡ true → 2 ^ 64 ≤ first + count }
-    ensures left { result ≡ false → first + count < 2 ^ 64 }
+    ensures { result ≡ nat_le (2 ^ 64) (first + count) }
 {
     count as u64 > u64::MAX - first
 }
@@ -57,12 +55,11 @@ pub(crate) fn room(alloc: Global) -> Result<Vec<Effect>, AllocError>
 }
 
 /// A step of the core that is refused found no memory: the engine asks for no step that another fault stands against.
-pub(crate) fn lacks_memory(fault: CoreFault) -> EngineFault
+pub(crate) fn lacks_memory(fault: CoreFault) -> AllocError
     requires { fault ≡ CoreFault.OutOfMemory }
-    ensures { result ≡ EngineFault.OutOfMemory }
 {
     match fault {
-        CoreFault::OutOfMemory => EngineFault::OutOfMemory,
+        CoreFault::OutOfMemory => AllocError,
         CoreFault::IdTaken => unreachable!(),
         CoreFault::UnknownId => unreachable!(),
         CoreFault::MomentTooLate => unreachable!(),

@@ -1,5 +1,5 @@
 //! What a client's stream asks for is done.
-ghost use Rattle.std.specs.Prelude.{◌≡◌, ℕ, ◌+◌, ◌<◌, ◌≤◌, ◌^◌, List, length, sum_by, true, false, None, Some, is_some, IfOk, IfErr, OnOk, OnErr, Ok, slice_index_or};
+ghost use Rattle.std.specs.Prelude.{◌≡◌, ℕ, ◌+◌, ◌<◌, ◌≤◌, ◌^◌, List, length, sum_by, true, false, None, Some, is_some, IfOk, IfErr, OnOk, OnErr, Ok, Err, slice_index_or};
 ghost use Rattle.hx_framing.specs.declared.requests.Request.{Request};
 ghost use Rattle.hx_framing.specs.declared.answer.Next.{Next};
 ghost use Rattle.hx_framing.specs.declared.answer.Next.TheVariants as next;
@@ -124,7 +124,54 @@ fn way_for(alloc: Global, config: &Config, asked: &Asked) -> Result<Way, AllocEr
     way_to(alloc, address_for(config, asked), config, asked)
 }
 
-/// A request arrives at the core. All that can fail comes before the core's step, or is that step.
+/// A request arrives at the core, where a link number is left for it. All that can fail comes before the core's step, or is
+/// that step.
+fn admit<S: Shelf>(
+    connections: &mut Connections,
+    links: &mut Links,
+    core: &mut Core<S>,
+    alloc: Global,
+    first: u64,
+    now: u64,
+    i: usize,
+    asked: &Asked,
+) -> Result<Vec<Effect>, AllocError>
+    requires within { i < length connections.old.items }
+    requires free { (c : Connection) → (slice_index_or connections.old.items i c).link ≡ None }
+    requires left { first + length links.old.items < 2 ^ 64 }
+    requires wired { IsWired (state connections.old.items links.old.items core.old first) }
+    requires early { now < 253402300800 }
+    ensures wired { IsWired (state connections.new.items links.new.items core.new first) }
+    ensures ok { IfOk result (λ effects. (s : Story) → (r : Request) → (c : Connection) → IsAdmitted r (Ok asked.now) → (slice_index_or connections.old.items i c).watch.look ≡ Due (next.Message r)
+        → Stands (state connections.old.items links.old.items core.old first) s → Done s now (Serves i (next.Message r)) effects.items (state connections.new.items links.new.items core.new first)) }
+    ensures less { OnOk result ((r : Request) → (c : Connection) → (slice_index_or connections.old.items i c).watch.look ≡ Due (next.Message r)
+        → load_of connections.new.items links.new.items < load_of connections.old.items links.old.items) }
+    ensures err { OnErr result ((connections.new.items ≡ connections.old.items) × (links.new.items ≡ links.old.items) × (core.new ≡ core.old)) }
+{
+    let mut effects = room(alloc)?;
+    links.reserve_one()?;
+    let way = way_for(alloc, core.config(), asked)?;
+    let count = connections.len();
+    prove!(i < count);
+    let outcome = match core.arrive(alloc, now, i as u64 + 1, asked) {
+        Ok(outcome) => outcome,
+        Err(fault) => return Err(lacks_memory(fault)),
+    };
+    marks::pass(connections.at_mut(i));
+    carry_out(
+        connections,
+        links,
+        &mut effects,
+        alloc,
+        first,
+        i,
+        way,
+        outcome,
+    );
+    Ok(effects)
+}
+
+/// A request arrives at the core, unless no link number is left for it. That is told before any memory is asked for.
 fn arrive<S: Shelf>(
     connections: &mut Connections,
     links: &mut Links,
@@ -144,40 +191,18 @@ fn arrive<S: Shelf>(
         → Stands (state connections.old.items links.old.items core.old first) s → Done s now (Serves i (next.Message r)) effects.items (state connections.new.items links.new.items core.new first)) }
     ensures less { OnOk result ((r : Request) → (c : Connection) → (slice_index_or connections.old.items i c).watch.look ≡ Due (next.Message r)
         → load_of connections.new.items links.new.items < load_of connections.old.items links.old.items) }
+    ensures spent { result ≡ Err EngineFault.OutOfMemory → first + length links.old.items < 2 ^ 64 }
     ensures fault { IfErr result (λ fault. (s : Story) → (r : Request) → IsAdmitted r (Ok asked.now) → IsDueFirst s (Some (Serves i (next.Message r)))
         → Stands (state connections.old.items links.old.items core.old first) s → Failed s fault) }
     ensures err { OnErr result ((connections.new.items ≡ connections.old.items) × (links.new.items ≡ links.old.items) × (core.new ≡ core.old)) }
 {
-    let Ok(mut effects) = room(alloc) else {
-        return Err(EngineFault::OutOfMemory);
-    };
-    let Ok(()) = links.reserve_one() else {
-        return Err(EngineFault::OutOfMemory);
-    };
     if is_spent(first, links.len()) {
         return Err(EngineFault::Spent);
     }
-    let Ok(way) = way_for(alloc, core.config(), asked) else {
-        return Err(EngineFault::OutOfMemory);
-    };
-    let count = connections.len();
-    prove!(i < count);
-    let outcome = match core.arrive(alloc, now, i as u64 + 1, asked) {
-        Ok(outcome) => outcome,
-        Err(fault) => return Err(lacks_memory(fault)),
-    };
-    marks::pass(connections.at_mut(i));
-    carry_out(
-        connections,
-        links,
-        &mut effects,
-        alloc,
-        first,
-        i,
-        way,
-        outcome,
-    );
-    Ok(effects)
+    match admit(connections, links, core, alloc, first, now, i, asked) {
+        Ok(effects) => Ok(effects),
+        Err(_) => Err(EngineFault::OutOfMemory),
+    }
 }
 
 /// Does what is due on the connection at a place.

@@ -4,7 +4,8 @@ use Rattle.std.proofs.lemmas.List.{length-append, get_or_at, take_at, length-tak
 use Rattle.std.proofs.lemmas.Bool.{eqb-true, leb-false, lt-leb}
 use Rattle.proxy_script.specs.Numbers.{cut_at}
 use Rattle.proxy_script.specs.Lines.{line_text, FitsLine, is_config, placed}
-use Rattle.proxy_script.specs.Script.{Said, Table, Moment, Opens, Sends, Answers, Ends, Leaves, Shuts, Breaks, line_of, block_of, spelled, Fits, IsPlaced, Found, Whole, Short, Bad, block_at, with_block, item_by, item_under, item_on, item_at}
+use Rattle.proxy_script.specs.Happenings as happening
+use Rattle.proxy_script.specs.Script.{Said, Table, Moment, Happens, line_of, block_of, spelled, Fits, IsPlaced, Found, Whole, Short, Bad, block_at, with_block, item_by, item_under, item_on, item_at}
 use Rattle.proxy_script.specs.declared.headers.Header.{Header}
 use Rattle.proxy_script.specs.declared.headers.Header.TheVariants.{Config, At, Accept, Client, Link, End, Gone, Shut, Fail}
 use Rattle.proxy_script.proofs.NumberLaws.{cut_found, cut_again}
@@ -25,13 +26,13 @@ block_again bytes rest =
 said_again : (h : Said) (rest : List ℕ) → item_by (line_of h) (block_of h ++ rest) ≡ Found h rest
 said_again (Table bytes) rest = ap (with_block Table) (block_again bytes rest)
 said_again (Moment m) rest = refl
-said_again (Opens n) rest = refl
-said_again (Sends n bytes) rest = ap (with_block (Sends n)) (block_again bytes rest)
-said_again (Answers l bytes) rest = ap (with_block (Answers l)) (block_again bytes rest)
-said_again (Ends n) rest = refl
-said_again (Leaves n) rest = refl
-said_again (Shuts l) rest = refl
-said_again (Breaks l failure) rest = refl
+said_again (Happens (happening.Accepts n)) rest = refl
+said_again (Happens (happening.Sends n bytes)) rest = ap (with_block (λ b. Happens (happening.Sends n b))) (block_again bytes rest)
+said_again (Happens (happening.Hears l bytes)) rest = ap (with_block (λ b. Happens (happening.Hears l b))) (block_again bytes rest)
+said_again (Happens (happening.Ends n)) rest = refl
+said_again (Happens (happening.Leaves n)) rest = refl
+said_again (Happens (happening.Shuts l)) rest = refl
+said_again (Happens (happening.Fails l kind)) rest = refl
 
 pub item_again : (first : Bool) (h : Said) (rest : List ℕ) → Fits h → IsPlaced first h → item_at first (spelled h ++ rest) ≡ Found h rest
 unfolding item_at
@@ -78,13 +79,13 @@ block_found says head len bytes rest h line block e =
 behind_found : (line : Header) (bytes rest : List ℕ) (h : Said) → item_by line bytes ≡ Found h rest → IsBehind line bytes h rest
 behind_found (Config len) bytes rest h e = block_found Table Config len bytes rest h (λ b. refl) (λ b. refl) e
 behind_found (At m) bytes rest h e = plain_found (Moment m) h bytes rest refl e
-behind_found (Accept n) bytes rest h e = plain_found (Opens n) h bytes rest refl e
-behind_found (Client n len) bytes rest h e = block_found (Sends n) (Client n) len bytes rest h (λ b. refl) (λ b. refl) e
-behind_found (Link l len) bytes rest h e = block_found (Answers l) (Link l) len bytes rest h (λ b. refl) (λ b. refl) e
-behind_found (End n) bytes rest h e = plain_found (Ends n) h bytes rest refl e
-behind_found (Gone n) bytes rest h e = plain_found (Leaves n) h bytes rest refl e
-behind_found (Shut l) bytes rest h e = plain_found (Shuts l) h bytes rest refl e
-behind_found (Fail l failure) bytes rest h e = plain_found (Breaks l failure) h bytes rest refl e
+behind_found (Accept n) bytes rest h e = plain_found (Happens (happening.Accepts n)) h bytes rest refl e
+behind_found (Client n len) bytes rest h e = block_found (λ b. Happens (happening.Sends n b)) (Client n) len bytes rest h (λ b. refl) (λ b. refl) e
+behind_found (Link l len) bytes rest h e = block_found (λ b. Happens (happening.Hears l b)) (Link l) len bytes rest h (λ b. refl) (λ b. refl) e
+behind_found (End n) bytes rest h e = plain_found (Happens (happening.Ends n)) h bytes rest refl e
+behind_found (Gone n) bytes rest h e = plain_found (Happens (happening.Leaves n)) h bytes rest refl e
+behind_found (Shut l) bytes rest h e = plain_found (Happens (happening.Shuts l)) h bytes rest refl e
+behind_found (Fail l kind) bytes rest h e = plain_found (Happens (happening.Fails l kind)) h bytes rest refl e
 
 under_found : (first : Bool) (o : Option Header) (line bytes rest : List ℕ) (h : Said) → placed first line ≡ o → item_under bytes o ≡ Found h rest → (line ++ 10 ∷ bytes ≡ spelled h ++ rest) × Fits h × IsPlaced first h
 under_found first None line bytes rest h is e = cc

@@ -7,11 +7,12 @@ use Rattle.std.specs.Str.{bytes_eq}
 use Rattle.std.proofs.lemmas.Bool.{ltb-true, lt-ltb}
 use Rattle.std.proofs.lemmas.Slice.Eq.{bytes_eq-Decides}
 use Rattle.proxy_script.specs.Numbers.{cut_at, number_of}
-use Rattle.proxy_script.specs.Lines.{word_text, words, failure_text, failures, word_in, rest_text, line_text, FitsLine, if_moment, both, failure_of, two_numbers, number_and_failure, header_with, word_of, header_by, header_of, is_config, same, if_placed, placed}
+use Rattle.proxy_script.specs.Lines.{word_text, words, failures, IsOfALink, word_in, rest_text, line_text, FitsLine, if_moment, both, failure_of, two_numbers, number_and_failure, header_with, word_of, header_by, header_of, is_config, same, if_placed, placed}
 use Rattle.proxy_script.specs.declared.words.Word.{Word}
 use Rattle.proxy_script.specs.declared.words.Word.TheVariants as word
-use Rattle.proxy_script.specs.declared.failures.Failure.{Failure}
-use Rattle.proxy_script.specs.declared.failures.Failure.TheVariants.{Refused, TimedOut, Closed}
+use Rattle.hx_status.specs.Refusals.{kind_word}
+use Rattle.hx_status.specs.declared.cause.FailKind.{FailKind}
+use Rattle.hx_status.specs.declared.cause.FailKind.TheVariants.{Refused, TimedOut, Closed, BadAnswer, TooLarge}
 use Rattle.proxy_script.specs.declared.headers.Header.{Header}
 use Rattle.proxy_script.specs.declared.headers.Header.TheVariants.{Config, At, Accept, Client, Link, End, Gone, Shut, Fail}
 use Rattle.proxy_script.proofs.NumberLaws.{cut_found, cut_again, lacks, lacks-append, lacks_decimal, number_found, number_again, same_pair}
@@ -36,10 +37,12 @@ word_again word.Gone = refl
 word_again word.Shut = refl
 word_again word.Fail = refl
 
-failure_again : (f : Failure) → failure_of (failure_text f) ≡ Some f
-failure_again Refused = refl
-failure_again TimedOut = refl
-failure_again Closed = refl
+failure_again : (f : FailKind) → IsOfALink f → failure_of (kind_word f) ≡ Some f
+failure_again Refused h = refl
+failure_again TimedOut h = refl
+failure_again Closed h = refl
+failure_again BadAnswer h = absurd h
+failure_again TooLarge h = absurd h
 
 word_lacks : (w : Word) → lacks 32 (word_text w) ≡ true
 word_lacks word.Config = refl
@@ -63,16 +66,28 @@ word_one_line word.Gone = refl
 word_one_line word.Shut = refl
 word_one_line word.Fail = refl
 
-failure_one_line : (f : Failure) → lacks 10 (failure_text f) ≡ true
+failure_one_line : (f : FailKind) → lacks 10 (kind_word f) ≡ true
 failure_one_line Refused = refl
 failure_one_line TimedOut = refl
 failure_one_line Closed = refl
+failure_one_line BadAnswer = refl
+failure_one_line TooLarge = refl
 
 word_found : (text : List ℕ) (w : Word) → word_of text ≡ Some w → text ≡ word_text w
 word_found text w e = (bytes_eq-Decides text (word_text w)).0 (found_passes (λ word. bytes_eq text (word_text word)) words w e)
 
-failure_found : (text : List ℕ) (f : Failure) → failure_of text ≡ Some f → text ≡ failure_text f
-failure_found text f e = (bytes_eq-Decides text (failure_text f)).0 (found_passes (λ failure. bytes_eq text (failure_text failure)) failures f e)
+failure_found : (text : List ℕ) (f : FailKind) → failure_of text ≡ Some f → text ≡ kind_word f
+failure_found text f e = (bytes_eq-Decides text (kind_word f)).0 (found_passes (λ kind. bytes_eq text (kind_word kind)) failures f e)
+
+-- what is found among the three is one of them
+of_three : (a b c : Bool) (f : FailKind) → cond a (Some Refused) (cond b (Some TimedOut) (cond c (Some Closed) None)) ≡ Some f → IsOfALink f
+of_three true b c f e = let same : Refused ≡ f = cc in subst IsOfALink same tt
+of_three false true c f e = let same : TimedOut ≡ f = cc in subst IsOfALink same tt
+of_three false false true f e = let same : Closed ≡ f = cc in subst IsOfALink same tt
+of_three false false false f e = absurd (cc)
+
+failure_of_a_link : (text : List ℕ) (f : FailKind) → failure_of text ≡ Some f → IsOfALink f
+failure_of_a_link text f e = of_three (bytes_eq text (kind_word Refused)) (bytes_eq text (kind_word TimedOut)) (bytes_eq text (kind_word Closed)) f e
 
 -- lines that are spelled
 
@@ -85,7 +100,7 @@ rest_one_line (Link n len) fits = lacks-append 10 (decimal n) (32 ∷ decimal le
 rest_one_line (End n) fits = lacks_decimal 10 n (omega arith) fits
 rest_one_line (Gone n) fits = lacks_decimal 10 n (omega arith) fits
 rest_one_line (Shut n) fits = lacks_decimal 10 n (omega arith) fits
-rest_one_line (Fail n f) fits = lacks-append 10 (decimal n) (32 ∷ failure_text f) (lacks_decimal 10 n (omega arith) fits) (failure_one_line f)
+rest_one_line (Fail n f) fits = lacks-append 10 (decimal n) (32 ∷ kind_word f) (lacks_decimal 10 n (omega arith) fits.0) (failure_one_line f)
 
 -- a line has no LF
 pub line_one_line : (h : Header) → FitsLine h → lacks 10 (line_text h) ≡ true
@@ -94,8 +109,8 @@ line_one_line h fits = lacks-append 10 (word_text (word_in h)) (32 ∷ rest_text
 two_again : (n len : ℕ) → n < 2 ^ 64 → len < 2 ^ 64 → two_numbers (decimal n ++ 32 ∷ decimal len) ≡ Some (n, len)
 two_again n len small few = rw (cut_again 32 (decimal n) (decimal len) (lacks_decimal 32 n (omega arith) small), number_again n small, number_again len few) refl
 
-failing_again : (l : ℕ) (f : Failure) → l < 2 ^ 64 → number_and_failure (decimal l ++ 32 ∷ failure_text f) ≡ Some (l, f)
-failing_again l f small = ap (option_and_then (λ p. both (number_of p.0) (failure_of p.1))) (cut_again 32 (decimal l) (failure_text f) (lacks_decimal 32 l (omega arith) small)) ∙ (ap (λ o. both o (failure_of (failure_text f))) (number_again l small) ∙ ap (both (Some l)) (failure_again f))
+failing_again : (l : ℕ) (f : FailKind) → l < 2 ^ 64 → IsOfALink f → number_and_failure (decimal l ++ 32 ∷ kind_word f) ≡ Some (l, f)
+failing_again l f small of_link = ap (option_and_then (λ p. both (number_of p.0) (failure_of p.1))) (cut_again 32 (decimal l) (kind_word f) (lacks_decimal 32 l (omega arith) small)) ∙ (ap (λ o. both o (failure_of (kind_word f))) (number_again l small) ∙ ap (both (Some l)) (failure_again f of_link))
 
 with_again : (h : Header) → FitsLine h → header_with (word_in h) (rest_text h) ≡ Some h
 with_again (Config n) fits = rw (number_again n fits) refl
@@ -108,7 +123,7 @@ with_again (Link n len) fits = ap (option_map (λ p. Link p.0 p.1)) (two_again n
 with_again (End n) fits = rw (number_again n fits) refl
 with_again (Gone n) fits = rw (number_again n fits) refl
 with_again (Shut n) fits = rw (number_again n fits) refl
-with_again (Fail n f) fits = ap (option_map (λ p. Fail p.0 p.1)) (failing_again n f fits)
+with_again (Fail n f) fits = ap (option_map (λ p. Fail p.0 p.1)) (failing_again n f fits.0 fits.1)
 
 pub line_again : (h : Header) → FitsLine h → header_of (line_text h) ≡ Some h
 unfolding header_of
@@ -175,15 +190,15 @@ pair_found v w (Some p) bs h is text fits e =
     let found = two_found (cut_at 32 bs) bs p.0 p.1 refl is in
     (subst (λ g. line_text g ≡ word_text w ++ 32 ∷ bs) this (text p.0 p.1 ∙ ap (λ r. word_text w ++ 32 ∷ r) (sym found.0)), subst FitsLine this (fits p.0 p.1 found.1 found.2))
 
-failing_by : (o : Option ℕ) (q : Option Failure) (a b : List ℕ) (l : ℕ) (f : Failure) → number_of a ≡ o → failure_of b ≡ q → both o q ≡ Some (l, f) → (a ≡ decimal l) × (b ≡ failure_text f) × (l < 2 ^ 64)
+failing_by : (o : Option ℕ) (q : Option FailKind) (a b : List ℕ) (l : ℕ) (f : FailKind) → number_of a ≡ o → failure_of b ≡ q → both o q ≡ Some (l, f) → (a ≡ decimal l) × (b ≡ kind_word f) × ((l < 2 ^ 64) × IsOfALink f)
 failing_by None q a b l f is also e = cc
 failing_by (Some k) None a b l f is also e = cc
 failing_by (Some k) (Some g) a b l f is also e =
     let parts = same_pair e in
     let first = number_found a k is in
-    (first.0 ∙ ap decimal parts.0, failure_found b g also ∙ ap failure_text parts.1, subst (λ x. x < 2 ^ 64) parts.0 first.1)
+    (first.0 ∙ ap decimal parts.0, failure_found b g also ∙ ap kind_word parts.1, (subst (λ x. x < 2 ^ 64) parts.0 first.1, subst IsOfALink parts.1 (failure_of_a_link b g also)))
 
-failing_found : (o : Option (ℕ × Failure)) (bs : List ℕ) (h : Header) → number_and_failure bs ≡ o → option_map (λ p. Fail p.0 p.1) o ≡ Some h → (line_text h ≡ codes "fail" ++ 32 ∷ bs) × FitsLine h
+failing_found : (o : Option (ℕ × FailKind)) (bs : List ℕ) (h : Header) → number_and_failure bs ≡ o → option_map (λ p. Fail p.0 p.1) o ≡ Some h → (line_text h ≡ codes "fail" ++ 32 ∷ bs) × FitsLine h
 failing_found None bs h is e = cc
 failing_found (Some p) bs h is e = of_cut (cut_at 32 bs) refl is
   where
@@ -192,7 +207,7 @@ failing_found (Some p) bs h is e = of_cut (cut_at 32 bs) refl is
     of_cut (Some q) cut k =
         let this : Fail p.0 p.1 ≡ h = cc in
         let parts = failing_by (number_of q.0) (failure_of q.1) q.0 q.1 p.0 p.1 refl refl k in
-        let rest : bs ≡ decimal p.0 ++ 32 ∷ failure_text p.1 = cut_found 32 bs q.0 q.1 cut ∙ rw (parts.0, parts.1) refl in
+        let rest : bs ≡ decimal p.0 ++ 32 ∷ kind_word p.1 = cut_found 32 bs q.0 q.1 cut ∙ rw (parts.0, parts.1) refl in
         (subst (λ g. line_text g ≡ codes "fail" ++ 32 ∷ bs) this (ap (λ r. codes "fail" ++ 32 ∷ r) (sym rest)), subst FitsLine this parts.2)
 
 with_found : (w : Word) (bs : List ℕ) (h : Header) → header_with w bs ≡ Some h → (line_text h ≡ word_text w ++ 32 ∷ bs) × FitsLine h

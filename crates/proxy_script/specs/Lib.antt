@@ -1,4 +1,5 @@
 pub mod Effects
 pub mod Lines
 pub mod Numbers
+pub mod Happenings
 pub mod Script

@@ -4,8 +4,9 @@ use Rattle.std.specs.Option.{option_map, option_and_then}
 use Rattle.proxy_script.specs.Numbers.{cut_at, number_of}
 use Rattle.proxy_script.specs.declared.words.Word.{Word}
 use Rattle.proxy_script.specs.declared.words.Word.TheVariants as word
-use Rattle.proxy_script.specs.declared.failures.Failure.{Failure}
-use Rattle.proxy_script.specs.declared.failures.Failure.TheVariants.{Refused, TimedOut, Closed}
+use Rattle.hx_status.specs.Refusals.{kind_word}
+use Rattle.hx_status.specs.declared.cause.FailKind.{FailKind}
+use Rattle.hx_status.specs.declared.cause.FailKind.TheVariants.{Refused, TimedOut, Closed, BadAnswer, TooLarge}
 use Rattle.proxy_script.specs.declared.headers.Header.{Header}
 use Rattle.proxy_script.specs.declared.headers.Header.TheVariants.{Config, At, Accept, Client, Link, End, Gone, Shut, Fail}
 
@@ -23,13 +24,16 @@ word_text word.Fail = codes "fail"
 abbrev pub words : List Word
 words = word.Config ∷ word.At ∷ word.Accept ∷ word.Client ∷ word.Link ∷ word.End ∷ word.Gone ∷ word.Shut ∷ word.Fail ∷ []
 
-abbrev pub failure_text : Failure → List ℕ
-failure_text Refused = codes "refused"
-failure_text TimedOut = codes "timed-out"
-failure_text Closed = codes "closed"
-
-abbrev pub failures : List Failure
+-- how a link fails by itself; the other kinds are what the proxy makes of an answer
+abbrev pub failures : List FailKind
 failures = Refused ∷ TimedOut ∷ Closed ∷ []
+
+abbrev pub IsOfALink : FailKind → Type 0
+IsOfALink Refused = Unit {0}
+IsOfALink TimedOut = Unit {0}
+IsOfALink Closed = Unit {0}
+IsOfALink BadAnswer = ⊥
+IsOfALink TooLarge = ⊥
 
 abbrev pub word_in : Header → Word
 word_in (Config len) = word.Config
@@ -40,7 +44,7 @@ word_in (Link l len) = word.Link
 word_in (End n) = word.End
 word_in (Gone n) = word.Gone
 word_in (Shut l) = word.Shut
-word_in (Fail l failure) = word.Fail
+word_in (Fail l kind) = word.Fail
 
 -- what stands behind the first word and its space
 abbrev pub rest_text : Header → List ℕ
@@ -52,13 +56,13 @@ rest_text (Link l len) = decimal l ++ 32 ∷ decimal len
 rest_text (End n) = decimal n
 rest_text (Gone n) = decimal n
 rest_text (Shut l) = decimal l
-rest_text (Fail l failure) = decimal l ++ 32 ∷ failure_text failure
+rest_text (Fail l kind) = decimal l ++ 32 ∷ kind_word kind
 
 -- how a line is spelled, without its LF
 abbrev pub line_text : Header → List ℕ
 line_text header = word_text (word_in header) ++ 32 ∷ rest_text header
 
--- numbers that have a spelling, and moments
+-- numbers that have a spelling, moments, and the failures of links
 abbrev pub FitsLine : Header → Type 0
 FitsLine (Config len) = len < 2 ^ 64
 FitsLine (At m) = m < 253402300800
@@ -68,7 +72,7 @@ FitsLine (Link l len) = (l < 2 ^ 64) × (len < 2 ^ 64)
 FitsLine (End n) = n < 2 ^ 64
 FitsLine (Gone n) = n < 2 ^ 64
 FitsLine (Shut l) = l < 2 ^ 64
-FitsLine (Fail l failure) = l < 2 ^ 64
+FitsLine (Fail l kind) = (l < 2 ^ 64) × IsOfALink kind
 
 abbrev pub if_moment : ℕ → Option ℕ
 if_moment m = if nat_lt m 253402300800 then Some m else None
@@ -81,13 +85,13 @@ both None y = None
 both (Some x) None = None
 both (Some x) (Some y) = Some (x, y)
 
-abbrev pub failure_of : List ℕ → Option Failure
-failure_of text = find (λ failure. bytes_eq text (failure_text failure)) failures
+abbrev pub failure_of : List ℕ → Option FailKind
+failure_of text = find (λ kind. bytes_eq text (kind_word kind)) failures
 
 abbrev pub two_numbers : List ℕ → Option (ℕ × ℕ)
 two_numbers text = option_and_then (λ p. both (number_of p.0) (number_of p.1)) (cut_at 32 text)
 
-abbrev pub number_and_failure : List ℕ → Option (ℕ × Failure)
+abbrev pub number_and_failure : List ℕ → Option (ℕ × FailKind)
 number_and_failure text = option_and_then (λ p. both (number_of p.0) (failure_of p.1)) (cut_at 32 text)
 
 -- what a line says behind its first word

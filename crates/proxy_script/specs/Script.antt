@@ -7,7 +7,8 @@ use Rattle.std.specs.Prelude.{◌≡◌, ℕ, ◌+◌, ◌==◌, nat_le, List, [
 use Rattle.std.specs.List.{flat_map, AllByRecursion}
 use Rattle.proxy_script.specs.Numbers.{cut_at}
 use Rattle.proxy_script.specs.Lines.{line_text, FitsLine, is_config, placed}
-use Rattle.proxy_script.specs.declared.failures.Failure.{Failure}
+use Rattle.proxy_script.specs.Happenings.{Said as Happening}
+use Rattle.proxy_script.specs.Happenings as happening
 use Rattle.proxy_script.specs.declared.headers.Header.{Header}
 use Rattle.proxy_script.specs.declared.headers.Header.TheVariants.{Config, At, Accept, Client, Link, End, Gone, Shut, Fail}
 use Rattle.proxy_script.specs.declared.items.Item.{Item}
@@ -17,36 +18,34 @@ use Rattle.proxy_script.specs.declared.fronts.Front.TheVariants as front
 use Rattle.proxy_script.specs.declared.fronts.Block.{Block}
 use Rattle.proxy_script.specs.declared.fronts.Block.TheVariants as block
 
--- what an item says: the table, the moment, a connection, its bytes, a link's bytes, a connection's end, that it is
--- gone, a link's end, its failure
+-- what an item says: the table, the moment, or what happens
 pub data Said : Type 0 where
   Table : (bytes : List ℕ) → Said
   Moment : (m : ℕ) → Said
-  Opens : (n : ℕ) → Said
-  Sends : (n : ℕ) (bytes : List ℕ) → Said
-  Answers : (l : ℕ) (bytes : List ℕ) → Said
-  Ends : (n : ℕ) → Said
-  Leaves : (n : ℕ) → Said
-  Shuts : (l : ℕ) → Said
-  Breaks : (l : ℕ) (failure : Failure) → Said
+  Happens : (happening : Happening) → Said
 
 abbrev pub line_of : Said → Header
 line_of (Table bytes) = Config (length bytes)
 line_of (Moment m) = At m
-line_of (Opens n) = Accept n
-line_of (Sends n bytes) = Client n (length bytes)
-line_of (Answers l bytes) = Link l (length bytes)
-line_of (Ends n) = End n
-line_of (Leaves n) = Gone n
-line_of (Shuts l) = Shut l
-line_of (Breaks l failure) = Fail l failure
+line_of (Happens (happening.Accepts n)) = Accept n
+line_of (Happens (happening.Sends n bytes)) = Client n (length bytes)
+line_of (Happens (happening.Hears l bytes)) = Link l (length bytes)
+line_of (Happens (happening.Ends n)) = End n
+line_of (Happens (happening.Leaves n)) = Gone n
+line_of (Happens (happening.Shuts l)) = Shut l
+line_of (Happens (happening.Fails l kind)) = Fail l kind
 
 -- the block behind a line, with its LF
 abbrev pub block_of : Said → List ℕ
 block_of (Table bytes) = bytes ++ 10 ∷ []
-block_of (Sends n bytes) = bytes ++ 10 ∷ []
-block_of (Answers l bytes) = bytes ++ 10 ∷ []
-block_of _ = []
+block_of (Moment m) = []
+block_of (Happens (happening.Accepts n)) = []
+block_of (Happens (happening.Sends n bytes)) = bytes ++ 10 ∷ []
+block_of (Happens (happening.Hears l bytes)) = bytes ++ 10 ∷ []
+block_of (Happens (happening.Ends n)) = []
+block_of (Happens (happening.Leaves n)) = []
+block_of (Happens (happening.Shuts l)) = []
+block_of (Happens (happening.Fails l kind)) = []
 
 -- how an item is spelled: its line, LF, and its block
 abbrev pub spelled : Said → List ℕ
@@ -87,13 +86,13 @@ with_block says Bad = Wrong
 abbrev pub item_by : Header → List ℕ → Reading
 item_by (Config len) rest = with_block Table (block_at len rest)
 item_by (At m) rest = Found (Moment m) rest
-item_by (Accept n) rest = Found (Opens n) rest
-item_by (Client n len) rest = with_block (Sends n) (block_at len rest)
-item_by (Link l len) rest = with_block (Answers l) (block_at len rest)
-item_by (End n) rest = Found (Ends n) rest
-item_by (Gone n) rest = Found (Leaves n) rest
-item_by (Shut l) rest = Found (Shuts l) rest
-item_by (Fail l failure) rest = Found (Breaks l failure) rest
+item_by (Accept n) rest = Found (Happens (happening.Accepts n)) rest
+item_by (Client n len) rest = with_block (λ bytes. Happens (happening.Sends n bytes)) (block_at len rest)
+item_by (Link l len) rest = with_block (λ bytes. Happens (happening.Hears l bytes)) (block_at len rest)
+item_by (End n) rest = Found (Happens (happening.Ends n)) rest
+item_by (Gone n) rest = Found (Happens (happening.Leaves n)) rest
+item_by (Shut l) rest = Found (Happens (happening.Shuts l)) rest
+item_by (Fail l kind) rest = Found (Happens (happening.Fails l kind)) rest
 
 abbrev pub item_under : List ℕ → Option Header → Reading
 item_under rest None = Wrong
@@ -118,13 +117,7 @@ pub record IsScript (bytes table : List ℕ) (items : List Said) : Type 0 where
 abbrev pub said : Item → Said
 said (item.Config bytes) = Table bytes.now
 said (item.At m) = Moment m
-said (item.Accept n) = Opens n
-said (item.Client n bytes) = Sends n bytes.now
-said (item.Link l bytes) = Answers l bytes.now
-said (item.End n) = Ends n
-said (item.Gone n) = Leaves n
-said (item.Shut l) = Shuts l
-said (item.Fail l failure) = Breaks l failure
+said (item.Happens h) = Happens (happening.said h)
 
 abbrev pub seen : Front → Reading
 seen (front.Found h rest) = Found (said h) rest.now

@@ -2,9 +2,10 @@
 ghost use Rattle.std.specs.Prelude.{◌≡◌};
 ghost use Rattle.std.specs.Option.{option_map};
 ghost use Rattle.proxy_script.specs.Lines.{placed};
-ghost use Rattle.proxy_script.specs.Script.{block_at, item_by, item_at, seen, seen_block};
+ghost use Rattle.proxy_script.specs.Happenings.{said};
+ghost use Rattle.proxy_script.specs.Script.{Found, Happens, block_at, item_by, item_at, seen, seen_block};
 
-use crate::Item;
+use crate::{Happening, Item};
 use crate::digits::cut_at;
 use crate::headers::{Header, header_of, is_config};
 
@@ -39,6 +40,12 @@ fn block_at(len: u64, rest: &[u8]) -> Block<'_>
     Block::Whole(&rest[..end], &rest[end + 1..])
 }
 
+fn happens<'a>(happening: Happening<'a>, rest: &'a [u8]) -> Front<'a>
+    ensures { seen result ≡ Found (Happens (said happening.entry)) rest.now }
+{
+    Front::Found(Item::Happens(happening), rest)
+}
+
 fn item_by(header: Header, rest: &[u8]) -> Front<'_>
     ensures { seen result ≡ item_by header rest.now }
 {
@@ -49,21 +56,21 @@ fn item_by(header: Header, rest: &[u8]) -> Front<'_>
             Block::Wrong => Front::Wrong,
         },
         Header::At(moment) => Front::Found(Item::At(moment), rest),
-        Header::Accept(n) => Front::Found(Item::Accept(n), rest),
+        Header::Accept(n) => happens(Happening::Accept(n), rest),
         Header::Client(n, len) => match block_at(len, rest) {
-            Block::Whole(bytes, rest) => Front::Found(Item::Client(n, bytes), rest),
+            Block::Whole(bytes, rest) => happens(Happening::Client(n, bytes), rest),
             Block::Cut => Front::Cut,
             Block::Wrong => Front::Wrong,
         },
         Header::Link(l, len) => match block_at(len, rest) {
-            Block::Whole(bytes, rest) => Front::Found(Item::Link(l, bytes), rest),
+            Block::Whole(bytes, rest) => happens(Happening::Link(l, bytes), rest),
             Block::Cut => Front::Cut,
             Block::Wrong => Front::Wrong,
         },
-        Header::End(n) => Front::Found(Item::End(n), rest),
-        Header::Gone(n) => Front::Found(Item::Gone(n), rest),
-        Header::Shut(l) => Front::Found(Item::Shut(l), rest),
-        Header::Fail(l, failure) => Front::Found(Item::Fail(l, failure), rest),
+        Header::End(n) => happens(Happening::End(n), rest),
+        Header::Gone(n) => happens(Happening::Gone(n), rest),
+        Header::Shut(l) => happens(Happening::Shut(l), rest),
+        Header::Fail(l, kind) => happens(Happening::Fail(l, kind), rest),
     }
 }
 

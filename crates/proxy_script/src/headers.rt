@@ -2,9 +2,9 @@
 ghost use Rattle.std.specs.Prelude.{◌≡◌};
 ghost use Rattle.proxy_script.specs.Lines.{moment_of, two_numbers, number_and_failure, header_with, header_of, is_config};
 
-use crate::Failure;
 use crate::digits::{cut_at, number_of};
 use crate::words::{Word, failure_of, word_of};
+use hx_status::FailKind;
 
 /// The first moment that isn't one.
 const END_OF_MOMENTS: u64 = 253_402_300_800;
@@ -20,7 +20,7 @@ pub enum Header {
     End(u64),
     Gone(u64),
     Shut(u64),
-    Fail(u64, Failure),
+    Fail(u64, FailKind),
 }
 
 fn moment_of(text: &[u8]) -> Option<u64>
@@ -41,13 +41,13 @@ fn two_numbers(text: &[u8]) -> Option<(u64, u64)>
     Some((first, second))
 }
 
-fn number_and_failure(text: &[u8]) -> Option<(u64, Failure)>
+fn number_and_failure(text: &[u8]) -> Option<(u64, FailKind)>
     ensures { result ≡ number_and_failure text.now }
 {
-    let (number, failure) = cut_at(b' ', text)?;
+    let (number, kind) = cut_at(b' ', text)?;
     let number = number_of(number)?;
-    let failure = failure_of(failure)?;
-    Some((number, failure))
+    let kind = failure_of(kind)?;
+    Some((number, kind))
 }
 
 /// What a line says behind its first word.
@@ -70,8 +70,8 @@ fn header_with(word: Word, rest: &[u8]) -> Option<Header>
         Word::Gone => Header::Gone(number_of(rest)?),
         Word::Shut => Header::Shut(number_of(rest)?),
         Word::Fail => {
-            let (l, failure) = number_and_failure(rest)?;
-            Header::Fail(l, failure)
+            let (l, kind) = number_and_failure(rest)?;
+            Header::Fail(l, kind)
         }
     })
 }

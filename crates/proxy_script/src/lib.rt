@@ -8,15 +8,15 @@
 
 mod digits;
 mod effect_list;
-mod failures;
 mod fronts;
+mod happening;
 mod headers;
 mod items;
 mod laws;
 mod words;
 
 pub use effect_list::{Effect, effects_text};
-pub use failures::Failure;
 pub use fronts::{Front, read_item};
+pub use happening::Happening;
 pub use items::Item;
 pub use laws::items_are_found_as_they_are_spelled;

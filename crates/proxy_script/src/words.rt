@@ -1,8 +1,9 @@
 //! The first words of a script's lines.
 ghost use Rattle.std.specs.Prelude.{◌≡◌, find, bytes_eq};
-ghost use Rattle.proxy_script.specs.Lines.{word_text, words, failure_text, failures};
+ghost use Rattle.hx_status.specs.Refusals.{kind_word};
+ghost use Rattle.proxy_script.specs.Lines.{word_text, words, failures};
 
-use crate::Failure;
+use hx_status::FailKind;
 
 /// The first word of a line.
 #[derive(Clone, Copy)]
@@ -45,16 +46,16 @@ pub fn word_of(text: &[u8]) -> Option<Word>
     }
 }
 
-/// The failure that a text names.
-pub fn failure_of(text: &[u8]) -> Option<Failure>
-    ensures { result ≡ find (λ failure. bytes_eq text.now (failure_text failure)) failures }
+/// The kind of a link's failure that a text names.
+pub fn failure_of(text: &[u8]) -> Option<FailKind>
+    ensures { result ≡ find (λ kind. bytes_eq text.now (kind_word kind)) failures }
 {
     if text == b"refused".as_slice() {
-        Some(Failure::Refused)
+        Some(FailKind::Refused)
     } else if text == b"timed-out".as_slice() {
-        Some(Failure::TimedOut)
+        Some(FailKind::TimedOut)
     } else if text == b"closed".as_slice() {
-        Some(Failure::Closed)
+        Some(FailKind::Closed)
     } else {
         None
     }

@@ -17,7 +17,7 @@ pub item_shorter : (first : Bool) (rest more : List ℕ) (h : Item) → StandsAt
 item_shorter first rest more h stands =
     omega (arith, ap length stands.0, length-append (spelled h) more, length-append (line_text (line_of h)) (10 ∷ block_of h))
 
-item_nil : (first : Bool) → item_at first [] ≡ Cut
+pub item_nil : (first : Bool) → item_at first [] ≡ Cut
 unfolding item_at
 item_nil first = refl
 

@@ -9,42 +9,84 @@ use Rattle.proxy_engine.specs.Story.{Story, heard}
 use Rattle.proxy_engine.specs.Lives.{Step, Took, Worked, Lives, told_of}
 use Rattle.proxy_engine.proofs.Living.{lives_are_runs}
 use Rattle.proxy_server.specs.Played.{Deed, Works, effects_of, Scene, beginning, Plays, HappenedIf, happening_of}
-use Rattle.proxy_server.specs.Runs.{IsRun}
+use Rattle.proxy_server.specs.Runs.{worked, FollowsItem, Follows, IsRun}
 
 module _ (begin : Story) where
-  -- the steps to a story, and what they told
-  record Lived (t : Story) (told : List Effect) : Type 0 where
-    steps : List Step
+  -- steps that lead from the beginning, and what they told
+  record Lived (steps : List Step) (t : Story) (told : List Effect) : Type 0 where
     lives : Lives begin steps t
     told_is : told_of steps ≡ told
 
-  same_end : (s t : Story) (told more : List Effect) → t ≡ s → more ≡ told → Lived s told → Lived t more
-  same_end s t told more e m h = record { steps = h.steps; lives = subst (λ (u : Story). Lives begin h.steps u) (sym e) h.lives; told_is = h.told_is ∙ sym m }
+  same_end : (steps : List Step) (s t : Story) (told more : List Effect) → t ≡ s → more ≡ told → Lived steps s told → Lived steps t more
+  same_end steps s t told more e m h = record { lives = subst (λ (u : Story). Lives begin steps u) (sym e) h.lives; told_is = h.told_is ∙ sym m }
 
-  works : (s : Story) (now : ℕ) (deeds : List Deed) (t : Story) (told : List Effect) → Works s now deeds t → Lived s told → Lived t (told ++ effects_of deeds)
-  works s now [] t told h lived = same_end s t told (told ++ []) h (append-nil told) lived
-  works s now (deed ∷ deeds) t told h lived =
-      let one : Lived h.0 (told ++ deed.effects) = record {
-        steps = Worked now deed.act deed.effects ∷ lived.steps;
+  works : (steps : List Step) (s : Story) (now : ℕ) (deeds : List Deed) (t : Story) (told : List Effect) → Works s now deeds t → Lived steps s told → Lived (worked now deeds steps) t (told ++ effects_of deeds)
+  works steps s now [] t told h lived = same_end steps s t told (told ++ []) h (append-nil told) lived
+  works steps s now (deed ∷ deeds) t told h lived =
+      let one : Lived (Worked now deed.act deed.effects ∷ steps) h.0 (told ++ deed.effects) = record {
         lives = (s, lived.lives, (h.1, h.2));
         told_is = ap (λ (es : List Effect). es ++ deed.effects) lived.told_is;
       } in
-      same_end t t ((told ++ deed.effects) ++ effects_of deeds) (told ++ effects_of (deed ∷ deeds)) refl (sym (append_assoc told deed.effects (effects_of deeds))) (works h.0 now deeds t (told ++ deed.effects) h.3 one)
+      same_end (worked now (deed ∷ deeds) steps) t t ((told ++ deed.effects) ++ effects_of deeds) (told ++ effects_of (deed ∷ deeds)) refl (sym (append_assoc told deed.effects (effects_of deeds)))
+      (works (Worked now deed.act deed.effects ∷ steps) h.0 now deeds t (told ++ deed.effects) h.3 one)
 
-  happened : (s : Story) (now : ℕ) (o : Option Happening) (effects : List Effect) (t : Story) (told : List Effect) → HappenedIf o s now effects t → Lived s told → Lived t (told ++ effects)
-  happened s now None effects t told h lived = same_end s t told (told ++ effects) h.1 (ap (λ (es : List Effect). told ++ es) h.0 ∙ append-nil told) lived
-  happened s now (Some happening) effects t told h lived =
-      let took : Lived (heard s happening) told = record { steps = Took happening ∷ lived.steps; lives = (s, lived.lives, (h.free, refl)); told_is = lived.told_is } in
-      same_end t t (told ++ effects_of h.deeds) (told ++ effects) refl (ap (λ (es : List Effect). told ++ es) h.told) (works (heard s happening) now h.deeds t told h.settles.0 took)
+  -- an item further
+  record Further (now : ℕ) (o : Option Happening) (past : List Step) (t : Story) (told : List Effect) : Type 0 where
+    steps : List Step
+    follows : FollowsItem now o past steps
+    lived : Lived steps t told
 
-  plays : (items : List Item) (a : Scene) (effects : List Effect) (last : Scene) (told : List Effect) → Plays a items effects last → Lived a.story told → Lived last.story (told ++ effects)
-  plays [] a effects last told h lived =
-      same_end a.story last.story told (told ++ effects) (ap (λ (b : Scene). b.story) h.1) (ap (λ (es : List Effect). told ++ es) h.0 ∙ append-nil told) lived
-  plays (item ∷ items) a effects last told h lived =
-      same_end last.story last.story ((told ++ h.1) ++ h.2) (told ++ effects) refl (ap (λ (es : List Effect). told ++ es) h.5 ∙ sym (append_assoc told h.1 h.2))
-      (plays items h.0 h.2 last (told ++ h.1) h.4 (happened a.story h.0.now (happening_of item) h.1 h.0.story told h.3.happened lived))
+  happened : (past : List Step) (s : Story) (now : ℕ) (o : Option Happening) (effects : List Effect) (t : Story) (told : List Effect) → HappenedIf o s now effects t → Lived past s told →
+      Further now o past t (told ++ effects)
+  happened past s now None effects t told h lived = record {
+    steps = past;
+    follows = refl;
+    lived = same_end past s t told (told ++ effects) h.1 (ap (λ (es : List Effect). told ++ es) h.0 ∙ append-nil told) lived;
+  }
+  happened past s now (Some happening) effects t told h lived =
+      let took : Lived (Took happening ∷ past) (heard s happening) told = record { lives = (s, lived.lives, (h.free, refl)); told_is = lived.told_is } in
+      let steps = worked now h.deeds (Took happening ∷ past) in
+      record {
+        steps = steps;
+        follows = (h.deeds, refl);
+        lived = same_end steps t t (told ++ effects_of h.deeds) (told ++ effects) refl (ap (λ (es : List Effect). told ++ es) h.told) (works (Took happening ∷ past) (heard s happening) now h.deeds t told h.settles.0 took);
+      }
 
-pub plays_run : (table : Table) (items : List Item) (effects : List Effect) (last : Scene) → Plays (beginning table) items effects last → IsRun table effects last
+  -- all items
+  record Whole (now : ℕ) (items : List Item) (past : List Step) (t : Story) (told : List Effect) : Type 0 where
+    steps : List Step
+    follows : Follows now items past steps
+    lived : Lived steps t told
+
+  plays : (items : List Item) (past : List Step) (a : Scene) (effects : List Effect) (last : Scene) (told : List Effect) → Plays a items effects last → Lived past a.story told →
+      Whole a.now items past last.story (told ++ effects)
+  plays [] past a effects last told h lived = record {
+    steps = past;
+    follows = refl;
+    lived = same_end past a.story last.story told (told ++ effects) (ap (λ (b : Scene). b.story) h.1) (ap (λ (es : List Effect). told ++ es) h.0 ∙ append-nil told) lived;
+  }
+  plays (item ∷ items) past a effects last told h lived =
+      let b = h.0 in
+      let one = happened past a.story b.now (happening_of item) h.1 b.story told h.3.happened lived in
+      let rest = plays items one.steps b h.2 last (told ++ h.1) h.4 one.lived in
+      record {
+        steps = rest.steps;
+        follows = (
+          one.steps,
+          subst (λ n. FollowsItem n (happening_of item) past one.steps) h.3.moment one.follows,
+          subst (λ n. Follows n items one.steps rest.steps) h.3.moment rest.follows,
+        );
+        lived = same_end rest.steps last.story last.story ((told ++ h.1) ++ h.2) (told ++ effects) refl (ap (λ (es : List Effect). told ++ es) h.5 ∙ sym (append_assoc told h.1 h.2)) rest.lived;
+      }
+
+pub plays_run : (table : Table) (items : List Item) (effects : List Effect) (last : Scene) → Plays (beginning table) items effects last → IsRun table items effects last
 plays_run table items effects last h =
-    let lived = plays (beginning table).story items (beginning table) effects last [] h record { steps = []; lives = refl; told_is = refl } in
-    record { steps = lived.steps; lives = lived.lives; told = lived.told_is; run = lives_are_runs table table.capacity 1 1 lived.steps last.story lived.lives }
+    let begin = (beginning table).story in
+    let whole = plays begin items [] (beginning table) effects last [] h (record { lives = refl; told_is = refl }) in
+    record {
+      steps = whole.steps;
+      follows = whole.follows;
+      lives = whole.lived.lives;
+      told = whole.lived.told_is;
+      run = lives_are_runs table table.capacity 1 1 whole.steps last.story whole.lived.lives;
+    }

@@ -7,15 +7,10 @@
 use Rattle.std.specs.Prelude.{◌≡◌, ◌⊎◌, ℕ, List, [], ◌∷◌, ◌++◌, Option, None, Some}
 use Rattle.std.specs.List.{flat_map}
 use Rattle.hx_allow.specs.Lines.{Table}
-use Rattle.hx_status.specs.declared.cause.FailKind.{FailKind}
-use Rattle.hx_status.specs.declared.cause.FailKind.TheVariants as kinds
 use Rattle.proxy_script.specs.Script.{Said as Item}
 use Rattle.proxy_script.specs.Script as item
-use Rattle.proxy_script.specs.declared.failures.Failure.{Failure}
-use Rattle.proxy_script.specs.declared.failures.Failure.TheVariants as failures
 use Rattle.proxy_script.specs.declared.effect_list.Effect.{Effect}
 use Rattle.proxy_engine.specs.Happenings.{Said as Happening}
-use Rattle.proxy_engine.specs.Happenings as happening
 use Rattle.proxy_engine.specs.Story.{Story, heard, fault_of}
 use Rattle.proxy_engine.specs.Due.{Act, IsDueFirst}
 use Rattle.proxy_engine.specs.Acts.{Does}
@@ -42,22 +37,11 @@ Settles s now deeds t = Works s now deeds t × IsDueFirst t None
 abbrev pub effects_of : List Deed → List Effect
 effects_of deeds = flat_map (λ deed. deed.effects) deeds
 
-abbrev pub kind_of : Failure → FailKind
-kind_of failures.Refused = kinds.Refused
-kind_of failures.TimedOut = kinds.TimedOut
-kind_of failures.Closed = kinds.Closed
-
 -- what an item says has happened; the table and a moment say nothing of it
 abbrev pub happening_of : Item → Option Happening
 happening_of (item.Table bytes) = None
 happening_of (item.Moment m) = None
-happening_of (item.Opens n) = Some (happening.Accepts n)
-happening_of (item.Sends n bytes) = Some (happening.Sends n bytes)
-happening_of (item.Answers l bytes) = Some (happening.Hears l bytes)
-happening_of (item.Ends n) = Some (happening.Ends n)
-happening_of (item.Leaves n) = Some (happening.Leaves n)
-happening_of (item.Shuts l) = Some (happening.Shuts l)
-happening_of (item.Breaks l failure) = Some (happening.Fails l (kind_of failure))
+happening_of (item.Happens h) = Some h
 
 -- the moment behind an item
 abbrev pub moment_after : ℕ → Item → ℕ

@@ -29,7 +29,7 @@ IsWrong first true rest = (rest ≡ [] → first ≡ true) × ((item : Item) (mo
 IsWrong first false rest = item_at first rest ≡ Wrong
 
 -- The bytes are a table and items, spelled, and a rest; the items were played, with these effects, and the steps of the core
--- are a good run.
+-- that they lead to are a good run.
 pub record Leads (bytes : List ℕ) (items : List Item) (rest : List ℕ) (effects : List Effect) (last : Scene) : Type 0 where
   pub front : List ℕ
   pub bytes_are : bytes ≡ front ++ rest
@@ -38,7 +38,7 @@ pub record Leads (bytes : List ℕ) (items : List Item) (rest : List ℕ) (effec
   pub config : Table
   pub reads : ReadsAs table (Ok config)
   pub plays : Plays (beginning config) items effects last
-  pub run : IsRun config effects last
+  pub run : IsRun config items effects last
 
 -- they lead so far, and P holds there
 pub record LeadsTo (bytes : List ℕ) (P : List Item → List ℕ → List Effect → Scene → Type 0) : Type 0 where
@@ -108,8 +108,12 @@ pub record IsReplayed (script text : List ℕ) : Type 0 where
   pub effects : List Effect
   pub last : Scene
   pub plays : Plays (beginning config) items effects last
-  pub run : IsRun config effects last
+  pub run : IsRun config items effects last
   pub told : text ≡ effects_text effects
+
+-- a script that is replayed has one text of its effects
+abbrev pub HasOneText : Type 0
+HasOneText = (script text other : List ℕ) → IsReplayed script text → IsReplayed script other → text ≡ other
 
 -- why a script isn't replayed whole: the fault of it, or of the part that was read
 pub record IsRefused (script : List ℕ) (fault : ReplayFault) : Type 0 where

@@ -12,9 +12,13 @@ mod laws;
 mod memory;
 mod play;
 pub mod program;
+mod shelves;
 mod steps;
 
 pub use crate::faults::ReplayFault;
-pub use crate::laws::{a_play_is_a_run, nothing_follows_a_close};
+pub use crate::laws::{
+    a_play_is_a_run, a_script_has_one_play, each_link_is_dropped_once, nothing_follows_a_close,
+    nothing_follows_a_gone,
+};
 pub use crate::memory::replayed;
 pub use crate::play::replay;

@@ -10,12 +10,13 @@ ghost use Rattle.proxy_server.specs.Steps.{Opens};
 
 use crate::bytes::read_script;
 use crate::faults::ReplayFault;
+use crate::shelves::NewShelf;
 use crate::steps::{moment_after, play_item};
 use hx_allow::Config;
 use hx_store::ListShelf;
 use proxy_engine::Engine;
 use proxy_script::{Front, Item, read_item};
-use std::alloc::Global;
+use std::alloc::{AllocError, Global};
 use std::io::{Read, Write};
 
 /// The bytes of a table, where the item is one.
@@ -48,15 +49,15 @@ fn read_table(alloc: Global, bytes: &[u8], ended: bool) -> Result<(Config, &[u8]
 }
 
 /// The engine of a table, to which nothing has happened.
-fn begin(alloc: Global, config: Config) -> Engine<ListShelf>
-    ensures { Stands result (beginning config).story }
+fn begin<S: NewShelf>(alloc: Global, config: Config) -> Result<Engine<S>, AllocError>
+    ensures { IfOk result (λ engine. Stands engine (beginning config).story) }
 {
-    let shelf = ListShelf::new(alloc, config.capacity());
-    Engine::new(alloc, config, shelf, 1, 1)
+    let shelf = S::with_capacity(alloc, config.capacity())?;
+    Ok(Engine::new(alloc, config, shelf, 1, 1))
 }
 
 /// Plays a script, or the part of it that was read.
-fn play<W: Write>(
+fn play<S: NewShelf + Drop, W: Write>(
     alloc: Global,
     bytes: &[u8],
     ended: bool,
@@ -69,7 +70,10 @@ fn play<W: Write>(
         Ok(opened) => opened,
         Err(fault) => return Err(fault),
     };
-    let mut engine = begin(alloc, config);
+    let mut engine = match begin::<S>(alloc, config) {
+        Ok(engine) => engine,
+        Err(_) => return Err(ReplayFault::OutOfMemory),
+    };
     let mut now = 0u64;
     let mut line = 2u64;
     'items: loop {
@@ -97,6 +101,20 @@ fn play<W: Write>(
     }
 }
 
+/// Replays a script over a shelf of this kind.
+fn replay_on<S: NewShelf + Drop, R: Read, W: Write>(
+    alloc: Global,
+    reader: &mut R,
+    writer: &mut W,
+) -> Result<(), ReplayFault>
+    ensures { IsReplay (R.remaining reader.old) (R.remaining reader.new) (W.contents writer.old) (W.contents writer.new) result }
+{
+    match read_script(alloc, reader) {
+        Ok((bytes, ended)) => play::<S, W>(alloc, bytes.as_slice(), ended, writer),
+        Err(_) => Err(ReplayFault::OutOfMemory),
+    }
+}
+
 /// Replays the script that a reader gives, and writes the text of its effects. The script has at most 16,777,216
 /// bytes.
 ///
@@ -108,8 +126,5 @@ pub fn replay<R: Read, W: Write>(
 ) -> Result<(), ReplayFault>
     ensures { IsReplay (R.remaining reader.old) (R.remaining reader.new) (W.contents writer.old) (W.contents writer.new) result }
 {
-    match read_script(alloc, reader) {
-        Ok((bytes, ended)) => play(alloc, bytes.as_slice(), ended, writer),
-        Err(_) => Err(ReplayFault::OutOfMemory),
-    }
+    replay_on::<ListShelf, R, W>(alloc, reader, writer)
 }

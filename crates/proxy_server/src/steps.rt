@@ -4,42 +4,24 @@ ghost use Rattle.proxy_engine.specs.Happenings.{said};
 ghost use Rattle.proxy_engine.specs.Story.{Story};
 ghost use Rattle.proxy_engine.specs.State.{Stands};
 ghost use Rattle.proxy_script.specs.Script.{said as item_said};
-ghost use Rattle.proxy_server.specs.Played.{happening_of, moment_after, kind_of, Breaks};
+ghost use Rattle.proxy_server.specs.Played.{happening_of, moment_after, Breaks};
 ghost use Rattle.proxy_server.specs.Steps.{Settled, Told, Untold};
 
 use crate::bytes::put;
 use crate::faults::ReplayFault;
-use hx_status::FailKind;
-use hx_store::ListShelf;
-use proxy_engine::{Engine, EngineFault, Happening, Work};
-use proxy_script::{Effect, Failure, Item, effects_text};
+use hx_store::Shelf;
+use proxy_engine::{Engine, EngineFault, Work};
+use proxy_script::{Effect, Happening, Item, effects_text};
 use std::alloc::Global;
 use std::io::Write;
-
-fn kind_of(failure: Failure) -> FailKind
-    ensures { result ≡ kind_of failure }
-{
-    match failure {
-        Failure::Refused => FailKind::Refused,
-        Failure::TimedOut => FailKind::TimedOut,
-        Failure::Closed => FailKind::Closed,
-    }
-}
 
 /// What an item says has happened.
 fn happening_of(item: Item<'_>) -> Option<Happening<'_>>
     ensures { option_map said result ≡ happening_of (item_said item.entry) }
 {
     match item {
-        Item::Config(_) => None,
-        Item::At(_) => None,
-        Item::Accept(n) => Some(Happening::Accept(n)),
-        Item::Client(n, bytes) => Some(Happening::Client(n, bytes)),
-        Item::Link(l, bytes) => Some(Happening::Link(l, bytes)),
-        Item::End(n) => Some(Happening::End(n)),
-        Item::Gone(n) => Some(Happening::Gone(n)),
-        Item::Shut(l) => Some(Happening::Shut(l)),
-        Item::Fail(l, failure) => Some(Happening::Fail(l, kind_of(failure))),
+        Item::Happens(happening) => Some(happening),
+        _ => None,
     }
 }
 
@@ -54,9 +36,9 @@ pub(crate) fn moment_after(now: u64, item: Item<'_>) -> u64
 }
 
 /// Does all that is due, and gives the effects in order.
-fn settle(
+fn settle<S: Shelf>(
     alloc: Global,
-    engine: &mut Engine<ListShelf>,
+    engine: &mut Engine<S>,
     now: u64,
 ) -> Result<Vec<Effect>, EngineFault>
     requires { now < 253402300800 }
@@ -80,9 +62,9 @@ fn settle(
 }
 
 /// Takes what happened, does what is then due, and writes the text of it whole.
-fn tell<W: Write>(
+fn tell<S: Shelf, W: Write>(
     alloc: Global,
-    engine: &mut Engine<ListShelf>,
+    engine: &mut Engine<S>,
     now: u64,
     happening: Happening<'_>,
     writer: &mut W,
@@ -110,9 +92,9 @@ fn tell<W: Write>(
 }
 
 /// Plays an item at the moment that stands behind it.
-pub(crate) fn play_item<W: Write>(
+pub(crate) fn play_item<S: Shelf, W: Write>(
     alloc: Global,
-    engine: &mut Engine<ListShelf>,
+    engine: &mut Engine<S>,
     now: u64,
     item: Item<'_>,
     writer: &mut W,

@@ -91,12 +91,22 @@ static FIELDS: &[(&[&str], usize)] = &[
 ];
 
 /// What an origin was asked.
-#[derive(Drop)]
 pub struct Question {
     /// The lines that the answer is known by.
     echo: String,
     is_head: bool,
     has_condition: bool,
+}
+
+// By hand, so that a scope that ends is one call to the prover and not the drop of each part.
+impl Drop for Question {
+    fn drop(self) {
+        let Question {
+            echo: _,
+            is_head: _,
+            has_condition: _,
+        } = self;
+    }
 }
 
 fn push_echo(echo: &mut String, head: &[u8], name: &str) -> Result<(), AllocError> {

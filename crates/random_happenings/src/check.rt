@@ -18,7 +18,7 @@ use std::alloc::{AllocError, Global};
 use std::fmt;
 
 /// What doesn't hold, with the connection or link at which it doesn't.
-#[derive(Drop)]
+#[derive(Clone, Copy)]
 pub enum Wrong {
     OutOfMemory,
     Rule(&'static str, u64),
@@ -59,13 +59,25 @@ impl fmt::Display for Counts {
     }
 }
 
-#[derive(Drop)]
 struct Client<'a> {
     asked: Vec<&'a Asked>,
     replies: usize,
     link: Option<u64>,
     is_accepted: bool,
     is_over: bool,
+}
+
+// By hand, here and below, so that a scope that ends is one call to the prover and not the drop of each part.
+impl Drop for Client<'_> {
+    fn drop(self) {
+        let Client {
+            asked: _,
+            replies: _,
+            link: _,
+            is_accepted: _,
+            is_over: _,
+        } = self;
+    }
 }
 
 #[derive(Clone, Copy)]
@@ -83,7 +95,6 @@ struct Check<'a> {
     counts: Counts,
 }
 
-// By hand, so that a scope that ends is one call to the prover and not the drop of each part.
 impl Drop for Check<'_> {
     fn drop(self) {
         let Check {

@@ -1,15 +1,28 @@
-//! Items of a script: their text, and what they tell an engine.
+//! Items of a script: their text.
 
 use hx_status::FailKind;
-use proxy_engine::Happening;
-use proxy_script::{Failure, Item};
+use proxy_script::{Happening, Item};
 use std::alloc::{AllocError, Global};
 
-fn word(failure: Failure) -> &'static str {
-    match failure {
-        Failure::Refused => "refused",
-        Failure::TimedOut => "timed-out",
-        Failure::Closed => "closed",
+/// The word of a link's failure.
+fn word(kind: FailKind) -> &'static str {
+    match kind {
+        FailKind::Refused => "refused",
+        FailKind::TimedOut => "timed-out",
+        _ => "closed",
+    }
+}
+
+/// The line of what happens, without its LF.
+fn happening_line(alloc: Global, happening: Happening<'_>) -> Result<String, AllocError> {
+    match happening {
+        Happening::Accept(n) => format!(in alloc; "accept {n}"),
+        Happening::Client(n, bytes) => format!(in alloc; "client {n} {}", bytes.len()),
+        Happening::Link(l, bytes) => format!(in alloc; "link {l} {}", bytes.len()),
+        Happening::End(n) => format!(in alloc; "end {n}"),
+        Happening::Gone(n) => format!(in alloc; "gone {n}"),
+        Happening::Shut(l) => format!(in alloc; "shut {l}"),
+        Happening::Fail(l, kind) => format!(in alloc; "fail {l} {}", word(kind)),
     }
 }
 
@@ -18,13 +31,7 @@ fn line_of(alloc: Global, item: Item<'_>) -> Result<String, AllocError> {
     match item {
         Item::Config(table) => format!(in alloc; "config {}", table.len()),
         Item::At(moment) => format!(in alloc; "at {moment}"),
-        Item::Accept(n) => format!(in alloc; "accept {n}"),
-        Item::Client(n, bytes) => format!(in alloc; "client {n} {}", bytes.len()),
-        Item::Link(l, bytes) => format!(in alloc; "link {l} {}", bytes.len()),
-        Item::End(n) => format!(in alloc; "end {n}"),
-        Item::Gone(n) => format!(in alloc; "gone {n}"),
-        Item::Shut(l) => format!(in alloc; "shut {l}"),
-        Item::Fail(l, failure) => format!(in alloc; "fail {l} {}", word(failure)),
+        Item::Happens(happening) => happening_line(alloc, happening),
     }
 }
 
@@ -32,8 +39,8 @@ fn line_of(alloc: Global, item: Item<'_>) -> Result<String, AllocError> {
 fn block_of(item: Item<'_>) -> Option<&[u8]> {
     match item {
         Item::Config(table) => Some(table),
-        Item::Client(_, bytes) => Some(bytes),
-        Item::Link(_, bytes) => Some(bytes),
+        Item::Happens(Happening::Client(_, bytes)) => Some(bytes),
+        Item::Happens(Happening::Link(_, bytes)) => Some(bytes),
         _ => None,
     }
 }
@@ -51,28 +58,5 @@ pub fn push_item(script: &mut Vec<u8>, item: Item<'_>) -> Result<(), AllocError>
     match block_of(item) {
         Some(block) => push_line(script, block),
         None => Ok(()),
-    }
-}
-
-fn kind(failure: Failure) -> FailKind {
-    match failure {
-        Failure::Refused => FailKind::Refused,
-        Failure::TimedOut => FailKind::TimedOut,
-        Failure::Closed => FailKind::Closed,
-    }
-}
-
-/// What an item tells an engine, where it does.
-pub fn happening(item: Item<'_>) -> Option<Happening<'_>> {
-    match item {
-        Item::Config(_) => None,
-        Item::At(_) => None,
-        Item::Accept(n) => Some(Happening::Accept(n)),
-        Item::Client(n, bytes) => Some(Happening::Client(n, bytes)),
-        Item::Link(l, bytes) => Some(Happening::Link(l, bytes)),
-        Item::End(n) => Some(Happening::End(n)),
-        Item::Gone(n) => Some(Happening::Gone(n)),
-        Item::Shut(l) => Some(Happening::Shut(l)),
-        Item::Fail(l, failure) => Some(Happening::Fail(l, kind(failure))),
     }
 }

@@ -22,13 +22,24 @@ pub struct Step {
 }
 
 /// A script, and the run of it.
-#[derive(Drop)]
 pub struct Log {
     pub script: Vec<u8>,
     pub effects: Vec<u8>,
     pub steps: Vec<Step>,
     /// The requests of all connections, those of each in their order.
     pub asked: Vec<Asked>,
+}
+
+// By hand, so that a scope that ends is one call to the prover and not the drop of each part.
+impl Drop for Log {
+    fn drop(self) {
+        let Log {
+            script: _,
+            effects: _,
+            steps: _,
+            asked: _,
+        } = self;
+    }
 }
 
 impl Log {

@@ -69,7 +69,7 @@ static FIELDS: &[(&[&str], usize)] = &[
 ];
 
 /// A request of a client: which of the connection's it is, counted from 1, and what it asks for.
-#[derive(Drop)]
+#[derive(Clone, Copy)]
 pub struct Asked {
     pub connection: u64,
     pub ordinal: u64,

@@ -3,13 +3,14 @@ ghost use Rattle.std.specs.Prelude.{◌<◌};
 
 use crate::answers::{Question, push_answer};
 use crate::dice::Dice;
-use crate::items::{happening, push_item};
+use crate::items::push_item;
 use crate::log::{Log, Step, Told};
 use crate::requests::{Asked, push_request};
 use hx_allow::Config;
+use hx_status::FailKind;
 use hx_store::ListShelf;
 use proxy_engine::{Engine, EngineFault, Work};
-use proxy_script::{Effect, Failure, Item, effects_text};
+use proxy_script::{Effect, Happening, Item, effects_text};
 use std::alloc::{AllocError, Global};
 use std::{fmt, mem};
 
@@ -49,7 +50,7 @@ const MOST_ACTS: u32 = 10_000;
 const LAST_MOMENT: u64 = 80_000;
 
 /// Why no script was made.
-#[derive(Drop)]
+#[derive(Clone, Copy)]
 pub enum Stopped {
     OutOfMemory,
     /// The engine refused what happened, or the table.
@@ -84,7 +85,6 @@ impl fmt::Display for Stopped {
 }
 
 /// An open connection of a client.
-#[derive(Drop)]
 struct Caller {
     number: u64,
     /// How many requests it has begun.
@@ -93,8 +93,18 @@ struct Caller {
     rest: Vec<u8>,
 }
 
+// By hand, here and below, so that a scope that ends is one call to the prover and not the drop of each part.
+impl Drop for Caller {
+    fn drop(self) {
+        let Caller {
+            number: _,
+            begun: _,
+            rest: _,
+        } = self;
+    }
+}
+
 /// An open link to an origin.
-#[derive(Drop)]
 struct Link {
     number: u64,
     question: Question,
@@ -103,7 +113,17 @@ struct Link {
     rest: Vec<u8>,
 }
 
-#[derive(Drop)]
+impl Drop for Link {
+    fn drop(self) {
+        let Link {
+            number: _,
+            question: _,
+            has_begun: _,
+            rest: _,
+        } = self;
+    }
+}
+
 pub struct World {
     alloc: Global,
     dice: Dice,
@@ -114,6 +134,22 @@ pub struct World {
     accepted: u64,
     forwarded: u64,
     log: Log,
+}
+
+impl Drop for World {
+    fn drop(self) {
+        let World {
+            alloc: _,
+            dice: _,
+            engine: _,
+            now: _,
+            callers: _,
+            links: _,
+            accepted: _,
+            forwarded: _,
+            log: _,
+        } = self;
+    }
 }
 
 /// The next piece of what is to be sent, often all of it.
@@ -153,7 +189,18 @@ impl World {
 
     /// What happened, and what was done.
     pub fn into_log(self) -> Log {
-        self.log
+        let World {
+            alloc: _,
+            dice: _,
+            engine: _,
+            now: _,
+            callers: _,
+            links: _,
+            accepted: _,
+            forwarded: _,
+            log,
+        } = self;
+        log
     }
 
     /// One more happening.
@@ -203,7 +250,7 @@ impl World {
             rest: Vec::new(self.alloc),
         };
         self.callers.push(caller).map_err(AllocError::from)?;
-        self.happen(Item::Accept(number), Told::Accepted(number))
+        self.happen(Happening::Accept(number), Told::Accepted(number))
     }
 
     /// A client sends a piece of a request, of a new one where the last was sent whole.
@@ -222,7 +269,7 @@ impl World {
         }
         let number = caller.number;
         let piece = cut_piece(&mut self.dice, &mut caller.rest)?;
-        self.happen(Item::Client(number, piece.as_slice()), Told::Other)
+        self.happen(Happening::Client(number, piece.as_slice()), Told::Other)
     }
 
     /// An origin sends a piece of its answer, and closes where all of it was sent.
@@ -238,10 +285,10 @@ impl World {
             push_answer(&mut text, &mut self.dice, &link.question)?;
             link.rest.extend_from_slice(text.as_bytes())?;
         } else if link.rest.is_empty() {
-            return self.happen(Item::Shut(number), Told::Other);
+            return self.happen(Happening::Shut(number), Told::Other);
         }
         let piece = cut_piece(&mut self.dice, &mut link.rest)?;
-        self.happen(Item::Link(number, piece.as_slice()), Told::Other)
+        self.happen(Happening::Link(number, piece.as_slice()), Told::Other)
     }
 
     /// A client sends no more, or goes away.
@@ -252,10 +299,10 @@ impl World {
         };
         let number = caller.number;
         if self.dice.once_in(2) {
-            return self.happen(Item::End(number), Told::Other);
+            return self.happen(Happening::End(number), Told::Other);
         }
         self.callers.retain(|caller| caller.number != number);
-        self.happen(Item::Gone(number), Told::Gone(number))
+        self.happen(Happening::Gone(number), Told::Gone(number))
     }
 
     /// A link fails, or its origin closes it.
@@ -265,13 +312,13 @@ impl World {
             return self.client_sends();
         };
         let number = link.number;
-        let item = match self.dice.below(4) {
-            0 => Item::Fail(number, Failure::Refused),
-            1 => Item::Fail(number, Failure::TimedOut),
-            2 => Item::Fail(number, Failure::Closed),
-            _ => Item::Shut(number),
+        let happening = match self.dice.below(4) {
+            0 => Happening::Fail(number, FailKind::Refused),
+            1 => Happening::Fail(number, FailKind::TimedOut),
+            2 => Happening::Fail(number, FailKind::Closed),
+            _ => Happening::Shut(number),
         };
-        self.happen(item, Told::Other)
+        self.happen(happening, Told::Other)
     }
 
     /// Something happens at an end that is over.
@@ -281,24 +328,22 @@ impl World {
         let is_open = self.callers.iter().any(|caller| caller.number == n);
         let is_linked = self.forwarded == 0 || self.links.iter().any(|link| link.number == l);
         match self.dice.below(6) {
-            0 if !is_open => self.happen(Item::Client(n, b"GET /late HTTP/1.1\r\n"), Told::Other),
-            1 if !is_open => self.happen(Item::End(n), Told::Other),
-            2 if !is_open => self.happen(Item::Gone(n), Told::Gone(n)),
-            3 if !is_linked => self.happen(Item::Fail(l, Failure::Closed), Told::Other),
-            4 if !is_linked => self.happen(Item::Shut(l), Told::Other),
-            _ if !is_linked => self.happen(Item::Link(l, b"late"), Told::Other),
+            0 if !is_open => self.happen(Happening::Client(n, b"GET /late HTTP/1.1\r\n"), Told::Other),
+            1 if !is_open => self.happen(Happening::End(n), Told::Other),
+            2 if !is_open => self.happen(Happening::Gone(n), Told::Gone(n)),
+            3 if !is_linked => self.happen(Happening::Fail(l, FailKind::Closed), Told::Other),
+            4 if !is_linked => self.happen(Happening::Shut(l), Told::Other),
+            _ if !is_linked => self.happen(Happening::Link(l, b"late"), Told::Other),
             _ => self.client_sends(),
         }
     }
 
     /// Writes what happened, and takes it.
-    fn happen(&mut self, item: Item<'_>, told: Told) -> Result<(), Stopped> {
-        push_item(&mut self.log.script, item)?;
+    fn happen(&mut self, happening: Happening<'_>, told: Told) -> Result<(), Stopped> {
+        push_item(&mut self.log.script, Item::Happens(happening))?;
         let before = self.log.effects.len();
-        if let Some(happening) = happening(item) {
-            self.engine.take(self.alloc, happening)?;
-            self.settle()?;
-        }
+        self.engine.take(self.alloc, happening)?;
+        self.settle()?;
         let length = self.log.effects.len().saturating_sub(before);
         self.log
             .steps

@@ -6,13 +6,24 @@ use httpdate::HttpDate;
 use std::alloc::{AllocError, Global};
 
 /// A line of words, and the bytes behind it.
-#[derive(Drop)]
 pub struct Entry<'a> {
     pub line: usize,
     pub words: &'a str,
     /// Whether indented lines stand behind it.
     pub has_bytes: bool,
     pub bytes: Vec<u8>,
+}
+
+// By hand, so that a scope that ends is one call to the prover and not the drop of each part.
+impl Drop for Entry<'_> {
+    fn drop(self) {
+        let Entry {
+            line: _,
+            words: _,
+            has_bytes: _,
+            bytes: _,
+        } = self;
+    }
 }
 
 /// A decimal number without leading zeros.

@@ -18,10 +18,8 @@ use std::str;
 
 /// What the proxy does where a script is replayed; a fault counts as the last effect.
 fn told(alloc: Global, script: &[u8]) -> Result<Vec<u8>, AllocError> {
-    let played = Played::of(alloc, script)?;
-    let mut text = played.text;
-    if played.status != 0 {
-        let (status, line) = (played.status, played.line);
+    let (mut text, line, status) = Played::of(alloc, script)?.into_parts();
+    if status != 0 {
         let line = format!(in alloc; "stops with status {status}: {line}")?;
         Effect::Stop(line.as_bytes()).push_text(&mut text)?;
     }
@@ -29,10 +27,19 @@ fn told(alloc: Global, script: &[u8]) -> Result<Vec<u8>, AllocError> {
 }
 
 /// The script that a case spells, and the text of its effects; where the replay stops, the line of that is behind them.
-#[derive(Drop)]
 pub struct Spelled {
     pub script: Vec<u8>,
     pub effects: Vec<u8>,
+}
+
+// By hand, here and below, so that a scope that ends is one call to the prover and not the drop of each part.
+impl Drop for Spelled {
+    fn drop(self) {
+        let Spelled {
+            script: _,
+            effects: _,
+        } = self;
+    }
 }
 
 /// A case that is being played.
@@ -47,7 +54,6 @@ struct Play {
     line: usize,
 }
 
-// By hand, so that a scope that ends is one call to the prover and not the drop of each part.
 impl Drop for Play {
     fn drop(self) {
         let Play {
@@ -135,7 +141,7 @@ impl Play {
     fn play(&mut self, said: &[Said<'_>]) -> Result<(), CaseFault> {
         for one in said {
             match one.statement {
-                Statement::Happens(item) => self.happen(one.line, item)?,
+                Statement::Plays(item) => self.happen(one.line, item)?,
                 Statement::Expects(effect) => self.expect(one.line, effect)?,
             }
         }

@@ -1,13 +1,28 @@
 //! The text of a script's items.
 
-use proxy_script::{Failure, Item};
+use hx_status::FailKind;
+use proxy_script::{Happening, Item};
 use std::alloc::{AllocError, Global};
 
-fn word(failure: Failure) -> &'static str {
-    match failure {
-        Failure::Refused => "refused",
-        Failure::TimedOut => "timed-out",
-        Failure::Closed => "closed",
+/// The word of a link's failure.
+fn word(kind: FailKind) -> &'static str {
+    match kind {
+        FailKind::Refused => "refused",
+        FailKind::TimedOut => "timed-out",
+        _ => "closed",
+    }
+}
+
+/// The line of what happens, without its LF.
+fn happening_line(alloc: Global, happening: Happening<'_>) -> Result<String, AllocError> {
+    match happening {
+        Happening::Accept(n) => format!(in alloc; "accept {n}"),
+        Happening::Client(n, bytes) => format!(in alloc; "client {n} {}", bytes.len()),
+        Happening::Link(l, bytes) => format!(in alloc; "link {l} {}", bytes.len()),
+        Happening::End(n) => format!(in alloc; "end {n}"),
+        Happening::Gone(n) => format!(in alloc; "gone {n}"),
+        Happening::Shut(l) => format!(in alloc; "shut {l}"),
+        Happening::Fail(l, kind) => format!(in alloc; "fail {l} {}", word(kind)),
     }
 }
 
@@ -16,13 +31,7 @@ fn line_of(alloc: Global, item: Item<'_>) -> Result<String, AllocError> {
     match item {
         Item::Config(table) => format!(in alloc; "config {}", table.len()),
         Item::At(moment) => format!(in alloc; "at {moment}"),
-        Item::Accept(n) => format!(in alloc; "accept {n}"),
-        Item::Client(n, bytes) => format!(in alloc; "client {n} {}", bytes.len()),
-        Item::Link(l, bytes) => format!(in alloc; "link {l} {}", bytes.len()),
-        Item::End(n) => format!(in alloc; "end {n}"),
-        Item::Gone(n) => format!(in alloc; "gone {n}"),
-        Item::Shut(l) => format!(in alloc; "shut {l}"),
-        Item::Fail(l, failure) => format!(in alloc; "fail {l} {}", word(failure)),
+        Item::Happens(happening) => happening_line(alloc, happening),
     }
 }
 
@@ -30,8 +39,8 @@ fn line_of(alloc: Global, item: Item<'_>) -> Result<String, AllocError> {
 fn block_of(item: Item<'_>) -> Option<&[u8]> {
     match item {
         Item::Config(table) => Some(table),
-        Item::Client(_, bytes) => Some(bytes),
-        Item::Link(_, bytes) => Some(bytes),
+        Item::Happens(Happening::Client(_, bytes)) => Some(bytes),
+        Item::Happens(Happening::Link(_, bytes)) => Some(bytes),
         _ => None,
     }
 }

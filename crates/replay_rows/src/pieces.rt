@@ -1,6 +1,6 @@
 //! A script in which everything comes one byte at a time.
 
-use proxy_script::{Front, Item, read_item};
+use proxy_script::{Front, Happening, Item, read_item};
 use std::alloc::{AllocError, Global};
 
 fn push_bytes(
@@ -31,10 +31,10 @@ pub fn byte_by_byte(alloc: Global, script: &[u8]) -> Result<Vec<u8>, AllocError>
             break;
         };
         match item {
-            Item::Client(n, bytes) if !bytes.is_empty() => {
+            Item::Happens(Happening::Client(n, bytes)) if !bytes.is_empty() => {
                 push_bytes(&mut pieces, "client", n, bytes)?;
             }
-            Item::Link(l, bytes) if !bytes.is_empty() => {
+            Item::Happens(Happening::Link(l, bytes)) if !bytes.is_empty() => {
                 push_bytes(&mut pieces, "link", l, bytes)?;
             }
             _ => pieces.extend_from_slice(&rest[..rest.len().saturating_sub(more.len())])?,

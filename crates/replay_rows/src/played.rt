@@ -4,14 +4,30 @@ use proxy_server::replay;
 use std::alloc::{AllocError, Global};
 
 /// What a replay writes, the line of its fault and the exit status; where it ends well there is no line, and the status is 0.
-#[derive(Drop)]
 pub struct Played {
     pub text: Vec<u8>,
     pub line: String,
     pub status: u8,
 }
 
+// By hand, so that a scope that ends is one call to the prover and not the drop of each part.
+impl Drop for Played {
+    fn drop(self) {
+        let Played {
+            text: _,
+            line: _,
+            status: _,
+        } = self;
+    }
+}
+
 impl Played {
+    /// What it writes, and where it ends by a fault the line and the status.
+    pub fn into_parts(self) -> (Vec<u8>, String, u8) {
+        let Played { text, line, status } = self;
+        (text, line, status)
+    }
+
     /// Replays a script.
     pub fn of(alloc: Global, script: &[u8]) -> Result<Played, AllocError> {
         let mut reader = script;

@@ -29,7 +29,7 @@ pub struct Said<'a> {
 }
 
 fn is_table(statement: Statement<'_>) -> bool {
-    matches!(statement, Statement::Happens(Item::Config(_)))
+    matches!(statement, Statement::Plays(Item::Config(_)))
 }
 
 fn is_stop(statement: Statement<'_>) -> bool {
@@ -37,7 +37,7 @@ fn is_stop(statement: Statement<'_>) -> bool {
 }
 
 fn happens(statement: Statement<'_>) -> bool {
-    matches!(statement, Statement::Happens(_))
+    matches!(statement, Statement::Plays(_))
 }
 
 /// Adds a statement, the usual table in front of the first where that is none.
@@ -50,7 +50,7 @@ fn add<'a>(said: &mut Vec<Said<'a>>, next: Said<'a>) -> Result<(), FormFault> {
         None => {
             let table = Said {
                 line: next.line,
-                statement: Statement::Happens(Item::Config(USUAL_TABLE)),
+                statement: Statement::Plays(Item::Config(USUAL_TABLE)),
             };
             said.push(table).map_err(AllocError::from)?;
         }

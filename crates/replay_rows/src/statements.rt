@@ -3,7 +3,8 @@
 use crate::case_lines::{Entry, number_of};
 use crate::effects::Effect;
 use crate::form::FormFault;
-use proxy_script::{Failure, Item};
+use hx_status::FailKind;
+use proxy_script::{Happening, Item};
 
 /// The first moment that isn't one.
 const END_OF_MOMENTS: u64 = 253_402_300_800;
@@ -11,7 +12,7 @@ const END_OF_MOMENTS: u64 = 253_402_300_800;
 /// What a line of a case says.
 #[derive(Clone, Copy)]
 pub enum Statement<'a> {
-    Happens(Item<'a>),
+    Plays(Item<'a>),
     Expects(Effect<'a>),
 }
 
@@ -33,32 +34,36 @@ fn bytes_of<'a>(entry: &'a Entry<'_>) -> Result<&'a [u8], FormFault> {
     }
 }
 
+fn happens(happening: Happening<'_>) -> Statement<'_> {
+    Statement::Plays(Item::Happens(happening))
+}
+
 fn moment<'a>(entry: &'a Entry<'_>, text: &str) -> Result<Statement<'a>, FormFault> {
     let moment = number_of(text)?;
     if moment >= END_OF_MOMENTS {
         return Err(FormFault::Number);
     }
-    bare(entry, Statement::Happens(Item::At(moment)))
+    bare(entry, Statement::Plays(Item::At(moment)))
 }
 
 /// What a line says of a client.
 fn client<'a>(entry: &'a Entry<'_>, n: u64, verb: &str) -> Result<Statement<'a>, FormFault> {
     match verb {
-        "connects" => bare(entry, Statement::Happens(Item::Accept(n))),
-        "sends" => Ok(Statement::Happens(Item::Client(n, bytes_of(entry)?))),
-        "ends" => bare(entry, Statement::Happens(Item::End(n))),
-        "leaves" => bare(entry, Statement::Happens(Item::Gone(n))),
+        "connects" => bare(entry, happens(Happening::Accept(n))),
+        "sends" => Ok(happens(Happening::Client(n, bytes_of(entry)?))),
+        "ends" => bare(entry, happens(Happening::End(n))),
+        "leaves" => bare(entry, happens(Happening::Gone(n))),
         "gets" => Ok(Statement::Expects(Effect::Client(n, bytes_of(entry)?))),
         "is closed" => bare(entry, Statement::Expects(Effect::Close(n))),
         _ => Err(FormFault::Unknown),
     }
 }
 
-fn failure_of(word: &str) -> Result<Failure, FormFault> {
+fn failure_of(word: &str) -> Result<FailKind, FormFault> {
     match word {
-        "refused" => Ok(Failure::Refused),
-        "timed-out" => Ok(Failure::TimedOut),
-        "closed" => Ok(Failure::Closed),
+        "refused" => Ok(FailKind::Refused),
+        "timed-out" => Ok(FailKind::TimedOut),
+        "closed" => Ok(FailKind::Closed),
         _ => Err(FormFault::Unknown),
     }
 }
@@ -66,15 +71,15 @@ fn failure_of(word: &str) -> Result<Failure, FormFault> {
 /// What a line says of a link.
 fn link<'a>(entry: &'a Entry<'_>, l: u64, verb: &'a str) -> Result<Statement<'a>, FormFault> {
     if let Some(word) = verb.strip_prefix("fails ") {
-        return bare(entry, Statement::Happens(Item::Fail(l, failure_of(word)?)));
+        return bare(entry, happens(Happening::Fail(l, failure_of(word)?)));
     }
     if let Some(address) = verb.strip_prefix("is opened to ") {
         let bytes = bytes_of(entry)?;
         return Ok(Statement::Expects(Effect::Forward(l, address.as_bytes(), bytes)));
     }
     match verb {
-        "sends" => Ok(Statement::Happens(Item::Link(l, bytes_of(entry)?))),
-        "ends" => bare(entry, Statement::Happens(Item::Shut(l))),
+        "sends" => Ok(happens(Happening::Link(l, bytes_of(entry)?))),
+        "ends" => bare(entry, happens(Happening::Shut(l))),
         "is dropped" => bare(entry, Statement::Expects(Effect::Drop(l))),
         _ => Err(FormFault::Unknown),
     }
@@ -83,7 +88,7 @@ fn link<'a>(entry: &'a Entry<'_>, l: u64, verb: &'a str) -> Result<Statement<'a>
 /// What a line says.
 pub fn read_statement<'a>(entry: &'a Entry<'_>) -> Result<Statement<'a>, FormFault> {
     if entry.words == "table" {
-        return Ok(Statement::Happens(Item::Config(bytes_of(entry)?)));
+        return Ok(Statement::Plays(Item::Config(bytes_of(entry)?)));
     }
     let (word, rest) = entry.words.split_once(' ').ok_or(FormFault::Unknown)?;
     match word {

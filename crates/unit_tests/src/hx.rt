@@ -1,6 +1,5 @@
-//! The caches' libraries above messages: copies, which no case plays, and the store by the order of its calls.
+//! The caches' libraries above messages: copies that the proxy doesn't make, and the store by the order of its calls.
 
 mod copies;
 mod entries;
-mod freshened;
 mod shelves;

@@ -7,4 +7,3 @@ mod held;
 mod replays;
 mod runs;
 mod streams;
-mod watches;

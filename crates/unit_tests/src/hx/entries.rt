@@ -1,40 +1,27 @@
-//! Requests and stored responses to test with.
+//! Stored responses to test with.
 
-use http::Method;
 use hx_age::Times;
 use hx_directives::Directives;
 use hx_fields::{Bytes, Fields};
-use hx_framing::Request;
-use hx_hop::{Asked, ask};
 use hx_store::Entry;
 use hx_target::Key;
 use hx_vary::{Nominated, Nomination};
 use std::alloc::{AllocError, Global};
 use std::test::Fail;
 
-/// A name and a value.
-pub(super) type Line<'a> = (&'a [u8], &'a [u8]);
+/// When it was made, asked for and received.
+const TIMES: Times = Times {
+    date: 100,
+    age_value: 0,
+    request_time: 100,
+    response_time: 100,
+};
 
-pub(super) fn fields_of(alloc: Global, lines: &[Line]) -> Result<Fields, AllocError> {
+fn fields(alloc: Global) -> Result<Fields, AllocError> {
     let mut fields = Fields::new(alloc);
-    for (name, value) in lines {
-        fields.push(name, value)?;
-    }
+    fields.push(b"Vary", b"Accept")?;
+    fields.push(b"Cache-Control", b"max-age=60")?;
     Ok(fields)
-}
-
-/// A request with content, for a path of the host `h`, with these lines.
-pub(super) fn asked_for(alloc: Global, path: &str, lines: &[Line]) -> Result<Asked, Fail> {
-    let mut fields = fields_of(alloc, lines)?;
-    fields.push(b"Host", b"h")?;
-    let request = Request {
-        method: Method::POST,
-        target: Bytes::copy_of(alloc, path.as_bytes())?,
-        minor: 1,
-        fields,
-        content: Some(Bytes::copy_of(alloc, b"hi")?),
-    };
-    Ok(ask(alloc, &request)?)
 }
 
 pub(super) fn key(alloc: Global, path: &str) -> Result<Key, AllocError> {
@@ -52,19 +39,9 @@ fn nominated(alloc: Global, fields: &Fields) -> Result<Nominated, Fail> {
     }
 }
 
-/// The moments of a response that was made, asked for and received in this second.
-pub(super) fn times_at(moment: u64) -> Times {
-    Times {
-        date: moment,
-        age_value: 0,
-        request_time: moment,
-        response_time: moment,
-    }
-}
-
-/// A stored response of a path, whose content is the path, with these lines.
-pub(super) fn entry(alloc: Global, serial: u64, path: &str, lines: &[Line]) -> Result<Entry, Fail> {
-    let fields = fields_of(alloc, lines)?;
+/// A stored response of a path, whose content is the path.
+pub(super) fn entry(alloc: Global, serial: u64, path: &str) -> Result<Entry, Fail> {
+    let fields = fields(alloc)?;
     let nominated = nominated(alloc, &fields)?;
     let directives = Directives::of(alloc, &fields)?;
     Ok(Entry {
@@ -72,7 +49,7 @@ pub(super) fn entry(alloc: Global, serial: u64, path: &str, lines: &[Line]) -> R
         key: key(alloc, path)?,
         nominated,
         status: 200,
-        times: times_at(100),
+        times: TIMES,
         fields,
         directives,
         content: Bytes::copy_of(alloc, path.as_bytes())?,

@@ -1,7 +1,7 @@
 //! A store of few entries, through each call.
 
 use super::entries::{entry, key};
-use hx_store::{ListShelf, Serials, Shelf};
+use hx_store::{ListShelf, Shelf};
 use hx_target::Key;
 use std::alloc::{AllocError, Global};
 use std::process::Abort;
@@ -13,7 +13,7 @@ fn put(
     shelf: &mut ListShelf,
     (serial, path, replaced): (u64, &str, u64),
 ) -> Result<Option<u64>, Fail> {
-    let entry = entry(alloc, serial, path, &[])?;
+    let entry = entry(alloc, serial, path)?;
     if shelf.contains(entry.serial) {
         return Err("a new serial".into());
     }
@@ -54,7 +54,7 @@ fn shelf_calls(rt: HostRuntime) -> Result<(), Fail> {
 
 /// Freshens a held entry, and gives the serial of its old form.
 fn freshen(alloc: Global, shelf: &mut ListShelf, serial: u64, path: &str) -> Result<u64, Fail> {
-    let entry = entry(alloc, serial, path, &[])?;
+    let entry = entry(alloc, serial, path)?;
     if !shelf.contains(entry.serial) {
         return Err("a held serial".into());
     }
@@ -92,34 +92,5 @@ fn entries_are_found_by_key(rt: HostRuntime) -> Result<(), Fail> {
     assert_eq!(rt; freshen(rt.alloc(), &mut shelf, 1, "/a")?, 1);
     assert_eq!(rt; shelf.invalidate(&a), 2);
     assert_eq!(rt; (shelf.len(), shelf.capacity()), (1, 3));
-    Ok(())
-}
-
-fn are_serials(rt: &impl Abort, serials: &Serials, wanted: &[u64]) {
-    assert_eq!(rt; serials.len(), wanted.len());
-    assert!(rt; serials.as_slice() == wanted);
-    assert_eq!(rt; serials.last(), wanted.last().copied());
-    assert!(rt; serials.is_empty() == wanted.is_empty());
-}
-
-#[test]
-fn serials_ascend(rt: HostRuntime) -> Result<(), Fail> {
-    let mut serials = Serials::new(rt.alloc());
-    are_serials(&rt, &serials, &[]);
-    for serial in [4, 9, 1] {
-        serials.insert(serial)?;
-    }
-    are_serials(&rt, &serials, &[1, 4, 9]);
-    are_serials(&rt, &serials.copy(rt.alloc())?, &[1, 4, 9]);
-    Ok(())
-}
-
-#[test]
-fn pushed_serials_keep_their_order(rt: HostRuntime) -> Result<(), Fail> {
-    let mut serials = Serials::new(rt.alloc());
-    for serial in [4, 9, 1, 9] {
-        serials.push(serial)?;
-    }
-    are_serials(&rt, &serials, &[4, 9, 1, 9]);
     Ok(())
 }

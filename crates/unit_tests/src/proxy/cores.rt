@@ -1,4 +1,4 @@
-//! A core whose serials run out, and one whose exchange is abandoned; and what the tests of cores share.
+//! What the tests of cores share.
 
 use http::Method;
 use hx_allow::Config;
@@ -6,9 +6,8 @@ use hx_fields::{Bytes, Fields};
 use hx_framing::{Request, Response};
 use hx_hop::{Asked, ask};
 use hx_store::ListShelf;
-use proxy_core::{Core, CoreFault, Event, Outcome, Reply};
+use proxy_core::{Core, CoreFault, Outcome, Reply};
 use std::alloc::Global;
-use std::process::Abort;
 use std::test::Fail;
 
 /// A store of two responses of at most 10 bytes of content.
@@ -85,56 +84,4 @@ pub(super) fn reply(step: Result<Outcome, CoreFault>) -> Result<Reply, Fail> {
         Ok(Outcome::Reply(reply)) => Ok(reply),
         _ => Err("a reply".into()),
     }
-}
-
-/// A GET of a path goes to the origin.
-pub(super) fn goes_forward(
-    rt: &impl Abort,
-    alloc: Global,
-    core: &mut Core<ListShelf>,
-    id: u64,
-    path: &str,
-) -> Result<(), Fail> {
-    let asked = request(alloc, Method::GET, path)?;
-    assert!(rt; matches!(arrive(alloc, core, id, &asked), Ok(Outcome::Forward(1, _))));
-    Ok(())
-}
-
-/// Its answer is stored under this serial number, or not.
-fn is_answered(
-    rt: &impl Abort,
-    alloc: Global,
-    core: &mut Core<ListShelf>,
-    stored: Option<u64>,
-) -> Result<(), Fail> {
-    let given = response(alloc, 200, b"max-age=60", b"hi")?;
-    let passed = reply(answer(alloc, core, 1, &given))?;
-    assert_eq!(rt; passed.stored, stored);
-    Ok(())
-}
-
-#[test]
-fn numbers_run_out(rt: HostRuntime) -> Result<(), Fail> {
-    let mut core = core(rt.alloc(), u64::MAX)?;
-    goes_forward(&rt, rt.alloc(), &mut core, 1, "/a")?;
-    is_answered(&rt, rt.alloc(), &mut core, Some(u64::MAX))?;
-    goes_forward(&rt, rt.alloc(), &mut core, 1, "/b")?;
-    is_answered(&rt, rt.alloc(), &mut core, None)
-}
-
-fn abandon(core: &mut Core<ListShelf>, id: u64) -> Result<Outcome, CoreFault> {
-    core.abandon(id)
-}
-
-fn fault(core: &Core<ListShelf>, event: &Event) -> Option<CoreFault> {
-    core.fault(event)
-}
-
-#[test]
-fn an_abandoned_exchange_is_unknown(rt: HostRuntime) -> Result<(), Fail> {
-    let mut core = core(rt.alloc(), 1)?;
-    goes_forward(&rt, rt.alloc(), &mut core, 7, "/a")?;
-    assert!(rt; matches!(abandon(&mut core, 7), Ok(Outcome::Ended)));
-    assert!(rt; fault(&core, &Event::Abandon(7)) == Some(CoreFault::UnknownId));
-    Ok(())
 }

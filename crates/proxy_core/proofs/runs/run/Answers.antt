@@ -2,13 +2,12 @@ use Rattle.std.proofs.Common.{rules, arith, ◌≡◌, ◌<◌, ◌+◌, ◌++�
 use Rattle.hx_allow.specs.Lines.{Table}
 use Rattle.proxy_core.specs.declared.event.Event.{Event}
 use Rattle.proxy_core.specs.declared.outcome.Outcome.{Outcome}
-use Rattle.proxy_core.specs.Traces.{trace_of, begun, left, IsGood, DeniedLeaveNoTrace}
+use Rattle.proxy_core.specs.Traces.{trace_of, begun, left, IsGood}
 use Rattle.proxy_core.specs.Histories.{IsGoodHistory}
-use Rattle.proxy_core.specs.Promises.{NothingInvalidatedIsSent, TwiceForwardOneReply}
-use Rattle.proxy_core.proofs.Tracing.{left-push, good-push, at_index, stops_at, refuses_or, same_good, denied_leave_no_trace}
+use Rattle.proxy_core.specs.Headline.{Headline}
+use Rattle.proxy_core.proofs.Tracing.{left-push, good-push, at_index, stops_at, refuses_or, same_good}
 use Rattle.proxy_core.proofs.HeldLaw.{good_held, stops_held}
-use Rattle.proxy_core.proofs.TwiceForward.{twice_forward_one_reply}
-use Rattle.proxy_core.proofs.Unsent.{nothing_invalidated_is_sent}
+use Rattle.proxy_core.proofs.Headlines.{headline}
 use Rattle.proxy_core.proofs.runs.run.Goals as goal
 
 -- the trace so far is good over the bounded list, also where its outcomes are the same ones after room was found
@@ -20,14 +19,8 @@ module _ (table : Table) (limit first : ℕ) (events : List Event) (outcomes mor
   good : IsGoodHistory table limit first (trace_of events more)
   good = good_held table limit first (trace_of events more) plain
 
-  denied : DeniedLeaveNoTrace table (trace_of events more)
-  denied = denied_leave_no_trace (begun table limit first) (trace_of events more) plain
-
-  unsent : NothingInvalidatedIsSent (trace_of events more)
-  unsent = nothing_invalidated_is_sent table limit first (trace_of events more) plain
-
-  twice : TwiceForwardOneReply (trace_of events more)
-  twice = twice_forward_one_reply (begun table limit first) (trace_of events more) plain
+  has_it : Headline table limit (trace_of events more)
+  has_it = headline table limit first (trace_of events more) good
 
 pub returns-clause-good : goal.returns-clause-good
 returns-clause-good g c = good_held c.args.config _ _ _ c.loop-event.invariant.good
@@ -40,38 +33,17 @@ pub returns-then-is_err-clause-good : goal.returns-then-is_err-clause-good
 returns-then-is_err-clause-good g c =
     good c.args.config (g.S.Shelf.limit c.args.shelf) c.args.first_serial c.args.events.now c.loop-event.outcomes.items _ c.reserve.ensures.items c.loop-event.invariant.good
 
-pub returns-clause-denied : goal.returns-clause-denied
-returns-clause-denied g c = denied_leave_no_trace (begun c.args.config (g.S.Shelf.limit c.args.shelf) c.args.first_serial) _ c.loop-event.invariant.good
+pub returns-clause-headline : goal.returns-clause-headline
+returns-clause-headline g c =
+    headline c.args.config (g.S.Shelf.limit c.args.shelf) c.args.first_serial _ (good_held c.args.config (g.S.Shelf.limit c.args.shelf) c.args.first_serial _ c.loop-event.invariant.good)
 
-pub returns-in-Err-clause-denied : goal.returns-in-Err-clause-denied
-returns-in-Err-clause-denied g c =
-    denied c.args.config (g.S.Shelf.limit c.args.shelf) c.args.first_serial c.args.events.now c.loop-event.outcomes.items _ c.reserve.ensures.items c.loop-event.invariant.good
+pub returns-in-Err-clause-headline : goal.returns-in-Err-clause-headline
+returns-in-Err-clause-headline g c =
+    has_it c.args.config (g.S.Shelf.limit c.args.shelf) c.args.first_serial c.args.events.now c.loop-event.outcomes.items _ c.reserve.ensures.items c.loop-event.invariant.good
 
-pub returns-then-is_err-clause-denied : goal.returns-then-is_err-clause-denied
-returns-then-is_err-clause-denied g c =
-    denied c.args.config (g.S.Shelf.limit c.args.shelf) c.args.first_serial c.args.events.now c.loop-event.outcomes.items _ c.reserve.ensures.items c.loop-event.invariant.good
-
-pub returns-clause-nothing_invalidated_is_sent : goal.returns-clause-nothing_invalidated_is_sent
-returns-clause-nothing_invalidated_is_sent g c = nothing_invalidated_is_sent c.args.config (g.S.Shelf.limit c.args.shelf) c.args.first_serial _ c.loop-event.invariant.good
-
-pub returns-in-Err-clause-nothing_invalidated_is_sent : goal.returns-in-Err-clause-nothing_invalidated_is_sent
-returns-in-Err-clause-nothing_invalidated_is_sent g c =
-    unsent c.args.config (g.S.Shelf.limit c.args.shelf) c.args.first_serial c.args.events.now c.loop-event.outcomes.items _ c.reserve.ensures.items c.loop-event.invariant.good
-
-pub returns-then-is_err-clause-nothing_invalidated_is_sent : goal.returns-then-is_err-clause-nothing_invalidated_is_sent
-returns-then-is_err-clause-nothing_invalidated_is_sent g c =
-    unsent c.args.config (g.S.Shelf.limit c.args.shelf) c.args.first_serial c.args.events.now c.loop-event.outcomes.items _ c.reserve.ensures.items c.loop-event.invariant.good
-
-pub returns-clause-twice_forward_one_reply : goal.returns-clause-twice_forward_one_reply
-returns-clause-twice_forward_one_reply g c = twice_forward_one_reply (begun c.args.config (g.S.Shelf.limit c.args.shelf) c.args.first_serial) _ c.loop-event.invariant.good
-
-pub returns-in-Err-clause-twice_forward_one_reply : goal.returns-in-Err-clause-twice_forward_one_reply
-returns-in-Err-clause-twice_forward_one_reply g c =
-    twice c.args.config (g.S.Shelf.limit c.args.shelf) c.args.first_serial c.args.events.now c.loop-event.outcomes.items _ c.reserve.ensures.items c.loop-event.invariant.good
-
-pub returns-then-is_err-clause-twice_forward_one_reply : goal.returns-then-is_err-clause-twice_forward_one_reply
-returns-then-is_err-clause-twice_forward_one_reply g c =
-    twice c.args.config (g.S.Shelf.limit c.args.shelf) c.args.first_serial c.args.events.now c.loop-event.outcomes.items _ c.reserve.ensures.items c.loop-event.invariant.good
+pub returns-then-is_err-clause-headline : goal.returns-then-is_err-clause-headline
+returns-then-is_err-clause-headline g c =
+    has_it c.args.config (g.S.Shelf.limit c.args.shelf) c.args.first_serial c.args.events.now c.loop-event.outcomes.items _ c.reserve.ensures.items c.loop-event.invariant.good
 
 pub returns-in-Err-clause-stopped : goal.returns-in-Err-clause-stopped
 returns-in-Err-clause-stopped g c =

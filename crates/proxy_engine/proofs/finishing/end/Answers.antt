@@ -10,6 +10,5 @@ pub returns-in-Ok-clause-ok : goal.returns-in-Ok-clause-ok
 returns-in-Ok-clause-ok g c = (
   Gives c.in-Message.response,
   given_seen c.args.link.now c.in-Message.response c.requires.due (c.in-Some.ensures.value ∙ ap (λ (a : Next Response). Due a) c.in-Message.is),
-  c.if-spent.false,
   c.in-Ok.ensures.ok,
 )

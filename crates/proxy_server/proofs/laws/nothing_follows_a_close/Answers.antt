@@ -1,9 +1,9 @@
 use Rattle.std.proofs.Common.{refl}
-use Rattle.proxy_engine.proofs.Ordering.{begins_orderly, takes_in_order, acts_in_order}
-use Rattle.proxy_engine.proofs.Staying.{takes_stay, acts_stay}
 use Rattle.proxy_server.specs.Played.{beginning}
-use Rattle.proxy_server.proofs.Behind.{plays_end}
+use Rattle.proxy_server.proofs.Overs.{nothing_follows_a_close}
 use Rattle.proxy_server.proofs.laws.nothing_follows_a_close.Goals as goal
 
 pub returns : goal.returns
-returns c = λ table items effects last h. plays_end takes_in_order acts_in_order takes_stay acts_stay (beginning table) items effects last h (begins_orderly _ 1 refl)
+returns c = λ table items told last h.
+    nothing_follows_a_close c.effects_name_open_ends.ensures.takes c.effects_name_open_ends.ensures.acts c.what_ends_stays_ended.ensures.takes c.what_ends_stays_ended.ensures.acts c.an_act_has_three_effects_at_most.ensures
+    (beginning table) items told last h (c.effects_name_open_ends.ensures.first _ 1 refl)

@@ -3,13 +3,14 @@ use Rattle.proxy_script.specs.Script.{said, Table}
 use Rattle.proxy_script.proofs.ItemLaws.{item_found}
 use Rattle.proxy_server.specs.Played.{happening_of}
 use Rattle.proxy_server.specs.Steps.{Told, Untold}
-use Rattle.proxy_server.proofs.Fronts.{item_shorter, moment_fits, wrong_by, short_by}
-use Rattle.proxy_server.proofs.Playing.{SoFar, so_far_first, so_far_more, tells_wrong, tells_cut, tells_untold}
+use Rattle.proxy_server.proofs.Fronts.{ends_first, item_shorter, moment_fits, wrong_by, short_by}
+use Rattle.proxy_server.specs.declared.faults.ReplayFault.TheVariants as faults
+use Rattle.proxy_server.proofs.Playing.{SoFar, so_far_first, so_far_more, tells_first, tells_wrong, tells_cut, tells_untold}
 use Rattle.proxy_server.proofs.play.play.Goals as goal
 
 pub items-init : goal.items-init
 items-init g c = record {
-  so_far = so_far_first c.args.bytes.now c.in-Ok.opened.1.now _ c.begin-engine.result _ c.in-Ok.ensures.ok c.begin-engine.ensures;
+  so_far = so_far_first c.args.bytes.now c.in-Ok.opened.1.now _ c.in-Ok-begin.engine _ c.in-Ok.ensures.ok c.in-Ok-begin.ensures;
   lines = omega (arith, item_shorter true c.args.bytes.now c.in-Ok.opened.1.now (Table c.in-Ok.ensures.ok.text) c.in-Ok.ensures.ok.stands);
   moments = omega arith;
 }
@@ -53,3 +54,6 @@ returns-then-not-ended g c = tells_cut c.args.bytes.now c.items.rest.now c.args.
 pub returns-in-Cut : goal.returns-in-Cut
 returns-in-Cut g c = tells_wrong c.args.bytes.now c.items.rest.now c.args.ended c.items.now c.items.line c.items.engine _ _ c.items.invariant.so_far
     (short_by c.items.rest.now c.args.ended c.is_empty.result c.if-not-ended.false c.is_empty.ensures c.if-is_empty.false (sym c.in-Cut.ensures))
+
+pub returns-in-Err-begin : goal.returns-in-Err-begin
+returns-in-Err-begin g c = tells_first c.args.bytes.now c.args.ended faults.OutOfMemory _ (ends_first _ c.args.bytes.now tt)

@@ -5,7 +5,7 @@ use Rattle.proxy_server.proofs.steps.settle.Given as goal
 
 -- these are the effects of what was done so far
 abbrev pub invariant-acts : goal.invariant-acts
-invariant-acts l = (s : Story) → Stands l.fn.engine s → Worked s l.fn.now l.done.items l.engine
+invariant-acts g l = (s : Story) → Stands l.fn.engine s → Worked s l.fn.now l.done.items l.engine
 
 abbrev pub decreases-acts : goal.decreases-acts
-decreases-acts l = load_at l.engine
+decreases-acts g l = load_at l.engine

@@ -3,7 +3,7 @@ use Rattle.hx_allow.specs.Lines.{Table}
 use Rattle.proxy_engine.specs.Happenings.{said}
 use Rattle.proxy_engine.specs.Story.{keeps}
 use Rattle.proxy_engine.specs.State.{State, Stands, Takes, state}
-use Rattle.proxy_engine.specs.declared.happening.Happening.{Happening}
+use Rattle.proxy_script.specs.declared.happening.Happening.{Happening}
 use Rattle.proxy_engine.specs.Wiring.{owners_of}
 use Rattle.proxy_engine.proofs.Wires.{wired_accepted}
 use Rattle.proxy_engine.proofs.Taking.{on_ok}

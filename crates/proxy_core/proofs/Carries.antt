@@ -1,0 +1,379 @@
+-- An open exchange carries what its arrival gave it: its line, the least rule, its conditions and when it went forward.
+use Rattle.std.proofs.Common.{◌≡◌, inl, inr, ◌⊎◌, ℕ, ◌+◌, Bool, true, false, cond, ◌&&◌, eqb, Option, None, Some, List, [], ◌∷◌, map, refl, sym, ◌∙◌, ap, subst}
+use Rattle.std.specs.Prelude.{option_map}
+use Rattle.std.proofs.lemmas.Bool.{eq-eqb, eqb-true, false≢true}
+use Rattle.std.proofs.lemmas.Option.{same_Some}
+use Rattle.hx_target.specs.declared.keys.Key.{Key}
+use Rattle.hx_target.specs.Keys.{same_key}
+use Rattle.hx_framing.specs.declared.responses.Response.{Response}
+use Rattle.hx_hop.specs.declared.asked_for.Asked.{Asked}
+use Rattle.hx_allow.specs.Lines.{Table}
+use Rattle.hx_allow.specs.Matching.{verdict_of}
+use Rattle.hx_allow.specs.declared.verdicts.Verdict.{Verdict}
+use Rattle.hx_allow.specs.declared.verdicts.Verdict.TheVariants as verdict
+use Rattle.hx_store.specs.Stored.{Stored}
+use Rattle.hx_reuse.specs.Rules.{decision_of}
+use Rattle.hx_reuse.specs.Meaning.{IsLeast, NamesTheResponse}
+use Rattle.hx_reuse.specs.declared.rule.ReuseRule.{ReuseRule}
+use Rattle.hx_reuse.specs.declared.decision.Decision.{Decision}
+use Rattle.hx_reuse.specs.declared.decision.Decision.TheVariants as decision
+use Rattle.hx_reuse.proofs.MeaningLemmas.{names_the_least}
+use Rattle.hx_status.specs.declared.cause.FailKind.TheVariants.{BadAnswer}
+use Rattle.proxy_core.specs.declared.exchange.Exchange.{Exchange}
+use Rattle.proxy_core.specs.declared.fallback.Fallback.{Fallback}
+use Rattle.proxy_core.specs.declared.fallback.Fallback.TheVariants.{Sends, Refuses}
+use Rattle.proxy_core.specs.declared.outcome.Outcome.{Outcome}
+use Rattle.proxy_core.specs.declared.outcome.Outcome.TheVariants.{Reply, Forward, Ended}
+use Rattle.proxy_core.specs.declared.event.Event.{Event}
+use Rattle.proxy_core.specs.declared.event.Event.TheVariants.{Arrive, Answer, Fail, Abandon}
+use Rattle.proxy_core.specs.Validating.{condition_at, is_validation, validated}
+use Rattle.proxy_core.specs.Storing.{is_unasked}
+use Rattle.proxy_core.specs.Outcomes.{find_exchange, id_of, arrived, allowed, unanswered, is_only_if_cached, forward_text, fallback_for, failed, is_error_status, passed_unless, revalidated, answered, outcome_of}
+use Rattle.proxy_core.specs.State.{State, overtake, opened, rule_of, named_by, gone_out, open_after}
+use Rattle.proxy_core.specs.Traces.{Item, begun, left, IsGood}
+use Rattle.proxy_core.specs.Histories.{open_exchanges, IsGoodHistory}
+use Rattle.proxy_core.specs.Promises.{goes_forward, is_arrival, times}
+use Rattle.proxy_core.specs.Carrying.{arrival_of, again_of, WentOnce, WentAgain, Arrived, LeastAtItsArrival, CarriesItsArrival}
+use Rattle.proxy_core.proofs.ExchangeLists.{overtaken_by, find-push, find-gone_out, found-id}
+use Rattle.proxy_core.proofs.Moves.{Move, apart, opens, passes, again, closes, out_again, move_of, and_none, failed_back}
+use Rattle.proxy_core.proofs.HeldLaw.{good_plain, entries_are_held, exchanges_are_open}
+
+none_some : (y : Option Exchange) (z : Exchange) → y ≡ None → y ≡ Some z → ⊥
+none_some None z h g = cc
+none_some (Some x) z h g = cc
+
+-- ---- what goes forward at an arrival
+
+module _ (table : Table) (es : List Stored) (now : ℕ) (asked : Asked) (line : ℕ) (bytes : List ℕ) where
+  pub record WentBy : Type 0 where
+    pub line_allows : verdict_of table.lines asked.method asked.target ≡ verdict.Allowed line
+    pub rule : ReuseRule
+    pub against : Option ℕ
+    pub decided : decision_of es asked now ≡ decision.Forward rule against
+    pub bytes_are : bytes ≡ forward_text table asked (condition_at es against)
+
+  went_by : (v : Verdict) → verdict_of table.lines asked.method asked.target ≡ v → arrived table es now asked v ≡ Forward line bytes → WentBy
+  went_by (verdict.Allowed n) v h = by_decision (decision_of es asked now) refl h
+    where
+      unless : (rule : ReuseRule) (against : Option ℕ) (b : Bool) → decision_of es asked now ≡ decision.Forward rule against →
+          unanswered table n now asked rule (condition_at es against) b ≡ Forward line bytes → WentBy
+      unless rule against true d h = absurd (cc)
+      unless rule against false d h =
+          let same : n ≡ line = cc in
+          let text : forward_text table asked (condition_at es against) ≡ bytes = cc in
+          record { line_allows = v ∙ ap (λ m. verdict.Allowed m) same; rule = rule; against = against; decided = d; bytes_are = sym text }
+
+      by_decision : (d : Decision) → decision_of es asked now ≡ d → allowed table es n now asked d ≡ Forward line bytes → WentBy
+      by_decision (decision.Hit t) k h = absurd (cc)
+      by_decision (decision.Forward rule against) k h = unless rule against (is_only_if_cached asked) k h
+  went_by (verdict.DeniedBy n) v h = absurd (cc)
+  went_by verdict.NoLine v h = absurd (cc)
+
+-- ---- what goes forward behind an answer
+
+-- it goes where it went, without conditions
+abbrev pub IsAgain : Table → Exchange → Outcome → Type 0
+IsAgain table x (Forward line bytes) = (line ≡ x.line) × (bytes ≡ forward_text table x.asked None)
+IsAgain table x (Reply r) = Unit {0}
+IsAgain table x Ended = Unit {0}
+
+pub again_by : (table : Table) (es : List Stored) (now : ℕ) (x : Exchange) (r : Response) (next : Option ℕ) (d : Decision) → IsAgain table x (answered table es now x r next d)
+again_by table es now x r next d = by_304 (is_validation x r)
+  where
+    by_validation : (o : Option Stored) (d : Decision) → IsAgain table x (revalidated table es now x r o d)
+    by_validation (Some e) d = tt
+    by_validation None (decision.Hit s) = tt
+    by_validation None (decision.Forward rule against) = (refl, refl)
+
+    by_fallback : (fallback : Fallback) → IsAgain table x (failed table es now x BadAnswer (Some r.status) fallback)
+    by_fallback (Sends s detail) = tt
+    by_fallback (Refuses rule error) = tt
+
+    by_error : (b : Bool) (fallback : Fallback) → IsAgain table x (passed_unless table es now x r next b fallback)
+    by_error true (Sends s detail) = tt
+    by_error true (Refuses rule error) = tt
+    by_error false fallback = tt
+
+    by_unasked : (b : Bool) → IsAgain table x (cond b (failed table es now x BadAnswer (Some r.status) (fallback_for es x.asked now d))
+        (passed_unless table es now x r next (is_error_status r.status) (fallback_for es x.asked now d)))
+    by_unasked true = by_fallback (fallback_for es x.asked now d)
+    by_unasked false = by_error (is_error_status r.status) (fallback_for es x.asked now d)
+
+    by_304 : (b : Bool) → IsAgain table x (cond b (revalidated table es now x r (validated es x r now) d)
+        (cond (is_unasked x.asked r) (failed table es now x BadAnswer (Some r.status) (fallback_for es x.asked now d))
+        (passed_unless table es now x r next (is_error_status r.status) (fallback_for es x.asked now d))))
+    by_304 true = by_validation (validated es x r now) d
+    by_304 false = by_unasked (is_unasked x.asked r)
+
+-- ---- an item more
+
+not_of : (id : ℕ) (event : Event) (p : Bool) → eqb (id_of event) id ≡ false → (eqb (id_of event) id && p) ≡ false
+not_of id event p n = ap (λ b. b && p) n
+
+module _ (table : Table) (limit : ℕ) where
+  -- of another id
+  further : (i : Item) (x : Exchange) (past : List Item) → eqb (id_of i.event) x.id ≡ false → Arrived table limit x past → Arrived table limit x (i ∷ past)
+  further i x past n h = record {
+    since = i ∷ h.since;
+    before = h.before;
+    now = h.now;
+    bytes = h.bytes;
+    past_is = ap (λ zs. i ∷ zs) h.past_is;
+    none_since = (not_of x.id i.event (is_arrival i.event) n, h.none_since);
+    line_allows = h.line_allows;
+    rule_is_least = h.rule_is_least;
+    went = by_going h.went;
+  }
+    where
+      uncounted : (items : List Item) → times goes_forward x.id items ≡ 0 → times goes_forward x.id (i ∷ items) ≡ 0
+      uncounted items z = ap (λ b. cond b (times goes_forward x.id items + 1) (times goes_forward x.id items)) (not_of x.id i.event (goes_forward i.outcome) n) ∙ z
+
+      by_going : WentOnce table limit x h.since h.before h.now h.bytes ⊎ WentAgain table x h.since →
+          WentOnce table limit x (i ∷ h.since) h.before h.now h.bytes ⊎ WentAgain table x (i ∷ h.since)
+      by_going (inl w) = inl (record {
+        since_then = uncounted h.since w.since_then;
+        request_time = w.request_time;
+        against = w.against;
+        names = w.names;
+        condition = w.condition;
+        bytes_are = w.bytes_are;
+      })
+      by_going (inr w) = inr (record {
+        later = i ∷ w.later;
+        between = w.between;
+        now = w.now;
+        response = w.response;
+        since_is = ap (λ zs. i ∷ zs) w.since_is;
+        since_then = uncounted w.later w.since_then;
+        request_time = w.request_time;
+        condition = w.condition;
+      })
+
+  -- the mark is no part of it
+  marked : (z : Exchange) (past : List Item) → Arrived table limit z past → Arrived table limit (record z { overtaken = true }) past
+  marked z past h = record {
+    since = h.since;
+    before = h.before;
+    now = h.now;
+    bytes = h.bytes;
+    past_is = h.past_is;
+    none_since = h.none_since;
+    line_allows = h.line_allows;
+    rule_is_least = h.rule_is_least;
+    went = by_going h.went;
+  }
+    where
+      by_going : WentOnce table limit z h.since h.before h.now h.bytes ⊎ WentAgain table z h.since →
+          WentOnce table limit (record z { overtaken = true }) h.since h.before h.now h.bytes ⊎ WentAgain table (record z { overtaken = true }) h.since
+      by_going (inl w) = inl (record {
+        since_then = w.since_then;
+        request_time = w.request_time;
+        against = w.against;
+        names = w.names;
+        condition = w.condition;
+        bytes_are = w.bytes_are;
+      })
+      by_going (inr w) = inr (record {
+        later = w.later;
+        between = w.between;
+        now = w.now;
+        response = w.response;
+        since_is = w.since_is;
+        since_then = w.since_then;
+        request_time = w.request_time;
+        condition = w.condition;
+      })
+
+  overtakes : (key : Key) (z : Exchange) (past : List Item) → Arrived table limit z past → Arrived table limit (overtake key z) past
+  overtakes key z past h = elim (same_key z.asked.target.key key) as (λ b. Arrived table limit (cond b (record z { overtaken = true }) z) past) [
+    | true ↦ marked z past h
+    | false ↦ h
+  ]
+
+  overtake_id : (key : Key) (z : Exchange) → (overtake key z).id ≡ z.id
+  overtake_id key z = elim (same_key z.asked.target.key key) as (λ b. (cond b (record z { overtaken = true }) z).id ≡ z.id) [
+    | true ↦ refl
+    | false ↦ refl
+  ]
+
+  -- carried by the exchange of an id
+  abbrev Carried : ℕ → List Item → Exchange → Type 0
+  Carried id past x = Arrived table limit x past × (x.id ≡ id)
+
+  carried_apart : (id : ℕ) (i : Item) (past : List Item) (key : Option Key) (o : Option Exchange) (x : Exchange) → eqb (id_of i.event) id ≡ false →
+      ((z : Exchange) → o ≡ Some z → Carried id past z) → overtaken_by key o ≡ Some x → Carried id (i ∷ past) x
+  carried_apart id i past None o x n f h =
+      let c = f x h in
+      (further i x past (ap (eqb (id_of i.event)) c.1 ∙ n) c.0, c.1)
+  carried_apart id i past (Some key) None x n f h = absurd (cc)
+  carried_apart id i past (Some key) (Some z) x n f h =
+      let c = f z refl in
+      let same : overtake key z ≡ x = same_Some (overtake key z) x h in
+      subst (Carried id (i ∷ past)) same (
+        further i (overtake key z) past (ap (eqb (id_of i.event)) (overtake_id key z ∙ c.1) ∙ n) (overtakes key z past c.0),
+        overtake_id key z ∙ c.1,
+      )
+
+module _ (table : Table) (limit first : ℕ) where
+  abbrev exchange : ℕ → List Item → Option Exchange
+  exchange id past = find_exchange id (left (begun table limit first) past).exchanges
+
+  -- at the arrival
+  carried_first : (past : List Item) → IsGood (begun table limit first) past → (now id : ℕ) (asked : Asked) (o : Outcome) (x : Exchange) →
+      o ≡ arrived table (left (begun table limit first) past).entries now asked (verdict_of table.lines asked.method asked.target) → exchange id past ≡ None →
+      find_exchange id (open_after (left (begun table limit first) past).entries (left (begun table limit first) past).exchanges (Arrive now id asked) o) ≡ Some x →
+      Carried table limit id (record { event = Arrive now id asked; outcome = o } ∷ past) x
+  carried_first past g now id asked (Reply r) x h free found = absurd (none_some _ x free found)
+  carried_first past g now id asked Ended x h free found = absurd (none_some _ x free found)
+  carried_first past g now id asked (Forward line bytes) x h free found =
+      let s = left (begun table limit first) past in
+      let y = opened s.entries now id asked line in
+      let w = went_by table s.entries now asked line bytes (verdict_of table.lines asked.method asked.target) refl (sym h) in
+      let here : y ≡ x = same_Some y x (sym (find-push id s.exchanges y free ∙ ap (λ b. cond b (Some y) (find_exchange id s.exchanges)) (eq-eqb id id refl)) ∙ found) in
+      let held = entries_are_held table limit first past g in
+      let named = names_the_least s.entries asked now w.rule w.against w.decided in
+      let rule : y.rule ≡ w.rule = ap rule_of w.decided in
+      let condition : y.condition ≡ condition_at s.entries w.against = ap (λ (d : Decision). condition_at s.entries (named_by d)) w.decided in
+      subst (Carried table limit id (record { event = Arrive now id asked; outcome = Forward line bytes } ∷ past)) here (
+        record {
+          since = [];
+          before = past;
+          now = now;
+          bytes = bytes;
+          past_is = refl;
+          none_since = tt;
+          line_allows = w.line_allows;
+          rule_is_least = subst (λ (es : List Stored). IsLeast es asked now y.rule) held (subst (λ (q : ReuseRule). IsLeast s.entries asked now q) (sym rule) named.0);
+          went = inl (record {
+            since_then = refl;
+            request_time = refl;
+            against = w.against;
+            names = subst (λ (es : List Stored). NamesTheResponse es asked y.rule w.against) held (subst (λ (q : ReuseRule). NamesTheResponse s.entries asked q w.against) (sym rule) named.1);
+            condition = condition ∙ ap (λ (es : List Stored). condition_at es w.against) held;
+            bytes_are = w.bytes_are ∙ ap (forward_text table asked) (sym condition);
+          });
+        },
+        refl,
+      )
+
+  -- behind an answer
+  carried_again : (past : List Item) (now id : ℕ) (r : Response) (z : Exchange) (line : ℕ) (bytes : List ℕ) (x : Exchange) → Carried table limit id past z →
+      exchange id past ≡ Some z → IsAgain table z (Forward line bytes) →
+      find_exchange id (map (gone_out id now) (left (begun table limit first) past).exchanges) ≡ Some x →
+      Carried table limit id (record { event = Answer now id r; outcome = Forward line bytes } ∷ past) x
+  carried_again past now id r z line bytes x c z_is goes found =
+      let xs = (left (begun table limit first) past).exchanges in
+      let h = c.0 in
+      let y = out_again now z in
+      let here : y ≡ x = same_Some y x (sym (find-gone_out id now id xs ∙ ap (option_map (gone_out id now)) z_is ∙ ap (λ b. Some (cond b (out_again now z) z)) (found-id id xs z z_is)) ∙ found) in
+      let item : Item = record { event = Answer now id r; outcome = Forward line bytes } in
+      let same : item ≡ again_of table y now r =
+      ap (λ n. record { event = Answer now n r; outcome = Forward line bytes }) (sym c.1)
+      ∙ ap (λ n. record { event = Answer now z.id r; outcome = Forward n bytes }) goes.0
+      ∙ ap (λ (b : List ℕ). record { event = Answer now z.id r; outcome = Forward z.line b }) goes.1
+      in
+      subst (Carried table limit id (item ∷ past)) here (
+        record {
+          since = item ∷ h.since;
+          before = h.before;
+          now = h.now;
+          bytes = h.bytes;
+          past_is = ap (λ zs. item ∷ zs) h.past_is;
+          none_since = (and_none (eqb id z.id), h.none_since);
+          line_allows = h.line_allows;
+          rule_is_least = h.rule_is_least;
+          went = inr (record {
+            later = [];
+            between = h.since;
+            now = now;
+            response = r;
+            since_is = ap (λ (j : Item). j ∷ h.since) same;
+            since_then = refl;
+            request_time = refl;
+            condition = refl;
+          });
+        },
+        c.1,
+      )
+
+  again_at : (past : List Item) (id : ℕ) (i : Item) (z x : Exchange) → Carried table limit id past z → exchange id past ≡ Some z → eqb (id_of i.event) id ≡ true →
+      is_arrival i.event ≡ false → goes_forward i.outcome ≡ true →
+      i.outcome ≡ outcome_of table (left (begun table limit first) past).entries (left (begun table limit first) past).exchanges (exchange (id_of i.event) past) (left (begun table limit first) past).next i.event →
+      find_exchange id (open_after (left (begun table limit first) past).entries (left (begun table limit first) past).exchanges i.event i.outcome) ≡ Some x →
+      Carried table limit id (i ∷ past) x
+  again_at past id i z x c z_is same late out is found = by_event i.event i.outcome same late out is found
+    where
+      es : List Stored
+      es = (left (begun table limit first) past).entries
+
+      xs : List Exchange
+      xs = (left (begun table limit first) past).exchanges
+
+      next : Option ℕ
+      next = (left (begun table limit first) past).next
+
+      by_answer : (now n : ℕ) (r : Response) (o : Outcome) → n ≡ id → goes_forward o ≡ true → o ≡ answered table es now z r next (decision_of es z.asked now) →
+          find_exchange id (open_after es xs (Answer now n r) o) ≡ Some x → Carried table limit id (record { event = Answer now n r; outcome = o } ∷ past) x
+      by_answer now n r (Reply reply) e out is found = absurd (false≢true out)
+      by_answer now n r Ended e out is found = absurd (false≢true out)
+      by_answer now n r (Forward line bytes) e out is found =
+          subst (λ m. Carried table limit id (record { event = Answer now m r; outcome = Forward line bytes } ∷ past) x) (sym e)
+          (carried_again past now id r z line bytes x c z_is (subst (IsAgain table z) (sym is) (again_by table es now z r next (decision_of es z.asked now)))
+          (ap (λ m. find_exchange id (map (gone_out m now) xs)) (sym e) ∙ found))
+
+      by_event : (event : Event) (o : Outcome) → eqb (id_of event) id ≡ true → is_arrival event ≡ false → goes_forward o ≡ true →
+          o ≡ outcome_of table es xs (exchange (id_of event) past) next event → find_exchange id (open_after es xs event o) ≡ Some x →
+          Carried table limit id (record { event = event; outcome = o } ∷ past) x
+      by_event (Arrive now n asked) o same late out is found = absurd (false≢true (sym late))
+      by_event (Answer now n r) o same late out is found =
+          let e : n ≡ id = eqb-true n id same in
+          by_answer now n r o e out (is ∙ ap (λ (w : Option Exchange). outcome_of table es xs w next (Answer now n r)) (ap (λ m. exchange m past) e ∙ z_is)) found
+      by_event (Fail now n kind) o same late out is found =
+          let w : exchange n past ≡ Some z = ap (λ m. exchange m past) (eqb-true n id same) ∙ z_is in
+          let back : goes_forward o ≡ false =
+          ap goes_forward (is ∙ ap (λ (w : Option Exchange). outcome_of table es xs w next (Fail now n kind)) w)
+          ∙ failed_back table es now z kind None (fallback_for es z.asked now (decision_of es z.asked now)) in
+          absurd (false≢true (sym back ∙ out))
+      by_event (Abandon n) o same late out is found = absurd (false≢true (sym (ap goes_forward is) ∙ out))
+
+  carries : (past : List Item) → IsGood (begun table limit first) past → (id : ℕ) (x : Exchange) → exchange id past ≡ Some x → Carried table limit id past x
+  carries [] g id x h = absurd (cc)
+  carries (i ∷ past) g id x h = by_move (λ z q. carries past g.1 id z q) (exchange id (i ∷ past)) (move_of table (left (begun table limit first) past) i id g.0) h refl
+    where
+      s : State
+      s = left (begun table limit first) past
+
+      by_move : ((z : Exchange) → exchange id past ≡ Some z → Carried table limit id past z) → (y : Option Exchange) → Move id (find_exchange (id_of i.event) s.exchanges) i.event i.outcome (exchange id past) y → y ≡ Some x → exchange id (i ∷ past) ≡ y →
+          Carried table limit id (i ∷ past) x
+      by_move was y (apart n e) h k =
+          carried_apart table limit id i past _ (exchange id past) x n was (sym e ∙ h)
+      by_move was y (opens es now asked line e x_is f q) h k =
+          let item : record { event = Arrive now id asked; outcome = i.outcome } ≡ i = ap (λ (v : Event). record { event = v; outcome = i.outcome }) (sym e) in
+          subst (λ (j : Item). Carried table limit id (j ∷ past) x) item
+          (carried_first past g.1 now id asked i.outcome x
+          (g.0.outcome_is ∙ ap (λ (v : Event). outcome_of table s.entries s.exchanges (find_exchange (id_of v) s.exchanges) s.next v) e) x_is
+          (ap (λ (v : Event). find_exchange id (open_after s.entries s.exchanges v i.outcome)) (sym e) ∙ k ∙ h))
+      by_move was y (passes t e x_is f q) h k = absurd (none_some y x q h)
+      by_move was y (again z now t e z_is c f q) h k =
+          again_at past id i z x (was z z_is) z_is t e f g.0.outcome_is (k ∙ h)
+      by_move was y (closes z t e x_is f q) h k = absurd (none_some y x q h)
+
+pub carries_its_arrival : CarriesItsArrival
+carries_its_arrival table limit first id trace x g h =
+    let p = good_plain table limit first trace g in
+    carries table limit first trace p id x (ap (find_exchange id) (exchanges_are_open table limit first trace p) ∙ h)
+
+pub least_at_its_arrival : (table : Table) (limit first id : ℕ) (trace : List Item) (x : Exchange) → IsGoodHistory table limit first trace →
+    find_exchange id (open_exchanges limit trace) ≡ Some x → LeastAtItsArrival limit x trace
+least_at_its_arrival table limit first id trace x g h =
+    let a = (carries_its_arrival table limit first id trace x g h).0 in
+    record {
+      since = a.since;
+      before = a.before;
+      arrival = arrival_of x a.now a.bytes;
+      now = a.now;
+      past_is = a.past_is;
+      arrives = refl;
+      none_since = a.none_since;
+      least = a.rule_is_least;
+    }

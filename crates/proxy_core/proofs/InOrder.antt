@@ -1,0 +1,252 @@
+-- Open exchanges stand in the order in which their requests arrived.
+use Rattle.std.proofs.Common.{◌≡◌, ℕ, Bool, true, false, not, cond, ◌&&◌, eqb, Option, None, Some, List, [], ◌∷◌, ◌++◌, map, refl, sym, ◌∙◌, ap, subst}
+use Rattle.std.specs.Prelude.{filter}
+use Rattle.std.specs.List.{AllByRecursion}
+use Rattle.std.proofs.lemmas.Bool.{eqb-true, eq-eqb, false_from_ne_true, false≢true}
+use Rattle.hx_target.specs.declared.keys.Key.{Key}
+use Rattle.hx_target.specs.Keys.{same_key}
+use Rattle.hx_hop.specs.declared.asked_for.Asked.{Asked}
+use Rattle.hx_allow.specs.Lines.{Table}
+use Rattle.hx_store.specs.Stored.{Stored}
+use Rattle.proxy_core.specs.declared.exchange.Exchange.{Exchange}
+use Rattle.proxy_core.specs.declared.outcome.Outcome.{Outcome}
+use Rattle.proxy_core.specs.declared.outcome.Outcome.TheVariants.{Reply, Forward, Ended}
+use Rattle.proxy_core.specs.declared.event.Event.{Event}
+use Rattle.proxy_core.specs.declared.event.Event.TheVariants.{Arrive, Answer, Fail, Abandon}
+use Rattle.proxy_core.specs.Outcomes.{find_exchange, id_of, fault_of}
+use Rattle.proxy_core.specs.State.{overtake, left_open, closed, opened, gone_out, invalidated_by, open_after}
+use Rattle.proxy_core.specs.Traces.{Item, begun, left, IsGood}
+use Rattle.proxy_core.specs.Promises.{is_arrival, NoneArrives}
+use Rattle.proxy_core.specs.Carrying.{ArrivesBefore, StandInOrder, ids_of, OpenInOrderOfArrival}
+use Rattle.proxy_core.proofs.Moves.{and_none}
+use Rattle.proxy_core.proofs.HeldLaw.{good_plain, exchanges_are_open}
+
+-- ---- the ids of a list that was changed
+
+ids-map : (f : Exchange → Exchange) → ((x : Exchange) → (f x).id ≡ x.id) → (xs : List Exchange) → ids_of (map f xs) ≡ ids_of xs
+ids-map f k [] = refl
+ids-map f k (x ∷ xs) = ap (λ n. n ∷ ids_of (map f xs)) (k x) ∙ ap (λ ns. x.id ∷ ns) (ids-map f k xs)
+
+gone_out-id : (i now : ℕ) (x : Exchange) → (gone_out i now x).id ≡ x.id
+gone_out-id i now x = elim (eqb x.id i) as (λ b. (cond b (record x { request_time = now; condition = None; overtaken = false }) x).id ≡ x.id) [
+  | true ↦ refl
+  | false ↦ refl
+]
+
+overtake-id : (key : Key) (x : Exchange) → (overtake key x).id ≡ x.id
+overtake-id key x = elim (same_key x.asked.target.key key) as (λ b. (cond b (record x { overtaken = true }) x).id ≡ x.id) [
+  | true ↦ refl
+  | false ↦ refl
+]
+
+abbrev but : ℕ → List ℕ → List ℕ
+but id ids = filter (λ n. not (eqb n id)) ids
+
+ids-closed : (id : ℕ) (xs : List Exchange) → ids_of (closed id xs) ≡ but id (ids_of xs)
+ids-closed id [] = refl
+ids-closed id (x ∷ xs) = by_id (eqb x.id id) (ids-closed id xs)
+  where
+    by_id : (b : Bool) → ids_of (closed id xs) ≡ but id (ids_of xs) → ids_of (cond (not b) (x ∷ closed id xs) (closed id xs)) ≡ cond (not b) (x.id ∷ but id (ids_of xs)) (but id (ids_of xs))
+    by_id true rest = rest
+    by_id false rest = ap (λ ns. x.id ∷ ns) rest
+
+ids-left_open : (key : Option Key) (id : ℕ) (xs : List Exchange) → ids_of (left_open key id xs) ≡ but id (ids_of xs)
+ids-left_open None id xs = ids-closed id xs
+ids-left_open (Some key) id xs = ids-map (overtake key) (overtake-id key) (closed id xs) ∙ ids-closed id xs
+
+ids-push : (xs : List Exchange) (x : Exchange) → ids_of (xs ++ x ∷ []) ≡ ids_of xs ++ x.id ∷ []
+ids-push [] x = refl
+ids-push (y ∷ ys) x = ap (λ ns. y.id ∷ ns) (ids-push ys x)
+
+-- ---- ids that arrived
+
+record HasArrived (past : List Item) (id : ℕ) : Type 0 where
+  since : List Item
+  before : List Item
+  arrival : Item
+  past_is : past ≡ since ++ arrival ∷ before
+  arrives : is_arrival arrival.event ≡ true
+  id_is : id_of arrival.event ≡ id
+  none_since : NoneArrives id since
+
+-- the item is no arrival of the id
+abbrev Apart : Item → ℕ → Type 0
+Apart i id = (eqb (id_of i.event) id && is_arrival i.event) ≡ false
+
+arrived_more : (i : Item) (past : List Item) (id : ℕ) → Apart i id → HasArrived past id → HasArrived (i ∷ past) id
+arrived_more i past id n h = record {
+  since = i ∷ h.since;
+  before = h.before;
+  arrival = h.arrival;
+  past_is = ap (λ zs. i ∷ zs) h.past_is;
+  arrives = h.arrives;
+  id_is = h.id_is;
+  none_since = (n, h.none_since);
+}
+
+before_more : (i : Item) (past : List Item) (id other : ℕ) → Apart i id → Apart i other → ArrivesBefore id other past → ArrivesBefore id other (i ∷ past)
+before_more i past id other n m h = record {
+  since = i ∷ h.since;
+  between = h.between;
+  before = h.before;
+  later = h.later;
+  earlier = h.earlier;
+  past_is = ap (λ zs. i ∷ zs) h.past_is;
+  later_arrives = h.later_arrives;
+  earlier_arrives = h.earlier_arrives;
+  later_id = h.later_id;
+  earlier_id = h.earlier_id;
+  none_of_it = ((n, h.none_of_it.0), h.none_of_it.1);
+  none_of_the_other = (m, h.none_of_the_other);
+}
+
+-- of one that arrives now
+before_first : (i : Item) (past : List Item) (id : ℕ) → is_arrival i.event ≡ true → Apart i id → HasArrived past id → ArrivesBefore id (id_of i.event) (i ∷ past)
+before_first i past id a n h = record {
+  since = [];
+  between = h.since;
+  before = h.before;
+  later = i;
+  earlier = h.arrival;
+  past_is = ap (λ zs. i ∷ zs) h.past_is;
+  later_arrives = a;
+  earlier_arrives = h.arrives;
+  later_id = refl;
+  earlier_id = h.id_is;
+  none_of_it = (tt, (n, h.none_since));
+  none_of_the_other = tt;
+}
+
+-- ---- all of a list
+
+all_both : (P Q R : ℕ → Type 0) (ids : List ℕ) → ((n : ℕ) → P n → Q n → R n) → AllByRecursion P ids → AllByRecursion Q ids → AllByRecursion R ids
+all_both P Q R [] f h k = tt
+all_both P Q R (id ∷ ids) f h k = (f id h.0 k.0, all_both P Q R ids f h.1 k.1)
+
+all_each : (P : ℕ → Type 0) (ids : List ℕ) → ((n : ℕ) → P n) → AllByRecursion P ids
+all_each P [] f = tt
+all_each P (id ∷ ids) f = (f id, all_each P ids f)
+
+all_push : (P : ℕ → Type 0) (ids : List ℕ) (id : ℕ) → AllByRecursion P ids → P id → AllByRecursion P (ids ++ id ∷ [])
+all_push P [] id h p = (p, tt)
+all_push P (n ∷ ids) id h p = (h.0, all_push P ids id h.1 p)
+
+all_but : (P : ℕ → Type 0) (id : ℕ) (ids : List ℕ) → AllByRecursion P ids → AllByRecursion P (but id ids)
+all_but P id [] h = tt
+all_but P id (n ∷ ids) h = by_id (eqb n id) (all_but P id ids h.1)
+  where
+    by_id : (b : Bool) → AllByRecursion P (but id ids) → AllByRecursion P (cond (not b) (n ∷ but id ids) (but id ids))
+    by_id true rest = rest
+    by_id false rest = (h.0, rest)
+
+-- ---- in order
+
+-- the ids arrived, each before those behind it
+record Stand (ids : List ℕ) (past : List Item) : Type 0 where
+  arrived : AllByRecursion (HasArrived past) ids
+  order : StandInOrder ids past
+
+stand_more : (i : Item) (past : List Item) (ids : List ℕ) → AllByRecursion (Apart i) ids → StandInOrder ids past → StandInOrder ids (i ∷ past)
+stand_more i past [] n h = tt
+stand_more i past (id ∷ ids) n h =
+    (all_both (Apart i) (λ m. ArrivesBefore id m past) (λ m. ArrivesBefore id m (i ∷ past)) ids (λ m. before_more i past id m n.0) n.1 h.0, stand_more i past ids n.1 h.1)
+
+further : (i : Item) (past : List Item) (ids : List ℕ) → AllByRecursion (Apart i) ids → Stand ids past → Stand ids (i ∷ past)
+further i past ids n h = record { arrived = all_both (Apart i) (HasArrived past) (HasArrived (i ∷ past)) ids (arrived_more i past) n h.arrived; order = stand_more i past ids n h.order }
+
+stand_but : (id : ℕ) (ids : List ℕ) (past : List Item) → StandInOrder ids past → StandInOrder (but id ids) past
+stand_but id [] past h = tt
+stand_but id (n ∷ ids) past h = by_id (eqb n id) (stand_but id ids past h.1)
+  where
+    by_id : (b : Bool) → StandInOrder (but id ids) past → StandInOrder (cond (not b) (n ∷ but id ids) (but id ids)) past
+    by_id true rest = rest
+    by_id false rest = (all_but (λ m. ArrivesBefore n m past) id ids h.0, rest)
+
+without_one : (id : ℕ) (ids : List ℕ) (past : List Item) → Stand ids past → Stand (but id ids) past
+without_one id ids past h = record { arrived = all_but (HasArrived past) id ids h.arrived; order = stand_but id ids past h.order }
+
+stand_push : (i : Item) (past : List Item) (ids : List ℕ) → is_arrival i.event ≡ true → AllByRecursion (Apart i) ids → AllByRecursion (HasArrived past) ids → StandInOrder ids past →
+    StandInOrder (ids ++ id_of i.event ∷ []) (i ∷ past)
+stand_push i past [] a n h o = (tt, tt)
+stand_push i past (id ∷ ids) a n h o = (
+  all_push (λ m. ArrivesBefore id m (i ∷ past)) ids (id_of i.event)
+      (all_both (Apart i) (λ m. ArrivesBefore id m past) (λ m. ArrivesBefore id m (i ∷ past)) ids (λ m. before_more i past id m n.0) n.1 o.0) (before_first i past id a n.0 h.0),
+  stand_push i past ids a n.1 h.1 o.1,
+)
+
+with_one : (i : Item) (past : List Item) (ids : List ℕ) → is_arrival i.event ≡ true → AllByRecursion (Apart i) ids → Stand ids past → Stand (ids ++ id_of i.event ∷ []) (i ∷ past)
+with_one i past ids a n h = record {
+  arrived = all_push (HasArrived (i ∷ past)) ids (id_of i.event) (all_both (Apart i) (HasArrived past) (HasArrived (i ∷ past)) ids (arrived_more i past) n h.arrived) (record {
+    since = [];
+    before = past;
+    arrival = i;
+    past_is = refl;
+    arrives = a;
+    id_is = refl;
+    none_since = tt;
+  });
+  order = stand_push i past ids a n h.arrived h.order;
+}
+
+-- ---- a step
+
+late_apart : (i : Item) (ids : List ℕ) → is_arrival i.event ≡ false → AllByRecursion (Apart i) ids
+late_apart i ids n = all_each (Apart i) ids (λ m. ap (λ b. eqb (id_of i.event) m && b) n ∙ and_none (eqb (id_of i.event) m))
+
+other_way : (a b : ℕ) → eqb b a ≡ false → eqb a b ≡ false
+other_way a b e = false_from_ne_true _ (λ q. false≢true (sym e ∙ eq-eqb b a (sym (eqb-true a b q))))
+
+-- an id under which no exchange is found
+new_apart : (now id : ℕ) (asked : Asked) (o : Outcome) (xs : List Exchange) → find_exchange id xs ≡ None → AllByRecursion (Apart (record { event = Arrive now id asked; outcome = o })) (ids_of xs)
+new_apart now id asked o [] h = tt
+new_apart now id asked o (x ∷ xs) h = by_id (λ k. new_apart now id asked o xs k) (eqb x.id id) refl h
+  where
+    by_id : (find_exchange id xs ≡ None → AllByRecursion (Apart (record { event = Arrive now id asked; outcome = o })) (ids_of xs)) →
+        (b : Bool) → eqb x.id id ≡ b → cond b (Some x) (find_exchange id xs) ≡ None →
+        AllByRecursion (Apart (record { event = Arrive now id asked; outcome = o })) (x.id ∷ ids_of xs)
+    by_id rest true e h = absurd (cc)
+    by_id rest false e h = (ap (λ b. b && true) (other_way id x.id e), rest h)
+
+same_ids : {past : List Item} {a b : List ℕ} → a ≡ b → Stand b past → Stand a past
+same_ids {past} {a} {b} e h = subst (λ ids. Stand ids past) (sym e) h
+
+stand_step : (es : List Stored) (xs : List Exchange) (past : List Item) (event : Event) (o : Outcome) → fault_of (find_exchange (id_of event) xs) event ≡ None → Stand (ids_of xs) past →
+    Stand (ids_of (open_after es xs event o)) (record { event = event; outcome = o } ∷ past)
+stand_step es xs past (Arrive now id asked) o free h = by_outcome o (was_free (find_exchange id xs) refl free)
+  where
+    was_free : (w : Option Exchange) → find_exchange id xs ≡ w → fault_of w (Arrive now id asked) ≡ None → find_exchange id xs ≡ None
+    was_free None e f = e
+    was_free (Some x) e f = absurd (cc)
+
+    by_outcome : (o : Outcome) → find_exchange id xs ≡ None → Stand (ids_of (open_after es xs (Arrive now id asked) o)) (record { event = Arrive now id asked; outcome = o } ∷ past)
+    by_outcome (Forward line bytes) f =
+        let i : Item = record { event = Arrive now id asked; outcome = Forward line bytes } in
+        same_ids (ids-push xs (opened es now id asked line)) (with_one i past (ids_of xs) refl (new_apart now id asked (Forward line bytes) xs f) h)
+    by_outcome (Reply r) f = further (record { event = Arrive now id asked; outcome = Reply r }) past (ids_of xs) (new_apart now id asked (Reply r) xs f) h
+    by_outcome Ended f = further (record { event = Arrive now id asked; outcome = Ended }) past (ids_of xs) (new_apart now id asked Ended xs f) h
+stand_step es xs past (Answer now id r) (Forward line bytes) free h =
+    let i : Item = record { event = Answer now id r; outcome = Forward line bytes } in
+    same_ids (ids-map (gone_out id now) (gone_out-id id now) xs) (further i past (ids_of xs) (late_apart i (ids_of xs) refl) h)
+stand_step es xs past (Answer now id r) (Reply reply) free h =
+    let i : Item = record { event = Answer now id r; outcome = Reply reply } in
+    same_ids (ids-left_open (invalidated_by (find_exchange id xs) r) id xs) (without_one id (ids_of xs) (i ∷ past) (further i past (ids_of xs) (late_apart i (ids_of xs) refl) h))
+stand_step es xs past (Answer now id r) Ended free h =
+    let i : Item = record { event = Answer now id r; outcome = Ended } in
+    same_ids (ids-left_open (invalidated_by (find_exchange id xs) r) id xs) (without_one id (ids_of xs) (i ∷ past) (further i past (ids_of xs) (late_apart i (ids_of xs) refl) h))
+stand_step es xs past (Fail now id kind) o free h =
+    let i : Item = record { event = Fail now id kind; outcome = o } in
+    same_ids (ids-closed id xs) (without_one id (ids_of xs) (i ∷ past) (further i past (ids_of xs) (late_apart i (ids_of xs) refl) h))
+stand_step es xs past (Abandon id) o free h =
+    let i : Item = record { event = Abandon id; outcome = o } in
+    same_ids (ids-closed id xs) (without_one id (ids_of xs) (i ∷ past) (further i past (ids_of xs) (late_apart i (ids_of xs) refl) h))
+
+stand_all : (table : Table) (limit first : ℕ) (past : List Item) → IsGood (begun table limit first) past → Stand (ids_of (left (begun table limit first) past).exchanges) past
+stand_all table limit first [] g = record { arrived = tt; order = tt }
+stand_all table limit first (i ∷ past) g =
+    let s = left (begun table limit first) past in
+    stand_step s.entries s.exchanges past i.event i.outcome g.0.allowed (stand_all table limit first past g.1)
+
+pub open_in_order_of_arrival : OpenInOrderOfArrival
+open_in_order_of_arrival table limit first trace g =
+    let p = good_plain table limit first trace g in
+    subst (λ (xs : List Exchange). StandInOrder (ids_of xs) trace) (exchanges_are_open table limit first trace p) (stand_all table limit first trace p).order

@@ -1,0 +1,199 @@
+-- What is sent is the held response of its serial, freshened where the 304 answers it.
+use Rattle.std.proofs.Common.{◌≡◌, ℕ, Bool, true, false, cond, Option, None, Some, List, refl, sym, ◌∙◌, ap, subst}
+use Rattle.std.proofs.lemmas.Option.{same_Some}
+use Rattle.hx_framing.specs.declared.responses.Response.{Response}
+use Rattle.hx_hop.specs.declared.asked_for.Asked.{Asked}
+use Rattle.hx_allow.specs.Lines.{Table}
+use Rattle.hx_allow.specs.Matching.{verdict_of}
+use Rattle.hx_allow.specs.declared.verdicts.Verdict.{Verdict}
+use Rattle.hx_allow.specs.declared.verdicts.Verdict.TheVariants as verdict
+use Rattle.hx_store.specs.Stored.{Stored}
+use Rattle.hx_store.specs.Serials.{Distinct}
+use Rattle.hx_store.specs.Shelf.{serials, find_entry}
+use Rattle.hx_reuse.specs.Rules.{decision_of}
+use Rattle.hx_reuse.specs.declared.rule.ReuseRule.{ReuseRule}
+use Rattle.hx_reuse.specs.declared.rule.ErrorRule.{ErrorRule}
+use Rattle.hx_reuse.specs.declared.decision.Decision.{Decision}
+use Rattle.hx_reuse.specs.declared.decision.Decision.TheVariants as decision
+use Rattle.hx_reuse.proofs.Choice.{chosen_is_held, latest_is_the_chosen, found_by_serial}
+use Rattle.hx_reuse.proofs.MeaningLemmas.{is_held}
+use Rattle.hx_status.specs.declared.status.Detail.{Detail}
+use Rattle.hx_status.specs.declared.status.Detail.TheVariants.{ReuseAfter304}
+use Rattle.hx_status.specs.declared.cause.FailKind.{FailKind}
+use Rattle.hx_status.specs.declared.cause.FailKind.TheVariants.{BadAnswer}
+use Rattle.proxy_core.specs.declared.condition.Condition.{Condition}
+use Rattle.proxy_core.specs.declared.exchange.Exchange.{Exchange}
+use Rattle.proxy_core.specs.declared.stored_reply.CacheStatusInfo.{CacheStatusInfo}
+use Rattle.proxy_core.specs.declared.fallback.Fallback.{Fallback}
+use Rattle.proxy_core.specs.declared.fallback.Fallback.TheVariants.{Sends, Refuses}
+use Rattle.proxy_core.specs.declared.outcome.Outcome.{Outcome}
+use Rattle.proxy_core.specs.declared.event.Event.{Event}
+use Rattle.proxy_core.specs.declared.event.Event.TheVariants.{Arrive, Answer, Fail, Abandon}
+use Rattle.proxy_core.specs.Replies.{stored_text}
+use Rattle.proxy_core.specs.Validating.{condition_at, is_validation, validated, refreshed}
+use Rattle.proxy_core.specs.Storing.{is_unasked}
+use Rattle.proxy_core.specs.Outcomes.{find_exchange, id_of, sent, sent_text, as_hit, forwarded_as, arrived, allowed, unanswered, is_only_if_cached, error_rule_at, fallback_by, fallback_for, failed, is_error_status, passed_unless, revalidated, answered, outcome_of}
+use Rattle.proxy_core.specs.State.{used_in, used_form}
+use Rattle.proxy_core.specs.Histories.{held_entries, open_exchanges, next_serial}
+use Rattle.proxy_core.specs.Sending.{IsAbout, TellsHow, IsThatResponse, SendsWhatIsHeld}
+use Rattle.proxy_core.proofs.Leaving.{unanswered as never_answered, same_at, serial_stays, validated_is}
+use Rattle.proxy_core.proofs.SendLaws.{named_is}
+use Rattle.proxy_core.proofs.FirstRules.{held_distinct}
+
+never_one : (s : ℕ) → ◌≡◌ {A = Option ℕ} None (Some s) → ⊥
+never_one s h = cc
+
+-- the held response of a serial
+abbrev IsFound : List Stored → ℕ → Type 0
+IsFound es s = (e : Stored) × (find_entry s es ≡ Some e)
+
+module _ (table : Table) (es : List Stored) (distinct : Distinct (serials es)) where
+  found_hit : (asked : Asked) (now s : ℕ) → decision_of es asked now ≡ decision.Hit s → IsFound es s
+  found_hit asked now s h =
+      let hit = is_held es asked now s h in
+      let chosen = latest_is_the_chosen es asked hit.0 distinct hit.1 in
+      (hit.0, ap (λ z. find_entry z es) (sym hit.2) ∙ found_by_serial es distinct hit.0 (chosen_is_held es asked hit.0 chosen))
+
+  found_fallback : (asked : Asked) (now s : ℕ) (detail : Detail) (d : Decision) → decision_of es asked now ≡ d → fallback_for es asked now d ≡ Sends s detail → IsFound es s
+  found_fallback asked now s detail (decision.Hit t) d_is h =
+      let same : t ≡ s = cc in
+      subst (IsFound es) same (found_hit asked now t d_is)
+  found_fallback asked now s detail (decision.Forward rule None) d_is h = absurd (cc)
+  found_fallback asked now s detail (decision.Forward rule (Some t)) d_is h = by_rule (error_rule_at es t asked now) h
+    where
+      by_rule : (o : Option ErrorRule) → fallback_by rule t o ≡ Sends s detail → IsFound es s
+      by_rule None h =
+          let n = named_is es distinct asked now rule t d_is in
+          let same : t ≡ s = cc in
+          subst (IsFound es) same (n.response, n.found)
+      by_rule (Some e) h = absurd (cc)
+
+  -- sent as it is held
+  as_held : (x : Option Exchange) (event : Event) (s now : ℕ) (info : CacheStatusInfo) (asked : Asked) (f : IsFound es s) → used_form x event f.0 ≡ f.0 →
+      IsAbout x event now asked → TellsHow x event info → IsThatResponse table es x event (sent table es s now info asked) s
+  as_held x event s now info asked f same about how = record {
+    response = f.0;
+    is_held = f.1;
+    now = now;
+    asked = asked;
+    about = about;
+    info = info;
+    tells_how = how;
+    reply = record { bytes = sent_text table.name (find_entry s es) now info asked; close = asked.close; stored = None; used = Some s; removed = _ };
+    outcome_is = refl;
+    bytes_are = ap (λ (o : Option Stored). sent_text table.name o now info asked) f.1 ∙ ap (λ (e : Stored). stored_text table.name e now info asked) (sym same);
+  }
+
+  -- at another serial that is the same
+  at_serial : (x : Option Exchange) (event : Event) (o : Outcome) (t s : ℕ) → t ≡ s → IsThatResponse table es x event o t → IsThatResponse table es x event o s
+  at_serial x event o t s same h = subst (IsThatResponse table es x event o) same h
+
+  as_arrived : (x : Option Exchange) (now id : ℕ) (asked : Asked) (e : Stored) → used_form x (Arrive now id asked) e ≡ e
+  as_arrived None now id asked e = refl
+  as_arrived (Some x) now id asked e = refl
+
+  arrival_sends : (x : Option Exchange) (now id : ℕ) (asked : Asked) (s : ℕ) (v : Verdict) → used_in (arrived table es now asked v) ≡ Some s →
+      IsThatResponse table es x (Arrive now id asked) (arrived table es now asked v) s
+  arrival_sends x now id asked s (verdict.Allowed line) h = by_decision (decision_of es asked now) refl h
+    where
+      unless : (rule : ReuseRule) (condition : Option Condition) (b : Bool) → used_in (unanswered table line now asked rule condition b) ≡ Some s →
+          IsThatResponse table es x (Arrive now id asked) (unanswered table line now asked rule condition b) s
+      unless rule condition true h = absurd (never_one s h)
+      unless rule condition false h = absurd (never_one s h)
+
+      by_decision : (d : Decision) → decision_of es asked now ≡ d → used_in (allowed table es line now asked d) ≡ Some s →
+          IsThatResponse table es x (Arrive now id asked) (allowed table es line now asked d) s
+      by_decision (decision.Hit t) k h =
+          let f = found_hit asked now t k in
+          at_serial x (Arrive now id asked) (sent table es t now as_hit asked) t s (same_Some t s h)
+          (as_held x (Arrive now id asked) t now as_hit asked f (as_arrived x now id asked f.0) (refl, refl) refl)
+      by_decision (decision.Forward rule against) k h = unless rule (condition_at es against) (is_only_if_cached asked) h
+  arrival_sends x now id asked s (verdict.DeniedBy line) h = absurd (never_one s h)
+  arrival_sends x now id asked s verdict.NoLine h = absurd (never_one s h)
+
+  -- after an error
+  fallback_sends : (x : Exchange) (event : Event) (now : ℕ) (kind : FailKind) (came : Option ℕ) (s : ℕ) (fallback : Fallback) →
+      fallback_for es x.asked now (decision_of es x.asked now) ≡ fallback → ((e : Stored) → used_form (Some x) event e ≡ e) → IsAbout (Some x) event now x.asked →
+      ((detail : Option Detail) → TellsHow (Some x) event (forwarded_as x came detail)) →
+      used_in (failed table es now x kind came fallback) ≡ Some s → IsThatResponse table es (Some x) event (failed table es now x kind came fallback) s
+  fallback_sends x event now kind came s (Sends t detail) k same about how h =
+      let f = found_fallback x.asked now t detail (decision_of es x.asked now) refl k in
+      at_serial (Some x) event (sent table es t now (forwarded_as x came (Some detail)) x.asked) t s (same_Some t s h)
+      (as_held (Some x) event t now (forwarded_as x came (Some detail)) x.asked f (same f.0) about (how (Some detail)))
+  fallback_sends x event now kind came s (Refuses rule error) k same about how h = absurd (never_one s h)
+
+  module _ (x : Exchange) (now id : ℕ) (r : Response) (next : Option ℕ) (s : ℕ) where
+    abbrev Is : Outcome → Type 0
+    Is o = used_in o ≡ Some s → IsThatResponse table es (Some x) (Answer now id r) o s
+
+    passes : (b : Bool) (fallback : Fallback) → fallback_for es x.asked now (decision_of es x.asked now) ≡ fallback → is_validation x r ≡ false → Is (passed_unless table es now x r next b fallback)
+    passes true (Sends t detail) k n =
+        let f = found_fallback x.asked now t detail (decision_of es x.asked now) refl k in
+        λ h. at_serial (Some x) (Answer now id r) (sent table es t now (forwarded_as x (Some r.status) (Some detail)) x.asked) t s (same_Some t s h)
+        (as_held (Some x) (Answer now id r) t now (forwarded_as x (Some r.status) (Some detail)) x.asked f
+        (ap (λ b. cond b (refreshed x r now f.0) f.0) (never_answered x r now f.0 n)) (refl, refl) (Some detail, refl))
+    passes true (Refuses rule error) k n = λ h. absurd (never_one s h)
+    passes false fallback k n = λ h. absurd (never_one s h)
+
+    validates : (o : Option Stored) (d : Decision) → validated es x r now ≡ o → decision_of es x.asked now ≡ d → Is (revalidated table es now x r o d)
+    validates (Some e) d v k =
+        let valid = validated_is es x r now e v in
+        let serial : e.serial ≡ (refreshed x r now e).serial = sym (serial_stays x r now e) in
+        λ h. record {
+          response = e;
+          is_held = ap (λ z. find_entry z es) (sym (serial ∙ same_Some (refreshed x r now e).serial s h)) ∙ valid.found;
+          now = now;
+          asked = x.asked;
+          about = (refl, refl);
+          info = forwarded_as x (Some r.status) None;
+          tells_how = (None, refl);
+          reply = record {
+            bytes = stored_text table.name (refreshed x r now e) now (forwarded_as x (Some r.status) None) x.asked;
+            close = x.asked.close;
+            stored = None;
+            used = Some (refreshed x r now e).serial;
+            removed = _;
+          };
+          outcome_is = refl;
+          bytes_are = ap (λ b. stored_text table.name (cond b (refreshed x r now e) e) now (forwarded_as x (Some r.status) None) x.asked) (sym valid.answered);
+        }
+    validates None (decision.Hit t) v k =
+        let f = found_hit x.asked now t k in
+        λ h. at_serial (Some x) (Answer now id r) (sent table es t now (forwarded_as x (Some r.status) (Some ReuseAfter304)) x.asked) t s (same_Some t s h)
+        (as_held (Some x) (Answer now id r) t now (forwarded_as x (Some r.status) (Some ReuseAfter304)) x.asked f (same_at 0 es x now id r v t f.0 f.1) (refl, refl) (Some ReuseAfter304, refl))
+    validates None (decision.Forward rule against) v k = λ h. absurd (never_one s h)
+
+    answer_sends : Is (answered table es now x r next (decision_of es x.asked now))
+    answer_sends = by_304 (is_validation x r) refl
+      where
+        by_unasked : (b : Bool) → is_validation x r ≡ false →
+            Is (cond b (failed table es now x BadAnswer (Some r.status) (fallback_for es x.asked now (decision_of es x.asked now)))
+            (passed_unless table es now x r next (is_error_status r.status) (fallback_for es x.asked now (decision_of es x.asked now))))
+        by_unasked true n =
+            fallback_sends x (Answer now id r) now BadAnswer (Some r.status) s (fallback_for es x.asked now (decision_of es x.asked now)) refl
+            (λ e. ap (λ b. cond b (refreshed x r now e) e) (never_answered x r now e n)) (refl, refl) (λ detail. (detail, refl))
+        by_unasked false n = passes (is_error_status r.status) (fallback_for es x.asked now (decision_of es x.asked now)) refl n
+
+        by_304 : (b : Bool) → is_validation x r ≡ b → Is (cond b (revalidated table es now x r (validated es x r now) (decision_of es x.asked now))
+            (cond (is_unasked x.asked r) (failed table es now x BadAnswer (Some r.status) (fallback_for es x.asked now (decision_of es x.asked now)))
+            (passed_unless table es now x r next (is_error_status r.status) (fallback_for es x.asked now (decision_of es x.asked now)))))
+        by_304 true k = validates (validated es x r now) (decision_of es x.asked now) refl refl
+        by_304 false k = by_unasked (is_unasked x.asked r) k
+
+  sends_by_event : (xs : List Exchange) (x : Option Exchange) (next : Option ℕ) (event : Event) (s : ℕ) → used_in (outcome_of table es xs x next event) ≡ Some s →
+      IsThatResponse table es x event (outcome_of table es xs x next event) s
+  sends_by_event xs x next (Arrive now id asked) s h = arrival_sends x now id asked s (verdict_of table.lines asked.method asked.target) h
+  sends_by_event xs (Some x) next (Answer now id r) s h = answer_sends x now id r next s h
+  sends_by_event xs None next (Answer now id r) s h = absurd (never_one s h)
+  sends_by_event xs (Some x) next (Fail now id kind) s h =
+      fallback_sends x (Fail now id kind) now kind None s (fallback_for es x.asked now (decision_of es x.asked now)) refl (λ e. refl) (refl, refl) (λ detail. (detail, refl)) h
+  sends_by_event xs None next (Fail now id kind) s h = absurd (never_one s h)
+  sends_by_event xs x next (Abandon id) s h = absurd (never_one s h)
+
+pub sends_what_is_held : SendsWhatIsHeld
+sends_what_is_held table limit first s item past g h =
+    let es = held_entries limit past in
+    let xs = open_exchanges limit past in
+    let x = find_exchange (id_of item.event) xs in
+    subst (λ (o : Outcome). used_in o ≡ Some s → IsThatResponse table es x item.event o s) (sym g.0.outcome_is)
+    (sends_by_event table es (held_distinct table limit first past g.1) xs x (next_serial first past) item.event s) h

@@ -1,0 +1,174 @@
+-- An act drops one link at most, and tells it.
+use Rattle.std.proofs.Common.{◌≡◌, ◌⊎◌, inl, inr, ℕ, zero, suc, ◌+◌, ◌-◌, ◌<◌, ◌≤◌, List, [], ◌∷◌, ◌++◌, length, get_or, set, refl, sym, ap, ◌∙◌, subst, arith, Bool, true, false, cond, ◌||◌, Some, is_some, Result, Ok, Err}
+use Rattle.hx_framing.specs.declared.requests.Request.{Request}
+use Rattle.hx_framing.specs.declared.fault.FrameFault.TheVariants as frame
+use Rattle.hx_framing.specs.declared.answer.Next.{Next}
+use Rattle.hx_framing.specs.declared.answer.Next.TheVariants as next
+use Rattle.hx_framing.specs.Progress.{fed, finished}
+use Rattle.hx_hop.specs.declared.asked_for.Asked.{Asked}
+use Rattle.hx_status.specs.declared.cause.Cause.{Cause}
+use Rattle.proxy_core.specs.declared.event.Event.{Event}
+use Rattle.proxy_script.specs.declared.effect_list.Effect.{Effect}
+use Rattle.proxy_script.specs.declared.effect_list.Effect.TheVariants as effects
+use Rattle.proxy_engine.specs.Admitted.{Refusal}
+use Rattle.proxy_engine.specs.Happenings.{Accepts, Sends, Hears, Ends, Leaves, Shuts, Fails}
+use Rattle.proxy_engine.specs.Story.{Story, LinkStory, no_link, opened, link_at, heard_by, shut, failed_by, with_core}
+use Rattle.proxy_engine.specs.Due.{Abandons, Finishes, Serves, Gives, Breaks}
+use Rattle.proxy_engine.specs.Acts.{Came, Replies, Forwards, Nothing, came, effects_on, next_number, after_on, freed, dropping, StepsOn, Served, Arrives, Refuses, Closes}
+use Rattle.proxy_engine.specs.Drops.{DropsNone, OnlyFirstDrops, ActsAreShort, ActsTellDrops, TakesDropNone}
+
+-- ---- how many effects
+
+-- two at most, and none of them drops a link
+abbrev IsPlain : List Effect → Type 0
+IsPlain told = (length told ≤ 2) × DropsNone told
+
+on_plain : (i n : ℕ) (q : Came) → IsPlain (effects_on i n q)
+on_plain i n (Replies bytes true) = (omega arith, (refl, (refl, tt)))
+on_plain i n (Replies bytes false) = (omega arith, (refl, tt))
+on_plain i n (Forwards address bytes) = (omega arith, (refl, tt))
+on_plain i n Nothing = (omega arith, tt)
+
+abbrev IsShort : List Effect → Type 0
+IsShort told = (length told ≤ 3) × OnlyFirstDrops told
+
+first_drops : (told : List Effect) → DropsNone told → OnlyFirstDrops told
+first_drops [] h = tt
+first_drops (e ∷ told) h = h.1
+
+short_of : (told said : List Effect) → told ≡ said → IsPlain said → IsShort told
+short_of told said e h = subst IsShort (sym e) (let few = h.0 in omega (arith, few), first_drops said h.1)
+
+short_behind : (told said : List Effect) (l : ℕ) → told ≡ effects.Drop l ∷ said → IsPlain said → IsShort told
+short_behind told said l e h = subst IsShort (sym e) (let few = h.0 in omega (arith, few), h.1)
+
+stepped_short : (s t : Story) (i l : ℕ) (to_head : Bool) (event : Event) (told : List Effect) (after : Story) → StepsOn s t i to_head event (effects.Drop l ∷ []) told after → IsShort told
+stepped_short s t i l to_head event told after h = short_behind told _ l h.told_is (on_plain i (next_number s) (came s.core.table h.outcome))
+
+refused_short : (s : Story) (now i : ℕ) (why : Cause) (head : Bool) (told : List Effect) (after : Story) → Refuses s now i why head told after → IsShort told
+refused_short s now i why head told after h = short_of told _ h.told_is (omega arith, (refl, (refl, tt)))
+
+closed_short : (s : Story) (i : ℕ) (told : List Effect) (after : Story) → Closes s i told after → IsShort told
+closed_short s i told after h = short_of told _ h.0 (omega arith, (refl, tt))
+
+arrived_short : (s : Story) (now i : ℕ) (r : Request) (judged : Result Asked Refusal) (told : List Effect) (after : Story) → Arrives s now i r judged told after → IsShort told
+arrived_short s now i r (Ok asked) told after h = short_of told _ h.1.told_is (on_plain i (next_number s) (came s.core.table h.1.outcome))
+arrived_short s now i r (Err refusal) told after h = refused_short s now i _ _ told after h
+
+served_short : (s : Story) (now i : ℕ) (w : Next Request) (told : List Effect) (after : Story) → Served s now i w told after → IsShort told
+served_short s now i next.More told after h = absurd h
+served_short s now i next.NeedsContinue told after h = short_of told _ h.0 (omega arith, (refl, tt))
+served_short s now i (next.Message r) told after h = arrived_short s now i r h.0 told after h.2
+served_short s now i (next.Refused frame.Truncated) told after h = closed_short s i told after h
+served_short s now i (next.Refused frame.Head) told after h = refused_short s now i _ _ told after h
+served_short s now i (next.Refused frame.Version) told after h = refused_short s now i _ _ told after h
+served_short s now i (next.Refused frame.BothLengths) told after h = refused_short s now i _ _ told after h
+served_short s now i (next.Refused frame.Length) told after h = refused_short s now i _ _ told after h
+served_short s now i (next.Refused frame.Coding) told after h = refused_short s now i _ _ told after h
+served_short s now i (next.Refused frame.Chunk) told after h = refused_short s now i _ _ told after h
+served_short s now i (next.Refused frame.TooLarge) told after h = refused_short s now i _ _ told after h
+served_short s now i (next.Refused frame.Expect) told after h = refused_short s now i _ _ told after h
+served_short s now i (next.Refused frame.Status) told after h = refused_short s now i _ _ told after h
+served_short s now i next.End told after h = closed_short s i told after h
+
+pub acts_are_short : ActsAreShort
+acts_are_short s now (Abandons i l) told after h = stepped_short s _ i _ _ _ told after h
+acts_are_short s now (Finishes j (Gives r)) told after h = stepped_short s _ _ _ _ _ told after h.1
+acts_are_short s now (Finishes j (Breaks kind)) told after h = stepped_short s _ _ _ _ _ told after h
+acts_are_short s now (Serves i w) told after h = served_short s now i w told after h
+
+-- ---- what is told of a link that is dropped
+
+abbrev IsDropped : List LinkStory → ℕ → Type 0
+IsDropped ks j = (j < length ks) × ((get_or ks j no_link).dropped ≡ true)
+
+dropped_set : (ks : List LinkStory) (i : ℕ) (y : LinkStory) (j : ℕ) → IsDropped (set ks i y) j → (j ≡ i) ⊎ IsDropped ks j
+dropped_set [] i y j h = inr h
+dropped_set (k ∷ ks) zero y zero h = inl refl
+dropped_set (k ∷ ks) zero y (suc j) h = inr h
+dropped_set (k ∷ ks) (suc i) y zero h = inr (omega arith, h.1)
+dropped_set (k ∷ ks) (suc i) y (suc j) h = by_rest (dropped_set ks i y j (let below = h.0 in omega (arith, below), h.1))
+  where
+    by_rest : (j ≡ i) ⊎ IsDropped ks j → (suc j ≡ suc i) ⊎ IsDropped (k ∷ ks) (suc j)
+    by_rest (inl e) = inl (ap suc e)
+    by_rest (inr d) = inr (let below = d.0 in omega (arith, below), d.1)
+
+dropped_push : (ks : List LinkStory) (y : LinkStory) (j : ℕ) → y.dropped ≡ false → IsDropped (ks ++ y ∷ []) j → IsDropped ks j
+dropped_push [] y zero e h = let both : true ≡ false = sym h.1 ∙ e in absurd (cc)
+dropped_push [] y (suc j) e h = let below = h.0 in absurd (omega (arith, below))
+dropped_push (k ∷ ks) y zero e h = (omega arith, h.1)
+dropped_push (k ∷ ks) y (suc j) e h = let d = dropped_push ks y j e (let below = h.0 in omega (arith, below), h.1) in (let below = d.0 in omega (arith, below), d.1)
+
+dropped_on : (i : ℕ) (to_head : Bool) (q : Came) (s : Story) (j : ℕ) → IsDropped (after_on i to_head q s).links j → IsDropped s.links j
+dropped_on i to_head (Replies bytes close) s j h = h
+dropped_on i to_head (Forwards address bytes) s j h = dropped_push s.links (opened s.core.table.max_body to_head i) j refl h
+dropped_on i to_head Nothing s j h = h
+
+dropped_equal : (s t : Story) (j : ℕ) → s ≡ t → IsDropped s.links j → IsDropped t.links j
+dropped_equal s t j e h = subst (λ (u : Story). IsDropped u.links j) e h
+
+abbrev IsTold : Story → List Effect → ℕ → Type 0
+IsTold s told j = IsDropped s.links j ⊎ ((rest : List Effect) × (told ≡ effects.Drop (s.first + j) ∷ rest))
+
+stepped_told : (s : Story) (k c i : ℕ) (to_head : Bool) (event : Event) (told : List Effect) (after : Story) (j : ℕ) → StepsOn s (freed s k c) i to_head event (effects.Drop (s.first + k) ∷ []) told after →
+    IsDropped after.links j → IsTold s told j
+stepped_told s k c i to_head event told after j h d =
+    by_place (dropped_set s.links k (dropping (link_at s k)) j (dropped_on i to_head (came s.core.table h.outcome) (with_core (freed s k c) h.core) j (dropped_equal after _ j h.after_is d)))
+  where
+    by_place : (j ≡ k) ⊎ IsDropped s.links j → IsTold s told j
+    by_place (inl e) = inr (_, h.told_is ∙ ap (λ n. effects.Drop (s.first + n) ∷ effects_on i (next_number s) (came s.core.table h.outcome)) (sym e))
+    by_place (inr before) = inl before
+
+arrived_told : (s : Story) (now i : ℕ) (r : Request) (judged : Result Asked Refusal) (told : List Effect) (after : Story) (j : ℕ) → Arrives s now i r judged told after → IsDropped after.links j → IsDropped s.links j
+arrived_told s now i r (Ok asked) told after j h d = dropped_on i _ (came s.core.table h.1.outcome) _ j (dropped_equal after _ j h.1.after_is d)
+arrived_told s now i r (Err refusal) told after j h d = dropped_equal after _ j h.after_is d
+
+served_told : (s : Story) (now i : ℕ) (w : Next Request) (told : List Effect) (after : Story) (j : ℕ) → Served s now i w told after → IsDropped after.links j → IsDropped s.links j
+served_told s now i next.More told after j h d = absurd h
+served_told s now i next.NeedsContinue told after j h d = dropped_equal after _ j h.1 d
+served_told s now i (next.Message r) told after j h d = arrived_told s now i r h.0 told after j h.2 d
+served_told s now i (next.Refused frame.Truncated) told after j h d = dropped_equal after _ j h.1 d
+served_told s now i (next.Refused frame.Head) told after j h d = dropped_equal after _ j h.after_is d
+served_told s now i (next.Refused frame.Version) told after j h d = dropped_equal after _ j h.after_is d
+served_told s now i (next.Refused frame.BothLengths) told after j h d = dropped_equal after _ j h.after_is d
+served_told s now i (next.Refused frame.Length) told after j h d = dropped_equal after _ j h.after_is d
+served_told s now i (next.Refused frame.Coding) told after j h d = dropped_equal after _ j h.after_is d
+served_told s now i (next.Refused frame.Chunk) told after j h d = dropped_equal after _ j h.after_is d
+served_told s now i (next.Refused frame.TooLarge) told after j h d = dropped_equal after _ j h.after_is d
+served_told s now i (next.Refused frame.Expect) told after j h d = dropped_equal after _ j h.after_is d
+served_told s now i (next.Refused frame.Status) told after j h d = dropped_equal after _ j h.after_is d
+served_told s now i next.End told after j h d = dropped_equal after _ j h.1 d
+
+pub acts_tell_drops : ActsTellDrops
+acts_tell_drops s now (Abandons i l) told after j h below d = stepped_told s l i i _ _ told after j h (below, d)
+acts_tell_drops s now (Finishes k (Gives r)) told after j h below d = stepped_told s k (link_at s k).connection (link_at s k).connection _ _ told after j h.1 (below, d)
+acts_tell_drops s now (Finishes k (Breaks kind)) told after j h below d = stepped_told s k (link_at s k).connection (link_at s k).connection _ _ told after j h (below, d)
+acts_tell_drops s now (Serves i w) told after j h below d = inl (served_told s now i w told after j h (below, d))
+
+-- ---- what happens drops no link
+
+same_set : (ks : List LinkStory) (i : ℕ) (y : LinkStory) (j : ℕ) → y.dropped ≡ (get_or ks i no_link).dropped → (get_or (set ks i y) j no_link).dropped ≡ (get_or ks j no_link).dropped
+same_set [] i y j e = refl
+same_set (k ∷ ks) zero y zero e = e
+same_set (k ∷ ks) zero y (suc j) e = refl
+same_set (k ∷ ks) (suc i) y zero e = refl
+same_set (k ∷ ks) (suc i) y (suc j) e = same_set ks i y j e
+
+same_by : (b : Bool) (k l : LinkStory) → l.dropped ≡ k.dropped → (cond b k l).dropped ≡ k.dropped
+same_by true k l e = refl
+same_by false k l e = e
+
+pub takes_drop_none : TakesDropNone
+takes_drop_none s (Accepts n) j = refl
+takes_drop_none s (Sends n bytes) j = refl
+takes_drop_none s (Ends n) j = refl
+takes_drop_none s (Leaves n) j = refl
+takes_drop_none s (Hears l bytes) j =
+    let k = link_at s (l - s.first) in
+    same_set s.links (l - s.first) (heard_by bytes k) j (same_by (k.dropped || (is_some k.failed || k.progress.ended)) k (record k { progress = fed k.progress bytes }) refl)
+takes_drop_none s (Shuts l) j =
+    let k = link_at s (l - s.first) in
+    same_set s.links (l - s.first) (shut k) j (same_by (k.dropped || is_some k.failed) k (record k { progress = finished k.progress }) refl)
+takes_drop_none s (Fails l kind) j =
+    let k = link_at s (l - s.first) in
+    same_set s.links (l - s.first) (failed_by kind k) j (same_by (k.dropped || is_some k.failed) k (record k { failed = Some kind }) refl)
