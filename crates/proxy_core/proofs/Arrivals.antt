@@ -13,7 +13,7 @@ use Rattle.std.proofs.lemmas.List.Elements.{All-head, All-tail}
 use Rattle.std.proofs.lemmas.Option.{same_Some}
 use Rattle.proxy_core.specs.declared.exchange.Exchange.{Exchange}
 use Rattle.proxy_core.specs.Outcomes.{find_exchange}
-use Rattle.proxy_core.specs.State.{closed, gone_out}
+use Rattle.proxy_core.specs.State.{closed, goes_out, gone_out}
 use Rattle.proxy_core.proofs.ExchangeLists.{cond_none, nones, swap, not_both}
 use Rattle.proxy_core.specs.Arrivals.{arrival_of, AreApart, IsIndexed}
 
@@ -248,7 +248,7 @@ module _ (id : ℕ) (f : Exchange → Exchange) (others : (x : Exchange) → eqb
   ]
 
 pub gone_out-others : (id now : ℕ) (x : Exchange) → eqb x.id id ≡ false → gone_out id now x ≡ x
-gone_out-others id now x h = ap (λ b. cond b (record x { request_time = now; condition = None; overtaken = false }) x) h
+gone_out-others id now x h = ap (λ b. cond b (goes_out now x.rule None x) x) h
 
 -- ---- opening
 

@@ -20,15 +20,15 @@ use Rattle.hx_reuse.specs.declared.decision.Decision.TheVariants as decision
 use Rattle.hx_reuse.proofs.MeaningLemmas.{names_the_least}
 use Rattle.hx_status.specs.declared.cause.FailKind.TheVariants.{BadAnswer}
 use Rattle.proxy_core.specs.declared.exchange.Exchange.{Exchange}
-use Rattle.proxy_core.specs.declared.rescue.Rescue.{Rescue}
-use Rattle.proxy_core.specs.declared.rescue.Rescue.TheVariants.{Sends, Refuses}
+use Rattle.proxy_core.specs.declared.fallback.Fallback.{Fallback}
+use Rattle.proxy_core.specs.declared.fallback.Fallback.TheVariants.{Sends, Refuses}
 use Rattle.proxy_core.specs.declared.outcome.Outcome.{Outcome}
 use Rattle.proxy_core.specs.declared.outcome.Outcome.TheVariants.{Reply, Forward, Ended}
 use Rattle.proxy_core.specs.declared.event.Event.{Event}
 use Rattle.proxy_core.specs.declared.event.Event.TheVariants.{Arrive, Answer, Fail, Abandon}
 use Rattle.proxy_core.specs.Validating.{condition_at, is_validation, validated}
 use Rattle.proxy_core.specs.Storing.{is_unasked}
-use Rattle.proxy_core.specs.Outcomes.{find_exchange, id_of, arrived, allowed, unanswered, is_only_if_cached, forward_text, rescue_of, failed, is_error_status, passed_unless, revalidated, answered, outcome_of}
+use Rattle.proxy_core.specs.Outcomes.{find_exchange, id_of, arrived, allowed, unanswered, is_only_if_cached, forward_text, fallback_for, failed, is_error_status, passed_unless, revalidated, answered, outcome_of}
 use Rattle.proxy_core.specs.State.{State, overtake, opened, rule_of, named_by, gone_out, open_after}
 use Rattle.proxy_core.specs.Traces.{Item, begun, left, IsGood}
 use Rattle.proxy_core.specs.Histories.{open_exchanges, IsGoodHistory}
@@ -85,23 +85,23 @@ again_by table es now x r next d = by_304 (is_validation x r)
     by_validation None (decision.Hit s) = tt
     by_validation None (decision.Forward rule against) = (refl, refl)
 
-    by_rescue : (rescue : Rescue) → IsAgain table x (failed table es now x BadAnswer (Some r.status) rescue)
+    by_rescue : (fallback : Fallback) → IsAgain table x (failed table es now x BadAnswer (Some r.status) fallback)
     by_rescue (Sends s detail) = tt
     by_rescue (Refuses rule error) = tt
 
-    by_error : (b : Bool) (rescue : Rescue) → IsAgain table x (passed_unless table es now x r next b rescue)
+    by_error : (b : Bool) (fallback : Fallback) → IsAgain table x (passed_unless table es now x r next b fallback)
     by_error true (Sends s detail) = tt
     by_error true (Refuses rule error) = tt
-    by_error false rescue = tt
+    by_error false fallback = tt
 
-    by_unasked : (b : Bool) → IsAgain table x (cond b (failed table es now x BadAnswer (Some r.status) (rescue_of es x.asked now d))
-        (passed_unless table es now x r next (is_error_status r.status) (rescue_of es x.asked now d)))
-    by_unasked true = by_rescue (rescue_of es x.asked now d)
-    by_unasked false = by_error (is_error_status r.status) (rescue_of es x.asked now d)
+    by_unasked : (b : Bool) → IsAgain table x (cond b (failed table es now x BadAnswer (Some r.status) (fallback_for es x.asked now d))
+        (passed_unless table es now x r next (is_error_status r.status) (fallback_for es x.asked now d)))
+    by_unasked true = by_rescue (fallback_for es x.asked now d)
+    by_unasked false = by_error (is_error_status r.status) (fallback_for es x.asked now d)
 
     by_304 : (b : Bool) → IsAgain table x (cond b (revalidated table es now x r (validated es x r now) d)
-        (cond (is_unasked x.asked r) (failed table es now x BadAnswer (Some r.status) (rescue_of es x.asked now d))
-        (passed_unless table es now x r next (is_error_status r.status) (rescue_of es x.asked now d))))
+        (cond (is_unasked x.asked r) (failed table es now x BadAnswer (Some r.status) (fallback_for es x.asked now d))
+        (passed_unless table es now x r next (is_error_status r.status) (fallback_for es x.asked now d))))
     by_304 true = by_validation (validated es x r now) d
     by_304 false = by_unasked (is_unasked x.asked r)
 
@@ -332,7 +332,7 @@ module _ (table : Table) (limit first : ℕ) where
           let w : exchange n past ≡ Some z = ap (λ m. exchange m past) (eqb-true n id same) ∙ z_is in
           let back : goes_forward o ≡ false =
           ap goes_forward (is ∙ ap (λ (w : Option Exchange). outcome_of table es xs w next (Fail now n kind)) w)
-          ∙ failed_back table es now z kind None (rescue_of es z.asked now (decision_of es z.asked now)) in
+          ∙ failed_back table es now z kind None (fallback_for es z.asked now (decision_of es z.asked now)) in
           absurd (false≢true (sym back ∙ out))
       by_event (Abandon n) o same late out is found = absurd (false≢true (sym (ap goes_forward is) ∙ out))
 

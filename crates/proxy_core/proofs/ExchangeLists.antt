@@ -6,7 +6,7 @@ use Rattle.hx_target.specs.declared.keys.Key.{Key}
 use Rattle.hx_target.specs.Keys.{same_key}
 use Rattle.proxy_core.specs.declared.exchange.Exchange.{Exchange}
 use Rattle.proxy_core.specs.Outcomes.{find_exchange}
-use Rattle.proxy_core.specs.State.{closed, overtake, left_open, gone_out}
+use Rattle.proxy_core.specs.State.{closed, overtake, left_open, goes_out, gone_out}
 
 find-map : (f : Exchange → Exchange) → ((x : Exchange) → (f x).id ≡ x.id) → (id : ℕ) (xs : List Exchange) →
     find_exchange id (map f xs) ≡ option_map f (find_exchange id xs)
@@ -19,7 +19,7 @@ find-map f k id (x ∷ xs) =
     ]
 
 pub gone_out-id : (i now : ℕ) (x : Exchange) → (gone_out i now x).id ≡ x.id
-gone_out-id i now x = elim (eqb x.id i) as (λ b. (cond b (record x { request_time = now; condition = None; overtaken = false }) x).id ≡ x.id) [
+gone_out-id i now x = elim (eqb x.id i) as (λ b. (cond b (goes_out now x.rule None x) x).id ≡ x.id) [
   | true ↦ refl
   | false ↦ refl
 ]

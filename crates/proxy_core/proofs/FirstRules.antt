@@ -27,13 +27,13 @@ use Rattle.hx_reuse.proofs.OnErrorLemmas.{least_on_error}
 use Rattle.hx_status.specs.declared.cause.FailKind.{FailKind}
 use Rattle.hx_status.specs.declared.cause.FailKind.TheVariants.{BadAnswer}
 use Rattle.proxy_core.specs.declared.exchange.Exchange.{Exchange}
-use Rattle.proxy_core.specs.declared.rescue.Rescue.{Rescue}
-use Rattle.proxy_core.specs.declared.rescue.Rescue.TheVariants.{Sends, Refuses}
+use Rattle.proxy_core.specs.declared.fallback.Fallback.{Fallback}
+use Rattle.proxy_core.specs.declared.fallback.Fallback.TheVariants.{Sends, Refuses}
 use Rattle.proxy_core.specs.declared.event.Event.{Event}
 use Rattle.proxy_core.specs.declared.event.Event.TheVariants.{Arrive, Answer, Fail, Abandon}
 use Rattle.proxy_core.specs.Validating.{condition_at, is_validation, validated}
 use Rattle.proxy_core.specs.Storing.{is_unasked}
-use Rattle.proxy_core.specs.Outcomes.{find_exchange, id_of, arrived, allowed, unanswered, is_only_if_cached, error_rule_at, rescue_by, rescue_of, failed, is_error_status, passed_unless, revalidated, answered, outcome_of}
+use Rattle.proxy_core.specs.Outcomes.{find_exchange, id_of, arrived, allowed, unanswered, is_only_if_cached, error_rule_at, fallback_by, fallback_for, failed, is_error_status, passed_unless, revalidated, answered, outcome_of}
 use Rattle.proxy_core.specs.Traces.{Item}
 use Rattle.proxy_core.specs.Histories.{IsGoodHistory, done_by, held_entries, open_exchanges, next_serial}
 use Rattle.proxy_core.specs.Carrying.{LeastAtItsArrival}
@@ -77,7 +77,7 @@ module _ (es : List Stored) (distinct : Distinct (serials es)) (now : ℕ) (aske
           in
           inr (high.0, (response, e, high.1.1, least_on_error response (occurrences_of asked.fields) now e rule_is, refl))
 
-  refuses_is : (d : Decision) (rule : ReuseRule) (error : Option ErrorRule) → decision_of es asked now ≡ d → rescue_of es asked now d ≡ Refuses rule error → IsRefused rule error
+  refuses_is : (d : Decision) (rule : ReuseRule) (error : Option ErrorRule) → decision_of es asked now ≡ d → fallback_for es asked now d ≡ Refuses rule error → IsRefused rule error
   refuses_is (decision.Hit s) rule error d_is h = absurd (cc)
   refuses_is (decision.Forward q None) rule error d_is h =
       let same : q ≡ rule = cc in
@@ -85,7 +85,7 @@ module _ (es : List Stored) (distinct : Distinct (serials es)) (now : ℕ) (aske
       subst (IsRefused rule) none (subst (λ (r : ReuseRule). IsRefused r None) same (refused_alone q d_is))
   refuses_is (decision.Forward q (Some s)) rule error d_is h = by_rule (error_rule_at es s asked now) refl h
     where
-      by_rule : (o : Option ErrorRule) → error_rule_at es s asked now ≡ o → rescue_by q s o ≡ Refuses rule error → IsRefused rule error
+      by_rule : (o : Option ErrorRule) → error_rule_at es s asked now ≡ o → fallback_by q s o ≡ Refuses rule error → IsRefused rule error
       by_rule None k h = absurd (cc)
       by_rule (Some e) k h =
           let same : q ≡ rule = cc in
@@ -116,25 +116,25 @@ module _ (table : Table) (limit : ℕ) (past : List Item) (distinct : Distinct (
       by_verdict (verdict.DeniedBy line) v = λ h. inl (line, v, refl)
       by_verdict verdict.NoLine v = λ h. inr (inl (v, refl))
 
-  failure_names : (x : Exchange) (now id : ℕ) (kind : FailKind) (rescue : Rescue) → rescue_of es x.asked now (decision_of es x.asked now) ≡ rescue →
-      NamesFirst table limit past (Some x) (Fail now id kind) (failed table es now x kind None rescue)
+  failure_names : (x : Exchange) (now id : ℕ) (kind : FailKind) (fallback : Fallback) → fallback_for es x.asked now (decision_of es x.asked now) ≡ fallback →
+      NamesFirst table limit past (Some x) (Fail now id kind) (failed table es now x kind None fallback)
   failure_names x now id kind (Sends s detail) k = λ h. absurd (false≢true h)
   failure_names x now id kind (Refuses rule error) k = λ h.
       let r = refuses_is es distinct now x.asked (decision_of es x.asked now) rule error refl k in
       (rule, error, r.least, r.named, refl)
 
   module _ (x : Exchange) (kept : LeastAtItsArrival limit x past) (now id : ℕ) (r : Response) (next : Option ℕ) where
-    unasked_names : (rescue : Rescue) → is_unasked x.asked r ≡ true → rescue_of es x.asked now (decision_of es x.asked now) ≡ rescue →
-        NamesFirst table limit past (Some x) (Answer now id r) (failed table es now x BadAnswer (Some r.status) rescue)
+    unasked_names : (fallback : Fallback) → is_unasked x.asked r ≡ true → fallback_for es x.asked now (decision_of es x.asked now) ≡ fallback →
+        NamesFirst table limit past (Some x) (Answer now id r) (failed table es now x BadAnswer (Some r.status) fallback)
     unasked_names (Sends s detail) u k = λ h. absurd (false≢true h)
     unasked_names (Refuses rule error) u k = λ h.
         let q = refuses_is es distinct now x.asked (decision_of es x.asked now) rule error refl k in
         inr (u, (rule, error, q.least, q.named, refl))
 
-    passed_names : (b : Bool) (rescue : Rescue) → is_unasked x.asked r ≡ false → NamesFirst table limit past (Some x) (Answer now id r) (passed_unless table es now x r next b rescue)
+    passed_names : (b : Bool) (fallback : Fallback) → is_unasked x.asked r ≡ false → NamesFirst table limit past (Some x) (Answer now id r) (passed_unless table es now x r next b fallback)
     passed_names true (Sends s detail) n = λ h. absurd (false≢true h)
     passed_names true (Refuses rule error) n = λ h. inl (n, (kept, refl))
-    passed_names false rescue n = λ h. inl (n, (kept, refl))
+    passed_names false fallback n = λ h. inl (n, (kept, refl))
 
     validation_names : (o : Option Stored) (d : Decision) → NamesFirst table limit past (Some x) (Answer now id r) (revalidated table es now x r o d)
     validation_names (Some e) d = λ h. absurd (false≢true h)
@@ -145,14 +145,14 @@ module _ (table : Table) (limit : ℕ) (past : List Item) (distinct : Distinct (
     answer_names = by_304 (is_validation x r)
       where
         by_unasked : (b : Bool) → is_unasked x.asked r ≡ b →
-            NamesFirst table limit past (Some x) (Answer now id r) (cond b (failed table es now x BadAnswer (Some r.status) (rescue_of es x.asked now (decision_of es x.asked now)))
-            (passed_unless table es now x r next (is_error_status r.status) (rescue_of es x.asked now (decision_of es x.asked now))))
-        by_unasked true k = unasked_names (rescue_of es x.asked now (decision_of es x.asked now)) k refl
-        by_unasked false k = passed_names (is_error_status r.status) (rescue_of es x.asked now (decision_of es x.asked now)) k
+            NamesFirst table limit past (Some x) (Answer now id r) (cond b (failed table es now x BadAnswer (Some r.status) (fallback_for es x.asked now (decision_of es x.asked now)))
+            (passed_unless table es now x r next (is_error_status r.status) (fallback_for es x.asked now (decision_of es x.asked now))))
+        by_unasked true k = unasked_names (fallback_for es x.asked now (decision_of es x.asked now)) k refl
+        by_unasked false k = passed_names (is_error_status r.status) (fallback_for es x.asked now (decision_of es x.asked now)) k
 
         by_304 : (b : Bool) → NamesFirst table limit past (Some x) (Answer now id r) (cond b (revalidated table es now x r (validated es x r now) (decision_of es x.asked now))
-            (cond (is_unasked x.asked r) (failed table es now x BadAnswer (Some r.status) (rescue_of es x.asked now (decision_of es x.asked now)))
-            (passed_unless table es now x r next (is_error_status r.status) (rescue_of es x.asked now (decision_of es x.asked now)))))
+            (cond (is_unasked x.asked r) (failed table es now x BadAnswer (Some r.status) (fallback_for es x.asked now (decision_of es x.asked now)))
+            (passed_unless table es now x r next (is_error_status r.status) (fallback_for es x.asked now (decision_of es x.asked now)))))
         by_304 true = validation_names (validated es x r now) (decision_of es x.asked now)
         by_304 false = by_unasked (is_unasked x.asked r) refl
 
@@ -161,7 +161,7 @@ module _ (table : Table) (limit : ℕ) (past : List Item) (distinct : Distinct (
   names_by_event xs x next (Arrive now id asked) kept = arrival_names x now id asked
   names_by_event xs (Some x) next (Answer now id r) kept = answer_names x (kept x refl) now id r next
   names_by_event xs None next (Answer now id r) kept = tt
-  names_by_event xs (Some x) next (Fail now id kind) kept = failure_names x now id kind (rescue_of es x.asked now (decision_of es x.asked now)) refl
+  names_by_event xs (Some x) next (Fail now id kind) kept = failure_names x now id kind (fallback_for es x.asked now (decision_of es x.asked now)) refl
   names_by_event xs None next (Fail now id kind) kept = tt
   names_by_event xs x next (Abandon id) kept = tt
 

@@ -12,7 +12,7 @@ use Rattle.proxy_core.specs.declared.outcome.Outcome.{Outcome}
 use Rattle.proxy_core.specs.declared.outcome.Outcome.TheVariants.{Forward, Ended}
 use Rattle.proxy_core.specs.declared.event.Event.{Event}
 use Rattle.proxy_core.specs.declared.event.Event.TheVariants.{Arrive, Answer, Fail, Abandon}
-use Rattle.proxy_core.specs.Outcomes.{find_exchange, id_of, outcome_by, outcome_of, rescue_of}
+use Rattle.proxy_core.specs.Outcomes.{find_exchange, id_of, outcome_by, outcome_of, fallback_for}
 use Rattle.hx_reuse.specs.Rules.{decision_of}
 use Rattle.proxy_core.specs.Traces.{Item, begun}
 use Rattle.proxy_core.specs.Histories.{held_entries, open_exchanges, next_serial, IsGoodHistory}
@@ -61,7 +61,7 @@ module _ (table : Table) (limit first : ℕ) where
       by_failure : (now id : ℕ) (kind : FailKind) (w : Option Exchange) → Forward line bytes ≡ outcome_of table (held_entries limit past) xs w (next_serial first past) (Fail now id kind) → Goes table past line (Fail now id kind)
       by_failure now id kind None o = absurd (cc)
       by_failure now id kind (Some x) o =
-          not_forward _ line bytes (failed_back table (held_entries limit past) now x kind None (rescue_of (held_entries limit past) x.asked now (decision_of (held_entries limit past) x.asked now))) (sym o)
+          not_forward _ line bytes (failed_back table (held_entries limit past) now x kind None (fallback_for (held_entries limit past) x.asked now (decision_of (held_entries limit past) x.asked now))) (sym o)
 
       by_event : (event : Event) → item.event ≡ event → Goes table past line item.event
       by_event (Arrive now id asked) e =

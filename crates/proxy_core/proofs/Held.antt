@@ -5,10 +5,10 @@ use Rattle.std.proofs.lemmas.Option.{same_Some}
 use Rattle.hx_store.specs.Stored.{Stored}
 use Rattle.hx_store.specs.Shelf.{holds, find_entry, without, promoted, in_front}
 use Rattle.hx_store.proofs.EntryLists.{filter_keeps, take_keeps, find_holds}
-use Rattle.proxy_core.specs.declared.turns.Change.{Change}
-use Rattle.proxy_core.specs.declared.turns.Change.TheVariants.{Keep, Use, Freshen, LetGo, Store}
+use Rattle.proxy_core.specs.declared.pending.Change.{Change}
+use Rattle.proxy_core.specs.declared.pending.Change.TheVariants.{Keep, Use, Freshen, Remove, Store}
 use Rattle.proxy_core.specs.State.{NoneFrom, taken, next_of, next_after}
-use Rattle.proxy_core.specs.Turns.{stored_by, entries_by, IsNext, IsNew, IsHeld}
+use Rattle.proxy_core.specs.Pending.{stored_by, entries_by, IsNext, IsNew, IsHeld}
 
 front_none : (s : ℕ) (o : Option Stored) (es rest : List Stored) → ((x : Stored) → o ≡ Some x → holds x.serial es ≡ true) →
     holds s es ≡ false → holds s rest ≡ false → holds s (in_front o rest) ≡ false
@@ -46,19 +46,19 @@ NoneFrom-fresh None e es held h = tt
 NoneFrom-fresh (Some n) e es held h = λ t l.
     front_none t (Some e) es (without (e.serial ∷ []) es) (λ x g. ap (λ (z : Stored). holds z.serial es) (sym (same_Some e x g)) ∙ held) (h t l) (filter_keeps _ t es (h t l))
 
--- a turn leaves no serial held from the next one on
-pub NoneFrom-turned : (limit : ℕ) (next : Option ℕ) (removed : List ℕ) (c : Change) (es : List Stored) → IsNext next c → IsHeld c es → NoneFrom next es
+-- a pending reply leaves no serial held from the next one on
+pub NoneFrom-finished : (limit : ℕ) (next : Option ℕ) (removed : List ℕ) (c : Change) (es : List Stored) → IsNext next c → IsHeld c es → NoneFrom next es
     → NoneFrom (next_after next (stored_by c)) (entries_by limit removed c es)
-NoneFrom-turned limit next removed Keep es is held h = NoneFrom-taken next removed es h
-NoneFrom-turned limit next removed (Use serial) es is held h = NoneFrom-taken next removed (promoted serial es) (NoneFrom-promoted next serial es _ refl h)
-NoneFrom-turned limit next removed (Freshen e) es is held h = NoneFrom-taken next removed _ (NoneFrom-fresh next e es held.0 h)
-NoneFrom-turned limit next removed (LetGo serial) es is held h = NoneFrom-taken next removed _ (NoneFrom-taken next (serial ∷ []) es h)
-NoneFrom-turned limit next removed (Store e) es is held h = NoneFrom-next limit e.serial removed es _ e next _ refl refl refl is h
+NoneFrom-finished limit next removed Keep es is held h = NoneFrom-taken next removed es h
+NoneFrom-finished limit next removed (Use serial) es is held h = NoneFrom-taken next removed (promoted serial es) (NoneFrom-promoted next serial es _ refl h)
+NoneFrom-finished limit next removed (Freshen e) es is held h = NoneFrom-taken next removed _ (NoneFrom-fresh next e es held.0 h)
+NoneFrom-finished limit next removed (Remove serial) es is held h = NoneFrom-taken next removed _ (NoneFrom-taken next (serial ∷ []) es h)
+NoneFrom-finished limit next removed (Store e) es is held h = NoneFrom-next limit e.serial removed es _ e next _ refl refl refl is h
 
 -- what has the next serial isn't held
 pub next_is_new : (next : Option ℕ) (c : Change) (es : List Stored) → IsNext next c → NoneFrom next es → IsNew c es
 next_is_new next Keep es is h = tt
 next_is_new next (Use serial) es is h = tt
 next_is_new next (Freshen e) es is h = tt
-next_is_new next (LetGo serial) es is h = tt
+next_is_new next (Remove serial) es is h = tt
 next_is_new next (Store e) es is h = subst (λ o. NoneFrom o es) is h e.serial (omega arith)

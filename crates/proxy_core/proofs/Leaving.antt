@@ -1,4 +1,4 @@
--- What a turn leaves of the held responses is what its step leaves of them.
+-- What a pending reply leaves of the held responses is what its step leaves of them.
 use Rattle.std.proofs.Common.{◌≡◌, inl, inr, ℕ, Bool, true, false, not, ◌&&◌, ◌||◌, ◌==◌, eqb, cond, Option, None, Some, is_some, List, [], ◌∷◌, take, refl, sym, ◌∙◌, ap, subst}
 use Rattle.std.specs.Option.{option_and_then}
 use Rattle.hx_target.specs.declared.keys.Key.{Key}
@@ -16,14 +16,14 @@ use Rattle.proxy_core.specs.declared.condition.Condition.{Condition}
 use Rattle.proxy_core.specs.declared.exchange.Exchange.{Exchange}
 use Rattle.proxy_core.specs.declared.event.Event.{Event}
 use Rattle.proxy_core.specs.declared.event.Event.TheVariants.{Answer, Fail}
-use Rattle.proxy_core.specs.declared.turns.Change.{Change}
-use Rattle.proxy_core.specs.declared.turns.Change.TheVariants.{Keep, Use, Freshen, LetGo, Store}
-use Rattle.proxy_core.specs.declared.turns.Turn.{Turn}
-use Rattle.proxy_core.specs.declared.turns.Course.{Course}
-use Rattle.proxy_core.specs.declared.turns.Course.TheVariants.{Ends, GoesOn}
+use Rattle.proxy_core.specs.declared.pending.Change.{Change}
+use Rattle.proxy_core.specs.declared.pending.Change.TheVariants.{Keep, Use, Freshen, Remove, Store}
+use Rattle.proxy_core.specs.declared.pending.PendingReply.{PendingReply}
+use Rattle.proxy_core.specs.declared.pending.AfterAnswer.{AfterAnswer}
+use Rattle.proxy_core.specs.declared.pending.AfterAnswer.TheVariants.{Ends, GoesOn}
 use Rattle.proxy_core.specs.Validating.{is_validation, is_answered, is_answered_by, asked_about, if_answered, validated, refreshed}
 use Rattle.proxy_core.specs.State.{taken, used_form, used_list, stored_list}
-use Rattle.proxy_core.specs.Turns.{stored_by, used_by, entries_by, Makes, IsPlain, IsRefresh, IsNext, IsHeld, Leaves, CourseLeaves, CourseFits, IsPlainCourse}
+use Rattle.proxy_core.specs.Pending.{stored_by, used_by, entries_by, Makes, IsPlain, IsRefresh, IsNext, IsHeld, Leaves, AfterLeaves, AfterFits, IsPlainAfter}
 
 and_left : (a b : Bool) → (a && true) ≡ false → (a && b) ≡ false
 and_left true b h = absurd (cc)
@@ -50,11 +50,11 @@ module _ (limit : ℕ) (es : List Stored) (x : Exchange) (now id : ℕ) where
   made_by r removed Keep h m = refl
   made_by r removed (Use serial) h m = ap (taken removed) (same_used (Answer now id r) serial h)
   made_by r removed (Freshen e) h m = absurd m
-  made_by r removed (LetGo serial) h m = absurd m
+  made_by r removed (Remove serial) h m = absurd m
   made_by r removed (Store e) h m = ap (λ (z : Stored). take limit (z ∷ without removed es)) m
 
   -- an answer that is passed on, or in whose place a held response is sent as it is
-  pub makes_leaves : (r : Response) (t : Turn) → is_validation x r ≡ false → Makes x r now t.change → Leaves limit es x (Answer now id r) t
+  pub makes_leaves : (r : Response) (t : PendingReply) → is_validation x r ≡ false → Makes x r now t.change → Leaves limit es x (Answer now id r) t
   makes_leaves r t h m =
       made_by r t.removed t.change (λ e. ap (λ b. cond b (refreshed x r now e) e) (unanswered x r now e h)) m
 
@@ -63,33 +63,33 @@ module _ (limit : ℕ) (es : List Stored) (x : Exchange) (now id : ℕ) where
   plain_by kind removed Keep m = refl
   plain_by kind removed (Use serial) m = ap (taken removed) (same_used (Fail now id kind) serial (λ e. refl))
   plain_by kind removed (Freshen e) m = absurd m
-  plain_by kind removed (LetGo serial) m = absurd m
+  plain_by kind removed (Remove serial) m = absurd m
   plain_by kind removed (Store e) m = absurd m
 
   -- a failure
-  pub fail_leaves : (kind : FailKind) (t : Turn) → IsPlain t.change → Leaves limit es x (Fail now id kind) t
+  pub fail_leaves : (kind : FailKind) (t : PendingReply) → IsPlain t.change → Leaves limit es x (Fail now id kind) t
   fail_leaves kind t m = plain_by kind t.removed t.change m
 
--- a turn that stores and freshens nothing
+-- a pending reply that stores and freshens nothing
 pub plain_makes : (x : Exchange) (r : Response) (now : ℕ) (c : Change) → IsPlain c → Makes x r now c
 plain_makes x r now Keep h = tt
 plain_makes x r now (Use serial) h = tt
 plain_makes x r now (Freshen e) h = h
-plain_makes x r now (LetGo serial) h = h
+plain_makes x r now (Remove serial) h = h
 plain_makes x r now (Store e) h = absurd h
 
 pub plain_next : (next : Option ℕ) (c : Change) → IsPlain c → IsNext next c
 plain_next next Keep h = tt
 plain_next next (Use serial) h = tt
 plain_next next (Freshen e) h = tt
-plain_next next (LetGo serial) h = tt
+plain_next next (Remove serial) h = tt
 plain_next next (Store e) h = absurd h
 
 pub plain_held : (es : List Stored) (c : Change) → IsPlain c → IsHeld c es
 plain_held es Keep h = tt
 plain_held es (Use serial) h = tt
 plain_held es (Freshen e) h = absurd h
-plain_held es (LetGo serial) h = tt
+plain_held es (Remove serial) h = tt
 plain_held es (Store e) h = tt
 
 -- what an answer makes is held without being freshened
@@ -97,7 +97,7 @@ pub made_held : (x : Exchange) (r : Response) (now : ℕ) (es : List Stored) (c 
 made_held x r now es Keep h = tt
 made_held x r now es (Use serial) h = tt
 made_held x r now es (Freshen e) h = absurd h
-made_held x r now es (LetGo serial) h = tt
+made_held x r now es (Remove serial) h = tt
 made_held x r now es (Store e) h = tt
 
 pub plain_is : (serial : ℕ) (c : Change) → c ≡ Use serial → IsPlain c
@@ -175,7 +175,7 @@ module _ (limit : ℕ) (es : List Stored) (x : Exchange) (now id : ℕ) (r : Res
   refresh_by removed kept f (Use serial) k h gone = absurd h
   refresh_by removed kept f (Freshen g) k h gone =
       ap (taken removed) (comes_first g.serial g (ap (λ (z : Stored). z.serial) (h.0 ∙ k) ∙ serial_stays x r now e) (h.0 ∙ k))
-  refresh_by removed kept f (LetGo s) k h gone =
+  refresh_by removed kept f (Remove s) k h gone =
       let only : removed ≡ f.serial ∷ [] = gone ∙ ap (λ b. cond b [] (f.serial ∷ [])) h.1 in
       let w = without (s ∷ []) es in
       ap (λ zs. taken zs w) only
@@ -185,7 +185,7 @@ module _ (limit : ℕ) (es : List Stored) (x : Exchange) (now id : ℕ) (r : Res
   refresh_by removed kept f (Store g) k h gone = absurd h
 
   -- a 304 that answers a held response
-  pub refresh_leaves : (kept : Bool) (f : Stored) (t : Turn) → f ≡ refreshed x r now e → IsRefresh kept f t.change → t.removed ≡ cond kept [] (f.serial ∷ []) → Leaves limit es x (Answer now id r) t
+  pub refresh_leaves : (kept : Bool) (f : Stored) (t : PendingReply) → f ≡ refreshed x r now e → IsRefresh kept f t.change → t.removed ≡ cond kept [] (f.serial ∷ []) → Leaves limit es x (Answer now id r) t
   refresh_leaves kept f t k h gone = refresh_by t.removed kept f t.change k h gone
 
   held_as : ((key : Key) → same_key key key ≡ true) → (g : Stored) → g ≡ refreshed x r now e → IsHeld (Freshen g) es
@@ -199,10 +199,10 @@ module _ (limit : ℕ) (es : List Stored) (x : Exchange) (now id : ℕ) (r : Res
   fits_by itself next kept f Keep k h = absurd h
   fits_by itself next kept f (Use serial) k h = absurd h
   fits_by itself next kept f (Freshen g) k h = (tt, held_as itself g (h.0 ∙ k))
-  fits_by itself next kept f (LetGo s) k h = (tt, tt)
+  fits_by itself next kept f (Remove s) k h = (tt, tt)
   fits_by itself next kept f (Store g) k h = absurd h
 
-  pub refresh_fits : ((key : Key) → same_key key key ≡ true) → (next : Option ℕ) (kept : Bool) (f : Stored) (t : Turn) → f ≡ refreshed x r now e → IsRefresh kept f t.change → IsNext next t.change × IsHeld t.change es
+  pub refresh_fits : ((key : Key) → same_key key key ≡ true) → (next : Option ℕ) (kept : Bool) (f : Stored) (t : PendingReply) → f ≡ refreshed x r now e → IsRefresh kept f t.change → IsNext next t.change × IsHeld t.change es
   refresh_fits itself next kept f t k h = fits_by itself next kept f t.change k h
 
 -- ---- a 304 that answers none
@@ -243,22 +243,22 @@ module _ (limit : ℕ) (es : List Stored) (x : Exchange) (now id : ℕ) (r : Res
   retry_by removed Keep m = refl
   retry_by removed (Use s) m = ap (λ (o : Option Stored). taken removed (in_front o (without (s ∷ []) es))) (sym (same_all s (find_entry s es) refl))
   retry_by removed (Freshen e) m = absurd m
-  retry_by removed (LetGo s) m = absurd m
+  retry_by removed (Remove s) m = absurd m
   retry_by removed (Store e) m = absurd m
 
-  retry_course : (c : Course) → IsPlainCourse c → CourseLeaves limit es x (Answer now id r) c
-  retry_course (Ends t) m = retry_by t.removed t.change m
-  retry_course (GoesOn bytes) m = tt
+  retry_after : (c : AfterAnswer) → IsPlainAfter c → AfterLeaves limit es x (Answer now id r) c
+  retry_after (Ends t) m = retry_by t.removed t.change m
+  retry_after (GoesOn bytes) m = tt
 
   -- a held response is sent as it is, or the request goes forward once more
-  pub retry_leaves : {E : Type 0} (q : Result Course E) → IfOk q IsPlainCourse → IfOk q (λ c. CourseLeaves limit es x (Answer now id r) c)
-  retry_leaves (Ok c) m = retry_course c m
+  pub retry_leaves : {E : Type 0} (q : Result AfterAnswer E) → IfOk q IsPlainAfter → IfOk q (λ c. AfterLeaves limit es x (Answer now id r) c)
+  retry_leaves (Ok c) m = retry_after c m
   retry_leaves (Err error) m = tt
 
-plain_course_fits : (next : Option ℕ) (es : List Stored) (c : Course) → IsPlainCourse c → CourseFits next es c
-plain_course_fits next es (Ends t) m = (plain_next next t.change m, plain_held es t.change m)
-plain_course_fits next es (GoesOn bytes) m = tt
+plain_after_fits : (next : Option ℕ) (es : List Stored) (c : AfterAnswer) → IsPlainAfter c → AfterFits next es c
+plain_after_fits next es (Ends t) m = (plain_next next t.change m, plain_held es t.change m)
+plain_after_fits next es (GoesOn bytes) m = tt
 
-pub retry_fits : {E : Type 0} (next : Option ℕ) (es : List Stored) (q : Result Course E) → IfOk q IsPlainCourse → IfOk q (λ c. CourseFits next es c)
-retry_fits next es (Ok c) m = plain_course_fits next es c m
+pub retry_fits : {E : Type 0} (next : Option ℕ) (es : List Stored) (q : Result AfterAnswer E) → IfOk q IsPlainAfter → IfOk q (λ c. AfterFits next es c)
+retry_fits next es (Ok c) m = plain_after_fits next es c m
 retry_fits next es (Err error) m = tt

@@ -14,16 +14,16 @@ use Rattle.hx_reuse.specs.declared.decision.Decision.TheVariants as decision
 use Rattle.hx_status.specs.declared.cause.FailKind.{FailKind}
 use Rattle.hx_status.specs.declared.cause.FailKind.TheVariants.{BadAnswer}
 use Rattle.proxy_core.specs.declared.exchange.Exchange.{Exchange}
-use Rattle.proxy_core.specs.declared.rescue.Rescue.{Rescue}
-use Rattle.proxy_core.specs.declared.rescue.Rescue.TheVariants.{Sends, Refuses}
+use Rattle.proxy_core.specs.declared.fallback.Fallback.{Fallback}
+use Rattle.proxy_core.specs.declared.fallback.Fallback.TheVariants.{Sends, Refuses}
 use Rattle.proxy_core.specs.declared.outcome.Outcome.{Outcome}
 use Rattle.proxy_core.specs.declared.outcome.Outcome.TheVariants.{Reply, Forward, Ended}
 use Rattle.proxy_core.specs.declared.event.Event.{Event}
 use Rattle.proxy_core.specs.declared.event.Event.TheVariants.{Arrive, Answer, Fail, Abandon}
 use Rattle.proxy_core.specs.Validating.{is_validation, validated}
 use Rattle.proxy_core.specs.Storing.{is_unasked, key_invalidated}
-use Rattle.proxy_core.specs.Outcomes.{find_exchange, id_of, rescue_of, failed, is_error_status, passed_unless, revalidated, answered, outcome_of, fault_of}
-use Rattle.proxy_core.specs.State.{State, after, open_after, opened, gone_out, invalidated_by}
+use Rattle.proxy_core.specs.Outcomes.{find_exchange, id_of, fallback_for, failed, is_error_status, passed_unless, revalidated, answered, outcome_of, fault_of}
+use Rattle.proxy_core.specs.State.{State, after, open_after, opened, goes_out, gone_out, invalidated_by}
 use Rattle.proxy_core.specs.Traces.{Item, Accepts}
 use Rattle.proxy_core.specs.Promises.{goes_forward, is_reply, is_arrival, sends_nothing_held, key_by_answer, key_by_step}
 use Rattle.proxy_core.proofs.ExchangeLists.{find-closed, find-push, find-gone_out, find-left_open, found-id, overtaken_by}
@@ -34,7 +34,7 @@ asked_of (Some x) = Some x.asked
 
 -- the exchange that went forward once more
 abbrev pub out_again : ℕ → Exchange → Exchange
-out_again now z = record z { request_time = now; condition = None; overtaken = false }
+out_again now z = goes_out now z.rule None z
 
 -- of a step of the exchange w of its own id, what becomes of the exchange x of an id
 pub data Move (id : ℕ) (w : Option Exchange) (event : Event) (o : Outcome) (x y : Option Exchange) : Type 0 where
@@ -51,18 +51,18 @@ pub and_none : (a : Bool) → (a && false) ≡ false
 and_none true = refl
 and_none false = refl
 
-failed_reply : (table : Table) (es : List Stored) (now : ℕ) (x : Exchange) (kind : FailKind) (came : Option ℕ) (rescue : Rescue) → is_reply (failed table es now x kind came rescue) ≡ true
+failed_reply : (table : Table) (es : List Stored) (now : ℕ) (x : Exchange) (kind : FailKind) (came : Option ℕ) (fallback : Fallback) → is_reply (failed table es now x kind came fallback) ≡ true
 failed_reply table es now x kind came (Sends serial detail) = refl
 failed_reply table es now x kind came (Refuses rule error) = refl
 
-pub failed_back : (table : Table) (es : List Stored) (now : ℕ) (x : Exchange) (kind : FailKind) (came : Option ℕ) (rescue : Rescue) → goes_forward (failed table es now x kind came rescue) ≡ false
+pub failed_back : (table : Table) (es : List Stored) (now : ℕ) (x : Exchange) (kind : FailKind) (came : Option ℕ) (fallback : Fallback) → goes_forward (failed table es now x kind came fallback) ≡ false
 failed_back table es now x kind came (Sends serial detail) = refl
 failed_back table es now x kind came (Refuses rule error) = refl
 
-passed_back : (table : Table) (es : List Stored) (now : ℕ) (x : Exchange) (r : Response) (next : Option ℕ) (b : Bool) (rescue : Rescue) → goes_forward (passed_unless table es now x r next b rescue) ≡ false
+passed_back : (table : Table) (es : List Stored) (now : ℕ) (x : Exchange) (r : Response) (next : Option ℕ) (b : Bool) (fallback : Fallback) → goes_forward (passed_unless table es now x r next b fallback) ≡ false
 passed_back table es now x r next true (Sends serial detail) = refl
 passed_back table es now x r next true (Refuses rule error) = refl
-passed_back table es now x r next false rescue = refl
+passed_back table es now x r next false fallback = refl
 
 held_sent : (table : Table) (es : List Stored) (now : ℕ) (x : Exchange) (r : Response) (o : Option Stored) (d : Decision) → sends_nothing_held (revalidated table es now x r o d) ≡ false
 held_sent table es now x r (Some e) d = refl
@@ -74,15 +74,15 @@ again_asked : (table : Table) (es : List Stored) (now : ℕ) (x : Exchange) (r :
 again_asked table es now x r next d h = by_304 (is_validation x r) h
   where
     by_304 : (b : Bool) → goes_forward (cond b (revalidated table es now x r (validated es x r now) d)
-        (cond (is_unasked x.asked r) (failed table es now x BadAnswer (Some r.status) (rescue_of es x.asked now d))
-        (passed_unless table es now x r next (is_error_status r.status) (rescue_of es x.asked now d)))) ≡ true → b ≡ true
+        (cond (is_unasked x.asked r) (failed table es now x BadAnswer (Some r.status) (fallback_for es x.asked now d))
+        (passed_unless table es now x r next (is_error_status r.status) (fallback_for es x.asked now d)))) ≡ true → b ≡ true
     by_304 true h = refl
     by_304 false h = absurd (by_unasked (is_unasked x.asked r) h)
       where
-        by_unasked : (b : Bool) → goes_forward (cond b (failed table es now x BadAnswer (Some r.status) (rescue_of es x.asked now d))
-            (passed_unless table es now x r next (is_error_status r.status) (rescue_of es x.asked now d))) ≡ true → ⊥
-        by_unasked true h = false≢true (sym (failed_back table es now x BadAnswer (Some r.status) (rescue_of es x.asked now d)) ∙ h)
-        by_unasked false h = false≢true (sym (passed_back table es now x r next (is_error_status r.status) (rescue_of es x.asked now d)) ∙ h)
+        by_unasked : (b : Bool) → goes_forward (cond b (failed table es now x BadAnswer (Some r.status) (fallback_for es x.asked now d))
+            (passed_unless table es now x r next (is_error_status r.status) (fallback_for es x.asked now d))) ≡ true → ⊥
+        by_unasked true h = false≢true (sym (failed_back table es now x BadAnswer (Some r.status) (fallback_for es x.asked now d)) ∙ h)
+        by_unasked false h = false≢true (sym (passed_back table es now x r next (is_error_status r.status) (fallback_for es x.asked now d)) ∙ h)
 
 and_right : (a b : Bool) → (a && b) ≡ true → b ≡ true
 and_right true b h = h
@@ -92,8 +92,8 @@ and_right false b h = absurd (false≢true h)
 pub error_is_none : (status : ℕ) → is_error_status status ≡ true → (nat_le 200 status && nat_le status 399) ≡ false
 error_is_none status h = grind (arith, nat_tests)
 
-passed_sends : (table : Table) (es : List Stored) (now : ℕ) (x : Exchange) (r : Response) (next : Option ℕ) (rescue : Rescue) → sends_nothing_held (passed_unless table es now x r next false rescue) ≡ true
-passed_sends table es now x r next rescue = refl
+passed_sends : (table : Table) (es : List Stored) (now : ℕ) (x : Exchange) (r : Response) (next : Option ℕ) (fallback : Fallback) → sends_nothing_held (passed_unless table es now x r next false fallback) ≡ true
+passed_sends table es now x r next fallback = refl
 
 -- the tests of both definitions: u unsafe, c no error, v a 304 to the proxy's conditions, n one that nobody asked for
 same_tests : (u c v n s : Bool) → (v ≡ true → s ≡ false) → (v ≡ false → n ≡ false → c ≡ true → s ≡ true) → (u && c && not (v || n)) ≡ (u && (c && (s && not n)))
@@ -106,7 +106,7 @@ same_tests true true false false s h k = sym (ap (λ b. b && true) (k refl refl 
 answer_sends : (table : Table) (es : List Stored) (now : ℕ) (x : Exchange) (r : Response) (next : Option ℕ) (d : Decision)
     → (v n e : Bool) → v ≡ false → n ≡ false → e ≡ false
     → sends_nothing_held (cond v (revalidated table es now x r (validated es x r now) d)
-    (cond n (failed table es now x BadAnswer (Some r.status) (rescue_of es x.asked now d)) (passed_unless table es now x r next e (rescue_of es x.asked now d)))) ≡ true
+    (cond n (failed table es now x BadAnswer (Some r.status) (fallback_for es x.asked now d)) (passed_unless table es now x r next e (fallback_for es x.asked now d)))) ≡ true
 answer_sends table es now x r next d true n e hv hn he = absurd (false≢true (sym hv))
 answer_sends table es now x r next d false true e hv hn he = absurd (false≢true (sym hn))
 answer_sends table es now x r next d false false true hv hn he = absurd (false≢true (sym he))
@@ -123,7 +123,7 @@ same_key_invalidated table es now x r next d =
     let c = nat_le 200 r.status && nat_le r.status 399 in
     let by_304 : v ≡ true → sends_nothing_held o ≡ false = λ h.
     ap (λ b. sends_nothing_held (cond b (revalidated table es now x r (validated es x r now) d)
-    (cond n (failed table es now x BadAnswer (Some r.status) (rescue_of es x.asked now d)) (passed_unless table es now x r next e (rescue_of es x.asked now d))))) h
+    (cond n (failed table es now x BadAnswer (Some r.status) (fallback_for es x.asked now d)) (passed_unless table es now x r next e (fallback_for es x.asked now d))))) h
     ∙ held_sent table es now x r (validated es x r now) d
     in
     let by_passing : v ≡ false → n ≡ false → c ≡ true → sends_nothing_held o ≡ true = λ hv hn hc.
@@ -158,23 +158,23 @@ answer_either table es now x r next d = by_304 (is_validation x r)
     again_or_sent None (decision.Hit serial) = refl
     again_or_sent None (decision.Forward rule against) = refl
 
-    by_rescue : (rescue : Rescue) → is_either (failed table es now x BadAnswer (Some r.status) rescue) ≡ true
-    by_rescue (Sends serial detail) = refl
-    by_rescue (Refuses rule error) = refl
+    by_fallback : (fallback : Fallback) → is_either (failed table es now x BadAnswer (Some r.status) fallback) ≡ true
+    by_fallback (Sends serial detail) = refl
+    by_fallback (Refuses rule error) = refl
 
-    by_error : (e : Bool) (rescue : Rescue) → is_either (passed_unless table es now x r next e rescue) ≡ true
+    by_error : (e : Bool) (fallback : Fallback) → is_either (passed_unless table es now x r next e fallback) ≡ true
     by_error true (Sends serial detail) = refl
     by_error true (Refuses rule error) = refl
-    by_error false rescue = refl
+    by_error false fallback = refl
 
-    by_unasked : (b : Bool) → is_either (cond b (failed table es now x BadAnswer (Some r.status) (rescue_of es x.asked now d))
-        (passed_unless table es now x r next (is_error_status r.status) (rescue_of es x.asked now d))) ≡ true
-    by_unasked true = by_rescue (rescue_of es x.asked now d)
-    by_unasked false = by_error (is_error_status r.status) (rescue_of es x.asked now d)
+    by_unasked : (b : Bool) → is_either (cond b (failed table es now x BadAnswer (Some r.status) (fallback_for es x.asked now d))
+        (passed_unless table es now x r next (is_error_status r.status) (fallback_for es x.asked now d))) ≡ true
+    by_unasked true = by_fallback (fallback_for es x.asked now d)
+    by_unasked false = by_error (is_error_status r.status) (fallback_for es x.asked now d)
 
     by_304 : (b : Bool) → is_either (cond b (revalidated table es now x r (validated es x r now) d)
-        (cond (is_unasked x.asked r) (failed table es now x BadAnswer (Some r.status) (rescue_of es x.asked now d))
-        (passed_unless table es now x r next (is_error_status r.status) (rescue_of es x.asked now d)))) ≡ true
+        (cond (is_unasked x.asked r) (failed table es now x BadAnswer (Some r.status) (fallback_for es x.asked now d))
+        (passed_unless table es now x r next (is_error_status r.status) (fallback_for es x.asked now d)))) ≡ true
     by_304 true = again_or_sent (validated es x r now) d
     by_304 false = by_unasked (is_unasked x.asked r)
 
@@ -243,7 +243,7 @@ module _ (table : Table) (es : List Stored) (xs : List Exchange) (next : Option 
   step (Answer now i r) o (Some w) f a h = answers now i r w o f h
   step (Fail now i kind) o None f a h = absurd (cc)
   step (Fail now i kind) o (Some w) f a h =
-      gone w (Fail now i kind) o f refl (ap goes_forward h ∙ failed_back table es now w kind None (rescue_of es w.asked now (decision_of es w.asked now))) _ (find-closed i id xs)
+      gone w (Fail now i kind) o f refl (ap goes_forward h ∙ failed_back table es now w kind None (fallback_for es w.asked now (decision_of es w.asked now))) _ (find-closed i id xs)
   step (Abandon i) o None f a h = absurd (cc)
   step (Abandon i) o (Some w) f a h = gone w (Abandon i) o f refl (ap goes_forward h) _ (find-closed i id xs)
 

@@ -32,15 +32,15 @@ use Rattle.hx_status.specs.declared.cause.FailKind.{FailKind}
 use Rattle.hx_status.specs.declared.cause.FailKind.TheVariants.{BadAnswer}
 use Rattle.proxy_core.specs.declared.condition.Condition.{Condition}
 use Rattle.proxy_core.specs.declared.exchange.Exchange.{Exchange}
-use Rattle.proxy_core.specs.declared.rescue.Rescue.{Rescue}
-use Rattle.proxy_core.specs.declared.rescue.Rescue.TheVariants.{Sends, Refuses}
+use Rattle.proxy_core.specs.declared.fallback.Fallback.{Fallback}
+use Rattle.proxy_core.specs.declared.fallback.Fallback.TheVariants.{Sends, Refuses}
 use Rattle.proxy_core.specs.declared.outcome.Outcome.{Outcome}
 use Rattle.proxy_core.specs.declared.outcome.Outcome.TheVariants.{Forward}
 use Rattle.proxy_core.specs.declared.event.Event.{Event}
 use Rattle.proxy_core.specs.declared.event.Event.TheVariants.{Arrive, Answer, Fail, Abandon}
 use Rattle.proxy_core.specs.Validating.{condition_at, is_validation, validated, refreshed}
 use Rattle.proxy_core.specs.Storing.{is_unasked}
-use Rattle.proxy_core.specs.Outcomes.{find_exchange, id_of, arrived, allowed, unanswered, is_only_if_cached, error_rule_at, rescue_by, rescue_of, failed, is_error_status, passed_unless, revalidated, answered, outcome_of, outcome_by, forward_text}
+use Rattle.proxy_core.specs.Outcomes.{find_exchange, id_of, arrived, allowed, unanswered, is_only_if_cached, error_rule_at, fallback_by, fallback_for, failed, is_error_status, passed_unless, revalidated, answered, outcome_of, outcome_by, forward_text}
 use Rattle.proxy_core.specs.State.{used_in}
 use Rattle.proxy_core.specs.Traces.{Item}
 use Rattle.proxy_core.specs.Histories.{IsGoodHistory, held_entries, open_exchanges, next_serial}
@@ -87,14 +87,14 @@ module _ (es : List Stored) (distinct : Distinct (serials es)) (asked : Asked) (
           }
 
   -- what is sent may be
-  rescue_may : (d : Decision) (s : ℕ) (detail : Detail) → decision_of es asked now ≡ d → rescue_of es asked now d ≡ Sends s detail → IsRescue es asked now s
-  rescue_may (decision.Hit t) s detail d_is h =
+  fallback_may : (d : Decision) (s : ℕ) (detail : Detail) → decision_of es asked now ≡ d → fallback_for es asked now d ≡ Sends s detail → IsRescue es asked now s
+  fallback_may (decision.Hit t) s detail d_is h =
       let same : t ≡ s = cc in
       inl (subst (λ n. IsReusable es asked now n) same (reused_is_allowed es asked now t d_is))
-  rescue_may (decision.Forward rule None) s detail d_is h = absurd (cc)
-  rescue_may (decision.Forward rule (Some t)) s detail d_is h = by_rule (error_rule_at es t asked now) refl h
+  fallback_may (decision.Forward rule None) s detail d_is h = absurd (cc)
+  fallback_may (decision.Forward rule (Some t)) s detail d_is h = by_rule (error_rule_at es t asked now) refl h
     where
-      by_rule : (o : Option ErrorRule) → error_rule_at es t asked now ≡ o → rescue_by rule t o ≡ Sends s detail → IsRescue es asked now s
+      by_rule : (o : Option ErrorRule) → error_rule_at es t asked now ≡ o → fallback_by rule t o ≡ Sends s detail → IsRescue es asked now s
       by_rule None k h =
           let n = named_is rule t d_is in
           let least = (names_the_least es asked now rule (Some t) d_is).0 in
@@ -114,7 +114,7 @@ module _ (es : List Stored) (distinct : Distinct (serials es)) (asked : Asked) (
   -- the other way round
   record IsSent (s : ℕ) : Type 0 where
     detail : Detail
-    rescue : rescue_of es asked now (decision_of es asked now) ≡ Sends s detail
+    fallback : fallback_for es asked now (decision_of es asked now) ≡ Sends s detail
 
   reusable_hit : (s : ℕ) → IsReusable es asked now s → decision_of es asked now ≡ decision.Hit s
   reusable_hit s may = allowed_is_reused es asked now may.0 distinct may.1 ∙ ap (λ n. decision.Hit n) may.2
@@ -126,7 +126,7 @@ module _ (es : List Stored) (distinct : Distinct (serials es)) (asked : Asked) (
       same_Some hit.0 response (sym (latest_is_the_chosen es asked hit.0 distinct hit.1) ∙ latest_is_the_chosen es asked response distinct may.is_chosen)
       in
       let t_is : t ≡ s = sym hit.2 ∙ ap (λ (e : Stored). e.serial) same ∙ serial in
-      record { detail = ReuseAfterError; rescue = ap (rescue_of es asked now) d_is ∙ ap (λ n. Sends n ReuseAfterError) t_is }
+      record { detail = ReuseAfterError; fallback = ap (fallback_for es asked now) d_is ∙ ap (λ n. Sends n ReuseAfterError) t_is }
   instead_sent s response may serial (decision.Forward rule None) d_is =
       let r = names_the_least es asked now rule None d_is in
       absurd (by_number r.0 r.1)
@@ -141,24 +141,24 @@ module _ (es : List Stored) (distinct : Distinct (serials es)) (asked : Asked) (
       let none : error_rule_at es t asked now ≡ None =
       n.rule_at ∙ ap (λ (e : Stored). error_rule_on e (occurrences_of asked.fields) now) same ∙ may_be_sent_on_error response (occurrences_of asked.fields) now may.may_be_sent
       in
-      record { detail = StaleIfError; rescue = ap (rescue_of es asked now) d_is ∙ ap (rescue_by rule t) none ∙ ap (λ n. Sends n StaleIfError) t_is }
+      record { detail = StaleIfError; fallback = ap (fallback_for es asked now) d_is ∙ ap (fallback_by rule t) none ∙ ap (λ n. Sends n StaleIfError) t_is }
 
-  rescue_sent : (s : ℕ) → IsRescue es asked now s → IsSent s
-  rescue_sent s (inl may) = record { detail = ReuseAfterError; rescue = ap (rescue_of es asked now) (reusable_hit s may) }
-  rescue_sent s (inr may) = instead_sent s may.0 may.1 may.2 (decision_of es asked now) refl
+  fallback_sent : (s : ℕ) → IsRescue es asked now s → IsSent s
+  fallback_sent s (inl may) = record { detail = ReuseAfterError; fallback = ap (fallback_for es asked now) (reusable_hit s may) }
+  fallback_sent s (inr may) = instead_sent s may.0 may.1 may.2 (decision_of es asked now) refl
 
 -- ---- what each step uses
 
 module _ (table : Table) (es : List Stored) (distinct : Distinct (serials es)) where
   failed_uses : (now : ℕ) (x : Exchange) (kind : FailKind) (came : Option ℕ) (s : ℕ) → IsRescue es x.asked now s →
-      used_in (failed table es now x kind came (rescue_of es x.asked now (decision_of es x.asked now))) ≡ Some s
+      used_in (failed table es now x kind came (fallback_for es x.asked now (decision_of es x.asked now))) ≡ Some s
   failed_uses now x kind came s may =
-      let sent = rescue_sent es distinct x.asked now s may in ap (λ (q : Rescue). used_in (failed table es now x kind came q)) sent.rescue
+      let sent = fallback_sent es distinct x.asked now s may in ap (λ (q : Fallback). used_in (failed table es now x kind came q)) sent.fallback
 
-  used_failed : (now : ℕ) (x : Exchange) (kind : FailKind) (came : Option ℕ) (s : ℕ) (rescue : Rescue) → rescue_of es x.asked now (decision_of es x.asked now) ≡ rescue →
-      used_in (failed table es now x kind came rescue) ≡ Some s → IsRescue es x.asked now s
+  used_failed : (now : ℕ) (x : Exchange) (kind : FailKind) (came : Option ℕ) (s : ℕ) (fallback : Fallback) → fallback_for es x.asked now (decision_of es x.asked now) ≡ fallback →
+      used_in (failed table es now x kind came fallback) ≡ Some s → IsRescue es x.asked now s
   used_failed now x kind came s (Sends t detail) k h =
-      subst (λ n. IsRescue es x.asked now n) (same_Some t s h) (rescue_may es distinct x.asked now (decision_of es x.asked now) t detail refl k)
+      subst (λ n. IsRescue es x.asked now n) (same_Some t s h) (fallback_may es distinct x.asked now (decision_of es x.asked now) t detail refl k)
   used_failed now x kind came s (Refuses rule error) k h = absurd (never_one s h)
 
   -- an arrival
@@ -186,12 +186,12 @@ module _ (table : Table) (es : List Stored) (distinct : Distinct (serials es)) w
     used_revalidated None (decision.Hit t) v k h = inr (v, subst (λ n. IsReusable es x.asked now n) (same_Some t s h) (reused_is_allowed es x.asked now t k))
     used_revalidated None (decision.Forward rule against) v k h = absurd (never_one s h)
 
-    used_passed : (b : Bool) (rescue : Rescue) → rescue_of es x.asked now (decision_of es x.asked now) ≡ rescue → IsUsed (passed_unless table es now x r next b rescue) →
+    used_passed : (b : Bool) (fallback : Fallback) → fallback_for es x.asked now (decision_of es x.asked now) ≡ fallback → IsUsed (passed_unless table es now x r next b fallback) →
         (b ≡ true) × IsRescue es x.asked now s
     used_passed true (Sends t detail) k h =
-        (refl, subst (λ n. IsRescue es x.asked now n) (same_Some t s h) (rescue_may es distinct x.asked now (decision_of es x.asked now) t detail refl k))
+        (refl, subst (λ n. IsRescue es x.asked now n) (same_Some t s h) (fallback_may es distinct x.asked now (decision_of es x.asked now) t detail refl k))
     used_passed true (Refuses rule error) k h = absurd (never_one s h)
-    used_passed false rescue k h = absurd (never_one s h)
+    used_passed false fallback k h = absurd (never_one s h)
 
     used_answered : IsUsed (answered table es now x r next (decision_of es x.asked now)) → MayBeSentAt table es (Some x) (Answer now id r) s
     used_answered h = by_304 (is_validation x r) refl h
@@ -199,18 +199,18 @@ module _ (table : Table) (es : List Stored) (distinct : Distinct (serials es)) w
         d : Decision
         d = decision_of es x.asked now
 
-        by_unasked : (b : Bool) → is_unasked x.asked r ≡ b → IsUsed (cond b (failed table es now x BadAnswer (Some r.status) (rescue_of es x.asked now (decision_of es x.asked now)))
-            (passed_unless table es now x r next (is_error_status r.status) (rescue_of es x.asked now (decision_of es x.asked now)))) →
+        by_unasked : (b : Bool) → is_unasked x.asked r ≡ b → IsUsed (cond b (failed table es now x BadAnswer (Some r.status) (fallback_for es x.asked now (decision_of es x.asked now)))
+            (passed_unless table es now x r next (is_error_status r.status) (fallback_for es x.asked now (decision_of es x.asked now)))) →
             ((is_unasked x.asked r || is_error_status r.status) ≡ true) × IsRescue es x.asked now s
         by_unasked true k h =
-            (ap (λ b. b || is_error_status r.status) k, used_failed now x BadAnswer (Some r.status) s (rescue_of es x.asked now (decision_of es x.asked now)) refl h)
+            (ap (λ b. b || is_error_status r.status) k, used_failed now x BadAnswer (Some r.status) s (fallback_for es x.asked now (decision_of es x.asked now)) refl h)
         by_unasked false k h =
-            let p = used_passed (is_error_status r.status) (rescue_of es x.asked now (decision_of es x.asked now)) refl h in
+            let p = used_passed (is_error_status r.status) (fallback_for es x.asked now (decision_of es x.asked now)) refl h in
             (or_right (is_unasked x.asked r) (is_error_status r.status) p.0, p.1)
 
         by_304 : (b : Bool) → is_validation x r ≡ b → IsUsed (cond b (revalidated table es now x r (validated es x r now) (decision_of es x.asked now))
-            (cond (is_unasked x.asked r) (failed table es now x BadAnswer (Some r.status) (rescue_of es x.asked now (decision_of es x.asked now)))
-            (passed_unless table es now x r next (is_error_status r.status) (rescue_of es x.asked now (decision_of es x.asked now))))) →
+            (cond (is_unasked x.asked r) (failed table es now x BadAnswer (Some r.status) (fallback_for es x.asked now (decision_of es x.asked now)))
+            (passed_unless table es now x r next (is_error_status r.status) (fallback_for es x.asked now (decision_of es x.asked now))))) →
             MayBeSentAt table es (Some x) (Answer now id r) s
         by_304 true k h = by_kind (used_revalidated (validated es x r now) (decision_of es x.asked now) refl refl h)
           where
@@ -221,34 +221,34 @@ module _ (table : Table) (es : List Stored) (distinct : Distinct (serials es)) w
         by_304 false k h = let p = by_unasked (is_unasked x.asked r) refl h in inr (inr (k, p.0, p.1))
 
     -- the other way round
-    rescue_uses : (b e : Bool) → (b || e) ≡ true → IsRescue es x.asked now s →
-        IsUsed (cond b (failed table es now x BadAnswer (Some r.status) (rescue_of es x.asked now (decision_of es x.asked now)))
-        (passed_unless table es now x r next e (rescue_of es x.asked now (decision_of es x.asked now))))
-    rescue_uses true e h may = failed_uses now x BadAnswer (Some r.status) s may
-    rescue_uses false true h may =
-        let sent = rescue_sent es distinct x.asked now s may in
-        ap (λ (q : Rescue). used_in (passed_unless table es now x r next true q)) sent.rescue
-    rescue_uses false false h may = absurd (false≢true h)
+    fallback_uses : (b e : Bool) → (b || e) ≡ true → IsRescue es x.asked now s →
+        IsUsed (cond b (failed table es now x BadAnswer (Some r.status) (fallback_for es x.asked now (decision_of es x.asked now)))
+        (passed_unless table es now x r next e (fallback_for es x.asked now (decision_of es x.asked now))))
+    fallback_uses true e h may = failed_uses now x BadAnswer (Some r.status) s may
+    fallback_uses false true h may =
+        let sent = fallback_sent es distinct x.asked now s may in
+        ap (λ (q : Fallback). used_in (passed_unless table es now x r next true q)) sent.fallback
+    fallback_uses false false h may = absurd (false≢true h)
 
     answered_uses : MayBeSentAt table es (Some x) (Answer now id r) s → IsUsed (answered table es now x r next (decision_of es x.asked now))
     answered_uses (inl may) =
         let d = decision_of es x.asked now in
         let e = may.1.0 in
-        ap (λ b. used_in (cond b (revalidated table es now x r (validated es x r now) d) (cond (is_unasked x.asked r) (failed table es now x BadAnswer (Some r.status) (rescue_of es x.asked now d))
-        (passed_unless table es now x r next (is_error_status r.status) (rescue_of es x.asked now d))))) may.0
+        ap (λ b. used_in (cond b (revalidated table es now x r (validated es x r now) d) (cond (is_unasked x.asked r) (failed table es now x BadAnswer (Some r.status) (fallback_for es x.asked now d))
+        (passed_unless table es now x r next (is_error_status r.status) (fallback_for es x.asked now d))))) may.0
         ∙ ap (λ (o : Option Stored). used_in (revalidated table es now x r o d)) may.1.1
         ∙ ap (λ n. Some n) (serial_stays x r now e ∙ may.1.2)
     answered_uses (inr (inl may)) =
         let d = decision_of es x.asked now in
-        ap (λ b. used_in (cond b (revalidated table es now x r (validated es x r now) d) (cond (is_unasked x.asked r) (failed table es now x BadAnswer (Some r.status) (rescue_of es x.asked now d))
-        (passed_unless table es now x r next (is_error_status r.status) (rescue_of es x.asked now d))))) may.0
+        ap (λ b. used_in (cond b (revalidated table es now x r (validated es x r now) d) (cond (is_unasked x.asked r) (failed table es now x BadAnswer (Some r.status) (fallback_for es x.asked now d))
+        (passed_unless table es now x r next (is_error_status r.status) (fallback_for es x.asked now d))))) may.0
         ∙ ap (λ (o : Option Stored). used_in (revalidated table es now x r o d)) may.1
         ∙ ap (λ (k : Decision). used_in (revalidated table es now x r None k)) (reusable_hit es distinct x.asked now s may.2)
     answered_uses (inr (inr may)) =
         let d = decision_of es x.asked now in
-        ap (λ b. used_in (cond b (revalidated table es now x r (validated es x r now) d) (cond (is_unasked x.asked r) (failed table es now x BadAnswer (Some r.status) (rescue_of es x.asked now d))
-        (passed_unless table es now x r next (is_error_status r.status) (rescue_of es x.asked now d))))) may.0
-        ∙ rescue_uses (is_unasked x.asked r) (is_error_status r.status) may.1 may.2
+        ap (λ b. used_in (cond b (revalidated table es now x r (validated es x r now) d) (cond (is_unasked x.asked r) (failed table es now x BadAnswer (Some r.status) (fallback_for es x.asked now d))
+        (passed_unless table es now x r next (is_error_status r.status) (fallback_for es x.asked now d))))) may.0
+        ∙ fallback_uses (is_unasked x.asked r) (is_error_status r.status) may.1 may.2
 
   may_be_used : (xs : List Exchange) (x : Option Exchange) (next : Option ℕ) (event : Event) (s : ℕ) → MayBeSentAt table es x event s → used_in (outcome_of table es xs x next event) ≡ Some s
   may_be_used xs x next (Arrive now id asked) s may =
@@ -264,7 +264,7 @@ module _ (table : Table) (es : List Stored) (distinct : Distinct (serials es)) w
   used_may_be xs x next (Arrive now id asked) s h = used_arrived now asked s (verdict_of table.lines asked.method asked.target) refl h
   used_may_be xs (Some x) next (Answer now id r) s h = used_answered x now id r next s h
   used_may_be xs None next (Answer now id r) s h = absurd (never_one s h)
-  used_may_be xs (Some x) next (Fail now id kind) s h = used_failed now x kind None s (rescue_of es x.asked now (decision_of es x.asked now)) refl h
+  used_may_be xs (Some x) next (Fail now id kind) s h = used_failed now x kind None s (fallback_for es x.asked now (decision_of es x.asked now)) refl h
   used_may_be xs None next (Fail now id kind) s h = absurd (never_one s h)
   used_may_be xs x next (Abandon id) s h = absurd (never_one s h)
 

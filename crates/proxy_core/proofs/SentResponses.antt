@@ -23,16 +23,16 @@ use Rattle.hx_status.specs.declared.cause.FailKind.{FailKind}
 use Rattle.hx_status.specs.declared.cause.FailKind.TheVariants.{BadAnswer}
 use Rattle.proxy_core.specs.declared.condition.Condition.{Condition}
 use Rattle.proxy_core.specs.declared.exchange.Exchange.{Exchange}
-use Rattle.proxy_core.specs.declared.handling.Handling.{Handling}
-use Rattle.proxy_core.specs.declared.rescue.Rescue.{Rescue}
-use Rattle.proxy_core.specs.declared.rescue.Rescue.TheVariants.{Sends, Refuses}
+use Rattle.proxy_core.specs.declared.stored_reply.CacheStatusInfo.{CacheStatusInfo}
+use Rattle.proxy_core.specs.declared.fallback.Fallback.{Fallback}
+use Rattle.proxy_core.specs.declared.fallback.Fallback.TheVariants.{Sends, Refuses}
 use Rattle.proxy_core.specs.declared.outcome.Outcome.{Outcome}
 use Rattle.proxy_core.specs.declared.event.Event.{Event}
 use Rattle.proxy_core.specs.declared.event.Event.TheVariants.{Arrive, Answer, Fail, Abandon}
 use Rattle.proxy_core.specs.Replies.{stored_text}
 use Rattle.proxy_core.specs.Validating.{condition_at, is_validation, validated, refreshed}
 use Rattle.proxy_core.specs.Storing.{is_unasked}
-use Rattle.proxy_core.specs.Outcomes.{find_exchange, id_of, sent, sent_text, as_hit, told_after, arrived, allowed, unanswered, is_only_if_cached, error_rule_at, rescue_by, rescue_of, failed, is_error_status, passed_unless, revalidated, answered, outcome_of}
+use Rattle.proxy_core.specs.Outcomes.{find_exchange, id_of, sent, sent_text, as_hit, forwarded_as, arrived, allowed, unanswered, is_only_if_cached, error_rule_at, fallback_by, fallback_for, failed, is_error_status, passed_unless, revalidated, answered, outcome_of}
 use Rattle.proxy_core.specs.State.{used_in, used_form}
 use Rattle.proxy_core.specs.Histories.{held_entries, open_exchanges, next_serial}
 use Rattle.proxy_core.specs.Sending.{IsAbout, TellsHow, IsThatResponse, SendsWhatIsHeld}
@@ -54,14 +54,14 @@ module _ (table : Table) (es : List Stored) (distinct : Distinct (serials es)) w
       let chosen = latest_is_the_chosen es asked hit.0 distinct hit.1 in
       (hit.0, ap (λ z. find_entry z es) (sym hit.2) ∙ found_by_serial es distinct hit.0 (chosen_is_held es asked hit.0 chosen))
 
-  found_rescue : (asked : Asked) (now s : ℕ) (detail : Detail) (d : Decision) → decision_of es asked now ≡ d → rescue_of es asked now d ≡ Sends s detail → IsFound es s
+  found_rescue : (asked : Asked) (now s : ℕ) (detail : Detail) (d : Decision) → decision_of es asked now ≡ d → fallback_for es asked now d ≡ Sends s detail → IsFound es s
   found_rescue asked now s detail (decision.Hit t) d_is h =
       let same : t ≡ s = cc in
       subst (IsFound es) same (found_hit asked now t d_is)
   found_rescue asked now s detail (decision.Forward rule None) d_is h = absurd (cc)
   found_rescue asked now s detail (decision.Forward rule (Some t)) d_is h = by_rule (error_rule_at es t asked now) h
     where
-      by_rule : (o : Option ErrorRule) → rescue_by rule t o ≡ Sends s detail → IsFound es s
+      by_rule : (o : Option ErrorRule) → fallback_by rule t o ≡ Sends s detail → IsFound es s
       by_rule None h =
           let n = named_is es distinct asked now rule t d_is in
           let same : t ≡ s = cc in
@@ -69,7 +69,7 @@ module _ (table : Table) (es : List Stored) (distinct : Distinct (serials es)) w
       by_rule (Some e) h = absurd (cc)
 
   -- sent as it is held
-  as_held : (x : Option Exchange) (event : Event) (s now : ℕ) (handling : Handling) (asked : Asked) (f : IsFound es s) → used_form x event f.0 ≡ f.0 →
+  as_held : (x : Option Exchange) (event : Event) (s now : ℕ) (handling : CacheStatusInfo) (asked : Asked) (f : IsFound es s) → used_form x event f.0 ≡ f.0 →
       IsAbout x event now asked → TellsHow x event handling → IsThatResponse table es x event (sent table es s now handling asked) s
   as_held x event s now handling asked f same about how = record {
     response = f.0;
@@ -112,28 +112,28 @@ module _ (table : Table) (es : List Stored) (distinct : Distinct (serials es)) w
   arrival_sends x now id asked s verdict.NoLine h = absurd (never_one s h)
 
   -- after an error
-  rescue_sends : (x : Exchange) (event : Event) (now : ℕ) (kind : FailKind) (came : Option ℕ) (s : ℕ) (rescue : Rescue) →
-      rescue_of es x.asked now (decision_of es x.asked now) ≡ rescue → ((e : Stored) → used_form (Some x) event e ≡ e) → IsAbout (Some x) event now x.asked →
-      ((detail : Option Detail) → TellsHow (Some x) event (told_after x came detail)) →
-      used_in (failed table es now x kind came rescue) ≡ Some s → IsThatResponse table es (Some x) event (failed table es now x kind came rescue) s
+  rescue_sends : (x : Exchange) (event : Event) (now : ℕ) (kind : FailKind) (came : Option ℕ) (s : ℕ) (fallback : Fallback) →
+      fallback_for es x.asked now (decision_of es x.asked now) ≡ fallback → ((e : Stored) → used_form (Some x) event e ≡ e) → IsAbout (Some x) event now x.asked →
+      ((detail : Option Detail) → TellsHow (Some x) event (forwarded_as x came detail)) →
+      used_in (failed table es now x kind came fallback) ≡ Some s → IsThatResponse table es (Some x) event (failed table es now x kind came fallback) s
   rescue_sends x event now kind came s (Sends t detail) k same about how h =
       let f = found_rescue x.asked now t detail (decision_of es x.asked now) refl k in
-      at_serial (Some x) event (sent table es t now (told_after x came (Some detail)) x.asked) t s (same_Some t s h)
-      (as_held (Some x) event t now (told_after x came (Some detail)) x.asked f (same f.0) about (how (Some detail)))
+      at_serial (Some x) event (sent table es t now (forwarded_as x came (Some detail)) x.asked) t s (same_Some t s h)
+      (as_held (Some x) event t now (forwarded_as x came (Some detail)) x.asked f (same f.0) about (how (Some detail)))
   rescue_sends x event now kind came s (Refuses rule error) k same about how h = absurd (never_one s h)
 
   module _ (x : Exchange) (now id : ℕ) (r : Response) (next : Option ℕ) (s : ℕ) where
     abbrev Is : Outcome → Type 0
     Is o = used_in o ≡ Some s → IsThatResponse table es (Some x) (Answer now id r) o s
 
-    passes : (b : Bool) (rescue : Rescue) → rescue_of es x.asked now (decision_of es x.asked now) ≡ rescue → is_validation x r ≡ false → Is (passed_unless table es now x r next b rescue)
+    passes : (b : Bool) (fallback : Fallback) → fallback_for es x.asked now (decision_of es x.asked now) ≡ fallback → is_validation x r ≡ false → Is (passed_unless table es now x r next b fallback)
     passes true (Sends t detail) k n =
         let f = found_rescue x.asked now t detail (decision_of es x.asked now) refl k in
-        λ h. at_serial (Some x) (Answer now id r) (sent table es t now (told_after x (Some r.status) (Some detail)) x.asked) t s (same_Some t s h)
-        (as_held (Some x) (Answer now id r) t now (told_after x (Some r.status) (Some detail)) x.asked f
+        λ h. at_serial (Some x) (Answer now id r) (sent table es t now (forwarded_as x (Some r.status) (Some detail)) x.asked) t s (same_Some t s h)
+        (as_held (Some x) (Answer now id r) t now (forwarded_as x (Some r.status) (Some detail)) x.asked f
         (ap (λ b. cond b (refreshed x r now f.0) f.0) (never_answered x r now f.0 n)) (refl, refl) (Some detail, refl))
     passes true (Refuses rule error) k n = λ h. absurd (never_one s h)
-    passes false rescue k n = λ h. absurd (never_one s h)
+    passes false fallback k n = λ h. absurd (never_one s h)
 
     validates : (o : Option Stored) (d : Decision) → validated es x r now ≡ o → decision_of es x.asked now ≡ d → Is (revalidated table es now x r o d)
     validates (Some e) d v k =
@@ -145,38 +145,38 @@ module _ (table : Table) (es : List Stored) (distinct : Distinct (serials es)) w
           now = now;
           asked = x.asked;
           about = (refl, refl);
-          handling = told_after x (Some r.status) None;
+          handling = forwarded_as x (Some r.status) None;
           tells_how = (None, refl);
           reply = record {
-            bytes = stored_text table.name (refreshed x r now e) now (told_after x (Some r.status) None) x.asked;
+            bytes = stored_text table.name (refreshed x r now e) now (forwarded_as x (Some r.status) None) x.asked;
             close = x.asked.close;
             stored = None;
             used = Some (refreshed x r now e).serial;
             removed = _;
           };
           outcome_is = refl;
-          bytes_are = ap (λ b. stored_text table.name (cond b (refreshed x r now e) e) now (told_after x (Some r.status) None) x.asked) (sym valid.answered);
+          bytes_are = ap (λ b. stored_text table.name (cond b (refreshed x r now e) e) now (forwarded_as x (Some r.status) None) x.asked) (sym valid.answered);
         }
     validates None (decision.Hit t) v k =
         let f = found_hit x.asked now t k in
-        λ h. at_serial (Some x) (Answer now id r) (sent table es t now (told_after x (Some r.status) (Some ReuseAfter304)) x.asked) t s (same_Some t s h)
-        (as_held (Some x) (Answer now id r) t now (told_after x (Some r.status) (Some ReuseAfter304)) x.asked f (same_at 0 es x now id r v t f.0 f.1) (refl, refl) (Some ReuseAfter304, refl))
+        λ h. at_serial (Some x) (Answer now id r) (sent table es t now (forwarded_as x (Some r.status) (Some ReuseAfter304)) x.asked) t s (same_Some t s h)
+        (as_held (Some x) (Answer now id r) t now (forwarded_as x (Some r.status) (Some ReuseAfter304)) x.asked f (same_at 0 es x now id r v t f.0 f.1) (refl, refl) (Some ReuseAfter304, refl))
     validates None (decision.Forward rule against) v k = λ h. absurd (never_one s h)
 
     answer_sends : Is (answered table es now x r next (decision_of es x.asked now))
     answer_sends = by_304 (is_validation x r) refl
       where
         by_unasked : (b : Bool) → is_validation x r ≡ false →
-            Is (cond b (failed table es now x BadAnswer (Some r.status) (rescue_of es x.asked now (decision_of es x.asked now)))
-            (passed_unless table es now x r next (is_error_status r.status) (rescue_of es x.asked now (decision_of es x.asked now))))
+            Is (cond b (failed table es now x BadAnswer (Some r.status) (fallback_for es x.asked now (decision_of es x.asked now)))
+            (passed_unless table es now x r next (is_error_status r.status) (fallback_for es x.asked now (decision_of es x.asked now))))
         by_unasked true n =
-            rescue_sends x (Answer now id r) now BadAnswer (Some r.status) s (rescue_of es x.asked now (decision_of es x.asked now)) refl
+            rescue_sends x (Answer now id r) now BadAnswer (Some r.status) s (fallback_for es x.asked now (decision_of es x.asked now)) refl
             (λ e. ap (λ b. cond b (refreshed x r now e) e) (never_answered x r now e n)) (refl, refl) (λ detail. (detail, refl))
-        by_unasked false n = passes (is_error_status r.status) (rescue_of es x.asked now (decision_of es x.asked now)) refl n
+        by_unasked false n = passes (is_error_status r.status) (fallback_for es x.asked now (decision_of es x.asked now)) refl n
 
         by_304 : (b : Bool) → is_validation x r ≡ b → Is (cond b (revalidated table es now x r (validated es x r now) (decision_of es x.asked now))
-            (cond (is_unasked x.asked r) (failed table es now x BadAnswer (Some r.status) (rescue_of es x.asked now (decision_of es x.asked now)))
-            (passed_unless table es now x r next (is_error_status r.status) (rescue_of es x.asked now (decision_of es x.asked now)))))
+            (cond (is_unasked x.asked r) (failed table es now x BadAnswer (Some r.status) (fallback_for es x.asked now (decision_of es x.asked now)))
+            (passed_unless table es now x r next (is_error_status r.status) (fallback_for es x.asked now (decision_of es x.asked now)))))
         by_304 true k = validates (validated es x r now) (decision_of es x.asked now) refl refl
         by_304 false k = by_unasked (is_unasked x.asked r) k
 
@@ -186,7 +186,7 @@ module _ (table : Table) (es : List Stored) (distinct : Distinct (serials es)) w
   sends_by_event xs (Some x) next (Answer now id r) s h = answer_sends x now id r next s h
   sends_by_event xs None next (Answer now id r) s h = absurd (never_one s h)
   sends_by_event xs (Some x) next (Fail now id kind) s h =
-      rescue_sends x (Fail now id kind) now kind None s (rescue_of es x.asked now (decision_of es x.asked now)) refl (λ e. refl) (refl, refl) (λ detail. (detail, refl)) h
+      rescue_sends x (Fail now id kind) now kind None s (fallback_for es x.asked now (decision_of es x.asked now)) refl (λ e. refl) (refl, refl) (λ detail. (detail, refl)) h
   sends_by_event xs None next (Fail now id kind) s h = absurd (never_one s h)
   sends_by_event xs x next (Abandon id) s h = absurd (never_one s h)
 

@@ -26,16 +26,16 @@ use Rattle.hx_status.specs.declared.status.Detail.TheVariants.{StaleIfError, Reu
 use Rattle.hx_status.specs.declared.cause.FailKind.{FailKind}
 use Rattle.hx_status.specs.declared.cause.FailKind.TheVariants.{BadAnswer}
 use Rattle.proxy_core.specs.declared.condition.Condition.{Condition}
-use Rattle.proxy_core.specs.declared.handling.Handling.{Handling}
+use Rattle.proxy_core.specs.declared.stored_reply.CacheStatusInfo.{CacheStatusInfo}
 use Rattle.proxy_core.specs.declared.exchange.Exchange.{Exchange}
-use Rattle.proxy_core.specs.declared.rescue.Rescue.{Rescue}
-use Rattle.proxy_core.specs.declared.rescue.Rescue.TheVariants.{Sends, Refuses}
+use Rattle.proxy_core.specs.declared.fallback.Fallback.{Fallback}
+use Rattle.proxy_core.specs.declared.fallback.Fallback.TheVariants.{Sends, Refuses}
 use Rattle.proxy_core.specs.declared.outcome.Outcome.{Outcome}
 use Rattle.proxy_core.specs.declared.event.Event.{Event}
 use Rattle.proxy_core.specs.declared.event.Event.TheVariants.{Arrive, Answer, Fail, Abandon}
 use Rattle.proxy_core.specs.Validating.{condition_at, is_validation, validated, refreshed}
 use Rattle.proxy_core.specs.Storing.{is_unasked, is_storable, replaced_by, nominates, made}
-use Rattle.proxy_core.specs.Outcomes.{find_exchange, id_of, sent, allowed, arrived, unanswered, is_only_if_cached, error_rule_at, rescue_by, rescue_of, failed, is_error_status, passed, passed_unless, revalidated, answered, outcome_of}
+use Rattle.proxy_core.specs.Outcomes.{find_exchange, id_of, sent, allowed, arrived, unanswered, is_only_if_cached, error_rule_at, fallback_by, fallback_for, failed, is_error_status, passed, passed_unless, revalidated, answered, outcome_of}
 use Rattle.proxy_core.specs.State.{State, NoneFrom, stored_in, used_in, removed_in, stored_form}
 use Rattle.proxy_core.specs.Traces.{Item, Accepts}
 use Rattle.proxy_core.proofs.Leaving.{validated_is, serial_stays}
@@ -93,9 +93,9 @@ same_sent m n c d h = cc
 -- ---- the kind of each outcome
 
 module _ (table : Table) (es : List Stored) (x : Option Exchange) (event : Event) (next : Option ℕ) where
-  kind_sent : (s now : ℕ) (handling : Handling) (asked : Asked) → IsFound es s → KindOf es x event next (sent table es s now handling asked)
+  kind_sent : (s now : ℕ) (info : CacheStatusInfo) (asked : Asked) → IsFound es s → KindOf es x event next (sent table es s now info asked)
   unfolding KindOf
-  kind_sent s now handling asked f = uses s f.0 refl refl f.1
+  kind_sent s now info asked f = uses s f.0 refl refl f.1
 
   kind_unanswered : (line now : ℕ) (asked : Asked) (rule : ReuseRule) (condition : Option Condition) (b : Bool) → KindOf es x event next (unanswered table line now asked rule condition b)
   unfolding KindOf
@@ -114,17 +114,17 @@ module _ (table : Table) (es : List Stored) (x : Option Exchange) (event : Event
   kind_arrived now asked verdict.NoLine = idle refl refl
 
   -- what is sent after a failure is held
-  rescue_found : (asked : Asked) (now s : ℕ) (detail : Detail) (d : Decision) → decision_of es asked now ≡ d → rescue_of es asked now d ≡ Sends s detail → IsFound es s
-  rescue_found asked now s detail (decision.Hit t) k h = subst (IsFound es) (same_sent t s ReuseAfterError detail h) (hit_found es asked now t k)
-  rescue_found asked now s detail (decision.Forward rule None) k h = absurd (cc)
-  rescue_found asked now s detail (decision.Forward rule (Some t)) k h = by_rule (error_rule_at es t asked now) h
+  fallback_found : (asked : Asked) (now s : ℕ) (detail : Detail) (d : Decision) → decision_of es asked now ≡ d → fallback_for es asked now d ≡ Sends s detail → IsFound es s
+  fallback_found asked now s detail (decision.Hit t) k h = subst (IsFound es) (same_sent t s ReuseAfterError detail h) (hit_found es asked now t k)
+  fallback_found asked now s detail (decision.Forward rule None) k h = absurd (cc)
+  fallback_found asked now s detail (decision.Forward rule (Some t)) k h = by_rule (error_rule_at es t asked now) h
     where
-      by_rule : (o : Option ErrorRule) → rescue_by rule t o ≡ Sends s detail → IsFound es s
+      by_rule : (o : Option ErrorRule) → fallback_by rule t o ≡ Sends s detail → IsFound es s
       by_rule None h = subst (IsFound es) (same_sent t s StaleIfError detail h) (named_found es asked now t rule k)
       by_rule (Some error) h = absurd (cc)
 
-  kind_failed : (now : ℕ) (z : Exchange) (kind : FailKind) (came : Option ℕ) (rescue : Rescue) → ((s : ℕ) (detail : Detail) → rescue ≡ Sends s detail → IsFound es s) →
-      KindOf es x event next (failed table es now z kind came rescue)
+  kind_failed : (now : ℕ) (z : Exchange) (kind : FailKind) (came : Option ℕ) (fallback : Fallback) → ((s : ℕ) (detail : Detail) → fallback ≡ Sends s detail → IsFound es s) →
+      KindOf es x event next (failed table es now z kind came fallback)
   unfolding KindOf
   kind_failed now z kind came (Sends s detail) f = let r = f s detail refl in uses s r.0 refl refl r.1
   kind_failed now z kind came (Refuses rule error) f = idle refl refl
@@ -146,12 +146,12 @@ module _ (table : Table) (es : List Stored) (now id : ℕ) (x : Exchange) (r : R
   kind_passed true None k g = idle refl refl
   kind_passed false n k g = idle refl refl
 
-  kind_unless : (b : Bool) (rescue : Rescue) → NoneFrom next es → ((s : ℕ) (detail : Detail) → rescue ≡ Sends s detail → IsFound es s) →
-      KindOf es (Some x) (Answer now id r) next (passed_unless table es now x r next b rescue)
+  kind_unless : (b : Bool) (fallback : Fallback) → NoneFrom next es → ((s : ℕ) (detail : Detail) → fallback ≡ Sends s detail → IsFound es s) →
+      KindOf es (Some x) (Answer now id r) next (passed_unless table es now x r next b fallback)
   unfolding KindOf
   kind_unless true (Sends s detail) g f = let r = f s detail refl in uses s r.0 refl refl r.1
   kind_unless true (Refuses rule error) g f = kind_passed (is_storable table.max_stored x r now next) next refl g
-  kind_unless false rescue g f = kind_passed (is_storable table.max_stored x r now next) next refl g
+  kind_unless false fallback g f = kind_passed (is_storable table.max_stored x r now next) next refl g
 
   kind_revalidated : (o : Option Stored) (d : Decision) → validated es x r now ≡ o → decision_of es x.asked now ≡ d →
       KindOf es (Some x) (Answer now id r) next (revalidated table es now x r o d)
@@ -167,17 +167,17 @@ module _ (table : Table) (es : List Stored) (now id : ℕ) (x : Exchange) (r : R
       d : Decision
       d = decision_of es x.asked now
 
-      found : (s : ℕ) (detail : Detail) → rescue_of es x.asked now (decision_of es x.asked now) ≡ Sends s detail → IsFound es s
-      found s detail h = rescue_found table es (Some x) (Answer now id r) next x.asked now s detail (decision_of es x.asked now) refl h
+      found : (s : ℕ) (detail : Detail) → fallback_for es x.asked now (decision_of es x.asked now) ≡ Sends s detail → IsFound es s
+      found s detail h = fallback_found table es (Some x) (Answer now id r) next x.asked now s detail (decision_of es x.asked now) refl h
 
-      by_unasked : (b : Bool) → KindOf es (Some x) (Answer now id r) next (cond b (failed table es now x BadAnswer (Some r.status) (rescue_of es x.asked now (decision_of es x.asked now)))
-          (passed_unless table es now x r next (is_error_status r.status) (rescue_of es x.asked now (decision_of es x.asked now))))
-      by_unasked true = kind_failed table es (Some x) (Answer now id r) next now x BadAnswer (Some r.status) (rescue_of es x.asked now (decision_of es x.asked now)) found
-      by_unasked false = kind_unless (is_error_status r.status) (rescue_of es x.asked now (decision_of es x.asked now)) g found
+      by_unasked : (b : Bool) → KindOf es (Some x) (Answer now id r) next (cond b (failed table es now x BadAnswer (Some r.status) (fallback_for es x.asked now (decision_of es x.asked now)))
+          (passed_unless table es now x r next (is_error_status r.status) (fallback_for es x.asked now (decision_of es x.asked now))))
+      by_unasked true = kind_failed table es (Some x) (Answer now id r) next now x BadAnswer (Some r.status) (fallback_for es x.asked now (decision_of es x.asked now)) found
+      by_unasked false = kind_unless (is_error_status r.status) (fallback_for es x.asked now (decision_of es x.asked now)) g found
 
       by_304 : (b : Bool) → KindOf es (Some x) (Answer now id r) next (cond b (revalidated table es now x r (validated es x r now) (decision_of es x.asked now))
-          (cond (is_unasked x.asked r) (failed table es now x BadAnswer (Some r.status) (rescue_of es x.asked now (decision_of es x.asked now)))
-          (passed_unless table es now x r next (is_error_status r.status) (rescue_of es x.asked now (decision_of es x.asked now)))))
+          (cond (is_unasked x.asked r) (failed table es now x BadAnswer (Some r.status) (fallback_for es x.asked now (decision_of es x.asked now)))
+          (passed_unless table es now x r next (is_error_status r.status) (fallback_for es x.asked now (decision_of es x.asked now)))))
       by_304 true = kind_revalidated (validated es x r now) (decision_of es x.asked now) refl refl
       by_304 false = by_unasked (is_unasked x.asked r)
 
@@ -188,8 +188,8 @@ kind_of table es xs x (Arrive now id asked) next h = kind_arrived table es x (Ar
 kind_of table es xs (Some x) (Answer now id r) next h = kind_answered table es now id x r next h
 kind_of table es xs None (Answer now id r) next h = idle refl refl
 kind_of table es xs (Some x) (Fail now id kind) next h =
-    kind_failed table es (Some x) (Fail now id kind) next now x kind None (rescue_of es x.asked now (decision_of es x.asked now))
-    (λ s detail k. rescue_found table es (Some x) (Fail now id kind) next x.asked now s detail (decision_of es x.asked now) refl k)
+    kind_failed table es (Some x) (Fail now id kind) next now x kind None (fallback_for es x.asked now (decision_of es x.asked now))
+    (λ s detail k. fallback_found table es (Some x) (Fail now id kind) next x.asked now s detail (decision_of es x.asked now) refl k)
 kind_of table es xs None (Fail now id kind) next h = idle refl refl
 kind_of table es xs x (Abandon id) next h = idle refl refl
 

@@ -19,12 +19,12 @@ use Rattle.proxy_core.specs.declared.outcome.Outcome.{Outcome}
 use Rattle.proxy_core.specs.declared.outcome.Outcome.TheVariants.{Forward}
 use Rattle.proxy_core.specs.declared.event.Event.{Event}
 use Rattle.proxy_core.specs.declared.event.Event.TheVariants.{Arrive, Answer, Fail}
-use Rattle.proxy_core.specs.declared.turns.Turn.{Turn}
+use Rattle.proxy_core.specs.declared.pending.PendingReply.{PendingReply}
 use Rattle.proxy_core.specs.Moments.{too_late}
 use Rattle.proxy_core.specs.Storing.{key_invalidated}
-use Rattle.proxy_core.specs.Outcomes.{find_exchange, fault_of, outcome_of, arrived, rescue_of, failed, answered}
+use Rattle.proxy_core.specs.Outcomes.{find_exchange, fault_of, outcome_of, arrived, fallback_for, failed, answered}
 use Rattle.proxy_core.specs.State.{State, Steps, after, taken, entries_after, left_open, invalidated_by, next_after, gone_out}
-use Rattle.proxy_core.specs.Turns.{stored_by, reply_of, turned, IsPlain, Leaves}
+use Rattle.proxy_core.specs.Pending.{stored_by, reply_of, finished, IsPlain, Leaves}
 use Rattle.proxy_core.proofs.Leaving.{fail_leaves}
 
 taken_rest : (s : ℕ) (rest : List ℕ) (es : List Stored) → without rest (without (s ∷ []) es) ≡ without (s ∷ rest) es
@@ -64,20 +64,20 @@ module _ (s : State) (now id : ℕ) (early : too_late now ≡ None) where
   }
 
   -- an exchange that an answer ends
-  pub answer_done : (x : Exchange) (r : Response) (turn : Turn) (gone : Option Key) (o : Outcome) (t : State) → find_exchange id s.exchanges ≡ Some x
-      → reply_of turn ≡ answered s.table s.entries now x r s.next (decision_of s.entries x.asked now) → Leaves s.limit s.entries x (Answer now x.id r) turn
-      → gone ≡ key_invalidated x r → o ≡ reply_of turn → t ≡ turned s id turn gone → Steps s (Answer now id r) o t
-  answer_done x r turn gone o t here reply leaves gone_is is t_is =
-      let next = next_after s.next (stored_by turn.change) in
+  pub answer_done : (x : Exchange) (r : Response) (pending : PendingReply) (gone : Option Key) (o : Outcome) (t : State) → find_exchange id s.exchanges ≡ Some x
+      → reply_of pending ≡ answered s.table s.entries now x r s.next (decision_of s.entries x.asked now) → Leaves s.limit s.entries x (Answer now x.id r) pending
+      → gone ≡ key_invalidated x r → o ≡ reply_of pending → t ≡ finished s id pending gone → Steps s (Answer now id r) o t
+  answer_done x r pending gone o t here reply leaves gone_is is t_is =
+      let next = next_after s.next (stored_by pending.change) in
       let event : Event = Answer now id r in
-      let left : Leaves s.limit s.entries x event turn = subst (λ (k : ℕ). Leaves s.limit s.entries x (Answer now k r) turn) (find_id id s.exchanges x here) leaves in
+      let left : Leaves s.limit s.entries x event pending = subst (λ (k : ℕ). Leaves s.limit s.entries x (Answer now k r) pending) (find_id id s.exchanges x here) leaves in
       record {
         allowed = ap (λ (x : Option Exchange). fault_of x event) here ∙ early;
         outcome_is = is ∙ (reply ∙ ap (λ (x : Option Exchange). outcome_of s.table s.entries s.exchanges x s.next event) (sym here));
         leaves = t_is
             ∙ (ap (λ (es : List Stored). st s.table s.limit es (left_open gone id s.exchanges) next)
-            (left ∙ ap (λ (y : Option Exchange). entries_after s.limit s.entries y event (reply_of turn)) (sym here))
-            ∙ (ap (λ (key : Option Key). st s.table s.limit (entries_after s.limit s.entries (find_exchange id s.exchanges) event (reply_of turn)) (left_open key id s.exchanges) next)
+            (left ∙ ap (λ (y : Option Exchange). entries_after s.limit s.entries y event (reply_of pending)) (sym here))
+            ∙ (ap (λ (key : Option Key). st s.table s.limit (entries_after s.limit s.entries (find_exchange id s.exchanges) event (reply_of pending)) (left_open key id s.exchanges) next)
             (gone_is ∙ ap (λ (y : Option Exchange). invalidated_by y r) (sym here))
             ∙ ap (λ (q : Outcome). after s event q) (sym is)));
       }
@@ -95,16 +95,16 @@ module _ (s : State) (now id : ℕ) (early : too_late now ≡ None) where
       }
 
   -- and one that failed
-  pub fail_done : (x : Exchange) (kind : FailKind) (turn : Turn) (o : Outcome) (t : State) → find_exchange id s.exchanges ≡ Some x
-      → reply_of turn ≡ failed s.table s.entries now x kind None (rescue_of s.entries x.asked now (decision_of s.entries x.asked now)) → IsPlain turn.change
-      → o ≡ reply_of turn → t ≡ turned s id turn None → Steps s (Fail now id kind) o t
-  fail_done x kind turn o t here reply plain is t_is =
+  pub fail_done : (x : Exchange) (kind : FailKind) (pending : PendingReply) (o : Outcome) (t : State) → find_exchange id s.exchanges ≡ Some x
+      → reply_of pending ≡ failed s.table s.entries now x kind None (fallback_for s.entries x.asked now (decision_of s.entries x.asked now)) → IsPlain pending.change
+      → o ≡ reply_of pending → t ≡ finished s id pending None → Steps s (Fail now id kind) o t
+  fail_done x kind pending o t here reply plain is t_is =
       let event : Event = Fail now id kind in
       record {
         allowed = ap (λ (x : Option Exchange). fault_of x event) here ∙ early;
         outcome_is = is ∙ (reply ∙ ap (λ (x : Option Exchange). outcome_of s.table s.entries s.exchanges x s.next event) (sym here));
         leaves = t_is
-            ∙ (ap (λ (es : List Stored). st s.table s.limit es (left_open None id s.exchanges) (next_after s.next (stored_by turn.change)))
-            (fail_leaves s.limit s.entries x now id kind turn plain ∙ ap (λ (y : Option Exchange). entries_after s.limit s.entries y event (reply_of turn)) (sym here))
+            ∙ (ap (λ (es : List Stored). st s.table s.limit es (left_open None id s.exchanges) (next_after s.next (stored_by pending.change)))
+            (fail_leaves s.limit s.entries x now id kind pending plain ∙ ap (λ (y : Option Exchange). entries_after s.limit s.entries y event (reply_of pending)) (sym here))
             ∙ ap (λ (q : Outcome). after s event q) (sym is));
       }

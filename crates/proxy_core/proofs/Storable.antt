@@ -9,9 +9,9 @@ use Rattle.hx_storable.specs.Storable.{StoresWhereNoneStands}
 use Rattle.hx_storable.specs.declared.rule.StoreRule.{StoreRule}
 use Rattle.hx_storable.specs.declared.rule.StoreRule.TheVariants.{VaryStar}
 use Rattle.proxy_core.specs.declared.exchange.Exchange.{Exchange}
-use Rattle.proxy_core.specs.declared.turns.Turn.{Turn}
+use Rattle.proxy_core.specs.declared.pending.PendingReply.{PendingReply}
 use Rattle.proxy_core.specs.Storing.{facts_of, is_storable}
-use Rattle.proxy_core.specs.Turns.{IsNext}
+use Rattle.proxy_core.specs.Pending.{IsNext}
 
 pub none_of : (o : Option StoreRule) → is_none o ≡ true → o ≡ None
 none_of None h = refl
@@ -31,5 +31,5 @@ pub given_is_next : (b : Bool) (next : Option ℕ) (n : ℕ) → Some n ≡ cond
 given_is_next true next n h = sym h
 given_is_next false next n h = cc
 
-pub next_of_turn : {E : Type 0} (r : Result Turn E) (next : Option ℕ) (n : ℕ) → next ≡ Some n → IfOk r (λ turn. IsNext (Some n) turn.change) → IfOk r (λ turn. IsNext next turn.change)
-next_of_turn r next n h k = subst (λ (o : Option ℕ). IfOk r (λ turn. IsNext o turn.change)) (sym h) k
+pub next_of_pending : {E : Type 0} (r : Result PendingReply E) (next : Option ℕ) (n : ℕ) → next ≡ Some n → IfOk r (λ pending. IsNext (Some n) pending.change) → IfOk r (λ pending. IsNext next pending.change)
+next_of_pending r next n h k = subst (λ (o : Option ℕ). IfOk r (λ pending. IsNext o pending.change)) (sym h) k

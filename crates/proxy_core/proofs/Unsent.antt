@@ -31,14 +31,14 @@ use Rattle.hx_status.specs.declared.cause.FailKind.{FailKind}
 use Rattle.hx_status.specs.declared.cause.FailKind.TheVariants.{BadAnswer}
 use Rattle.proxy_core.specs.declared.condition.Condition.{Condition}
 use Rattle.proxy_core.specs.declared.exchange.Exchange.{Exchange}
-use Rattle.proxy_core.specs.declared.rescue.Rescue.{Rescue}
-use Rattle.proxy_core.specs.declared.rescue.Rescue.TheVariants.{Sends, Refuses}
+use Rattle.proxy_core.specs.declared.fallback.Fallback.{Fallback}
+use Rattle.proxy_core.specs.declared.fallback.Fallback.TheVariants.{Sends, Refuses}
 use Rattle.proxy_core.specs.declared.outcome.Outcome.{Outcome}
 use Rattle.proxy_core.specs.declared.event.Event.{Event}
 use Rattle.proxy_core.specs.declared.event.Event.TheVariants.{Arrive, Answer, Fail, Abandon}
 use Rattle.proxy_core.specs.Validating.{condition_at, is_validation, is_answered, validated, refreshed}
 use Rattle.proxy_core.specs.Storing.{facts_of, is_storable, is_unasked, invalidates, key_invalidated}
-use Rattle.proxy_core.specs.Outcomes.{find_exchange, id_of, arrived, allowed, unanswered, is_only_if_cached, rescue_of, failed, is_error_status, passed, passed_unless, removed_by, stored_serial, revalidated, answered, outcome_of}
+use Rattle.proxy_core.specs.Outcomes.{find_exchange, id_of, arrived, allowed, unanswered, is_only_if_cached, fallback_for, failed, is_error_status, passed, passed_unless, removed_by, stored_serial, revalidated, answered, outcome_of}
 use Rattle.proxy_core.specs.State.{stored_in, used_in, removed_in, next_after, next_of, stored_form, used_form}
 use Rattle.proxy_core.specs.Traces.{Item, begun, left, IsGood}
 use Rattle.proxy_core.specs.Histories.{held_serials, held_entry, done_by, seen}
@@ -111,7 +111,7 @@ stored_arrival table es now asked (verdict.Allowed line) s h = by_decision (deci
 stored_arrival table es now asked (verdict.DeniedBy line) s h = none_stored s h
 stored_arrival table es now asked verdict.NoLine s h = none_stored s h
 
-stored_failure : (table : Table) (es : List Stored) (now : ℕ) (x : Exchange) (kind : FailKind) (came : Option ℕ) (rescue : Rescue) (s : ℕ) → stored_in (failed table es now x kind came rescue) ≡ Some s → ⊥
+stored_failure : (table : Table) (es : List Stored) (now : ℕ) (x : Exchange) (kind : FailKind) (came : Option ℕ) (fallback : Fallback) (s : ℕ) → stored_in (failed table es now x kind came fallback) ≡ Some s → ⊥
 stored_failure table es now x kind came (Sends serial detail) s h = none_stored s h
 stored_failure table es now x kind came (Refuses rule error) s h = none_stored s h
 
@@ -125,22 +125,22 @@ module _ (table : Table) (es : List Stored) (now i : ℕ) (x : Exchange) (r : Re
   stored_by_test true k h = record { z = x; now = now; i = i; r = r; w_is = refl; event_is = refl; plain = storable_is table.max_stored x r now next k; next_is = h }
   stored_by_test false k h = absurd (none_stored s h)
 
-  stored_unless : (b : Bool) (rescue : Rescue) → stored_in (passed_unless table es now x r next b rescue) ≡ Some s → Storing (Some x) (Answer now i r) next s
+  stored_unless : (b : Bool) (fallback : Fallback) → stored_in (passed_unless table es now x r next b fallback) ≡ Some s → Storing (Some x) (Answer now i r) next s
   stored_unless true (Sends serial detail) h = absurd (none_stored s h)
   stored_unless true (Refuses rule error) h = stored_by_test (is_storable table.max_stored x r now next) refl h
-  stored_unless false rescue h = stored_by_test (is_storable table.max_stored x r now next) refl h
+  stored_unless false fallback h = stored_by_test (is_storable table.max_stored x r now next) refl h
 
   stored_answer : (d : Decision) → stored_in (answered table es now x r next d) ≡ Some s → Storing (Some x) (Answer now i r) next s
   stored_answer d h = by_304 (is_validation x r) h
     where
-      by_unasked : (b : Bool) → stored_in (cond b (failed table es now x BadAnswer (Some r.status) (rescue_of es x.asked now d))
-          (passed_unless table es now x r next (is_error_status r.status) (rescue_of es x.asked now d))) ≡ Some s → Storing (Some x) (Answer now i r) next s
-      by_unasked true h = absurd (stored_failure table es now x BadAnswer (Some r.status) (rescue_of es x.asked now d) s h)
-      by_unasked false h = stored_unless (is_error_status r.status) (rescue_of es x.asked now d) h
+      by_unasked : (b : Bool) → stored_in (cond b (failed table es now x BadAnswer (Some r.status) (fallback_for es x.asked now d))
+          (passed_unless table es now x r next (is_error_status r.status) (fallback_for es x.asked now d))) ≡ Some s → Storing (Some x) (Answer now i r) next s
+      by_unasked true h = absurd (stored_failure table es now x BadAnswer (Some r.status) (fallback_for es x.asked now d) s h)
+      by_unasked false h = stored_unless (is_error_status r.status) (fallback_for es x.asked now d) h
 
       by_304 : (b : Bool) → stored_in (cond b (revalidated table es now x r (validated es x r now) d)
-          (cond (is_unasked x.asked r) (failed table es now x BadAnswer (Some r.status) (rescue_of es x.asked now d))
-          (passed_unless table es now x r next (is_error_status r.status) (rescue_of es x.asked now d)))) ≡ Some s → Storing (Some x) (Answer now i r) next s
+          (cond (is_unasked x.asked r) (failed table es now x BadAnswer (Some r.status) (fallback_for es x.asked now d))
+          (passed_unless table es now x r next (is_error_status r.status) (fallback_for es x.asked now d)))) ≡ Some s → Storing (Some x) (Answer now i r) next s
       by_304 true h = absurd (stored_304 table es now x r (validated es x r now) d s h)
       by_304 false h = by_unasked (is_unasked x.asked r) h
 
@@ -150,7 +150,7 @@ storing_of table es xs w next (Arrive now i asked) s h = absurd (stored_arrival 
 storing_of table es xs None next (Answer now i r) s h = absurd (none_stored s h)
 storing_of table es xs (Some z) next (Answer now i r) s h = stored_answer table es now i z r next s (decision_of es z.asked now) h
 storing_of table es xs None next (Fail now i kind) s h = absurd (none_stored s h)
-storing_of table es xs (Some z) next (Fail now i kind) s h = absurd (stored_failure table es now z kind None (rescue_of es z.asked now (decision_of es z.asked now)) s h)
+storing_of table es xs (Some z) next (Fail now i kind) s h = absurd (stored_failure table es now z kind None (fallback_for es z.asked now (decision_of es z.asked now)) s h)
 storing_of table es xs w next (Abandon i) s h = absurd (none_stored s h)
 
 -- ---- what an item that invalidates removes
@@ -179,7 +179,7 @@ key_parts x r k h = by_test (invalidates x r) h
 -- where the rest is as it should be, the answer is passed on
 passed_at : (table : Table) (es : List Stored) (now : ℕ) (x : Exchange) (r : Response) (next : Option ℕ) (d : Decision) (v n e : Bool) → v ≡ false → n ≡ false → e ≡ false →
     cond v (revalidated table es now x r (validated es x r now) d)
-    (cond n (failed table es now x BadAnswer (Some r.status) (rescue_of es x.asked now d)) (passed_unless table es now x r next e (rescue_of es x.asked now d)))
+    (cond n (failed table es now x BadAnswer (Some r.status) (fallback_for es x.asked now d)) (passed_unless table es now x r next e (fallback_for es x.asked now d)))
     ≡ passed table es now x r (stored_serial table x r now next)
 passed_at table es now x r next d true n e hv hn he = absurd (false≢true (sym hv))
 passed_at table es now x r next d false true e hv hn he = absurd (false≢true (sym hn))

@@ -13,5 +13,5 @@ pub mod Naming
 pub mod Sending
 pub mod Headline
 pub mod Driving
-pub mod Turns
+pub mod Pending
 pub mod Validating

@@ -1,7 +1,7 @@
 -- What a step gives: the cases, over the held responses, the open exchanges and the next serial.
 --
--- find_exchange: the open exchange of an id     id_of: of an event
--- rescue_of: what is held instead of an answer  arrived, answered, failed: the cases
+-- find_exchange: the open exchange of an id        id_of: of an event
+-- fallback_for: what is held instead of an answer  arrived, answered, failed: the cases
 -- outcome_of, outcome_by: of an event
 -- fault_by: the least fault that stands, want of memory aside
 use Rattle.std.specs.Prelude.{ℕ, ◌==◌, Bool, true, false, ◌||◌, List, [], ◌∷◌, Option, Some, None, cond, is_some}
@@ -35,9 +35,9 @@ use Rattle.hx_status.specs.declared.cause.Cause.{Cause}
 use Rattle.hx_status.specs.declared.cause.Cause.TheVariants.{Denied, NoLine, OnlyIfCached, Origin}
 use Rattle.proxy_core.specs.declared.condition.Condition.{Condition}
 use Rattle.proxy_core.specs.declared.exchange.Exchange.{Exchange}
-use Rattle.proxy_core.specs.declared.rescue.Rescue.{Rescue}
-use Rattle.proxy_core.specs.declared.rescue.Rescue.TheVariants.{Sends, Refuses}
-use Rattle.proxy_core.specs.declared.handling.Handling.{Handling}
+use Rattle.proxy_core.specs.declared.fallback.Fallback.{Fallback}
+use Rattle.proxy_core.specs.declared.fallback.Fallback.TheVariants.{Sends, Refuses}
+use Rattle.proxy_core.specs.declared.stored_reply.CacheStatusInfo.{CacheStatusInfo}
 use Rattle.proxy_core.specs.declared.outcome.Outcome.{Outcome}
 use Rattle.proxy_core.specs.declared.outcome.Outcome.TheVariants.{Reply, Forward, Ended}
 use Rattle.proxy_core.specs.declared.event.Event.{Event}
@@ -55,14 +55,14 @@ find_exchange id [] = None
 find_exchange id (x ∷ xs) = cond (x.id == id) (Some x) (find_exchange id xs)
 
 -- the bytes of a held response, sent
-abbrev pub sent_text : List ℕ → Option Stored → ℕ → Handling → Asked → List ℕ
-sent_text name None now handling asked = []
-sent_text name (Some e) now handling asked = stored_text name e now handling asked
+abbrev pub sent_text : List ℕ → Option Stored → ℕ → CacheStatusInfo → Asked → List ℕ
+sent_text name None now info asked = []
+sent_text name (Some e) now info asked = stored_text name e now info asked
 
 -- the stored response of a serial is sent
-abbrev pub sent : Table → List Stored → ℕ → ℕ → Handling → Asked → Outcome
-sent table es serial now handling asked =
-    Reply (record { bytes = sent_text table.name (find_entry serial es) now handling asked; close = asked.close; stored = None; used = Some serial; removed = [] })
+abbrev pub sent : Table → List Stored → ℕ → ℕ → CacheStatusInfo → Asked → Outcome
+sent table es serial now info asked =
+    Reply (record { bytes = sent_text table.name (find_entry serial es) now info asked; close = asked.close; stored = None; used = Some serial; removed = [] })
 
 -- the proxy answers by itself
 abbrev pub refused : ℕ → Cause → Asked → Outcome
@@ -82,7 +82,7 @@ abbrev pub unanswered : Table → ℕ → ℕ → Asked → ReuseRule → Option
 unanswered table line now asked rule condition true = refused now (OnlyIfCached rule) asked
 unanswered table line now asked rule condition false = Forward line (forward_text table asked condition)
 
-abbrev pub as_hit : Handling
+abbrev pub as_hit : CacheStatusInfo
 as_hit = record { how = Hit; came = None; detail = None }
 
 -- an allowed request: the stored response that no rule keeps back is sent, else the request goes forward
@@ -98,27 +98,27 @@ arrived table es now asked verdict.NoLine = refused now NoLine asked
 
 -- what is told of a stored response that is sent after going forward: the rule at arrival, the status of an answer
 -- that came, and the word of the step
-abbrev pub told_after : Exchange → Option ℕ → Option Detail → Handling
-told_after x came detail = record { how = Fwd x.rule; came = came; detail = detail }
+abbrev pub forwarded_as : Exchange → Option ℕ → Option Detail → CacheStatusInfo
+forwarded_as x came detail = record { how = Fwd x.rule; came = came; detail = detail }
 
 -- the error rule against the held response of a serial
 abbrev pub error_rule_at : List Stored → ℕ → Asked → ℕ → Option ErrorRule
 error_rule_at es serial asked now = option_and_then (λ e. error_rule_on e (occurrences_of asked.fields) now) (find_entry serial es)
 
-abbrev pub rescue_by : ReuseRule → ℕ → Option ErrorRule → Rescue
-rescue_by rule serial None = Sends serial StaleIfError
-rescue_by rule serial (Some error) = Refuses rule (Some error)
+abbrev pub fallback_by : ReuseRule → ℕ → Option ErrorRule → Fallback
+fallback_by rule serial None = Sends serial StaleIfError
+fallback_by rule serial (Some error) = Refuses rule (Some error)
 
 -- what is held instead of an answer: the response that no reuse rule keeps back, or the one that a rule names and no
 -- error rule keeps back (RFC 5861, section 4)
-abbrev pub rescue_of : List Stored → Asked → ℕ → Decision → Rescue
-rescue_of es asked now (decision.Hit serial) = Sends serial ReuseAfterError
-rescue_of es asked now (decision.Forward rule None) = Refuses rule None
-rescue_of es asked now (decision.Forward rule (Some serial)) = rescue_by rule serial (error_rule_at es serial asked now)
+abbrev pub fallback_for : List Stored → Asked → ℕ → Decision → Fallback
+fallback_for es asked now (decision.Hit serial) = Sends serial ReuseAfterError
+fallback_for es asked now (decision.Forward rule None) = Refuses rule None
+fallback_for es asked now (decision.Forward rule (Some serial)) = fallback_by rule serial (error_rule_at es serial asked now)
 
 -- a failure sends such a response, else it is named with the rules that keep it back
-abbrev pub failed : Table → List Stored → ℕ → Exchange → FailKind → Option ℕ → Rescue → Outcome
-failed table es now x kind came (Sends serial detail) = sent table es serial now (told_after x came (Some detail)) x.asked
+abbrev pub failed : Table → List Stored → ℕ → Exchange → FailKind → Option ℕ → Fallback → Outcome
+failed table es now x kind came (Sends serial detail) = sent table es serial now (forwarded_as x came (Some detail)) x.asked
 failed table es now x kind came (Refuses rule error) = refused now (Origin kind rule error) x.asked
 
 -- the serial under which an answer is stored, if it is
@@ -139,16 +139,16 @@ abbrev pub is_error_status : ℕ → Bool
 is_error_status status = (status == 500) || (status == 502) || (status == 503) || (status == 504)
 
 -- an answer of the origin is passed on, but for such a status where a stored response may be sent
-abbrev pub passed_unless : Table → List Stored → ℕ → Exchange → Response → Option ℕ → Bool → Rescue → Outcome
-passed_unless table es now x r next true (Sends serial detail) = sent table es serial now (told_after x (Some r.status) (Some detail)) x.asked
+abbrev pub passed_unless : Table → List Stored → ℕ → Exchange → Response → Option ℕ → Bool → Fallback → Outcome
+passed_unless table es now x r next true (Sends serial detail) = sent table es serial now (forwarded_as x (Some r.status) (Some detail)) x.asked
 passed_unless table es now x r next true (Refuses rule error) = passed table es now x r (stored_serial table x r now next)
-passed_unless table es now x r next false rescue = passed table es now x r (stored_serial table x r now next)
+passed_unless table es now x r next false fallback = passed table es now x r (stored_serial table x r now next)
 
 -- a freshened response is sent, and kept where no storing rule stands
 abbrev pub sent_refreshed : Table → Exchange → Response → ℕ → Stored → Outcome
 sent_refreshed table x r now e =
     Reply (record {
-      bytes = stored_text table.name e now (told_after x (Some r.status) None) x.asked;
+      bytes = stored_text table.name e now (forwarded_as x (Some r.status) None) x.asked;
       close = x.asked.close;
       stored = None;
       used = Some e.serial;
@@ -159,7 +159,7 @@ sent_refreshed table x r now e =
 -- it answers none, a response that no rule keeps back is sent, else the client's own request goes forward.
 abbrev pub revalidated : Table → List Stored → ℕ → Exchange → Response → Option Stored → Decision → Outcome
 revalidated table es now x r (Some e) d = sent_refreshed table x r now (refreshed x r now e)
-revalidated table es now x r None (decision.Hit serial) = sent table es serial now (told_after x (Some r.status) (Some ReuseAfter304)) x.asked
+revalidated table es now x r None (decision.Hit serial) = sent table es serial now (forwarded_as x (Some r.status) (Some ReuseAfter304)) x.asked
 revalidated table es now x r None (decision.Forward rule against) = Forward x.line (forward_text table x.asked None)
 
 -- an answer of the origin: a 304 to the proxy's conditions validates; one that nobody asked for is a failure; any other
@@ -167,8 +167,8 @@ revalidated table es now x r None (decision.Forward rule against) = Forward x.li
 abbrev pub answered : Table → List Stored → ℕ → Exchange → Response → Option ℕ → Decision → Outcome
 answered table es now x r next d =
     cond (is_validation x r) (revalidated table es now x r (validated es x r now) d)
-    (cond (is_unasked x.asked r) (failed table es now x BadAnswer (Some r.status) (rescue_of es x.asked now d))
-    (passed_unless table es now x r next (is_error_status r.status) (rescue_of es x.asked now d)))
+    (cond (is_unasked x.asked r) (failed table es now x BadAnswer (Some r.status) (fallback_for es x.asked now d))
+    (passed_unless table es now x r next (is_error_status r.status) (fallback_for es x.asked now d)))
 
 abbrev pub id_of : Event → ℕ
 id_of (Arrive now id asked) = id
@@ -181,7 +181,7 @@ abbrev pub outcome_of : Table → List Stored → List Exchange → Option Excha
 outcome_of table es xs x next (Arrive now id asked) = arrived table es now asked (verdict_of table.lines asked.method asked.target)
 outcome_of table es xs (Some x) next (Answer now id r) = answered table es now x r next (decision_of es x.asked now)
 outcome_of table es xs None next (Answer now id r) = Ended
-outcome_of table es xs (Some x) next (Fail now id kind) = failed table es now x kind None (rescue_of es x.asked now (decision_of es x.asked now))
+outcome_of table es xs (Some x) next (Fail now id kind) = failed table es now x kind None (fallback_for es x.asked now (decision_of es x.asked now))
 outcome_of table es xs None next (Fail now id kind) = Ended
 outcome_of table es xs x next (Abandon id) = Ended
 

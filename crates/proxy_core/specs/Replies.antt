@@ -18,7 +18,7 @@ use Rattle.hx_status.specs.declared.status.Status.{Status}
 use Rattle.hx_status.specs.declared.status.How.TheVariants.{Fwd}
 use Rattle.hx_status.specs.declared.cause.Cause.{Cause}
 use Rattle.proxy_core.specs.declared.exchange.Exchange.{Exchange}
-use Rattle.proxy_core.specs.declared.handling.Handling.{Handling}
+use Rattle.proxy_core.specs.declared.stored_reply.CacheStatusInfo.{CacheStatusInfo}
 
 abbrev pub line : List ℕ → List ℕ → Field
 line name value = record { name = name; value = value }
@@ -39,41 +39,41 @@ abbrev pub fwd_status_of : Option ℕ → ℕ → Option ℕ
 fwd_status_of None sent = None
 fwd_status_of (Some came) sent = cond (came == sent) None (Some came)
 
-abbrev pub status_sent : ℕ → Stored → ℕ → Handling → Status
-status_sent status e now handling = record {
-  how = handling.how;
-  fwd_status = fwd_status_of handling.came status;
+abbrev pub status_sent : ℕ → Stored → ℕ → CacheStatusInfo → Status
+status_sent status e now info = record {
+  how = info.how;
+  fwd_status = fwd_status_of info.came status;
   ttl = Some (ttl_at e now);
   stored = false;
   collapsed = false;
-  detail = handling.detail;
+  detail = info.detail;
 }
 
 -- with this status: these of the stored lines, then Age (RFC 9111, section 5.1) and Cache-Status
-abbrev pub lines_sent : List ℕ → ℕ → List Field → Stored → ℕ → Handling → List Field
-lines_sent name status fields e now handling =
+abbrev pub lines_sent : List ℕ → ℕ → List Field → Stored → ℕ → CacheStatusInfo → List Field
+lines_sent name status fields e now info =
     (fields ++ line (codes "Age") (decimal (age_of e.times now)) ∷ [])
-    ++ line (codes "Cache-Status") (member_text name (status_sent status e now handling)) ∷ []
+    ++ line (codes "Cache-Status") (member_text name (status_sent status e now info)) ∷ []
 
 -- no length where the status has none (RFC 9110, section 8.6)
 abbrev pub length_told : ℕ → Option ℕ → Option ℕ
 length_told status length = cond ((status == 204) || (status == 304)) None length
 
 -- a stored response is sent whole
-abbrev pub whole_text : List ℕ → Stored → ℕ → Handling → Asked → List ℕ
-whole_text name e now handling asked =
-    response_text e.status (lines_sent name e.status e.fields e now handling) (length_told e.status (Some (length e.content))) asked.close
+abbrev pub whole_text : List ℕ → Stored → ℕ → CacheStatusInfo → Asked → List ℕ
+whole_text name e now info asked =
+    response_text e.status (lines_sent name e.status e.fields e now info) (length_told e.status (Some (length e.content))) asked.close
     (content_sent (is_head asked) e.content)
 
 -- the client has it already (RFC 9110, section 15.4.5)
-abbrev pub not_modified_text : List ℕ → Stored → ℕ → Handling → Asked → List ℕ
-not_modified_text name e now handling asked =
-    response_text 304 (lines_sent name 304 (not_modified_of e.fields) e now handling) None asked.close []
+abbrev pub not_modified_text : List ℕ → Stored → ℕ → CacheStatusInfo → Asked → List ℕ
+not_modified_text name e now info asked =
+    response_text 304 (lines_sent name 304 (not_modified_of e.fields) e now info) None asked.close []
 
 -- a stored response is sent
-abbrev pub stored_text : List ℕ → Stored → ℕ → Handling → Asked → List ℕ
-stored_text name e now handling asked =
-    cond (wants_304 asked e) (not_modified_text name e now handling asked) (whole_text name e now handling asked)
+abbrev pub stored_text : List ℕ → Stored → ℕ → CacheStatusInfo → Asked → List ℕ
+stored_text name e now info asked =
+    cond (wants_304 asked e) (not_modified_text name e now info asked) (whole_text name e now info asked)
 
 -- to HEAD an answer of the origin has the length that it announced
 abbrev pub length_passed : Bool → Response → Option ℕ

@@ -22,7 +22,7 @@ use Rattle.hx_reuse.specs.declared.rule.ReuseRule.{ReuseRule}
 use Rattle.hx_status.specs.declared.cause.Cause.TheVariants.{Denied, NoLine, OnlyIfCached}
 use Rattle.hx_status.specs.declared.status.Detail.{Detail}
 use Rattle.proxy_core.specs.declared.exchange.Exchange.{Exchange}
-use Rattle.proxy_core.specs.declared.handling.Handling.{Handling}
+use Rattle.proxy_core.specs.declared.stored_reply.CacheStatusInfo.{CacheStatusInfo}
 use Rattle.proxy_core.specs.declared.outcome.Reply.{Reply}
 use Rattle.proxy_core.specs.declared.outcome.Outcome.{Outcome}
 use Rattle.proxy_core.specs.declared.outcome.Outcome.TheVariants.{Reply as Replied, Forward}
@@ -31,7 +31,7 @@ use Rattle.proxy_core.specs.declared.event.Event.TheVariants.{Arrive, Answer, Fa
 use Rattle.proxy_core.specs.Storing.{is_unasked}
 use Rattle.proxy_core.specs.Validating.{is_validation, validated}
 use Rattle.proxy_core.specs.Replies.{stored_text}
-use Rattle.proxy_core.specs.Outcomes.{find_exchange, id_of, is_only_if_cached, is_error_status, refused, as_hit, told_after}
+use Rattle.proxy_core.specs.Outcomes.{find_exchange, id_of, is_only_if_cached, is_error_status, refused, as_hit, forwarded_as}
 use Rattle.proxy_core.specs.State.{used_in, used_form}
 use Rattle.proxy_core.specs.Traces.{Item}
 use Rattle.proxy_core.specs.Histories.{held_entries, open_exchanges, IsGoodHistory}
@@ -84,10 +84,10 @@ IsTurnedAway table now asked outcome =
     ⊎ ((verdict_of table.lines asked.method asked.target ≡ Unmatched) × (outcome ≡ refused now NoLine asked))
 
 -- what Cache-Status tells of a stored response (RFC 9211): a hit, or why the request had gone forward, and what came
-abbrev pub TellsHow : Option Exchange → Event → Handling → Type 0
+abbrev pub TellsHow : Option Exchange → Event → CacheStatusInfo → Type 0
 TellsHow x (Arrive now id asked) h = h ≡ as_hit
-TellsHow (Some x) (Answer now id r) h = (detail : Option Detail) × (h ≡ told_after x (Some r.status) detail)
-TellsHow (Some x) (Fail now id kind) h = (detail : Option Detail) × (h ≡ told_after x None detail)
+TellsHow (Some x) (Answer now id r) h = (detail : Option Detail) × (h ≡ forwarded_as x (Some r.status) detail)
+TellsHow (Some x) (Fail now id kind) h = (detail : Option Detail) × (h ≡ forwarded_as x None detail)
 TellsHow None (Answer now id r) h = ⊥
 TellsHow None (Fail now id kind) h = ⊥
 TellsHow x (Abandon id) h = ⊥
@@ -109,7 +109,7 @@ pub record IsThatResponse (table : Table) (held : List Stored) (x : Option Excha
   pub now : ℕ
   pub asked : Asked
   pub about : IsAbout x event now asked
-  pub handling : Handling
+  pub handling : CacheStatusInfo
   pub tells_how : TellsHow x event handling
   pub reply : Reply
   pub outcome_is : outcome ≡ Replied reply

@@ -15,6 +15,7 @@ use Rattle.hx_reuse.specs.declared.decision.Decision.{Decision}
 use Rattle.hx_reuse.specs.declared.decision.Decision.TheVariants as decision
 use Rattle.hx_reuse.specs.declared.rule.ReuseRule.{ReuseRule}
 use Rattle.hx_reuse.specs.declared.rule.ReuseRule.TheVariants.{UriMiss}
+use Rattle.proxy_core.specs.declared.condition.Condition.{Condition}
 use Rattle.proxy_core.specs.declared.exchange.Exchange.{Exchange}
 use Rattle.proxy_core.specs.declared.outcome.Outcome.{Outcome}
 use Rattle.proxy_core.specs.declared.outcome.Outcome.TheVariants.{Reply, Forward, Ended}
@@ -122,9 +123,13 @@ opened es now id asked line = record {
   overtaken = false;
 }
 
--- an exchange goes forward once more, with the client's own request
+-- the request of an exchange goes forward at a moment, with this rule and these conditions of the proxy
+abbrev pub goes_out : ℕ → ReuseRule → Option Condition → Exchange → Exchange
+goes_out now rule condition x = record x { rule = rule; request_time = now; condition = condition; overtaken = false }
+
+-- that of an id goes forward once more: the client's own request, with the rule of its arrival
 abbrev pub gone_out : ℕ → ℕ → Exchange → Exchange
-gone_out id now x = cond (x.id == id) (record x { request_time = now; condition = None; overtaken = false }) x
+gone_out id now x = cond (x.id == id) (goes_out now x.rule None x) x
 
 -- the open exchanges after an event, in the order of arrival
 abbrev pub open_after : List Stored → List Exchange → Event → Outcome → List Exchange

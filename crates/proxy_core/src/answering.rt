@@ -3,102 +3,26 @@ ghost use Rattle.std.specs.Prelude.{◌≡◌, ◌<◌, Some, None, IfOk, IfErr,
 ghost use Rattle.hx_hop.specs.Answering.{answered_of};
 ghost use Rattle.hx_reuse.specs.Rules.{decision_of};
 ghost use Rattle.hx_vary.specs.Vary.{kept_values};
-ghost use Rattle.proxy_core.specs.Outcomes.{is_error_status, passed, passed_unless, rescue_of, answered, stored_serial};
+ghost use Rattle.proxy_core.specs.Outcomes.{is_error_status, passed, passed_unless, fallback_for, answered, stored_serial};
 ghost use Rattle.proxy_core.specs.declared.event.Event.TheVariants.{Answer};
 ghost use Rattle.proxy_core.specs.State.{Steps, Refuses};
-ghost use Rattle.proxy_core.specs.Turns.{reply_of, IsNext, Makes, outcome_of_course, CourseLeaves, CourseFits};
+ghost use Rattle.proxy_core.specs.Pending.{reply_of, IsNext, Makes, outcome_after, AfterLeaves, AfterFits};
 
-use crate::exchange::Exchange;
-use crate::failing::{rescue, send_after, turn_after_failure};
+use crate::fallback::{Fallback, fallback_for};
 use crate::fault::CoreFault;
 use crate::moments::moment_fault;
+use crate::origin_answer::OriginAnswer;
 use crate::outcome::Outcome;
+use crate::pending::{AfterAnswer, Change, PendingReply};
 use crate::proxy::Core;
 use crate::reply_text::passed_text;
-use crate::rescue::Rescue;
-use crate::storing::{
-    Place, entry_for, is_unasked, key_invalidated, place_for, removed_unstored, replaced_by,
-};
-use crate::turns::{Change, Course, Turn};
-use crate::validating::{course_after_304, is_validation};
-use hx_allow::Config;
+use crate::stored_reply::CacheStatusInfo;
+use crate::storing::{NewEntry, removed_unstored, replaced_by};
 use hx_framing::Response;
-use hx_hop::{Answered, answered};
+use hx_hop::Answered;
 use hx_status::FailKind;
 use hx_store::Shelf;
 use std::alloc::{AllocError, Global};
-
-/// Passes on an answer that isn't stored.
-fn pass_by<S: Shelf>(
-    alloc: Global,
-    config: &Config,
-    shelf: &S,
-    exchange: &Exchange,
-    response: &Response,
-    head: &Answered,
-    now: u64,
-) -> Result<Turn, AllocError>
-    requires { head.now ≡ answered_of response.now now }
-    ensures outcome { IfOk result (λ turn. reply_of turn ≡ passed config.now (S.entries shelf.now) now exchange.now response.now None) }
-    ensures change { IfOk result (λ turn. turn.change ≡ Change.Keep) }
-{
-    Ok(Turn {
-        bytes: passed_text(alloc, config.name(), exchange, response, head, now, false)?,
-        close: exchange.asked.close,
-        change: Change::Keep,
-        removed: removed_unstored(alloc, shelf, exchange, response)?,
-    })
-}
-
-/// Passes on an answer, and stores it.
-fn pass_and_store<S: Shelf>(
-    alloc: Global,
-    config: &Config,
-    shelf: &S,
-    exchange: &Exchange,
-    response: &Response,
-    head: Answered,
-    now: u64,
-    place: Place,
-) -> Result<Turn, AllocError>
-    requires head { head ≡ answered_of response.now now }
-    requires nominated { place.nominated ≡ kept_values head.fields exchange.now.asked.fields }
-    ensures outcome { IfOk result (λ turn. reply_of turn ≡ passed config.now (S.entries shelf.now) now exchange.now response.now (Some place.serial)) }
-    ensures next { IfOk result (λ turn. IsNext (Some place.serial) turn.change) }
-    ensures makes { IfOk result (λ turn. Makes exchange.now response.now now turn.change) }
-{
-    let bytes = passed_text(alloc, config.name(), exchange, response, &head, now, true)?;
-    let removed = replaced_by(alloc, shelf, &exchange.asked)?;
-    let entry = entry_for(alloc, place, exchange, response, head, now)?;
-    Ok(Turn {
-        bytes,
-        close: exchange.asked.close,
-        change: Change::Store(entry),
-        removed,
-    })
-}
-
-/// Passes on an answer, and stores it where it may be.
-fn pass_on<S: Shelf>(
-    alloc: Global,
-    config: &Config,
-    shelf: &S,
-    next: Option<u64>,
-    exchange: &Exchange,
-    response: &Response,
-    now: u64,
-) -> Result<Turn, AllocError>
-    requires { now < 253_402_300_800 }
-    ensures outcome { IfOk result (λ turn. reply_of turn ≡ passed config.now (S.entries shelf.now) now exchange.now response.now (stored_serial config.now exchange.now response.now now next)) }
-    ensures next { IfOk result (λ turn. IsNext next turn.change) }
-    ensures makes { IfOk result (λ turn. Makes exchange.now response.now now turn.change) }
-{
-    let head = answered(alloc, response, now)?;
-    match place_for(alloc, config, next, exchange, response, &head, now)? {
-        None => pass_by(alloc, config, shelf, exchange, response, &head, now),
-        Some(place) => pass_and_store(alloc, config, shelf, exchange, response, head, now, place),
-    }
-}
 
 fn is_error_status(status: u16) -> bool
     ensures { result ≡ is_error_status status }
@@ -106,62 +30,119 @@ fn is_error_status(status: u16) -> bool
     status == 500 || status == 502 || status == 503 || status == 504
 }
 
-/// What an answer leads to that is passed on, unless a held response is sent in its place.
-fn turn_after_final<S: Shelf>(
-    alloc: Global,
-    config: &Config,
-    shelf: &S,
-    next: Option<u64>,
-    exchange: &Exchange,
-    response: &Response,
-    now: u64,
-) -> Result<Turn, AllocError>
-    requires { now < 253_402_300_800 }
-    ensures outcome { IfOk result (λ turn. reply_of turn ≡ passed_unless config.now (S.entries shelf.now) now exchange.now response.now next (is_error_status response.now.status) (rescue_of (S.entries shelf.now) exchange.now.asked now (decision_of (S.entries shelf.now) exchange.now.asked now))) }
-    ensures next { IfOk result (λ turn. IsNext next turn.change) }
-    ensures makes { IfOk result (λ turn. Makes exchange.now response.now now turn.change) }
-{
-    if !is_error_status(response.status) {
-        return pass_on(alloc, config, shelf, next, exchange, response, now);
-    }
-    match rescue(alloc, shelf, &exchange.asked, now)? {
-        Rescue::Sends(serial, detail) => {
-            let came = Some(response.status);
-            send_after(alloc, config, shelf, serial, now, exchange, came, detail)
-        }
-        Rescue::Refuses(_, _) => pass_on(alloc, config, shelf, next, exchange, response, now),
-    }
-}
-
-/// What an answer leads to.
-fn course_of<S: Shelf>(
-    alloc: Global,
-    config: &Config,
-    shelf: &S,
-    next: Option<u64>,
-    exchange: &Exchange,
-    response: &Response,
-    now: u64,
-) -> Result<Course, AllocError>
-    requires { now < 253_402_300_800 }
-    ensures outcome { IfOk result (λ course. outcome_of_course exchange.now course ≡ answered config.now (S.entries shelf.now) now exchange.now response.now next (decision_of (S.entries shelf.now) exchange.now.asked now)) }
-    ensures leaves { IfOk result (λ course. CourseLeaves (S.limit shelf.now) (S.entries shelf.now) exchange.now (Answer now exchange.now.id response.now) course) }
-    ensures fits { IfOk result (λ course. CourseFits next (S.entries shelf.now) course) }
-{
-    if is_validation(exchange, response) {
-        return course_after_304(alloc, config, shelf, next, exchange, response, now);
-    }
-    if is_unasked(&exchange.asked, response) {
-        let kind = FailKind::BadAnswer;
-        let came = Some(response.status);
-        let turn = turn_after_failure(alloc, config, shelf, exchange, kind, came, now)?;
-        return Ok(Course::Ends(turn));
-    }
-    let turn = turn_after_final(alloc, config, shelf, next, exchange, response, now)?;
-    Ok(Course::Ends(turn))
-}
-
 impl<S: Shelf> Core<S> {
+    /// Passes on an answer that isn't stored.
+    fn pass_by(
+        &self,
+        alloc: Global,
+        answer: &OriginAnswer<'_>,
+        head: &Answered,
+    ) -> Result<PendingReply, AllocError>
+        requires { head.now ≡ answered_of answer.now.response.now answer.now.response_time }
+        ensures outcome { IfOk result (λ pending. reply_of pending ≡ passed self.now.table self.now.entries answer.now.response_time answer.now.exchange.now answer.now.response.now None) }
+        ensures change { IfOk result (λ pending. pending.change ≡ Change.Keep) }
+    {
+        Ok(PendingReply {
+            bytes: passed_text(alloc, self.config.name(), answer, head, false)?,
+            close: answer.exchange.asked.close,
+            change: Change::Keep,
+            removed: removed_unstored(alloc, &self.shelf, answer)?,
+        })
+    }
+
+    /// Passes on an answer, and stores it.
+    fn pass_and_store(
+        &self,
+        alloc: Global,
+        answer: &OriginAnswer<'_>,
+        head: Answered,
+        new_entry: NewEntry,
+    ) -> Result<PendingReply, AllocError>
+        requires head { head ≡ answered_of answer.now.response.now answer.now.response_time }
+        requires nominated { new_entry.nominated ≡ kept_values head.fields answer.now.exchange.now.asked.fields }
+        ensures outcome { IfOk result (λ pending. reply_of pending ≡ passed self.now.table self.now.entries answer.now.response_time answer.now.exchange.now answer.now.response.now (Some new_entry.serial)) }
+        ensures next { IfOk result (λ pending. IsNext (Some new_entry.serial) pending.change) }
+        ensures makes { IfOk result (λ pending. Makes answer.now.exchange.now answer.now.response.now answer.now.response_time pending.change) }
+    {
+        let asked = &answer.exchange.asked;
+        let bytes = passed_text(alloc, self.config.name(), answer, &head, true)?;
+        let removed = replaced_by(alloc, &self.shelf, asked)?;
+        let entry = new_entry.into_entry(alloc, answer, head)?;
+        Ok(PendingReply {
+            bytes,
+            close: asked.close,
+            change: Change::Store(entry),
+            removed,
+        })
+    }
+
+    /// Passes on an answer, and stores it where it may be.
+    fn pass_on(&self, alloc: Global, answer: &OriginAnswer<'_>) -> Result<PendingReply, AllocError>
+        requires { answer.now.response_time < 253_402_300_800 }
+        ensures outcome { IfOk result (λ pending. reply_of pending ≡ passed self.now.table self.now.entries answer.now.response_time answer.now.exchange.now answer.now.response.now (stored_serial self.now.table answer.now.exchange.now answer.now.response.now answer.now.response_time self.now.next)) }
+        ensures next { IfOk result (λ pending. IsNext self.now.next pending.change) }
+        ensures makes { IfOk result (λ pending. Makes answer.now.exchange.now answer.now.response.now answer.now.response_time pending.change) }
+    {
+        let head = answer.head(alloc)?;
+        match self.admit(alloc, answer, &head)? {
+            None => self.pass_by(alloc, answer, &head),
+            Some(new_entry) => self.pass_and_store(alloc, answer, head, new_entry),
+        }
+    }
+
+    /// Passes on an answer, or sends a held response in place of an error where one may be.
+    fn pass_on_or_send_stale(
+        &self,
+        alloc: Global,
+        answer: &OriginAnswer<'_>,
+    ) -> Result<PendingReply, AllocError>
+        requires { answer.now.response_time < 253_402_300_800 }
+        ensures outcome { IfOk result (λ pending. reply_of pending ≡ passed_unless self.now.table self.now.entries answer.now.response_time answer.now.exchange.now answer.now.response.now self.now.next (is_error_status answer.now.response.now.status) (fallback_for self.now.entries answer.now.exchange.now.asked answer.now.response_time (decision_of self.now.entries answer.now.exchange.now.asked answer.now.response_time))) }
+        ensures next { IfOk result (λ pending. IsNext self.now.next pending.change) }
+        ensures makes { IfOk result (λ pending. Makes answer.now.exchange.now answer.now.response.now answer.now.response_time pending.change) }
+    {
+        let status = answer.response.status;
+        if !is_error_status(status) {
+            return self.pass_on(alloc, answer);
+        }
+        let exchange = answer.exchange;
+        let asked = &exchange.asked;
+        let now = answer.response_time;
+        match fallback_for(alloc, &self.shelf, asked, now)? {
+            Fallback::Sends(serial, detail) => {
+                let info = CacheStatusInfo::forwarded(exchange, Some(status), Some(detail));
+                self.send(alloc, serial, now, info, asked)
+            }
+            Fallback::Refuses(_, _) => self.pass_on(alloc, answer),
+        }
+    }
+
+    /// What follows an answer.
+    fn after_answer(
+        &self,
+        alloc: Global,
+        answer: &OriginAnswer<'_>,
+    ) -> Result<AfterAnswer, AllocError>
+        requires { answer.now.response_time < 253_402_300_800 }
+        ensures outcome { IfOk result (λ after. outcome_after answer.now.exchange.now after ≡ answered self.now.table self.now.entries answer.now.response_time answer.now.exchange.now answer.now.response.now self.now.next (decision_of self.now.entries answer.now.exchange.now.asked answer.now.response_time)) }
+        ensures leaves { IfOk result (λ after. AfterLeaves self.now.limit self.now.entries answer.now.exchange.now (Answer answer.now.response_time answer.now.exchange.now.id answer.now.response.now) after) }
+        ensures fits { IfOk result (λ after. AfterFits self.now.next self.now.entries after) }
+    {
+        if answer.is_validation() {
+            return self.after_304(alloc, answer);
+        }
+        if answer.is_unasked() {
+            let kind = FailKind::BadAnswer;
+            let came = Some(answer.response.status);
+            let exchange = answer.exchange;
+            let now = answer.response_time;
+            let pending = self.reply_to_failure(alloc, exchange, kind, came, now)?;
+            return Ok(AfterAnswer::Ends(pending));
+        }
+        let pending = self.pass_on_or_send_stale(alloc, answer)?;
+        Ok(AfterAnswer::Ends(pending))
+    }
+
     /// The origin answered. A 304 to the proxy's conditions sends the response that it answers; where it answers
     /// none, a held one is sent or the client's own request goes forward once more. Any other 304 that nobody asked
     /// for is a failure. In place of 500, 502, 503 and 504 a held response is sent where one may be. Else the answer
@@ -186,25 +167,22 @@ impl<S: Shelf> Core<S> {
             None => {}
             Some(fault) => return Err(fault),
         }
-        let invalidated = match key_invalidated(alloc, x, response) {
+        let answer = OriginAnswer {
+            exchange: x,
+            response,
+            response_time: now,
+        };
+        let invalidated = match answer.key_invalidated(alloc) {
             Ok(key) => key,
             Err(_) => return Err(CoreFault::OutOfMemory),
         };
         let line = x.line;
-        match course_of(
-            alloc,
-            &self.config,
-            &self.shelf,
-            self.next,
-            x,
-            response,
-            now,
-        ) {
-            Ok(Course::Ends(turn)) => match self.finish(id, turn, invalidated) {
+        match self.after_answer(alloc, &answer) {
+            Ok(AfterAnswer::Ends(pending)) => match self.finish(id, pending, invalidated) {
                 Ok(outcome) => Ok(outcome),
                 Err(_) => Err(CoreFault::OutOfMemory),
             },
-            Ok(Course::GoesOn(bytes)) => Ok(self.go_on(id, now, line, bytes)),
+            Ok(AfterAnswer::GoesOn(bytes)) => Ok(self.go_on(id, now, line, bytes)),
             Err(_) => Err(CoreFault::OutOfMemory),
         }
     }

@@ -1,7 +1,11 @@
-//! What a request carries of a held response.
+//! What a request carries of a held response (RFC 9111, section 4.3.1).
 ghost use Rattle.std.specs.Prelude.{◌≡◌, IfOk};
+ghost use Rattle.proxy_core.specs.Validating.{condition_on, condition_at};
 
 use hx_hop::Conditions;
+use hx_store::{Entry, Shelf};
+use hx_validate::{conditions, has_validator};
+use std::alloc::{AllocError, Global};
 
 /// A held response, and its validators as a request carried them (RFC 9111, section 4.3.1).
 pub struct Condition {
@@ -13,5 +17,36 @@ pub struct Condition {
 impl Drop for Condition {
     fn drop(self) {
         let Condition { serial: _, sent: _ } = self;
+    }
+}
+
+/// What a request carries of a held response, if it has a validator.
+fn condition_on(alloc: Global, entry: &Entry) -> Result<Option<Condition>, AllocError>
+    ensures { IfOk result (λ condition. condition ≡ condition_on entry.now) }
+{
+    if has_validator(&entry.fields) {
+        Ok(Some(Condition {
+            serial: entry.serial,
+            sent: conditions(alloc, entry)?,
+        }))
+    } else {
+        Ok(None)
+    }
+}
+
+/// What a request carries of the held response that a rule names.
+pub(crate) fn condition_at<S: Shelf>(
+    alloc: Global,
+    shelf: &S,
+    named: Option<u64>,
+) -> Result<Option<Condition>, AllocError>
+    ensures { IfOk result (λ condition. condition ≡ condition_at (S.entries shelf.now) named) }
+{
+    match named {
+        Some(serial) => match shelf.peek(serial) {
+            Some(entry) => condition_on(alloc, entry),
+            None => Ok(None),
+        },
+        None => Ok(None),
     }
 }

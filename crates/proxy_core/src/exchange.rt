@@ -1,8 +1,11 @@
 //! A request that went forward and isn't answered yet.
+ghost use Rattle.std.specs.Prelude.{◌≡◌};
+ghost use Rattle.proxy_core.specs.State.{goes_out, overtake};
 
 use crate::condition::Condition;
 use hx_hop::Asked;
 use hx_reuse::ReuseRule;
+use hx_target::Key;
 
 /// An open exchange.
 pub struct Exchange {
@@ -18,6 +21,27 @@ pub struct Exchange {
     pub condition: Option<Condition>,
     /// Whether its key was invalidated since (RFC 9111, section 4.4).
     pub overtaken: bool,
+}
+
+impl Exchange {
+    /// Its request goes forward, with this rule and these conditions of the proxy.
+    pub(crate) fn go_out(&mut self, now: u64, rule: ReuseRule, condition: Option<Condition>)
+        ensures { self.new ≡ goes_out now rule condition self.old }
+    {
+        self.rule = rule;
+        self.request_time = now;
+        self.condition = condition;
+        self.overtaken = false;
+    }
+
+    /// Marks it, if it is of a key that was invalidated (RFC 9111, section 4.4).
+    pub(crate) fn overtake(&mut self, key: &Key)
+        ensures { self.new ≡ overtake key.now self.old }
+    {
+        if self.asked.target.key.is_same(key) {
+            self.overtaken = true;
+        }
+    }
 }
 
 /// One call drops it, wherever that is.

@@ -98,7 +98,8 @@ impl Exchanges {
     {
         if let Some(arrival) = self.arrivals.get(&id) {
             if let Some(x) = self.by_arrival.get_mut(arrival) {
-                renew(x, id, now);
+                let rule = x.rule;
+                x.go_out(now, rule, None);
             }
         }
     }
@@ -119,7 +120,7 @@ impl Exchanges {
         ensures { self.new ≡ map (overtake key.now) self.old }
     {
         self.by_arrival.retain(|_, x| {
-            overtake(x, key);
+            x.overtake(key);
             true
         });
     }
@@ -155,24 +156,4 @@ fn remove(by_arrival: &mut BTreeMap<u64, Exchange>, arrival: u64)
     ensures { by_arrival.new.entries ≡ remove_entry (is_at (nat_cmp arrival)) by_arrival.old.entries }
 {
     by_arrival.remove(&arrival);
-}
-
-/// An exchange goes forward once more, if it is that of an id.
-fn renew(x: &mut Exchange, id: u64, now: u64)
-    ensures { x.new ≡ gone_out id now x.old }
-{
-    if x.id == id {
-        x.request_time = now;
-        x.condition = None;
-        x.overtaken = false;
-    }
-}
-
-/// Marks an exchange, if it is of a key that was invalidated.
-fn overtake(x: &mut Exchange, key: &Key)
-    ensures { x.new ≡ overtake key.now x.old }
-{
-    if x.asked.target.key.is_same(key) {
-        x.overtaken = true;
-    }
 }

@@ -1,13 +1,13 @@
-//! What a turn does to the core.
+//! What a pending reply does to the core.
 ghost use Rattle.std.specs.Prelude.{◌≡◌, ◌∷◌, [], take, map, false, IfOk, OnOk, OnErr, option_copied};
 ghost use Rattle.hx_store.specs.Shelf.{holds, without};
 ghost use Rattle.proxy_core.specs.State.{taken, next_after, gone_out};
-ghost use Rattle.proxy_core.specs.Turns.{reply_of, entries_by, turned, IsNext, IsNew, IsHeld};
+ghost use Rattle.proxy_core.specs.Pending.{reply_of, entries_by, finished, IsNext, IsNew, IsHeld};
 
 use crate::outcome::{Outcome, Reply};
+use crate::pending::{Change, PendingReply};
 use crate::proxy::Core;
 use crate::serial_numbers::serial_after;
-use crate::turns::{Change, Turn};
 use hx_fields::Bytes;
 use hx_store::{Entry, Shelf};
 use hx_target::Key;
@@ -59,7 +59,7 @@ fn change_shelf<S: Shelf>(shelf: &mut S, change: Change, removed: &[u64]) -> Res
             remove_each(shelf, removed);
             Ok(())
         }
-        Change::LetGo(serial) => {
+        Change::Remove(serial) => {
             shelf.remove(serial);
             remove_each(shelf, removed);
             Ok(())
@@ -88,26 +88,26 @@ impl<S: Shelf> Core<S> {
         Outcome::Forward(line, bytes)
     }
 
-    /// Does what a turn says, and ends the exchange of an id. Where a key was invalidated, its other exchanges are
+    /// Does what a pending reply says, and ends the exchange of an id. Where a key was invalidated, its other exchanges are
     /// overtaken.
     pub(crate) fn finish(
         &mut self,
         id: u64,
-        turn: Turn,
+        pending: PendingReply,
         invalidated: Option<Key>,
     ) -> Result<Outcome, AllocError>
-        requires next { IsNext self.old.next turn.change }
-        requires held { IsHeld turn.change self.old.entries }
-        ensures outcome { IfOk result (λ outcome. outcome ≡ reply_of turn) }
-        ensures after { OnOk result (self.new ≡ turned self.old id turn invalidated) }
+        requires next { IsNext self.old.next pending.change }
+        requires held { IsHeld pending.change self.old.entries }
+        ensures outcome { IfOk result (λ outcome. outcome ≡ reply_of pending) }
+        ensures after { OnOk result (self.new ≡ finished self.old id pending invalidated) }
         ensures unchanged { OnErr result (self.new ≡ self.old) }
     {
-        let Turn {
+        let PendingReply {
             bytes,
             close,
             change,
             removed,
-        } = turn;
+        } = pending;
         let stored = change.stored();
         let used = change.used();
         match change_shelf(&mut self.shelf, change, removed.as_slice()) {

@@ -16,25 +16,28 @@ mod event;
 mod exchange;
 mod exchanges;
 mod failing;
+mod fallback;
 mod fault;
 mod finishing;
-mod handling;
 mod judging;
 mod laws;
 mod moments;
+mod origin_answer;
 mod outcome;
+mod pending;
 mod proxy;
 mod reply_text;
-mod rescue;
 mod runs;
+mod sending;
 mod serial_numbers;
+mod stored_reply;
 mod storing;
-mod turns;
 mod validating;
 
 pub use crate::condition::Condition;
 pub use crate::event::Event;
 pub use crate::exchange::Exchange;
+pub use crate::fallback::Fallback;
 pub use crate::fault::CoreFault;
 pub use crate::laws::{
     a_core_keeps_what_is_held, a_driven_core_keeps_the_promises, a_good_trace_leaves_no_choice,
@@ -47,5 +50,4 @@ pub use crate::laws::{
 pub use crate::outcome::{Outcome, Reply, Run};
 pub use crate::proxy::Core;
 pub use crate::reply_text::refused;
-pub use crate::rescue::Rescue;
 pub use crate::runs::run;

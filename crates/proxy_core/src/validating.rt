@@ -1,89 +1,42 @@
-//! Held responses that an origin is asked about, and what its 304 does for them (RFC 9111, section 4.3).
-ghost use Rattle.std.specs.Prelude.{◌≡◌, ◌<◌, ◌∷◌, [], Some, None, IfOk, option_copied, cond};
+//! What a 304 to the proxy's conditions does (RFC 9111, section 4.3).
+ghost use Rattle.std.specs.Prelude.{◌≡◌, ◌<◌, ◌∷◌, [], None, IfOk, option_copied, cond};
 ghost use Rattle.hx_hop.specs.Answering.{answered_of};
 ghost use Rattle.hx_vary.specs.Vary.{is_star};
 ghost use Rattle.hx_reuse.specs.Rules.{decision_of};
 ghost use Rattle.proxy_core.specs.declared.event.Event.TheVariants.{Answer};
-ghost use Rattle.proxy_core.specs.Outcomes.{told_after, sent_refreshed, revalidated};
-ghost use Rattle.proxy_core.specs.Replies.{stored_text};
-ghost use Rattle.proxy_core.specs.Turns.{reply_of, entries_by, Leaves, outcome_of_course, CourseLeaves, CourseFits, IsPlainCourse, IsRefresh};
-ghost use Rattle.proxy_core.specs.Validating.{condition_on, condition_at, is_validation, is_answered, asked_about, validated, refreshed, as_get, head_of, kept_facts, is_kept};
+ghost use Rattle.proxy_core.specs.Outcomes.{sent_refreshed, revalidated};
+ghost use Rattle.proxy_core.specs.Pending.{reply_of, outcome_after, AfterLeaves, AfterFits, IsPlainAfter, IsRefresh};
+ghost use Rattle.proxy_core.specs.Validating.{is_answered, asked_about, validated, refreshed, as_get, head_of, kept_facts, is_kept};
 
-use crate::arriving::forward_text;
-use crate::condition::Condition;
 use crate::exchange::Exchange;
-use crate::failing::send_after;
-use crate::handling::Handling;
 use crate::judging::judge;
-use crate::reply_text::stored_text;
-use crate::turns::{Change, Course, Turn};
+use crate::origin_answer::OriginAnswer;
+use crate::pending::{AfterAnswer, Change, PendingReply};
+use crate::proxy::Core;
+use crate::sending::forward_text;
+use crate::stored_reply::{CacheStatusInfo, StoredReply};
 use http::Method;
 use hx_age::{Lifetime, Times};
-use hx_allow::Config;
 use hx_directives::Directives;
 use hx_framing::Response;
-use hx_hop::{Answered, Asked, answered, lists_cache_field};
+use hx_hop::{Answered, Asked, lists_cache_field};
 use hx_reuse::Decision;
-use hx_status::{Detail, How};
+use hx_status::Detail;
 use hx_storable::{Facts, first_rule_against};
 use hx_store::{Entry, Serials, Shelf};
 use hx_target::equal_keys_are_one;
-use hx_validate::{answers, conditions, freshened, has_validator};
+use hx_validate::{answers, freshened, has_validator};
 use hx_vary::{Nominated, Nomination};
 use std::alloc::{AllocError, Global};
 
-/// What a request carries of a held response, if it has a validator.
-fn condition_on(alloc: Global, entry: &Entry) -> Result<Option<Condition>, AllocError>
-    ensures { IfOk result (λ condition. condition ≡ condition_on entry.now) }
+/// Whether an answer with this head answers a held response.
+fn is_answered(answer: &OriginAnswer<'_>, head: &Answered, entry: &Entry) -> bool
+    requires { head.now ≡ answered_of answer.now.response.now answer.now.response_time }
+    ensures { result ≡ is_answered answer.now.exchange.now answer.now.response.now answer.now.response_time entry.now }
 {
-    if has_validator(&entry.fields) {
-        Ok(Some(Condition {
-            serial: entry.serial,
-            sent: conditions(alloc, entry)?,
-        }))
-    } else {
-        Ok(None)
-    }
-}
-
-/// What a request carries of the held response that a rule names.
-pub(crate) fn condition_at<S: Shelf>(
-    alloc: Global,
-    shelf: &S,
-    named: Option<u64>,
-) -> Result<Option<Condition>, AllocError>
-    ensures { IfOk result (λ condition. condition ≡ condition_at (S.entries shelf.now) named) }
-{
-    match named {
-        Some(serial) => match shelf.peek(serial) {
-            Some(entry) => condition_on(alloc, entry),
-            None => Ok(None),
-        },
-        None => Ok(None),
-    }
-}
-
-/// Whether an answer is a 304 to the proxy's conditions.
-pub(crate) fn is_validation(exchange: &Exchange, response: &Response) -> bool
-    ensures { result ≡ is_validation exchange.now response.now }
-{
-    response.status == 304 && exchange.condition.is_some()
-}
-
-/// Whether the answer with this head answers a held response.
-fn is_answered(
-    exchange: &Exchange,
-    response: &Response,
-    head: &Answered,
-    now: u64,
-    entry: &Entry,
-) -> bool
-    requires { head.now ≡ answered_of response.now now }
-    ensures { result ≡ is_answered exchange.now response.now now entry.now }
-{
-    match &exchange.condition {
+    match &answer.exchange.condition {
         Some(condition) => {
-            response.status == 304
+            answer.response.status == 304
                 && (condition.serial == entry.serial && answers(entry, &condition.sent, head))
         }
         None => false,
@@ -103,16 +56,14 @@ fn asked_about<'a, S: Shelf>(shelf: &'a S, exchange: &Exchange) -> Option<&'a En
 /// The held response that a 304 answers.
 fn validated<'a, S: Shelf>(
     shelf: &'a S,
-    exchange: &Exchange,
-    response: &Response,
+    answer: &OriginAnswer<'_>,
     head: &Answered,
-    now: u64,
 ) -> Option<&'a Entry>
-    requires { head.now ≡ answered_of response.now now }
-    ensures { option_copied result ≡ validated (S.entries shelf.now) exchange.now response.now now }
+    requires { head.now ≡ answered_of answer.now.response.now answer.now.response_time }
+    ensures { option_copied result ≡ validated (S.entries shelf.now) answer.now.exchange.now answer.now.response.now answer.now.response_time }
 {
-    match asked_about(shelf, exchange) {
-        Some(entry) if is_answered(exchange, response, head, now, entry) => Some(entry),
+    match asked_about(shelf, answer.exchange) {
+        Some(entry) if is_answered(answer, head, entry) => Some(entry),
         _ => None,
     }
 }
@@ -120,16 +71,15 @@ fn validated<'a, S: Shelf>(
 /// What the held response becomes that a 304 answers.
 fn refreshed(
     alloc: Global,
-    exchange: &Exchange,
-    response: &Response,
+    answer: &OriginAnswer<'_>,
     head: &Answered,
-    now: u64,
     entry: &Entry,
 ) -> Result<Entry, AllocError>
-    requires { head.now ≡ answered_of response.now now }
-    ensures { IfOk result (λ fresh. fresh ≡ refreshed exchange.now response.now now entry.now) }
+    requires { head.now ≡ answered_of answer.now.response.now answer.now.response_time }
+    ensures { IfOk result (λ fresh. fresh ≡ refreshed answer.now.exchange.now answer.now.response.now answer.now.response_time entry.now) }
 {
-    let times = Times::of(&head.fields, exchange.request_time, now);
+    let exchange = answer.exchange;
+    let times = Times::of(&head.fields, exchange.request_time, answer.response_time);
     freshened(alloc, entry, head, &exchange.asked, times)
 }
 
@@ -207,7 +157,7 @@ fn change_after(entry: Entry, kept: bool) -> Change
     if kept {
         Change::Freshen(entry)
     } else {
-        Change::LetGo(entry.serial)
+        Change::Remove(entry.serial)
     }
 }
 
@@ -222,82 +172,84 @@ fn removed_after(alloc: Global, serial: u64, kept: bool) -> Result<Serials, Allo
     Ok(removed)
 }
 
-/// Sends a freshened response, and keeps it where it may be kept.
-fn send_refreshed(
-    alloc: Global,
-    config: &Config,
-    exchange: &Exchange,
-    response: &Response,
-    now: u64,
-    entry: Entry,
-) -> Result<Turn, AllocError>
-    ensures outcome { IfOk result (λ turn. reply_of turn ≡ sent_refreshed config.now exchange.now response.now now entry) }
-    ensures change { IfOk result (λ turn. IsRefresh (is_kept config.now.max_stored exchange.now response.now entry) entry turn.change) }
-{
-    let handling = Handling {
-        how: How::Fwd(exchange.rule),
-        came: Some(response.status),
-        detail: None,
-    };
-    let kept = is_kept(alloc, config.max_stored(), exchange, response, &entry)?;
-    let removed = removed_after(alloc, entry.serial, kept)?;
-    let bytes = stored_text(alloc, config.name(), &entry, now, handling, &exchange.asked)?;
-    Ok(Turn {
-        bytes,
-        close: exchange.asked.close,
-        change: change_after(entry, kept),
-        removed,
-    })
-}
-
-/// What a 304 to the proxy's conditions leads to.
-pub(crate) fn course_after_304<S: Shelf>(
-    alloc: Global,
-    config: &Config,
-    shelf: &S,
-    next: Option<u64>,
-    exchange: &Exchange,
-    response: &Response,
-    now: u64,
-) -> Result<Course, AllocError>
-    requires { now < 253_402_300_800 }
-    ensures outcome { IfOk result (λ course. outcome_of_course exchange.now course ≡ revalidated config.now (S.entries shelf.now) now exchange.now response.now (validated (S.entries shelf.now) exchange.now response.now now) (decision_of (S.entries shelf.now) exchange.now.asked now)) }
-    ensures leaves { IfOk result (λ course. CourseLeaves (S.limit shelf.now) (S.entries shelf.now) exchange.now (Answer now exchange.now.id response.now) course) }
-    ensures fits { IfOk result (λ course. CourseFits next (S.entries shelf.now) course) }
-{
-    let head = answered(alloc, response, now)?;
-    equal_keys_are_one();
-    match validated(shelf, exchange, response, &head, now) {
-        Some(entry) => {
-            let fresh = refreshed(alloc, exchange, response, &head, now, entry)?;
-            let turn = send_refreshed(alloc, config, exchange, response, now, fresh)?;
-            Ok(Course::Ends(turn))
-        }
-        None => reuse_or_go_on(alloc, config, shelf, exchange, response, now),
+impl<S: Shelf> Core<S> {
+    /// Sends a freshened response, and keeps it where it may be kept.
+    fn send_refreshed(
+        &self,
+        alloc: Global,
+        answer: &OriginAnswer<'_>,
+        entry: Entry,
+    ) -> Result<PendingReply, AllocError>
+        ensures outcome { IfOk result (λ pending. reply_of pending ≡ sent_refreshed self.now.table answer.now.exchange.now answer.now.response.now answer.now.response_time entry) }
+        ensures change { IfOk result (λ pending. IsRefresh (is_kept self.now.table.max_stored answer.now.exchange.now answer.now.response.now entry) entry pending.change) }
+    {
+        let exchange = answer.exchange;
+        let response = answer.response;
+        let kept = is_kept(alloc, self.config.max_stored(), exchange, response, &entry)?;
+        let removed = removed_after(alloc, entry.serial, kept)?;
+        let reply = StoredReply {
+            name: self.config.name(),
+            entry: &entry,
+            asked: &exchange.asked,
+            info: CacheStatusInfo::forwarded(exchange, Some(response.status), None),
+            sent_at: answer.response_time,
+        };
+        let bytes = reply.text(alloc)?;
+        Ok(PendingReply {
+            bytes,
+            close: exchange.asked.close,
+            change: change_after(entry, kept),
+            removed,
+        })
     }
-}
 
-/// What a 304 leads to that answers no held response.
-fn reuse_or_go_on<S: Shelf>(
-    alloc: Global,
-    config: &Config,
-    shelf: &S,
-    exchange: &Exchange,
-    response: &Response,
-    now: u64,
-) -> Result<Course, AllocError>
-    ensures outcome { IfOk result (λ course. outcome_of_course exchange.now course ≡ revalidated config.now (S.entries shelf.now) now exchange.now response.now None (decision_of (S.entries shelf.now) exchange.now.asked now)) }
-    ensures plain { IfOk result IsPlainCourse }
-{
-    match judge(alloc, shelf, &exchange.asked, now)? {
-        Decision::Hit(serial) => {
-            let came = Some(response.status);
-            let detail = Detail::ReuseAfter304;
-            let turn = send_after(alloc, config, shelf, serial, now, exchange, came, detail)?;
-            Ok(Course::Ends(turn))
+    /// What follows a 304 to the proxy's conditions.
+    pub(crate) fn after_304(
+        &self,
+        alloc: Global,
+        answer: &OriginAnswer<'_>,
+    ) -> Result<AfterAnswer, AllocError>
+        requires { answer.now.response_time < 253_402_300_800 }
+        ensures outcome { IfOk result (λ after. outcome_after answer.now.exchange.now after ≡ revalidated self.now.table self.now.entries answer.now.response_time answer.now.exchange.now answer.now.response.now (validated self.now.entries answer.now.exchange.now answer.now.response.now answer.now.response_time) (decision_of self.now.entries answer.now.exchange.now.asked answer.now.response_time)) }
+        ensures leaves { IfOk result (λ after. AfterLeaves self.now.limit self.now.entries answer.now.exchange.now (Answer answer.now.response_time answer.now.exchange.now.id answer.now.response.now) after) }
+        ensures fits { IfOk result (λ after. AfterFits self.now.next self.now.entries after) }
+    {
+        let head = answer.head(alloc)?;
+        equal_keys_are_one();
+        match validated(&self.shelf, answer, &head) {
+            Some(entry) => {
+                let fresh = refreshed(alloc, answer, &head, entry)?;
+                let pending = self.send_refreshed(alloc, answer, fresh)?;
+                Ok(AfterAnswer::Ends(pending))
+            }
+            None => self.reuse_or_go_on(alloc, answer),
         }
-        Decision::Forward(_, _) => {
-            Ok(Course::GoesOn(forward_text(alloc, config, &exchange.asked, None)?))
+    }
+
+    /// What follows a 304 that answers no held response.
+    fn reuse_or_go_on(
+        &self,
+        alloc: Global,
+        answer: &OriginAnswer<'_>,
+    ) -> Result<AfterAnswer, AllocError>
+        ensures outcome { IfOk result (λ after. outcome_after answer.now.exchange.now after ≡ revalidated self.now.table self.now.entries answer.now.response_time answer.now.exchange.now answer.now.response.now None (decision_of self.now.entries answer.now.exchange.now.asked answer.now.response_time)) }
+        ensures plain { IfOk result IsPlainAfter }
+    {
+        let exchange = answer.exchange;
+        let asked = &exchange.asked;
+        let now = answer.response_time;
+        match judge(alloc, &self.shelf, asked, now)? {
+            Decision::Hit(serial) => {
+                let came = Some(answer.response.status);
+                let detail = Some(Detail::ReuseAfter304);
+                let info = CacheStatusInfo::forwarded(exchange, came, detail);
+                let pending = self.send(alloc, serial, now, info, asked)?;
+                Ok(AfterAnswer::Ends(pending))
+            }
+            Decision::Forward(_, _) => {
+                let bytes = forward_text(alloc, &self.config, asked, None)?;
+                Ok(AfterAnswer::GoesOn(bytes))
+            }
         }
     }
 }

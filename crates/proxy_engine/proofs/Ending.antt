@@ -14,11 +14,11 @@ use Rattle.proxy_core.specs.declared.exchange.Exchange.{Exchange}
 use Rattle.proxy_core.specs.declared.event.Event.TheVariants as events
 use Rattle.proxy_core.specs.declared.outcome.Outcome.{Outcome}
 use Rattle.proxy_core.specs.declared.outcome.Outcome.TheVariants as outcomes
-use Rattle.proxy_core.specs.declared.rescue.Rescue.{Rescue}
-use Rattle.proxy_core.specs.declared.rescue.Rescue.TheVariants.{Sends, Refuses}
+use Rattle.proxy_core.specs.declared.fallback.Fallback.{Fallback}
+use Rattle.proxy_core.specs.declared.fallback.Fallback.TheVariants.{Sends, Refuses}
 use Rattle.proxy_core.specs.Storing.{is_unasked}
 use Rattle.proxy_core.specs.Validating.{is_validation, validated}
-use Rattle.proxy_core.specs.Outcomes.{find_exchange, outcome_of, failed, answered, rescue_of, passed_unless, is_error_status, revalidated}
+use Rattle.proxy_core.specs.Outcomes.{find_exchange, outcome_of, failed, answered, fallback_for, passed_unless, is_error_status, revalidated}
 use Rattle.proxy_core.specs.State.{State as CoreState, open_after, closed, left_open, gone_out, invalidated_by}
 use Rattle.proxy_engine.specs.Look.{Due}
 use Rattle.proxy_engine.specs.Due.{Finish, Gives, Breaks}
@@ -41,14 +41,14 @@ is_reply (outcomes.Reply r) = true
 is_reply (outcomes.Forward line bytes) = false
 is_reply outcomes.Ended = false
 
-failed_replies : (table : Table) (es : List Stored) (now : ℕ) (x : Exchange) (kind : FailKind) (came : Option ℕ) (rescue : Rescue) → is_reply (failed table es now x kind came rescue) ≡ true
+failed_replies : (table : Table) (es : List Stored) (now : ℕ) (x : Exchange) (kind : FailKind) (came : Option ℕ) (fallback : Fallback) → is_reply (failed table es now x kind came fallback) ≡ true
 failed_replies table es now x kind came (Sends serial detail) = refl
 failed_replies table es now x kind came (Refuses rule error) = refl
 
-passed_replies : (table : Table) (es : List Stored) (now : ℕ) (x : Exchange) (r : Response) (o : Option ℕ) (error : Bool) (rescue : Rescue) → is_reply (passed_unless table es now x r o error rescue) ≡ true
+passed_replies : (table : Table) (es : List Stored) (now : ℕ) (x : Exchange) (r : Response) (o : Option ℕ) (error : Bool) (fallback : Fallback) → is_reply (passed_unless table es now x r o error fallback) ≡ true
 passed_replies table es now x r o true (Sends serial detail) = refl
 passed_replies table es now x r o true (Refuses rule error) = refl
-passed_replies table es now x r o false rescue = refl
+passed_replies table es now x r o false fallback = refl
 
 either_replies : (b : Bool) (o p : Outcome) → is_reply o ≡ true → is_reply p ≡ true → is_reply (cond b o p) ≡ true
 either_replies true o p h k = h
@@ -56,7 +56,7 @@ either_replies false o p h k = k
 
 -- a failure ends its exchange by a reply
 pub failure_replies : (table : Table) (es : List Stored) (xs : List Exchange) (x : Option Exchange) (o : Option ℕ) (now id : ℕ) (kind : FailKind) → is_some x ≡ true → is_reply (outcome_of table es xs x o (events.Fail now id kind)) ≡ true
-failure_replies table es xs (Some x) o now id kind e = failed_replies table es now x kind None (rescue_of es x.asked now (decision_of es x.asked now))
+failure_replies table es xs (Some x) o now id kind e = failed_replies table es now x kind None (fallback_for es x.asked now (decision_of es x.asked now))
 failure_replies table es xs None o now id kind e = absurd (cc)
 
 -- ---- an answer that goes forward once more
@@ -80,16 +80,16 @@ not_reply o line bytes h e = let other : is_reply (outcomes.Forward line bytes) 
 answered_line : (table : Table) (es : List Stored) (now : ℕ) (x : Exchange) (r : Response) (o : Option ℕ) (d : Decision) (line : ℕ) (bytes : List ℕ) → answered table es now x r o d ≡ outcomes.Forward line bytes → IsAgain x line
 answered_line table es now x r o d line bytes h = by_validation (is_validation x r) refl h
   where
-    rescue : Rescue
-    rescue = rescue_of es x.asked now d
+    fallback : Fallback
+    fallback = fallback_for es x.asked now d
 
     other : Outcome
-    other = cond (is_unasked x.asked r) (failed table es now x BadAnswer (Some r.status) rescue) (passed_unless table es now x r o (is_error_status r.status) rescue)
+    other = cond (is_unasked x.asked r) (failed table es now x BadAnswer (Some r.status) fallback) (passed_unless table es now x r o (is_error_status r.status) fallback)
 
     other_replies : is_reply other ≡ true
     other_replies =
-        either_replies (is_unasked x.asked r) (failed table es now x BadAnswer (Some r.status) rescue) (passed_unless table es now x r o (is_error_status r.status) rescue)
-        (failed_replies table es now x BadAnswer (Some r.status) rescue) (passed_replies table es now x r o (is_error_status r.status) rescue)
+        either_replies (is_unasked x.asked r) (failed table es now x BadAnswer (Some r.status) fallback) (passed_unless table es now x r o (is_error_status r.status) fallback)
+        (failed_replies table es now x BadAnswer (Some r.status) fallback) (passed_replies table es now x r o (is_error_status r.status) fallback)
 
     by_validation : (b : Bool) → is_validation x r ≡ b → cond b (revalidated table es now x r (validated es x r now) d) other ≡ outcomes.Forward line bytes → IsAgain x line
     by_validation true v e = (conditional (r.status == 304) (is_some x.condition) v, revalidated_line table es now x r (validated es x r now) d line bytes e)

@@ -1,25 +1,29 @@
-use Rattle.std.proofs.Common.{◌≡◌, ap, sym, ◌∙◌, subst, List, ℕ, map, Some, None, is_some}
+use Rattle.std.proofs.Common.{◌≡◌, ap, sym, ◌∙◌, subst, List, ℕ, map, cond, Some, None, is_some}
 use Rattle.std.proofs.lemmas.Bool.{false≢true}
 use Rattle.std.specs.Ordering.{nat_cmp}
 use Rattle.std.specs.BTreeMap.{get, is_at}
 use Rattle.std.specs.Map.{values_of, set_value}
 use Rattle.proxy_core.specs.declared.exchange.Exchange.{Exchange}
-use Rattle.proxy_core.specs.State.{gone_out}
+use Rattle.proxy_core.specs.Outcomes.{find_exchange}
+use Rattle.proxy_core.specs.State.{goes_out, gone_out}
 use Rattle.proxy_core.specs.Arrivals.{IsIndexed, arrival_of}
-use Rattle.proxy_core.proofs.ExchangeLists.{gone_out-id}
-use Rattle.proxy_core.proofs.Arrivals.{on_all, indexed_on_all, values_on_all, gone_out-others, written, same_all, has_number}
+use Rattle.proxy_core.proofs.ExchangeLists.{gone_out-id, found-id}
+use Rattle.proxy_core.proofs.Arrivals.{found, on_all, indexed_on_all, values_on_all, gone_out-others, written, same_all, has_number}
 use Rattle.proxy_core.proofs.exchanges.Exchanges.go_out.Goals as goal
 
-all_written : (c : goal.After-self-in-Some-get_mut-1) → (c.get_mut.follows.lender c.renew.new.x).entries ≡ on_all (gone_out c.args.id c.args.now) c.self.inside.by_arrival.entries
+all_written : (c : goal.After-self-in-Some-get_mut-1) → (c.get_mut.follows.lender c.go_out.new.self).entries ≡ on_all (gone_out c.args.id c.args.now) c.self.inside.by_arrival.entries
 all_written c =
     let es = c.self.inside.by_arrival.entries in
     let id = c.args.id in
     let now = c.args.now in
     let n = c.in-Some.arrival.now in
+    let x = c.in-Some-get_mut.x.now in
     let here : arrival_of id es ≡ Some n = sym (c.self.invariant.indexed id) ∙ sym c.in-Some.ensures.value in
-    (c.get_mut.follows.holds c.renew.new.x).0
-    ∙ (ap (λ (x : Exchange). set_value (is_at (nat_cmp n)) es x) c.renew.ensures
-    ∙ written id (gone_out id now) (gone_out-others id now) n es c.in-Some-get_mut.x.now c.self.invariant.apart here (sym c.in-Some-get_mut.ensures.value))
+    let there : find_exchange id (values_of es) ≡ Some x = sym (found id n es c.self.invariant.apart here) ∙ sym c.in-Some-get_mut.ensures.value in
+    let same : c.go_out.new.self ≡ gone_out id now x = c.go_out.ensures ∙ sym (ap (λ b. cond b (goes_out now x.rule None x) x) (found-id id (values_of es) x there)) in
+    (c.get_mut.follows.holds c.go_out.new.self).0
+    ∙ (ap (λ (y : Exchange). set_value (is_at (nat_cmp n)) es y) same
+    ∙ written id (gone_out id now) (gone_out-others id now) n es x c.self.invariant.apart here (sym c.in-Some-get_mut.ensures.value))
 
 pub invariant_of-self : goal.invariant_of-self
 invariant_of-self c =

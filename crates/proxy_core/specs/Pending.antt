@@ -1,7 +1,7 @@
 -- A reply that was made, and what it will do to the store.
 --
--- reply_of: the outcome that it is     entries_by: the held responses that it leaves
--- turned: the core that it leaves      Leaves: it leaves what the step leaves
+-- reply_of: the outcome that it is      entries_by: the held responses that it leaves
+-- finished: the core that it leaves     Leaves: it leaves what the step leaves
 use Rattle.std.specs.Prelude.{◌≡◌, ℕ, Bool, true, false, List, [], ◌∷◌, take, Option, Some, None}
 use Rattle.std.specs.Option.{ForSome}
 use Rattle.hx_framing.specs.declared.responses.Response.{Response}
@@ -13,11 +13,11 @@ use Rattle.proxy_core.specs.declared.exchange.Exchange.{Exchange}
 use Rattle.proxy_core.specs.declared.outcome.Outcome.{Outcome}
 use Rattle.proxy_core.specs.declared.outcome.Outcome.TheVariants.{Reply, Forward}
 use Rattle.proxy_core.specs.declared.event.Event.{Event}
-use Rattle.proxy_core.specs.declared.turns.Course.{Course}
-use Rattle.proxy_core.specs.declared.turns.Course.TheVariants.{Ends, GoesOn}
-use Rattle.proxy_core.specs.declared.turns.Change.{Change}
-use Rattle.proxy_core.specs.declared.turns.Change.TheVariants.{Keep, Use, Freshen, LetGo, Store}
-use Rattle.proxy_core.specs.declared.turns.Turn.{Turn}
+use Rattle.proxy_core.specs.declared.pending.AfterAnswer.{AfterAnswer}
+use Rattle.proxy_core.specs.declared.pending.AfterAnswer.TheVariants.{Ends, GoesOn}
+use Rattle.proxy_core.specs.declared.pending.Change.{Change}
+use Rattle.proxy_core.specs.declared.pending.Change.TheVariants.{Keep, Use, Freshen, Remove, Store}
+use Rattle.proxy_core.specs.declared.pending.PendingReply.{PendingReply}
 use Rattle.proxy_core.specs.State.{State, taken, left_open, next_after, entries_after}
 use Rattle.proxy_core.specs.Storing.{made}
 
@@ -26,7 +26,7 @@ abbrev pub stored_by : Change → Option ℕ
 stored_by Keep = None
 stored_by (Use serial) = None
 stored_by (Freshen e) = None
-stored_by (LetGo serial) = None
+stored_by (Remove serial) = None
 stored_by (Store e) = Some e.serial
 
 -- the serial that was sent
@@ -34,28 +34,28 @@ abbrev pub used_by : Change → Option ℕ
 used_by Keep = None
 used_by (Use serial) = Some serial
 used_by (Freshen e) = Some e.serial
-used_by (LetGo serial) = Some serial
+used_by (Remove serial) = Some serial
 used_by (Store e) = None
 
-abbrev pub reply_of : Turn → Outcome
-reply_of t = Reply (record { bytes = t.bytes; close = t.close; stored = stored_by t.change; used = used_by t.change; removed = t.removed })
+abbrev pub reply_of : PendingReply → Outcome
+reply_of p = Reply (record { bytes = p.bytes; close = p.close; stored = stored_by p.change; used = used_by p.change; removed = p.removed })
 
 -- the held responses after a change, and after these serials are gone
 abbrev pub entries_by : ℕ → List ℕ → Change → List Stored → List Stored
 entries_by limit removed Keep es = taken removed es
 entries_by limit removed (Use serial) es = taken removed (promoted serial es)
 entries_by limit removed (Freshen e) es = taken removed (e ∷ without (e.serial ∷ []) es)
-entries_by limit removed (LetGo serial) es = taken removed (without (serial ∷ []) es)
+entries_by limit removed (Remove serial) es = taken removed (without (serial ∷ []) es)
 entries_by limit removed (Store e) es = take limit (e ∷ without removed es)
 
--- the core after a turn by which the exchange of this id ends, and by which this key may be invalidated
-abbrev pub turned : State → ℕ → Turn → Option Key → State
-turned s id t invalidated = record {
+-- the core after a pending reply by which the exchange of this id ends, and by which this key may be invalidated
+abbrev pub finished : State → ℕ → PendingReply → Option Key → State
+finished s id p invalidated = record {
   table = s.table;
   limit = s.limit;
-  entries = entries_by s.limit t.removed t.change s.entries;
+  entries = entries_by s.limit p.removed p.change s.entries;
   exchanges = left_open invalidated id s.exchanges;
-  next = next_after s.next (stored_by t.change);
+  next = next_after s.next (stored_by p.change);
 }
 
 -- what is stored has the next serial
@@ -63,15 +63,15 @@ abbrev pub IsNext : Option ℕ → Change → Type 0
 IsNext next Keep = Unit {0}
 IsNext next (Use serial) = Unit {0}
 IsNext next (Freshen e) = Unit {0}
-IsNext next (LetGo serial) = Unit {0}
+IsNext next (Remove serial) = Unit {0}
 IsNext next (Store e) = next ≡ Some e.serial
 
--- and isn't held yet
+-- and isn'p held yet
 abbrev pub IsNew : Change → List Stored → Type 0
 IsNew Keep es = Unit {0}
 IsNew (Use serial) es = Unit {0}
 IsNew (Freshen e) es = Unit {0}
-IsNew (LetGo serial) es = Unit {0}
+IsNew (Remove serial) es = Unit {0}
 IsNew (Store e) es = holds e.serial es ≡ false
 
 -- what is freshened is held
@@ -79,7 +79,7 @@ abbrev pub IsHeld : Change → List Stored → Type 0
 IsHeld Keep es = Unit {0}
 IsHeld (Use serial) es = Unit {0}
 IsHeld (Freshen e) es = (holds e.serial es ≡ true) × ForSome (find_entry e.serial es) (λ old. same_key old.key e.key ≡ true)
-IsHeld (LetGo serial) es = Unit {0}
+IsHeld (Remove serial) es = Unit {0}
 IsHeld (Store e) es = Unit {0}
 
 -- a held response is sent as it is, or none is, and what is stored is what the answer to an exchange makes
@@ -87,7 +87,7 @@ abbrev pub Makes : Exchange → Response → ℕ → Change → Type 0
 Makes x r now Keep = Unit {0}
 Makes x r now (Use serial) = Unit {0}
 Makes x r now (Freshen e) = ⊥
-Makes x r now (LetGo serial) = ⊥
+Makes x r now (Remove serial) = ⊥
 Makes x r now (Store e) = e ≡ made e.serial x r now
 
 -- a held response is sent as it is, or none is, and none is stored
@@ -95,36 +95,36 @@ abbrev pub IsPlain : Change → Type 0
 IsPlain Keep = Unit {0}
 IsPlain (Use serial) = Unit {0}
 IsPlain (Freshen e) = ⊥
-IsPlain (LetGo serial) = ⊥
+IsPlain (Remove serial) = ⊥
 IsPlain (Store e) = ⊥
 
--- a turn leaves of the held responses what the step leaves of them
-abbrev pub Leaves : ℕ → List Stored → Exchange → Event → Turn → Type 0
-Leaves limit es x event t = entries_by limit t.removed t.change es ≡ entries_after limit es (Some x) event (reply_of t)
+-- a pending reply leaves of the held responses what the step leaves of them
+abbrev pub Leaves : ℕ → List Stored → Exchange → Event → PendingReply → Type 0
+Leaves limit es x event p = entries_by limit p.removed p.change es ≡ entries_after limit es (Some x) event (reply_of p)
 
 -- the outcome of an answer: the exchange ends, or goes forward once more
-abbrev pub outcome_of_course : Exchange → Course → Outcome
-outcome_of_course x (Ends t) = reply_of t
-outcome_of_course x (GoesOn bytes) = Forward x.line bytes
+abbrev pub outcome_after : Exchange → AfterAnswer → Outcome
+outcome_after x (Ends p) = reply_of p
+outcome_after x (GoesOn bytes) = Forward x.line bytes
 
 -- what an answer leaves where the exchange ends by it
-abbrev pub CourseLeaves : ℕ → List Stored → Exchange → Event → Course → Type 0
-CourseLeaves limit es x event (Ends t) = Leaves limit es x event t
-CourseLeaves limit es x event (GoesOn bytes) = Unit {0}
+abbrev pub AfterLeaves : ℕ → List Stored → Exchange → Event → AfterAnswer → Type 0
+AfterLeaves limit es x event (Ends p) = Leaves limit es x event p
+AfterLeaves limit es x event (GoesOn bytes) = Unit {0}
 
 -- what an answer stores has the next serial, and what it freshens is held
-abbrev pub CourseFits : Option ℕ → List Stored → Course → Type 0
-CourseFits next es (Ends t) = IsNext next t.change × IsHeld t.change es
-CourseFits next es (GoesOn bytes) = Unit {0}
+abbrev pub AfterFits : Option ℕ → List Stored → AfterAnswer → Type 0
+AfterFits next es (Ends p) = IsNext next p.change × IsHeld p.change es
+AfterFits next es (GoesOn bytes) = Unit {0}
 
-abbrev pub IsPlainCourse : Course → Type 0
-IsPlainCourse (Ends t) = IsPlain t.change
-IsPlainCourse (GoesOn bytes) = Unit {0}
+abbrev pub IsPlainAfter : AfterAnswer → Type 0
+IsPlainAfter (Ends p) = IsPlain p.change
+IsPlainAfter (GoesOn bytes) = Unit {0}
 
 -- a freshened response is kept, or let go
 abbrev pub IsRefresh : Bool → Stored → Change → Type 0
 IsRefresh kept e Keep = ⊥
 IsRefresh kept e (Use serial) = ⊥
 IsRefresh kept e (Freshen f) = (f ≡ e) × (kept ≡ true)
-IsRefresh kept e (LetGo serial) = (serial ≡ e.serial) × (kept ≡ false)
+IsRefresh kept e (Remove serial) = (serial ≡ e.serial) × (kept ≡ false)
 IsRefresh kept e (Store f) = ⊥

@@ -1,6 +1,6 @@
 //! A reply that was made, and what it will do to the store.
 ghost use Rattle.std.specs.Prelude.{◌≡◌};
-ghost use Rattle.proxy_core.specs.Turns.{stored_by, used_by, reply_of};
+ghost use Rattle.proxy_core.specs.Pending.{stored_by, used_by, reply_of};
 
 use crate::outcome::{Outcome, Reply};
 use hx_fields::Bytes;
@@ -16,7 +16,7 @@ pub(crate) enum Change {
     /// A response was freshened and sent: it takes the place of the one of its serial, and comes first.
     Freshen(Entry),
     /// The response of this serial was sent for the last time.
-    LetGo(u64),
+    Remove(u64),
     /// A response is stored.
     Store(Entry),
 }
@@ -39,7 +39,7 @@ impl Change {
         match self {
             Change::Use(serial) => Some(*serial),
             Change::Freshen(entry) => Some(entry.serial),
-            Change::LetGo(serial) => Some(*serial),
+            Change::Remove(serial) => Some(*serial),
             _ => None,
         }
     }
@@ -47,7 +47,7 @@ impl Change {
 
 /// A reply, and what it will do. Nothing is done yet.
 #[derive(Drop)]
-pub(crate) struct Turn {
+pub(crate) struct PendingReply {
     /// The whole message.
     pub(crate) bytes: Bytes,
     /// Whether the connection closes behind it.
@@ -57,18 +57,18 @@ pub(crate) struct Turn {
     pub(crate) removed: Serials,
 }
 
-/// What an answer leads to.
+/// What follows an answer.
 #[derive(Drop)]
-pub(crate) enum Course {
+pub(crate) enum AfterAnswer {
     /// The exchange ends.
-    Ends(Turn),
+    Ends(PendingReply),
     /// The client's own request goes forward once more.
     GoesOn(Bytes),
 }
 
-impl Turn {
+impl PendingReply {
     /// The outcome that it is.
-    pub(crate) fn told(self) -> Outcome
+    pub(crate) fn into_outcome(self) -> Outcome
         ensures { result ≡ reply_of self }
     {
         Outcome::Reply(Reply {
