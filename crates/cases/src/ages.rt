@@ -6,49 +6,55 @@ ghost use Rattle.hx_directives.specs.Occurrences.{occurrences_of};
 use crate::case_file::Case;
 use crate::field_lines::fields_of;
 use crate::lines::{Fault, Line};
-use crate::parts::{Part, parts_of, word};
+use crate::parts::Part;
 use hx_age::{Lifetime, Times, current_age, is_fresh, staleness, ttl};
 use hx_directives::{Directive, Directives, MaxStale, Seconds};
 use hx_fields::Fields;
-use std::alloc::{AllocError, Global};
+use std::alloc::AllocError;
 
-fn seconds_told(alloc: Global, seconds: Seconds) -> Result<String, Fault> {
+fn write_seconds(text: &mut String, seconds: Seconds) -> Result<(), AllocError> {
     match seconds {
-        Seconds::Absent => word(alloc, "absent"),
-        Seconds::Bad => word(alloc, "bad"),
-        Seconds::Repeated => word(alloc, "repeated"),
-        Seconds::Value(seconds) => Ok(format!(in alloc; "{seconds}")?),
+        Seconds::Absent => text.push_str("absent"),
+        Seconds::Bad => text.push_str("bad"),
+        Seconds::Repeated => text.push_str("repeated"),
+        Seconds::Value(seconds) => write!(text, "{seconds}"),
     }
 }
 
-fn max_stale_told(alloc: Global, accepted: MaxStale) -> Result<String, Fault> {
+fn write_max_stale(text: &mut String, accepted: MaxStale) -> Result<(), AllocError> {
     match accepted {
-        MaxStale::Absent => word(alloc, "none"),
-        MaxStale::Any => word(alloc, "any"),
-        MaxStale::UpTo(seconds) => Ok(format!(in alloc; "up to {seconds}")?),
+        MaxStale::Absent => text.push_str("none"),
+        MaxStale::Any => text.push_str("any"),
+        MaxStale::UpTo(seconds) => write!(text, "up to {seconds}"),
     }
 }
 
-fn presence_told(alloc: Global, is_there: bool) -> Result<String, Fault> {
-    word(alloc, if is_there { "present" } else { "absent" })
+fn write_presence(text: &mut String, is_there: bool) -> Result<(), AllocError> {
+    text.push_str(if is_there { "present" } else { "absent" })
+}
+
+/// Writes what is told of the directive that a line names.
+fn write_directive(text: &mut String, which: Line<'_>, found: &Directives) -> Result<(), Fault> {
+    match which.text {
+        "seconds of max-age" => write_seconds(text, found.seconds(Directive::MaxAge))?,
+        "seconds of s-maxage" => write_seconds(text, found.seconds(Directive::SMaxage))?,
+        "max-stale" => write_max_stale(text, found.max_stale())?,
+        "private" => write_presence(text, found.has(Directive::Private))?,
+        "no-store" => write_presence(text, found.has(Directive::NoStore))?,
+        "no-cache" => write_presence(text, found.has(Directive::NoCache))?,
+        _ => return Err(which.fault("no directive that is told of")),
+    }
+    Ok(())
 }
 
 /// What is told of the directive that the front names.
-pub fn directives(alloc: Global, front: &[Line<'_>], case: &Case<'_>) -> Result<String, Fault> {
+pub fn directives(text: &mut String, front: &[Line<'_>], case: &Case<'_>) -> Result<(), Fault> {
     let [which] = front else {
         return Err(case.label.fault("the group's front names no directive"));
     };
-    let fields = fields_of(alloc, case.input.as_slice())?;
-    let found = Directives::of(alloc, &fields)?;
-    match which.text {
-        "seconds of max-age" => seconds_told(alloc, found.seconds(Directive::MaxAge)),
-        "seconds of s-maxage" => seconds_told(alloc, found.seconds(Directive::SMaxage)),
-        "max-stale" => max_stale_told(alloc, found.max_stale()),
-        "private" => presence_told(alloc, found.has(Directive::Private)),
-        "no-store" => presence_told(alloc, found.has(Directive::NoStore)),
-        "no-cache" => presence_told(alloc, found.has(Directive::NoCache)),
-        _ => Err(which.fault("no directive that is told of")),
-    }
+    let fields = fields_of(*text.allocator(), case.input)?;
+    let found = Directives::of(*text.allocator(), &fields)?;
+    write_directive(text, *which, &found)
 }
 
 /// When a response was asked for and when it came: `asked for at 105, came at 110`.
@@ -65,23 +71,21 @@ fn lifetime_of(fields: &Fields, directives: &Directives) -> Lifetime
     Lifetime::of(fields, directives)
 }
 
-fn age_told(alloc: Global, lifetime: Lifetime, age: u32) -> Result<String, AllocError> {
-    let mut text = format!(in alloc; "age {age}, ")?;
+fn write_age(text: &mut String, lifetime: Lifetime, age: u32) -> Result<(), AllocError> {
     if lifetime.explicit {
-        write!(text, "lifetime {}", lifetime.seconds)?;
+        write!(text, "age {age}, lifetime {}", lifetime.seconds)?;
     } else {
-        text.push_str("no lifetime")?;
+        write!(text, "age {age}, no lifetime")?;
     }
     write!(text, ", ttl {}", ttl(lifetime, age))?;
     if is_fresh(lifetime, age) {
-        text.push_str(", fresh")?;
+        text.push_str(", fresh")
     } else {
-        write!(text, ", stale by {}", staleness(lifetime, age))?;
+        write!(text, ", stale by {}", staleness(lifetime, age))
     }
-    Ok(text)
 }
 
-fn age_at(alloc: Global, response: &Part<'_>, now: u64) -> Result<String, Fault> {
+fn write_age_at(text: &mut String, response: &Part<'_>, now: u64) -> Result<(), Fault> {
     let Some((asked, came)) = moments_of(response.head.text) else {
         return Err(
             response
@@ -90,23 +94,22 @@ fn age_at(alloc: Global, response: &Part<'_>, now: u64) -> Result<String, Fault>
         );
     };
     let times = Times::of(&response.fields, asked, came);
-    let directives = Directives::of(alloc, &response.fields)?;
+    let directives = Directives::of(*text.allocator(), &response.fields)?;
     let lifetime = lifetime_of(&response.fields, &directives);
-    Ok(age_told(alloc, lifetime, current_age(&times, now))?)
+    Ok(write_age(text, lifetime, current_age(&times, now))?)
 }
 
 /// How old and how fresh a response is at a moment.
-pub fn ages(alloc: Global, front: &[Line<'_>], case: &Case<'_>) -> Result<String, Fault> {
-    let parts = parts_of(alloc, front, case)?;
-    let [response, moment] = parts.as_slice() else {
-        return Err(case.label.fault("not a response and a moment"));
+pub fn ages(text: &mut String, label: Line<'_>, parts: &[Part<'_>]) -> Result<(), Fault> {
+    let [response, moment] = parts else {
+        return Err(label.fault("not a response and a moment"));
     };
     if moment.fields.len() > 0 {
         return Err(moment.head.fault("field lines behind a moment"));
     }
-    let text = moment.head.text.strip_prefix("at ").unwrap_or("");
-    let Ok(now) = text.parse::<u64>() else {
+    let second = moment.head.text.strip_prefix("at ").unwrap_or("");
+    let Ok(now) = second.parse::<u64>() else {
         return Err(moment.head.fault("not `at SECOND`"));
     };
-    age_at(alloc, response, now)
+    write_age_at(text, response, now)
 }

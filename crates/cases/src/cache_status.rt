@@ -11,7 +11,6 @@ use hx_framing::FrameFault;
 use hx_reuse::{ErrorRule, ReuseRule};
 use hx_status::{Cause, Detail, How, Status, member, refusal};
 use hx_target::TargetFault;
-use std::alloc::Global;
 
 static REUSE_RULES: [(&str, ReuseRule); 17] = [
     ("Method", ReuseRule::Method),
@@ -147,14 +146,13 @@ fn status_of(text: &str) -> Option<Status> {
 }
 
 /// The member of Cache-Status for what is told of an answer.
-pub fn members(alloc: Global, front: &[Line<'_>], case: &Case<'_>) -> Result<String, Fault> {
+pub fn members(text: &mut String, front: &[Line<'_>], case: &Case<'_>) -> Result<(), Fault> {
     let line = only_line(front, case)?;
     let Some(status) = status_of(line.text) else {
         return Err(line.fault("nothing that Cache-Status tells"));
     };
-    let mut text = String::new(alloc);
-    push_shown(&mut text, member(alloc, "edge", &status)?.as_slice())?;
-    Ok(text)
+    let member = member(*text.allocator(), "edge", &status)?;
+    Ok(push_shown(text, member.as_slice())?)
 }
 
 /// How an origin failed, the reuse rule, and the error rule if one follows.
@@ -187,14 +185,12 @@ fn cause_of(text: &str) -> Option<Cause> {
 }
 
 /// The status and the text of the proxy's own answer.
-pub fn refusals(alloc: Global, front: &[Line<'_>], case: &Case<'_>) -> Result<String, Fault> {
+pub fn refusals(text: &mut String, front: &[Line<'_>], case: &Case<'_>) -> Result<(), Fault> {
     let line = only_line(front, case)?;
     let Some(cause) = cause_of(line.text) else {
         return Err(line.fault("no cause of an answer of the proxy's own"));
     };
-    let (status, answer) = refusal(alloc, cause)?;
-    let mut text = status.to_string(alloc)?;
-    text.push(' ')?;
-    push_shown(&mut text, answer.as_slice())?;
-    Ok(text)
+    let (status, answer) = refusal(*text.allocator(), cause)?;
+    write!(text, "{status} ")?;
+    Ok(push_shown(text, answer.as_slice())?)
 }

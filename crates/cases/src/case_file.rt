@@ -5,33 +5,23 @@ use crate::lines::{Block, Fault, Line, blocks_of, push_spelled};
 use std::alloc::Global;
 
 /// A case: its label, its input and the answer that is expected.
-#[derive(Drop)]
+#[derive(Clone, Copy)]
 pub struct Case<'a> {
     pub label: Line<'a>,
     pub answer: &'a str,
     /// The indented lines, or where there are none the label.
-    pub input: Vec<Line<'a>>,
+    pub input: &'a [Line<'a>],
 }
 
-fn case_of<'a>(alloc: Global, block: &Block<'a>) -> Result<Case<'a>, Fault> {
-    let head = block.head;
-    let Some((label, answer)) = head.text.split_once(" -> ") else {
-        return Err(head.fault("neither a [group] nor a case with ` -> `"));
-    };
-    let label = Line {
-        number: head.number,
-        text: label,
-    };
-    let body = if block.body.is_empty() {
-        Vec::from_slice(alloc, &[label])?
-    } else {
-        Vec::from_slice(alloc, block.body.as_slice())?
-    };
-    Ok(Case {
-        label,
-        answer: answer.trim(),
-        input: body,
-    })
+/// The label of a case, and its answer.
+fn labelled(head: Line<'_>) -> Result<(Line<'_>, &str), Fault> {
+    match head.text.split_once(" -> ") {
+        Some((text, answer)) => {
+            let number = head.number;
+            Ok((Line { number, text }, answer.trim()))
+        }
+        None => Err(head.fault("neither a [group] nor a case with ` -> `")),
+    }
 }
 
 /// Appends what the lines spell, with nothing between them.
@@ -47,14 +37,14 @@ pub fn stream_of(alloc: Global, front: &[Line<'_>], case: &Case<'_>) -> Result<V
     let mut bytes = Vec::new(alloc);
     let mut placed = front.is_empty();
     if placed {
-        push_lines(&mut bytes, case.input.as_slice())?;
+        push_lines(&mut bytes, case.input)?;
     }
     for line in front {
         match line.text.split_once('…') {
             Some(_) if placed => return Err(line.fault("a second … in the group's front")),
             Some((before, behind)) => {
                 push_spelled(&mut bytes, *line, before)?;
-                push_lines(&mut bytes, case.input.as_slice())?;
+                push_lines(&mut bytes, case.input)?;
                 push_spelled(&mut bytes, *line, behind)?;
                 placed = true;
             }
@@ -78,7 +68,6 @@ pub struct Tally {
 }
 
 /// A file as it is played.
-#[derive(Drop)]
 struct Player<'a> {
     name: &'a str,
     driver: Driver,
@@ -89,6 +78,19 @@ struct Player<'a> {
     front: Vec<Line<'a>>,
     /// How many cases the group has so far.
     in_group: usize,
+}
+
+impl Drop for Player<'_> {
+    fn drop(self) {
+        let Player {
+            name: _,
+            driver: _,
+            tally: _,
+            group: _,
+            front: _,
+            in_group: _,
+        } = self;
+    }
 }
 
 /// A report of what doesn't hold is appended to `report`, a line each.
@@ -106,17 +108,45 @@ fn push_difference(
 }
 
 impl<'a> Player<'a> {
-    fn play(&mut self, alloc: Global, report: &mut String, block: &Block<'a>) -> Result<(), Fault> {
-        let case = case_of(alloc, block)?;
-        let got = driver::answer(alloc, self.driver, self.front.as_slice(), &case)?;
+    /// Plays a case, and reports it where its answer is another.
+    fn judge(&mut self, alloc: Global, report: &mut String, case: &Case<'_>) -> Result<(), Fault> {
+        let mut got = String::new(alloc);
+        driver::write_answer(&mut got, self.driver, self.front.as_slice(), case)?;
         self.in_group = self.in_group.saturating_add(1);
         if got.as_str() == case.answer {
             self.tally.hold = self.tally.hold.saturating_add(1);
             Ok(())
         } else {
             self.tally.differ = self.tally.differ.saturating_add(1);
-            push_difference(report, self.name, &case, got.as_str())
+            push_difference(report, self.name, case, got.as_str())
         }
+    }
+
+    fn play(&mut self, alloc: Global, report: &mut String, block: &Block<'a>) -> Result<(), Fault> {
+        let (label, answer) = labelled(block.head)?;
+        let input = block.body.as_slice();
+        if input.is_empty() {
+            let input = [label];
+            let input = input.as_slice();
+            return self.judge(
+                alloc,
+                report,
+                &Case {
+                    label,
+                    answer,
+                    input,
+                },
+            );
+        }
+        self.judge(
+            alloc,
+            report,
+            &Case {
+                label,
+                answer,
+                input,
+            },
+        )
     }
 
     /// A group ends: it has to have cases.

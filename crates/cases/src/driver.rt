@@ -1,32 +1,29 @@
 //! What can be played: a word each, and what it makes of a case.
 
-use crate::case_file::Case;
+use crate::case_file::{Case, stream_of};
 use crate::lines::{Fault, Line};
+use crate::parts::{Part, parts_of};
 use crate::{
     ages, cache_status, passing, reuse, scripts, steps, storing, streams, tables, targets,
     validation, values,
 };
-use std::alloc::Global;
+use std::alloc::AllocError;
 
-/// What a file plays.
+/// What is played to the bytes that a case spells.
 #[derive(Clone, Copy)]
-pub enum Driver {
+pub enum OnBytes {
     Requests,
     RequestParts,
     ResponsesToGet,
     ResponsesToHead,
-    Steps,
     FirstItems,
     LaterItems,
     Replays,
-    Targets,
-    TargetFaults,
-    Paths,
-    Values,
-    Tables,
-    ChangedTables,
-    Verdicts,
-    Directives,
+}
+
+/// What is played to the parts of a case, each with its field lines.
+#[derive(Clone, Copy)]
+pub enum OnParts {
     Ages,
     Storing,
     Reuse,
@@ -35,87 +32,175 @@ pub enum Driver {
     Freshening,
     ClientConditions,
     NotModified,
-    Stripping,
     PassedResponses,
     Forwarding,
+}
+
+/// What is played to the lines of a case.
+#[derive(Clone, Copy)]
+pub enum OnLines {
+    Steps,
+    Targets,
+    TargetFaults,
+    Paths,
+    Values,
+    Tables,
+    ChangedTables,
+    Verdicts,
+    Directives,
+    Stripping,
     Members,
     Refusals,
 }
 
-impl Driver {
-    /// The driver of a name.
-    pub fn named(name: &str) -> Option<Driver> {
+/// What a file plays.
+#[derive(Clone, Copy)]
+pub enum Driver {
+    Bytes(OnBytes),
+    Parts(OnParts),
+    Lines(OnLines),
+}
+
+impl OnBytes {
+    fn named(name: &str) -> Option<OnBytes> {
         match name {
-            "requests" => Some(Driver::Requests),
-            "parts of requests" => Some(Driver::RequestParts),
-            "responses to GET" => Some(Driver::ResponsesToGet),
-            "responses to HEAD" => Some(Driver::ResponsesToHead),
-            "steps" => Some(Driver::Steps),
-            "first items of scripts" => Some(Driver::FirstItems),
-            "later items of scripts" => Some(Driver::LaterItems),
-            "replays" => Some(Driver::Replays),
-            "targets" => Some(Driver::Targets),
-            "faults of targets" => Some(Driver::TargetFaults),
-            "paths" => Some(Driver::Paths),
-            "values" => Some(Driver::Values),
-            "tables" => Some(Driver::Tables),
-            "changed tables" => Some(Driver::ChangedTables),
-            "verdicts" => Some(Driver::Verdicts),
-            "directives" => Some(Driver::Directives),
-            "ages" => Some(Driver::Ages),
-            "storing" => Some(Driver::Storing),
-            "reuse" => Some(Driver::Reuse),
-            "reuse on error" => Some(Driver::OnError),
-            "answers to validation" => Some(Driver::Validating),
-            "freshening" => Some(Driver::Freshening),
-            "client conditions" => Some(Driver::ClientConditions),
-            "304s to clients" => Some(Driver::NotModified),
-            "fields of a connection" => Some(Driver::Stripping),
-            "responses passed on" => Some(Driver::PassedResponses),
-            "requests passed on" => Some(Driver::Forwarding),
-            "members of Cache-Status" => Some(Driver::Members),
-            "refusals" => Some(Driver::Refusals),
+            "requests" => Some(OnBytes::Requests),
+            "parts of requests" => Some(OnBytes::RequestParts),
+            "responses to GET" => Some(OnBytes::ResponsesToGet),
+            "responses to HEAD" => Some(OnBytes::ResponsesToHead),
+            "first items of scripts" => Some(OnBytes::FirstItems),
+            "later items of scripts" => Some(OnBytes::LaterItems),
+            "replays" => Some(OnBytes::Replays),
             _ => None,
         }
     }
 }
 
-/// What is answered to a case, where its group begins so.
-pub fn answer(
-    alloc: Global,
+impl OnParts {
+    fn named(name: &str) -> Option<OnParts> {
+        match name {
+            "ages" => Some(OnParts::Ages),
+            "storing" => Some(OnParts::Storing),
+            "reuse" => Some(OnParts::Reuse),
+            "reuse on error" => Some(OnParts::OnError),
+            "answers to validation" => Some(OnParts::Validating),
+            "freshening" => Some(OnParts::Freshening),
+            "client conditions" => Some(OnParts::ClientConditions),
+            "304s to clients" => Some(OnParts::NotModified),
+            "responses passed on" => Some(OnParts::PassedResponses),
+            "requests passed on" => Some(OnParts::Forwarding),
+            _ => None,
+        }
+    }
+}
+
+impl OnLines {
+    fn named(name: &str) -> Option<OnLines> {
+        match name {
+            "steps" => Some(OnLines::Steps),
+            "targets" => Some(OnLines::Targets),
+            "faults of targets" => Some(OnLines::TargetFaults),
+            "paths" => Some(OnLines::Paths),
+            "values" => Some(OnLines::Values),
+            "tables" => Some(OnLines::Tables),
+            "changed tables" => Some(OnLines::ChangedTables),
+            "verdicts" => Some(OnLines::Verdicts),
+            "directives" => Some(OnLines::Directives),
+            "fields of a connection" => Some(OnLines::Stripping),
+            "members of Cache-Status" => Some(OnLines::Members),
+            "refusals" => Some(OnLines::Refusals),
+            _ => None,
+        }
+    }
+}
+
+impl Driver {
+    /// The driver of a name.
+    pub fn named(name: &str) -> Option<Driver> {
+        if let Some(play) = OnBytes::named(name) {
+            return Some(Driver::Bytes(play));
+        }
+        if let Some(play) = OnParts::named(name) {
+            return Some(Driver::Parts(play));
+        }
+        match OnLines::named(name) {
+            Some(play) => Some(Driver::Lines(play)),
+            None => None,
+        }
+    }
+}
+
+fn write_on_bytes(text: &mut String, play: OnBytes, bytes: &[u8]) -> Result<(), AllocError> {
+    match play {
+        OnBytes::Requests => streams::write_requests(text, bytes),
+        OnBytes::RequestParts => streams::write_first_request(text, bytes),
+        OnBytes::ResponsesToGet => streams::write_responses(text, false, bytes),
+        OnBytes::ResponsesToHead => streams::write_responses(text, true, bytes),
+        OnBytes::FirstItems => scripts::write_front(text, true, bytes),
+        OnBytes::LaterItems => scripts::write_front(text, false, bytes),
+        OnBytes::Replays => scripts::write_replay(text, bytes),
+    }
+}
+
+fn write_on_parts(
+    text: &mut String,
+    play: OnParts,
+    label: Line<'_>,
+    parts: &[Part<'_>],
+) -> Result<(), Fault> {
+    match play {
+        OnParts::Ages => ages::ages(text, label, parts),
+        OnParts::Storing => storing::storing(text, label, parts),
+        OnParts::Reuse => reuse::reuse(text, label, parts),
+        OnParts::OnError => reuse::on_error(text, label, parts),
+        OnParts::Validating => validation::validating(text, label, parts),
+        OnParts::Freshening => validation::freshening(text, label, parts),
+        OnParts::ClientConditions => validation::client_conditions(text, label, parts),
+        OnParts::NotModified => validation::not_modified_lines(text, label, parts),
+        OnParts::PassedResponses => passing::responses(text, label, parts),
+        OnParts::Forwarding => passing::forwarding(text, label, parts),
+    }
+}
+
+fn write_on_lines(
+    text: &mut String,
+    play: OnLines,
+    front: &[Line<'_>],
+    case: &Case<'_>,
+) -> Result<(), Fault> {
+    match play {
+        OnLines::Steps => steps::steps(text, front, case),
+        OnLines::Targets => targets::targets(text, front, case),
+        OnLines::TargetFaults => targets::target_faults(text, front, case),
+        OnLines::Paths => targets::paths(text, front, case),
+        OnLines::Values => values::values(text, front, case),
+        OnLines::Tables => tables::tables(text, front, case),
+        OnLines::ChangedTables => tables::changed_tables(text, front, case),
+        OnLines::Verdicts => tables::verdicts(text, front, case),
+        OnLines::Directives => ages::directives(text, front, case),
+        OnLines::Stripping => passing::stripping(text, front, case),
+        OnLines::Members => cache_status::members(text, front, case),
+        OnLines::Refusals => cache_status::refusals(text, front, case),
+    }
+}
+
+/// Writes what is answered to a case, where its group begins so, into an empty text.
+pub fn write_answer(
+    text: &mut String,
     driver: Driver,
     front: &[Line<'_>],
     case: &Case<'_>,
-) -> Result<String, Fault> {
+) -> Result<(), Fault> {
+    let alloc = *text.allocator();
     match driver {
-        Driver::Requests => streams::requests(alloc, front, case),
-        Driver::RequestParts => streams::request_parts(alloc, front, case),
-        Driver::ResponsesToGet => streams::responses(alloc, false, front, case),
-        Driver::ResponsesToHead => streams::responses(alloc, true, front, case),
-        Driver::Steps => steps::steps(alloc, front, case),
-        Driver::FirstItems => scripts::items(alloc, true, front, case),
-        Driver::LaterItems => scripts::items(alloc, false, front, case),
-        Driver::Replays => scripts::replays(alloc, front, case),
-        Driver::Targets => targets::targets(alloc, front, case),
-        Driver::TargetFaults => targets::target_faults(alloc, front, case),
-        Driver::Paths => targets::paths(alloc, front, case),
-        Driver::Values => values::values(alloc, front, case),
-        Driver::Tables => tables::tables(alloc, front, case),
-        Driver::ChangedTables => tables::changed_tables(alloc, front, case),
-        Driver::Verdicts => tables::verdicts(alloc, front, case),
-        Driver::Directives => ages::directives(alloc, front, case),
-        Driver::Ages => ages::ages(alloc, front, case),
-        Driver::Storing => storing::storing(alloc, front, case),
-        Driver::Reuse => reuse::reuse(alloc, front, case),
-        Driver::OnError => reuse::on_error(alloc, front, case),
-        Driver::Validating => validation::validating(alloc, front, case),
-        Driver::Freshening => validation::freshening(alloc, front, case),
-        Driver::ClientConditions => validation::client_conditions(alloc, front, case),
-        Driver::NotModified => validation::not_modified_lines(alloc, front, case),
-        Driver::Stripping => passing::stripping(alloc, front, case),
-        Driver::PassedResponses => passing::responses(alloc, front, case),
-        Driver::Forwarding => passing::forwarding(alloc, front, case),
-        Driver::Members => cache_status::members(alloc, front, case),
-        Driver::Refusals => cache_status::refusals(alloc, front, case),
+        Driver::Bytes(play) => {
+            let bytes = stream_of(alloc, front, case)?;
+            Ok(write_on_bytes(text, play, bytes.as_slice())?)
+        }
+        Driver::Parts(play) => {
+            let parts = parts_of(alloc, front, case)?;
+            write_on_parts(text, play, case.label, parts.as_slice())
+        }
+        Driver::Lines(play) => write_on_lines(text, play, front, case),
     }
 }

@@ -36,10 +36,16 @@ impl<'a> Line<'a> {
 }
 
 /// A head line and the lines below it.
-#[derive(Drop)]
 pub struct Block<'a> {
     pub head: Line<'a>,
     pub body: Vec<Line<'a>>,
+}
+
+// By hand, so that a scope that ends is one call to the prover and not the drop of each part.
+impl Drop for Block<'_> {
+    fn drop(self) {
+        let Block { head: _, body: _ } = self;
+    }
 }
 
 /// What a line of a case file is.

@@ -17,21 +17,21 @@ pub fn lines_of<'a>(
     let mut placed = false;
     for line in front {
         if line.text == "…" {
-            lines.extend_from_slice(case.input.as_slice())?;
+            lines.extend_from_slice(case.input)?;
             placed = true;
         } else {
             lines.push(*line)?;
         }
     }
     if !placed {
-        lines.extend_from_slice(case.input.as_slice())?;
+        lines.extend_from_slice(case.input)?;
     }
     Ok(lines)
 }
 
 /// The only line of a case whose group has no front.
 pub fn only_line<'a>(front: &[Line<'a>], case: &Case<'a>) -> Result<Line<'a>, Fault> {
-    match (front, case.input.as_slice()) {
+    match (front, case.input) {
         ([], [line]) => Ok(*line),
         _ => Err(
             case.label
@@ -41,10 +41,16 @@ pub fn only_line<'a>(front: &[Line<'a>], case: &Case<'a>) -> Result<Line<'a>, Fa
 }
 
 /// A line that begins something, and the field lines behind it.
-#[derive(Drop)]
 pub struct Part<'a> {
     pub head: Line<'a>,
     pub fields: Fields,
+}
+
+// By hand, so that a scope that ends is one call to the prover and not the drop of each part.
+impl Drop for Part<'_> {
+    fn drop(self) {
+        let Part { head: _, fields: _ } = self;
+    }
 }
 
 impl<'a> Part<'a> {
@@ -120,19 +126,18 @@ fn push_field_line(text: &mut String, line: &Field) -> Result<(), AllocError> {
     push_shown(text, line.value.as_slice())
 }
 
-/// The field lines as a text, with a bar between them.
-pub fn shown_fields(alloc: Global, fields: &Fields) -> Result<String, AllocError> {
-    let mut text = String::new(alloc);
+/// Writes the field lines into an empty text, with a bar between them.
+pub fn write_fields(text: &mut String, fields: &Fields) -> Result<(), AllocError> {
     for line in fields.as_slice() {
-        push_field_line(&mut text, line)?;
+        push_field_line(text, line)?;
     }
     if text.is_empty() {
         text.push_str("no lines")?;
     }
-    Ok(text)
+    Ok(())
 }
 
-/// A word as an answer.
-pub fn word(alloc: Global, text: &str) -> Result<String, Fault> {
-    Ok(String::from_str(alloc, text)?)
+/// Writes a word as an answer.
+pub fn word(text: &mut String, word: &str) -> Result<(), Fault> {
+    Ok(text.push_str(word)?)
 }

@@ -3,6 +3,7 @@
 //! Where nothing else is said it is `/a` that is asked for, of the host `h`.
 
 use crate::lines::{Fault, Line, spelled};
+use crate::parts::Part;
 use http::Method;
 use hx_fields::{Bytes, Fields};
 use hx_framing::Request;
@@ -106,4 +107,9 @@ pub fn asked_of(
         Err(TargetFault::OutOfMemory) => Err(Fault::OutOfMemory),
         Err(_) => Err(line.fault("a request whose target is refused")),
     }
+}
+
+/// The request of a part that begins with its line.
+pub fn asked_by(alloc: Global, part: &Part<'_>) -> Result<Asked, Fault> {
+    asked_of(alloc, part.head, part.head.text, &part.fields)
 }

@@ -5,9 +5,8 @@
 //! A response without a Date is given that of its moment. `hit 1` is answered, or `forward` with the number and the name of
 //! the least rule against it, and which response that one is about.
 
-use crate::case_file::Case;
 use crate::lines::{Fault, Line};
-use crate::parts::{Part, parts_of, word};
+use crate::parts::{Part, word};
 use crate::requests::asked_of;
 use hx_age::Times;
 use hx_directives::Directives;
@@ -163,26 +162,25 @@ fn decided(
     decide(alloc, asked, &directives, shelf, serials.as_slice(), now)
 }
 
-fn decision_text(alloc: Global, decision: Decision) -> Result<String, AllocError> {
+fn write_decision(text: &mut String, decision: Decision) -> Result<(), AllocError> {
     match decision {
-        Decision::Hit(serial) => format!(in alloc; "hit {serial}"),
-        Decision::Forward(rule, None) => format!(in alloc; "forward {} {:?}", rule.number(), rule),
+        Decision::Hit(serial) => write!(text, "hit {serial}"),
+        Decision::Forward(rule, None) => write!(text, "forward {} {:?}", rule.number(), rule),
         Decision::Forward(rule, Some(serial)) => {
-            format!(in alloc; "forward {} {:?} {serial}", rule.number(), rule)
+            write!(text, "forward {} {:?} {serial}", rule.number(), rule)
         }
     }
 }
 
 /// What is decided of a request.
-pub fn reuse(alloc: Global, front: &[Line<'_>], case: &Case<'_>) -> Result<String, Fault> {
-    let parts = parts_of(alloc, front, case)?;
-    let [stored @ .., request] = parts.as_slice() else {
-        return Err(case.label.fault("no request"));
+pub fn reuse(text: &mut String, label: Line<'_>, parts: &[Part<'_>]) -> Result<(), Fault> {
+    let [stored @ .., request] = parts else {
+        return Err(label.fault("no request"));
     };
-    let shelf = shelf_of(alloc, stored)?;
-    let (now, asked) = asked_at(alloc, request)?;
-    let decision = decided(alloc, &shelf, &asked, now)?;
-    Ok(decision_text(alloc, decision)?)
+    let shelf = shelf_of(*text.allocator(), stored)?;
+    let (now, asked) = asked_at(*text.allocator(), request)?;
+    let decision = decided(*text.allocator(), &shelf, &asked, now)?;
+    Ok(write_decision(text, decision)?)
 }
 
 fn on_error_at(
@@ -197,13 +195,12 @@ fn on_error_at(
 }
 
 /// Whether a stored response may be sent in place of an error.
-pub fn on_error(alloc: Global, front: &[Line<'_>], case: &Case<'_>) -> Result<String, Fault> {
-    let parts = parts_of(alloc, front, case)?;
-    let [stored, request] = parts.as_slice() else {
-        return Err(case.label.fault("not a stored response and a request"));
+pub fn on_error(text: &mut String, label: Line<'_>, parts: &[Part<'_>]) -> Result<(), Fault> {
+    let [stored, request] = parts else {
+        return Err(label.fault("not a stored response and a request"));
     };
-    match on_error_at(alloc, stored, request)? {
-        Ok(()) => word(alloc, "sent"),
-        Err(rule) => Ok(format!(in alloc; "{} {:?}", rule.number(), rule)?),
+    match on_error_at(*text.allocator(), stored, request)? {
+        Ok(()) => word(text, "sent"),
+        Err(rule) => Ok(write!(text, "{} {:?}", rule.number(), rule)?),
     }
 }

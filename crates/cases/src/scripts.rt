@@ -1,12 +1,10 @@
 //! Scripts: the item at the front of a text, and whole replays.
 
-use crate::case_file::{Case, stream_of};
-use crate::lines::{Fault, Line};
 use crate::words::push_shown_in_brackets;
 use hx_status::FailKind;
 use proxy_script::{Front, Happening, Item, read_item};
-use proxy_server::replay;
-use std::alloc::{AllocError, Global};
+use proxy_server::{ReplayFault, replay};
+use std::alloc::AllocError;
 
 /// The word of a link's failure.
 fn failure_word(kind: FailKind) -> &'static str {
@@ -46,42 +44,41 @@ fn write_item(text: &mut String, item: Item<'_>) -> Result<(), AllocError> {
     }
 }
 
-/// The item at the front of a text, the first of a script or a later one: with its bytes in brackets, and what is behind it.
-pub fn items(
-    alloc: Global,
-    first: bool,
-    front: &[Line<'_>],
-    case: &Case<'_>,
-) -> Result<String, Fault> {
-    let script = stream_of(alloc, front, case)?;
-    let mut text = String::new(alloc);
-    match read_item(first, script.as_slice()) {
+/// Writes the item at the front of a script or of its rest, with its bytes in brackets, and what is behind it.
+pub fn write_front(text: &mut String, first: bool, script: &[u8]) -> Result<(), AllocError> {
+    match read_item(first, script) {
         Front::Found(item, rest) => {
-            write_item(&mut text, item)?;
-            if !rest.is_empty() {
-                text.push_str(" then ")?;
-                push_shown_in_brackets(&mut text, rest)?;
-            }
+            write_item(text, item)?;
+            write_behind(text, " then ", rest)
         }
-        Front::Cut => text.push_str("cut")?,
-        Front::Wrong => text.push_str("wrong")?,
+        Front::Cut => text.push_str("cut"),
+        Front::Wrong => text.push_str("wrong"),
     }
-    Ok(text)
 }
 
-/// Replays a script, the group's front and the case: how it ends, with the exit status of a fault, and the effects' text.
-pub fn replays(alloc: Global, front: &[Line<'_>], case: &Case<'_>) -> Result<String, Fault> {
-    let script = stream_of(alloc, front, case)?;
-    let mut reader = script.as_slice();
+/// Writes bytes in brackets behind a word, where there are any.
+fn write_behind(text: &mut String, word: &str, bytes: &[u8]) -> Result<(), AllocError> {
+    if bytes.is_empty() {
+        return Ok(());
+    }
+    text.push_str(word)?;
+    push_shown_in_brackets(text, bytes)
+}
+
+/// Writes how a replay ends, with the exit status of a fault.
+fn write_end(text: &mut String, ended: &Result<(), ReplayFault>) -> Result<(), AllocError> {
+    match ended {
+        Ok(()) => text.push_str("done"),
+        Err(fault) => write!(text, "{fault}, status {}", fault.exit_status()),
+    }
+}
+
+/// Replays a script, and writes how that ends and the text of its effects.
+pub fn write_replay(text: &mut String, script: &[u8]) -> Result<(), AllocError> {
+    let alloc = *text.allocator();
+    let mut reader = script;
     let mut effects = Vec::new(alloc);
-    let mut text = String::new(alloc);
-    match replay(alloc, &mut reader, &mut effects) {
-        Ok(()) => text.push_str("done")?,
-        Err(fault) => write!(text, "{fault}, status {}", fault.exit_status())?,
-    }
-    if !effects.is_empty() {
-        text.push(' ')?;
-        push_shown_in_brackets(&mut text, effects.as_slice())?;
-    }
-    Ok(text)
+    let ended = replay(alloc, &mut reader, &mut effects);
+    write_end(text, &ended)?;
+    write_behind(text, " ", effects.as_slice())
 }

@@ -43,12 +43,23 @@ struct Happens<'a> {
 }
 
 /// A step as it is written.
-#[derive(Drop)]
 struct Step<'a> {
     happens: Line<'a>,
     fields: Vec<Line<'a>>,
     gives: Line<'a>,
     message: Vec<Line<'a>>,
+}
+
+// By hand, so that a scope that ends is one call to the prover and not the drop of each part.
+impl Drop for Step<'_> {
+    fn drop(self) {
+        let Step {
+            happens: _,
+            fields: _,
+            gives: _,
+            message: _,
+        } = self;
+    }
 }
 
 /// A status, and the content behind it.
@@ -195,12 +206,8 @@ fn outcome_of(
 /// Writes what a reply stores, uses and removes.
 fn write_changes(text: &mut String, reply: &Reply) -> Result<(), AllocError> {
     text.push_str("gives reply")?;
-    if let Some(serial) = reply.stored {
-        write!(text, ", stored {serial}")?;
-    }
-    if let Some(serial) = reply.used {
-        write!(text, ", used {serial}")?;
-    }
+    write_serial(text, ", stored ", reply.stored)?;
+    write_serial(text, ", used ", reply.used)?;
     if !reply.removed.is_empty() {
         text.push_str(", removed")?;
     }
@@ -210,18 +217,32 @@ fn write_changes(text: &mut String, reply: &Reply) -> Result<(), AllocError> {
     Ok(())
 }
 
-/// What differs from what a step is to give.
-fn difference(
-    alloc: Global,
-    step: &Step<'_>,
-    gives: &str,
-    bytes: &[u8],
-) -> Result<Option<String>, Fault> {
-    let message = message_of(alloc, step.message.as_slice())?;
-    if gives == step.gives.text && bytes == message.as_slice() {
-        return Ok(None);
+fn write_serial(text: &mut String, word: &str, serial: Option<u64>) -> Result<(), AllocError> {
+    match serial {
+        Some(serial) => write!(text, "{word}{serial}"),
+        None => Ok(()),
     }
-    Ok(Some(told(alloc, step.happens.number, gives, bytes)?))
+}
+
+/// Writes what a step gives.
+fn write_given(text: &mut String, given: &Result<Outcome, CoreFault>) -> Result<(), AllocError> {
+    match given {
+        Ok(Outcome::Reply(reply)) => write_changes(text, reply),
+        Ok(Outcome::Forward(1, _)) => text.push_str("gives forward"),
+        Ok(Outcome::Forward(_, _)) => text.push_str("gives forward by a later line"),
+        Ok(Outcome::Ended) => text.push_str("gives an end"),
+        Err(fault) => write!(text, "gives refusal {fault:?}"),
+    }
+}
+
+/// The message that a step gives, empty where there is none.
+fn message_in(given: &Result<Outcome, CoreFault>) -> &[u8] {
+    match given {
+        Ok(Outcome::Reply(reply)) => reply.bytes.as_slice(),
+        Ok(Outcome::Forward(_, bytes)) => bytes.as_slice(),
+        Ok(Outcome::Ended) => &[],
+        Err(_) => &[],
+    }
 }
 
 /// The bytes that a message's lines spell.
@@ -233,47 +254,33 @@ fn message_of(alloc: Global, lines: &[Line<'_>]) -> Result<Vec<u8>, Fault> {
     Ok(bytes)
 }
 
-/// What a step in this line gave.
-fn told(alloc: Global, line: usize, gives: &str, bytes: &[u8]) -> Result<String, AllocError> {
-    let mut text = String::new(alloc);
-    write!(text, "at line {line}: {gives} ")?;
-    push_shown(&mut text, bytes)?;
-    Ok(text)
+/// Whether a step gave what it is to give. Else it is written what that was.
+fn is_given(
+    text: &mut String,
+    step: &Step<'_>,
+    gives: &str,
+    message: &[u8],
+) -> Result<bool, Fault> {
+    let wanted = message_of(*text.allocator(), step.message.as_slice())?;
+    if gives == step.gives.text && message == wanted.as_slice() {
+        return Ok(true);
+    }
+    write!(text, "at line {}: {gives} ", step.happens.number)?;
+    push_shown(text, message)?;
+    Ok(false)
 }
 
-/// Does a step, and tells what differs from what it is to give.
-fn done(
-    alloc: Global,
-    core: &mut Core<ListShelf>,
-    step: &Step<'_>,
-) -> Result<Option<String>, Fault> {
-    match outcome_of(alloc, core, step)? {
-        Ok(Outcome::Reply(reply)) => {
-            let mut gives = String::new(alloc);
-            write_changes(&mut gives, &reply)?;
-            difference(alloc, step, gives.as_str(), reply.bytes.as_slice())
-        }
-        Ok(Outcome::Forward(1, bytes)) => {
-            difference(alloc, step, "gives forward", bytes.as_slice())
-        }
-        Ok(Outcome::Forward(_, bytes)) => {
-            difference(
-                alloc,
-                step,
-                "gives forward by a later line",
-                bytes.as_slice(),
-            )
-        }
-        Ok(Outcome::Ended) => difference(alloc, step, "gives an end", b""),
-        Err(fault) => {
-            let gives = format!(in alloc; "gives refusal {fault:?}")?;
-            difference(alloc, step, gives.as_str(), b"")
-        }
-    }
+/// Does a step, and tells whether it gives what it is to give. Else it is written what it gives.
+fn holds(text: &mut String, core: &mut Core<ListShelf>, step: &Step<'_>) -> Result<bool, Fault> {
+    let given = outcome_of(*text.allocator(), core, step)?;
+    let mut gives = String::new(*text.allocator());
+    write_given(&mut gives, &given)?;
+    is_given(text, step, gives.as_str(), message_in(&given))
 }
 
 fn core_of(alloc: Global, front: &[Line<'_>], case: &Case<'_>) -> Result<Core<ListShelf>, Fault> {
-    match Config::read(alloc, text_of(alloc, front)?.as_slice()) {
+    let table = text_of(alloc, front)?;
+    match Config::read(alloc, table.as_slice()) {
         Ok(config) => {
             let shelf = ListShelf::new(alloc, config.capacity());
             Ok(Core::new(alloc, config, shelf, 1))
@@ -282,10 +289,22 @@ fn core_of(alloc: Global, front: &[Line<'_>], case: &Case<'_>) -> Result<Core<Li
     }
 }
 
-/// Does the steps of a case, and gives their number or the first that gives something else.
-pub fn steps(alloc: Global, front: &[Line<'_>], case: &Case<'_>) -> Result<String, Fault> {
-    let mut core = core_of(alloc, front, case)?;
-    let lines = case.input.as_slice();
+/// Does the step that stands from one place to another.
+fn holds_at(
+    text: &mut String,
+    core: &mut Core<ListShelf>,
+    lines: &[Line<'_>],
+    from: usize,
+    to: usize,
+) -> Result<bool, Fault> {
+    let step = step_of(*text.allocator(), lines, from, to)?;
+    holds(text, core, &step)
+}
+
+/// Does the steps of a case, and writes their number or the first that gives something else.
+pub fn steps(text: &mut String, front: &[Line<'_>], case: &Case<'_>) -> Result<(), Fault> {
+    let mut core = core_of(*text.allocator(), front, case)?;
+    let lines = case.input;
     let mut from = 0usize;
     let mut count = 0usize;
     for _ in 0..lines.len() {
@@ -293,11 +312,11 @@ pub fn steps(alloc: Global, front: &[Line<'_>], case: &Case<'_>) -> Result<Strin
         if from == end {
             break;
         }
-        if let Some(text) = done(alloc, &mut core, &step_of(alloc, lines, from, end)?)? {
-            return Ok(text);
+        if !holds_at(text, &mut core, lines, from, end)? {
+            return Ok(());
         }
         count = count.saturating_add(1);
         from = end;
     }
-    Ok(format!(in alloc; "{count} steps")?)
+    Ok(write!(text, "{count} steps")?)
 }

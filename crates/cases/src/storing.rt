@@ -5,10 +5,9 @@
 ghost use Rattle.std.specs.Prelude.{◌≡◌};
 ghost use Rattle.hx_directives.specs.Occurrences.{occurrences_of};
 
-use crate::case_file::Case;
 use crate::lines::{Fault, Line};
-use crate::parts::{Part, parts_of, word};
-use crate::requests::asked_of;
+use crate::parts::{Part, word};
+use crate::requests::asked_by;
 use hx_age::Lifetime;
 use hx_directives::Directives;
 use hx_fields::Fields;
@@ -92,19 +91,18 @@ fn rule_of(
     answer: &Part<'_>,
     known: &[Part<'_>],
 ) -> Result<Option<StoreRule>, Fault> {
-    let asked = asked_of(alloc, request.head, request.head.text, &request.fields)?;
+    let asked = asked_by(alloc, request)?;
     let answered = answered_of(alloc, answer)?;
     rule_against(alloc, &asked, &answered, known)
 }
 
 /// Whether an answer may be stored, or the least rule against it.
-pub fn storing(alloc: Global, front: &[Line<'_>], case: &Case<'_>) -> Result<String, Fault> {
-    let parts = parts_of(alloc, front, case)?;
-    let [request, answer, known @ ..] = parts.as_slice() else {
-        return Err(case.label.fault("no request with an answer"));
+pub fn storing(text: &mut String, label: Line<'_>, parts: &[Part<'_>]) -> Result<(), Fault> {
+    let [request, answer, known @ ..] = parts else {
+        return Err(label.fault("no request with an answer"));
     };
-    match rule_of(alloc, request, answer, known)? {
-        None => word(alloc, "stored"),
-        Some(rule) => Ok(format!(in alloc; "{} {:?}", rule as u8, rule)?),
+    match rule_of(*text.allocator(), request, answer, known)? {
+        None => word(text, "stored"),
+        Some(rule) => Ok(write!(text, "{} {:?}", rule as u8, rule)?),
     }
 }

@@ -5,8 +5,6 @@
 //! `|` stands where the stream ends. A fault, or an `end` before the stream's end, has to be given again behind it and isn't
 //! written again.
 
-use crate::case_file::{Case, stream_of};
-use crate::lines::{Fault, Line};
 use crate::words::{frame_word, push_shown_in_brackets};
 use hx_fields::{Bytes, Field};
 use hx_framing::{FrameFault, Next, Request, RequestReader, Response, ResponseReader};
@@ -158,12 +156,8 @@ fn write_due<P: Play>(
 }
 
 /// Ends the stream, and writes what is due then.
-fn write_end<P: Play>(
-    alloc: Global,
-    reader: &mut P,
-    text: &mut String,
-    turn: Turn,
-) -> Result<(), AllocError> {
+fn write_end<P: Play>(reader: &mut P, text: &mut String, turn: Turn) -> Result<(), AllocError> {
+    let alloc = *text.allocator();
     reader.close();
     let mut last = String::new(alloc);
     write_due(alloc, reader, &mut last)?;
@@ -182,45 +176,48 @@ fn ends_before_bar(text: &str, last: &str) -> bool {
     }
 }
 
-/// The answers to a stream that is fed in two pieces.
+/// Feeds a piece, and writes what is due then, unless nothing else comes.
+fn write_fed<P: Play>(
+    reader: &mut P,
+    text: &mut String,
+    turn: Turn,
+    piece: &[u8],
+) -> Result<Turn, AllocError> {
+    reader.put(piece)?;
+    if turn == Turn::Stop {
+        Ok(Turn::Stop)
+    } else {
+        write_due(*text.allocator(), reader, text)
+    }
+}
+
+/// Writes the answers to a stream that is fed in two pieces.
 fn play_cut<P: Play>(
-    alloc: Global,
+    text: &mut String,
     reader: &mut P,
     front: &[u8],
     back: &[u8],
-) -> Result<String, AllocError> {
-    let mut text = String::new(alloc);
-    reader.put(front)?;
-    let mut turn = write_due(alloc, reader, &mut text)?;
-    reader.put(back)?;
-    if turn != Turn::Stop {
-        turn = write_due(alloc, reader, &mut text)?;
-    }
-    write_end(alloc, reader, &mut text, turn)?;
-    Ok(text)
+) -> Result<(), AllocError> {
+    let turn = write_fed(reader, text, Turn::Wait, front)?;
+    let turn = write_fed(reader, text, turn, back)?;
+    write_end(reader, text, turn)
 }
 
-/// The answers to a stream that is fed byte by byte.
-fn play_bytes<P: Play>(alloc: Global, reader: &mut P, stream: &[u8]) -> Result<String, AllocError> {
-    let mut text = String::new(alloc);
+/// Writes the answers to a stream that is fed byte by byte.
+fn play_bytes<P: Play>(text: &mut String, reader: &mut P, stream: &[u8]) -> Result<(), AllocError> {
     let mut turn = Turn::Wait;
     for byte in stream {
-        reader.put(&[*byte])?;
-        if turn != Turn::Stop {
-            turn = write_due(alloc, reader, &mut text)?;
-        }
+        turn = write_fed(reader, text, turn, &[*byte])?;
     }
-    write_end(alloc, reader, &mut text, turn)?;
-    Ok(text)
+    write_end(reader, text, turn)
 }
 
-/// The answers to a stream that has ended before the first is asked for.
-fn play_late<P: Play>(alloc: Global, reader: &mut P, stream: &[u8]) -> Result<String, AllocError> {
-    let mut text = String::new(alloc);
+/// Writes the answers to a stream that has ended before the first is asked for.
+fn play_late<P: Play>(text: &mut String, reader: &mut P, stream: &[u8]) -> Result<(), AllocError> {
     reader.put(stream)?;
     reader.close();
-    write_due(alloc, reader, &mut text)?;
-    Ok(text)
+    write_due(*text.allocator(), reader, text)?;
+    Ok(())
 }
 
 /// Whether two answers are the same but for spaces and the end of the stream.
@@ -230,67 +227,73 @@ fn are_same_words(one: &str, other: &str) -> bool {
     ours.eq(theirs)
 }
 
-/// The answers, with the way in which the stream came.
-fn by_way(alloc: Global, way: &str, answers: &str) -> Result<String, AllocError> {
-    format!(in alloc; "{way}: {answers}")
+/// Other answers take the place of the text, with the way in which the stream came.
+fn tell_way(text: &mut String, way: &str, answers: &str) -> Result<(), AllocError> {
+    text.clear();
+    write!(text, "{way}: {answers}")
 }
 
-fn whole<P: Play>(alloc: Global, to_head: bool, stream: &[u8]) -> Result<String, AllocError> {
-    play_cut(alloc, &mut P::begin(alloc, to_head), stream, b"")
-}
-
-/// The answers to a stream whose last byte comes by itself.
-fn cut<P: Play>(alloc: Global, to_head: bool, stream: &[u8]) -> Result<String, AllocError> {
-    match stream.split_last() {
-        Some((last, front)) => play_cut(alloc, &mut P::begin(alloc, to_head), front, &[*last]),
-        None => whole::<P>(alloc, to_head, stream),
+/// Plays a stream whose last byte comes by itself. Other answers take the place of the text.
+fn try_cut<P: Play>(text: &mut String, to_head: bool, stream: &[u8]) -> Result<(), AllocError> {
+    let Some((last, front)) = stream.split_last() else {
+        return Ok(());
+    };
+    let alloc = *text.allocator();
+    let mut answers = String::new(alloc);
+    play_cut(&mut answers, &mut P::begin(alloc, to_head), front, &[*last])?;
+    if answers.as_str() == text.as_str() {
+        return Ok(());
     }
+    tell_way(text, "cut before its last byte", answers.as_str())
 }
 
-fn bytes<P: Play>(alloc: Global, to_head: bool, stream: &[u8]) -> Result<String, AllocError> {
-    play_bytes(alloc, &mut P::begin(alloc, to_head), stream)
-}
-
-fn late<P: Play>(alloc: Global, to_head: bool, stream: &[u8]) -> Result<String, AllocError> {
-    play_late(alloc, &mut P::begin(alloc, to_head), stream)
-}
-
-/// The answers to a stream that comes whole, unless they are others where it comes in another way.
-fn answers<P: Play>(alloc: Global, to_head: bool, stream: &[u8]) -> Result<String, AllocError> {
-    let wanted = whole::<P>(alloc, to_head, stream)?;
-    if stream.len() > LONG_STREAM {
-        let text = cut::<P>(alloc, to_head, stream)?;
-        if text.as_str() != wanted.as_str() {
-            return by_way(alloc, "cut before its last byte", text.as_str());
-        }
-        return Ok(wanted);
+/// The same byte by byte, and whether the answers are the same.
+fn try_bytes<P: Play>(text: &mut String, to_head: bool, stream: &[u8]) -> Result<bool, AllocError> {
+    let alloc = *text.allocator();
+    let mut answers = String::new(alloc);
+    play_bytes(&mut answers, &mut P::begin(alloc, to_head), stream)?;
+    if answers.as_str() == text.as_str() {
+        return Ok(true);
     }
-    let text = bytes::<P>(alloc, to_head, stream)?;
-    if text.as_str() != wanted.as_str() {
-        return by_way(alloc, "byte by byte", text.as_str());
-    }
-    let text = late::<P>(alloc, to_head, stream)?;
-    if !are_same_words(text.as_str(), wanted.as_str()) {
-        return by_way(alloc, "ended first", text.as_str());
-    }
-    Ok(wanted)
+    tell_way(text, "byte by byte", answers.as_str())?;
+    Ok(false)
 }
 
-/// The answers to a stream of requests.
-pub fn requests(alloc: Global, front: &[Line<'_>], case: &Case<'_>) -> Result<String, Fault> {
-    let stream = stream_of(alloc, front, case)?;
-    Ok(answers::<RequestReader>(alloc, false, stream.as_slice())?)
+/// The same with a stream that has ended before the first answer is asked for.
+fn try_late<P: Play>(text: &mut String, to_head: bool, stream: &[u8]) -> Result<(), AllocError> {
+    let alloc = *text.allocator();
+    let mut answers = String::new(alloc);
+    play_late(&mut answers, &mut P::begin(alloc, to_head), stream)?;
+    if are_same_words(answers.as_str(), text.as_str()) {
+        return Ok(());
+    }
+    tell_way(text, "ended first", answers.as_str())
 }
 
-/// The answers to a stream of responses, to a HEAD or to another request.
-pub fn responses(
-    alloc: Global,
+/// Writes the answers to a stream that comes whole, or others where it comes in another way.
+fn write_answers<P: Play>(
+    text: &mut String,
     to_head: bool,
-    front: &[Line<'_>],
-    case: &Case<'_>,
-) -> Result<String, Fault> {
-    let stream = stream_of(alloc, front, case)?;
-    Ok(answers::<ResponseReader>(alloc, to_head, stream.as_slice())?)
+    stream: &[u8],
+) -> Result<(), AllocError> {
+    play_cut(text, &mut P::begin(*text.allocator(), to_head), stream, b"")?;
+    if stream.len() > LONG_STREAM {
+        try_cut::<P>(text, to_head, stream)
+    } else if try_bytes::<P>(text, to_head, stream)? {
+        try_late::<P>(text, to_head, stream)
+    } else {
+        Ok(())
+    }
+}
+
+/// Writes the answers to a stream of requests.
+pub fn write_requests(text: &mut String, stream: &[u8]) -> Result<(), AllocError> {
+    write_answers::<RequestReader>(text, false, stream)
+}
+
+/// Writes the answers to a stream of responses, to a HEAD or to another request.
+pub fn write_responses(text: &mut String, to_head: bool, stream: &[u8]) -> Result<(), AllocError> {
+    write_answers::<ResponseReader>(text, to_head, stream)
 }
 
 fn write_lines(text: &mut String, lines: &[Field]) -> Result<(), AllocError> {
@@ -314,29 +317,27 @@ fn write_request(text: &mut String, request: &Request) -> Result<(), AllocError>
     write_some_content(text, &request.content)
 }
 
-/// The parts of the first request of a stream, behind a `continue` where one is due.
-fn first_request(alloc: Global, stream: &[u8]) -> Result<String, AllocError> {
-    let mut text = String::new(alloc);
+/// Writes the parts of a request or another answer but a `continue`, and tells whether it has written.
+fn write_parts(text: &mut String, answer: &Next<Request>) -> Result<bool, AllocError> {
+    match answer {
+        Next::NeedsContinue => return Ok(false),
+        Next::Message(request) => write_request(text, request)?,
+        other => {
+            write_request_answer(text, other)?;
+        }
+    }
+    Ok(true)
+}
+
+/// Writes the parts of the first request of a stream, behind a `continue` where one is due.
+pub fn write_first_request(text: &mut String, stream: &[u8]) -> Result<(), AllocError> {
+    let alloc = *text.allocator();
     let mut reader = RequestReader::new(alloc, MOST_CONTENT);
     reader.feed(stream)?;
     for _ in 0..2u32 {
-        match &reader.next(alloc)? {
-            Next::NeedsContinue => {}
-            Next::Message(request) => {
-                write_request(&mut text, request)?;
-                return Ok(text);
-            }
-            other => {
-                write_request_answer(&mut text, other)?;
-                return Ok(text);
-            }
+        if write_parts(text, &reader.next(alloc)?)? {
+            break;
         }
     }
-    Ok(text)
-}
-
-/// The parts of the first request of a stream.
-pub fn request_parts(alloc: Global, front: &[Line<'_>], case: &Case<'_>) -> Result<String, Fault> {
-    let stream = stream_of(alloc, front, case)?;
-    Ok(first_request(alloc, stream.as_slice())?)
+    Ok(())
 }

@@ -2,9 +2,9 @@
 
 use crate::case_file::Case;
 use crate::lines::{Fault, Line, push_spelled, spelled};
-use crate::parts::{lines_of, only_line, word};
+use crate::parts::{lines_of, only_line};
 use crate::requests::method_of;
-use crate::targets::refused;
+use crate::targets::write_refused;
 use case_text::push_shown;
 use http::Method;
 use hx_allow::{Config, ConfigFault, Verdict};
@@ -12,30 +12,29 @@ use hx_fields::Fields;
 use hx_target::{Target, TargetFault, read_target};
 use std::alloc::{AllocError, Global};
 
-fn fault_of(alloc: Global, fault: &ConfigFault) -> Result<String, AllocError> {
+fn write_fault(text: &mut String, fault: &ConfigFault) -> Result<(), AllocError> {
     match fault {
-        ConfigFault::NotToml => String::from_str(alloc, "NotToml"),
+        ConfigFault::NotToml => text.push_str("NotToml"),
         ConfigFault::UnknownKey(key) => {
-            let mut text = String::from_str(alloc, "UnknownKey ")?;
-            push_shown(&mut text, key.as_slice())?;
-            Ok(text)
+            text.push_str("UnknownKey ")?;
+            push_shown(text, key.as_slice())
         }
-        ConfigFault::BadName => String::from_str(alloc, "BadName"),
-        ConfigFault::BadNumber(key) => format!(in alloc; "BadNumber {}", key.as_str()),
-        ConfigFault::BadHost(line) => format!(in alloc; "BadHost line {line}"),
-        ConfigFault::BadMethod(line) => format!(in alloc; "BadMethod line {line}"),
-        ConfigFault::BadPath(line) => format!(in alloc; "BadPath line {line}"),
-        ConfigFault::BadOrigin(line) => format!(in alloc; "BadOrigin line {line}"),
-        ConfigFault::NoLines => String::from_str(alloc, "NoLines"),
-        ConfigFault::OutOfMemory => String::from_str(alloc, "OutOfMemory"),
+        ConfigFault::BadName => text.push_str("BadName"),
+        ConfigFault::BadNumber(key) => write!(text, "BadNumber {}", key.as_str()),
+        ConfigFault::BadHost(line) => write!(text, "BadHost line {line}"),
+        ConfigFault::BadMethod(line) => write!(text, "BadMethod line {line}"),
+        ConfigFault::BadPath(line) => write!(text, "BadPath line {line}"),
+        ConfigFault::BadOrigin(line) => write!(text, "BadOrigin line {line}"),
+        ConfigFault::NoLines => text.push_str("NoLines"),
+        ConfigFault::OutOfMemory => text.push_str("OutOfMemory"),
     }
 }
 
-/// Whether a text is a table.
-fn told(alloc: Global, text: &[u8]) -> Result<String, Fault> {
-    match Config::read(alloc, text) {
-        Ok(_) => word(alloc, "read"),
-        Err(fault) => Ok(fault_of(alloc, &fault)?),
+/// Whether bytes are a table.
+fn tell(text: &mut String, table: &[u8]) -> Result<(), AllocError> {
+    match Config::read(*text.allocator(), table) {
+        Ok(_) => text.push_str("read"),
+        Err(fault) => write_fault(text, &fault),
     }
 }
 
@@ -50,9 +49,10 @@ pub fn text_of(alloc: Global, lines: &[Line<'_>]) -> Result<Vec<u8>, Fault> {
 }
 
 /// Whether the case's lines are a table, in place of `…` in the front.
-pub fn tables(alloc: Global, front: &[Line<'_>], case: &Case<'_>) -> Result<String, Fault> {
-    let lines = lines_of(alloc, front, case)?;
-    told(alloc, text_of(alloc, lines.as_slice())?.as_slice())
+pub fn tables(text: &mut String, front: &[Line<'_>], case: &Case<'_>) -> Result<(), Fault> {
+    let lines = lines_of(*text.allocator(), front, case)?;
+    let table = text_of(*text.allocator(), lines.as_slice())?;
+    Ok(tell(text, table.as_slice())?)
 }
 
 /// The text of bytes in UTF-8.
@@ -66,43 +66,62 @@ fn as_text<'a>(line: Line<'_>, bytes: &'a [u8]) -> Result<&'a str, Fault> {
 fn replaced(
     alloc: Global,
     line: Line<'_>,
-    text: &str,
+    table: &str,
+    part: &str,
+    new: &str,
+) -> Result<String, Fault> {
+    if table.contains(part) {
+        Ok(table.replace(alloc, part, new)?)
+    } else {
+        Err(line.fault("the front has no such part"))
+    }
+}
+
+/// Whether a table with a new text in place of a part is one. The parts are those of a line.
+fn tell_changed(
+    text: &mut String,
+    line: Line<'_>,
+    table: &[u8],
     part: &[u8],
     new: &[u8],
-) -> Result<String, Fault> {
+) -> Result<(), Fault> {
+    let table = as_text(line, table)?;
     let part = as_text(line, part)?;
-    if !text.contains(part) {
-        return Err(line.fault("the front has no such part"));
-    }
-    Ok(text.replace(alloc, part, as_text(line, new)?)?)
+    let new = as_text(line, new)?;
+    let changed = replaced(*text.allocator(), line, table, part, new)?;
+    Ok(tell(text, changed.as_bytes())?)
 }
 
 /// Whether the front is a table with a new text in place of a part: `PART => NEW`.
-pub fn changed_tables(alloc: Global, front: &[Line<'_>], case: &Case<'_>) -> Result<String, Fault> {
+pub fn changed_tables(text: &mut String, front: &[Line<'_>], case: &Case<'_>) -> Result<(), Fault> {
     let line = only_line(&[], case)?;
     let Some((part, new)) = line.text.split_once(" => ") else {
         return Err(line.fault("no ` => ` between a part and what takes its place"));
     };
-    let part = spelled(alloc, line, part)?;
-    let new = spelled(alloc, line, new)?;
-    let table = text_of(alloc, front)?;
-    let table = as_text(line, table.as_slice())?;
-    let text = replaced(alloc, line, table, part.as_slice(), new.as_slice())?;
-    told(alloc, text.as_str().as_bytes())
+    let part = spelled(*text.allocator(), line, part)?;
+    let new = spelled(*text.allocator(), line, new)?;
+    let table = text_of(*text.allocator(), front)?;
+    tell_changed(
+        text,
+        line,
+        table.as_slice(),
+        part.as_slice(),
+        new.as_slice(),
+    )
 }
 
-fn judged(
-    alloc: Global,
+fn write_verdict(
+    text: &mut String,
     config: &Config,
     method: &Method,
     target: &Target,
-) -> Result<String, AllocError> {
+) -> Result<(), AllocError> {
     match config.judge(method, target) {
         Verdict::Allowed(line) => {
-            format!(in alloc; "allowed by line {line} to {}", config.origin(line))
+            write!(text, "allowed by line {line} to {}", config.origin(line))
         }
-        Verdict::DeniedBy(line) => format!(in alloc; "denied by line {line}"),
-        Verdict::NoLine => String::from_str(alloc, "no line"),
+        Verdict::DeniedBy(line) => write!(text, "denied by line {line}"),
+        Verdict::NoLine => text.push_str("no line"),
     }
 }
 
@@ -123,22 +142,23 @@ fn target_of(
     Ok(read_target(alloc, target.as_bytes(), &fields))
 }
 
-fn judged_by(alloc: Global, config: &Config, line: Line<'_>) -> Result<String, Fault> {
+fn write_verdict_in(text: &mut String, config: &Config, line: Line<'_>) -> Result<(), Fault> {
     let Some((method, host, target)) = request_in(line) else {
         return Err(line.fault("no method, host and target"));
     };
-    let method = method_of(alloc, line, method)?;
-    match target_of(alloc, host, target)? {
-        Ok(target) => Ok(judged(alloc, config, &method, &target)?),
-        Err(fault) => Ok(refused(alloc, fault)?),
+    let method = method_of(*text.allocator(), line, method)?;
+    match target_of(*text.allocator(), host, target)? {
+        Ok(target) => Ok(write_verdict(text, config, &method, &target)?),
+        Err(fault) => Ok(write_refused(text, fault)?),
     }
 }
 
 /// What the table of the front says of a request: `GET shop.example /cart`.
-pub fn verdicts(alloc: Global, front: &[Line<'_>], case: &Case<'_>) -> Result<String, Fault> {
+pub fn verdicts(text: &mut String, front: &[Line<'_>], case: &Case<'_>) -> Result<(), Fault> {
     let line = only_line(&[], case)?;
-    match Config::read(alloc, text_of(alloc, front)?.as_slice()) {
-        Ok(config) => judged_by(alloc, &config, line),
+    let table = text_of(*text.allocator(), front)?;
+    match Config::read(*text.allocator(), table.as_slice()) {
+        Ok(config) => write_verdict_in(text, &config, line),
         Err(_) => Err(line.fault("the group's front is no table")),
     }
 }

@@ -26,34 +26,33 @@ fn read(alloc: Global, line: Line<'_>) -> Result<Result<Target, TargetFault>, Fa
     Ok(read_target(alloc, target.as_slice(), &fields))
 }
 
-fn shown_target(alloc: Global, target: &Target) -> Result<String, AllocError> {
-    let mut text = String::new(alloc);
-    push_shown(&mut text, target.key.host.as_slice())?;
+fn write_target(text: &mut String, target: &Target) -> Result<(), AllocError> {
+    push_shown(text, target.key.host.as_slice())?;
     write!(text, " {} ", target.key.port)?;
-    push_shown(&mut text, target.key.path_query.as_slice())?;
+    push_shown(text, target.key.path_query.as_slice())?;
     text.push(' ')?;
-    push_shown(&mut text, target.table_path.as_slice())?;
-    Ok(text)
+    push_shown(text, target.table_path.as_slice())
 }
 
 /// A refused target as an answer.
-pub fn refused(alloc: Global, fault: TargetFault) -> Result<String, AllocError> {
-    format!(in alloc; "refused {}", target_word(fault))
+pub fn write_refused(text: &mut String, fault: TargetFault) -> Result<(), AllocError> {
+    text.push_str("refused ")?;
+    text.push_str(target_word(fault))
 }
 
 /// What is read of a target.
-pub fn targets(alloc: Global, front: &[Line<'_>], case: &Case<'_>) -> Result<String, Fault> {
-    match read(alloc, only_line(front, case)?)? {
-        Ok(target) => Ok(shown_target(alloc, &target)?),
-        Err(fault) => Ok(refused(alloc, fault)?),
+pub fn targets(text: &mut String, front: &[Line<'_>], case: &Case<'_>) -> Result<(), Fault> {
+    match read(*text.allocator(), only_line(front, case)?)? {
+        Ok(target) => Ok(write_target(text, &target)?),
+        Err(fault) => Ok(write_refused(text, fault)?),
     }
 }
 
 /// Whether a target is read.
-pub fn target_faults(alloc: Global, front: &[Line<'_>], case: &Case<'_>) -> Result<String, Fault> {
-    match read(alloc, only_line(front, case)?)? {
-        Ok(_) => word(alloc, "read"),
-        Err(fault) => Ok(refused(alloc, fault)?),
+pub fn target_faults(text: &mut String, front: &[Line<'_>], case: &Case<'_>) -> Result<(), Fault> {
+    match read(*text.allocator(), only_line(front, case)?)? {
+        Ok(_) => word(text, "read"),
+        Err(fault) => Ok(write_refused(text, fault)?),
     }
 }
 
@@ -66,20 +65,22 @@ fn dots_told(before: bool, behind: bool) -> &'static str {
     }
 }
 
-/// The path for the table, and what is wrong with it.
-pub fn paths(alloc: Global, front: &[Line<'_>], case: &Case<'_>) -> Result<String, Fault> {
-    let line = only_line(front, case)?;
-    let path = spelled(alloc, line, line.text)?;
-    let found = table_path(alloc, path.as_slice())?;
-    let mut text = String::new(alloc);
+/// Writes what is found of a path, and what is wrong with it.
+fn write_path(text: &mut String, path: &[u8], found: &[u8]) -> Result<(), AllocError> {
     if found.is_empty() {
         text.push_str("\\.")?;
     }
-    push_shown(&mut text, found.as_slice())?;
-    if has_bad_escape(path.as_slice()) {
+    push_shown(text, found)?;
+    if has_bad_escape(path) {
         text.push_str(", a bad escape")?;
     }
-    let dots = names_a_dot_segment(path.as_slice());
-    text.push_str(dots_told(dots, has_dot_segment(found.as_slice())))?;
-    Ok(text)
+    text.push_str(dots_told(names_a_dot_segment(path), has_dot_segment(found)))
+}
+
+/// The path for the table, and what is wrong with it.
+pub fn paths(text: &mut String, front: &[Line<'_>], case: &Case<'_>) -> Result<(), Fault> {
+    let line = only_line(front, case)?;
+    let path = spelled(*text.allocator(), line, line.text)?;
+    let found = table_path(*text.allocator(), path.as_slice())?;
+    Ok(write_path(text, path.as_slice(), found.as_slice())?)
 }

@@ -1,14 +1,13 @@
 //! Validation: a stored response that came at 100, under `stored`, and what a 304 or a client's condition makes of it.
 
-use crate::case_file::Case;
 use crate::lines::{Fault, Line};
-use crate::parts::{Part, parts_of, shown_fields, word};
-use crate::requests::asked_of;
+use crate::parts::{Part, word, write_fields};
+use crate::requests::{asked_by, asked_of};
 use crate::reuse::entry_of;
 use crate::storing::answered_of;
 use hx_age::Times;
 use hx_fields::{Bytes, Fields};
-use hx_hop::{Answered, Asked, Conditions};
+use hx_hop::{Answered, Conditions};
 use hx_store::Entry;
 use hx_validate::{answers, client_wants_304, conditions, freshened, has_validator, not_modified};
 use std::alloc::{AllocError, Global};
@@ -21,10 +20,6 @@ fn times_at(moment: u64) -> Times {
         request_time: moment,
         response_time: moment,
     }
-}
-
-fn get(alloc: Global, part: &Part<'_>) -> Result<Asked, Fault> {
-    asked_of(alloc, part.head, part.head.text, &part.fields)
 }
 
 /// The stored response, which answered a GET without lines.
@@ -60,83 +55,88 @@ pub fn conditions_of(alloc: Global, part: &Part<'_>) -> Result<Conditions, Fault
     }
 }
 
-fn is_answered(
-    alloc: Global,
-    entry: &Entry,
-    sent: &Conditions,
-    answer: &Part<'_>,
-) -> Result<String, Fault> {
-    let answered = answer_of(alloc, answer)?;
-    let told = if !has_validator(&entry.fields) {
+/// What a 304 to these conditions says of the stored response.
+fn told(entry: &Entry, sent: &Conditions, answered: &Answered) -> &'static str {
+    if !has_validator(&entry.fields) {
         "no validator"
-    } else if answers(entry, sent, &answered) {
+    } else if answers(entry, sent, answered) {
         "answers"
     } else {
         "answers nothing"
-    };
-    word(alloc, told)
-}
-
-/// Whether a 304 answers the stored response, to its own conditions or to those that are given.
-pub fn validating(alloc: Global, front: &[Line<'_>], case: &Case<'_>) -> Result<String, Fault> {
-    let parts = parts_of(alloc, front, case)?;
-    match parts.as_slice() {
-        [stored, answer] => {
-            let entry = stored_of(alloc, stored)?;
-            let sent = conditions(alloc, &entry)?;
-            is_answered(alloc, &entry, &sent, answer)
-        }
-        [stored, sent, answer] => {
-            let entry = stored_of(alloc, stored)?;
-            let sent = conditions_of(alloc, sent)?;
-            is_answered(alloc, &entry, &sent, answer)
-        }
-        _ => Err(case.label.fault("no stored response with a 304")),
     }
 }
 
-/// The lines of the stored response behind a 304 that came at 160 to the request between them.
-pub fn freshening(alloc: Global, front: &[Line<'_>], case: &Case<'_>) -> Result<String, Fault> {
-    let parts = parts_of(alloc, front, case)?;
-    let [stored, request, answer] = parts.as_slice() else {
-        return Err(
-            case.label
-                .fault("not a stored response, a request and a 304"),
-        );
+fn write_told(
+    text: &mut String,
+    entry: &Entry,
+    sent: &Conditions,
+    answer: &Part<'_>,
+) -> Result<(), Fault> {
+    let answered = answer_of(*text.allocator(), answer)?;
+    word(text, told(entry, sent, &answered))
+}
+
+/// Whether a 304 answers the stored response, to its own conditions or to those that are given.
+pub fn validating(text: &mut String, label: Line<'_>, parts: &[Part<'_>]) -> Result<(), Fault> {
+    let (stored, given, answer) = match parts {
+        [stored, answer] => (stored, None, answer),
+        [stored, given, answer] => (stored, Some(given), answer),
+        _ => return Err(label.fault("no stored response with a 304")),
     };
-    let entry = stored_of(alloc, stored)?;
-    let asked = get(alloc, request)?;
+    let entry = stored_of(*text.allocator(), stored)?;
+    let sent = match given {
+        Some(given) => conditions_of(*text.allocator(), given)?,
+        None => conditions(*text.allocator(), &entry)?,
+    };
+    write_told(text, &entry, &sent, answer)
+}
+
+fn freshened_by(
+    alloc: Global,
+    entry: &Entry,
+    request: &Part<'_>,
+    answer: &Part<'_>,
+) -> Result<Entry, Fault> {
+    let asked = asked_by(alloc, request)?;
     let answered = answer_of(alloc, answer)?;
-    let entry = freshened(alloc, &entry, &answered, &asked, times_at(160))?;
-    Ok(shown_fields(alloc, &entry.fields)?)
+    Ok(freshened(alloc, entry, &answered, &asked, times_at(160))?)
+}
+
+/// The lines of the stored response behind a 304 that came at 160 to the request between them.
+pub fn freshening(text: &mut String, label: Line<'_>, parts: &[Part<'_>]) -> Result<(), Fault> {
+    let [stored, request, answer] = parts else {
+        return Err(label.fault("not a stored response, a request and a 304"));
+    };
+    let entry = stored_of(*text.allocator(), stored)?;
+    let entry = freshened_by(*text.allocator(), &entry, request, answer)?;
+    Ok(write_fields(text, &entry.fields)?)
 }
 
 /// Whether a client gets the stored response or a 304.
 pub fn client_conditions(
-    alloc: Global,
-    front: &[Line<'_>],
-    case: &Case<'_>,
-) -> Result<String, Fault> {
-    let parts = parts_of(alloc, front, case)?;
-    let [stored, request] = parts.as_slice() else {
-        return Err(case.label.fault("not a stored response and a request"));
+    text: &mut String,
+    label: Line<'_>,
+    parts: &[Part<'_>],
+) -> Result<(), Fault> {
+    let [stored, request] = parts else {
+        return Err(label.fault("not a stored response and a request"));
     };
-    let entry = stored_of(alloc, stored)?;
-    let asked = get(alloc, request)?;
+    let entry = stored_of(*text.allocator(), stored)?;
+    let asked = asked_by(*text.allocator(), request)?;
     let is_304 = client_wants_304(&asked, &entry);
-    word(alloc, if is_304 { "304" } else { "200" })
+    word(text, if is_304 { "304" } else { "200" })
 }
 
 /// The lines of the 304 that a client gets for the stored response.
 pub fn not_modified_lines(
-    alloc: Global,
-    front: &[Line<'_>],
-    case: &Case<'_>,
-) -> Result<String, Fault> {
-    let parts = parts_of(alloc, front, case)?;
-    let [stored] = parts.as_slice() else {
-        return Err(case.label.fault("not one stored response"));
+    text: &mut String,
+    label: Line<'_>,
+    parts: &[Part<'_>],
+) -> Result<(), Fault> {
+    let [stored] = parts else {
+        return Err(label.fault("not one stored response"));
     };
-    let fields = not_modified(alloc, &stored_of(alloc, stored)?)?;
-    Ok(shown_fields(alloc, &fields)?)
+    let entry = stored_of(*text.allocator(), stored)?;
+    let fields = not_modified(*text.allocator(), &entry)?;
+    Ok(write_fields(text, &fields)?)
 }

@@ -15,10 +15,10 @@ fn either<'a>(is_so: bool, yes: &'a str, no: &'a str) -> &'a str {
     if is_so { yes } else { no }
 }
 
-fn number(alloc: Global, value: Option<u32>) -> Result<String, Fault> {
+fn number(text: &mut String, value: Option<u32>) -> Result<(), Fault> {
     match value {
-        Some(value) => Ok(value.to_string(alloc)?),
-        None => word(alloc, "no number"),
+        Some(value) => Ok(write!(text, "{value}")?),
+        None => word(text, "no number"),
     }
 }
 
@@ -32,18 +32,22 @@ fn compared(one: &[u8], other: &[u8]) -> &'static str {
 }
 
 /// How two entity tags compare, both ways.
-fn tags(alloc: Global, line: Line<'_>) -> Result<String, Fault> {
+fn compared_both_ways(one: &[u8], other: &[u8]) -> &'static str {
+    let told = compared(one, other);
+    if told == compared(other, one) {
+        told
+    } else {
+        "different when they are turned"
+    }
+}
+
+fn tags(text: &mut String, line: Line<'_>) -> Result<(), Fault> {
     let Some((one, other)) = line.text.split_once(" | ") else {
         return Err(line.fault("no two entity tags"));
     };
-    let one = spelled(alloc, line, one)?;
-    let other = spelled(alloc, line, other)?;
-    let told = compared(one.as_slice(), other.as_slice());
-    if told == compared(other.as_slice(), one.as_slice()) {
-        word(alloc, told)
-    } else {
-        word(alloc, "different when they are turned")
-    }
+    let one = spelled(*text.allocator(), line, one)?;
+    let other = spelled(*text.allocator(), line, other)?;
+    word(text, compared_both_ways(one.as_slice(), other.as_slice()))
 }
 
 /// Field lines with this value of Connection.
@@ -54,36 +58,45 @@ fn connection(alloc: Global, value: &[u8]) -> Result<Fields, AllocError> {
     Ok(fields)
 }
 
-fn naming(alloc: Global, value: &[u8]) -> Result<String, Fault> {
-    let names = lists_cache_field(&connection(alloc, value)?);
-    word(alloc, either(names, "a cache field", "no cache field"))
+fn naming(text: &mut String, value: &[u8]) -> Result<(), Fault> {
+    let names = lists_cache_field(&connection(*text.allocator(), value)?);
+    word(text, either(names, "a cache field", "no cache field"))
 }
 
-fn closing(alloc: Global, line: Line<'_>, request: &str, value: &[u8]) -> Result<String, Fault> {
-    let fields = connection(alloc, value)?;
-    let asked = asked_of(alloc, line, request, &fields)?;
-    word(alloc, either(asked.close, "closes", "stays open"))
+fn closing(text: &mut String, line: Line<'_>, request: &str, value: &[u8]) -> Result<(), Fault> {
+    let fields = connection(*text.allocator(), value)?;
+    let asked = asked_of(*text.allocator(), line, request, &fields)?;
+    word(text, either(asked.close, "closes", "stays open"))
+}
+
+/// Writes what is told of a value of this kind, which a line spells.
+fn write_value(
+    text: &mut String,
+    kind: Line<'_>,
+    line: Line<'_>,
+    value: &[u8],
+) -> Result<(), Fault> {
+    match kind.text {
+        "a token?" => word(text, either(is_token(value), "yes", "no")),
+        "a host?" => word(text, either(is_host(value), "yes", "no")),
+        "seconds" => number(text, capped_seconds(value)),
+        "a short number" => number(text, short_number(value)),
+        "two entity tags" => tags(text, line),
+        "what Connection names" => naming(text, value),
+        "Connection of HTTP/1.0" => closing(text, line, "GET / HTTP/1.0", value),
+        "Connection of HTTP/1.1" => closing(text, line, "GET / HTTP/1.1", value),
+        _ => Err(kind.fault("no kind of value")),
+    }
 }
 
 /// What is told of a value of the kind that the front names.
-pub fn values(alloc: Global, front: &[Line<'_>], case: &Case<'_>) -> Result<String, Fault> {
-    let ([kind], [line]) = (front, case.input.as_slice()) else {
+pub fn values(text: &mut String, front: &[Line<'_>], case: &Case<'_>) -> Result<(), Fault> {
+    let ([kind], [line]) = (front, case.input) else {
         return Err(
             case.label
                 .fault("neither one line of the front nor one of the case"),
         );
     };
-    let spelled = spelled(alloc, *line, line.text)?;
-    let value = spelled.as_slice();
-    match kind.text {
-        "a token?" => word(alloc, either(is_token(value), "yes", "no")),
-        "a host?" => word(alloc, either(is_host(value), "yes", "no")),
-        "seconds" => number(alloc, capped_seconds(value)),
-        "a short number" => number(alloc, short_number(value)),
-        "two entity tags" => tags(alloc, *line),
-        "what Connection names" => naming(alloc, value),
-        "Connection of HTTP/1.0" => closing(alloc, *line, "GET / HTTP/1.0", value),
-        "Connection of HTTP/1.1" => closing(alloc, *line, "GET / HTTP/1.1", value),
-        _ => Err(kind.fault("no kind of value")),
-    }
+    let spelled = spelled(*text.allocator(), *line, line.text)?;
+    write_value(text, *kind, *line, spelled.as_slice())
 }

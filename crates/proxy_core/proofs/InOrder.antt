@@ -4,7 +4,6 @@ use Rattle.std.specs.Prelude.{filter}
 use Rattle.std.specs.List.{AllByRecursion}
 use Rattle.std.proofs.lemmas.Bool.{eqb-true, eq-eqb, false_from_ne_true, false≢true}
 use Rattle.hx_target.specs.declared.keys.Key.{Key}
-use Rattle.hx_target.specs.Keys.{same_key}
 use Rattle.hx_hop.specs.declared.asked_for.Asked.{Asked}
 use Rattle.hx_allow.specs.Lines.{Table}
 use Rattle.hx_store.specs.Stored.{Stored}
@@ -18,6 +17,7 @@ use Rattle.proxy_core.specs.State.{overtake, left_open, closed, opened, gone_out
 use Rattle.proxy_core.specs.Traces.{Item, begun, left, IsGood}
 use Rattle.proxy_core.specs.Promises.{is_arrival, NoneArrives}
 use Rattle.proxy_core.specs.Carrying.{ArrivesBefore, StandInOrder, ids_of, OpenInOrderOfArrival}
+use Rattle.proxy_core.proofs.ExchangeLists.{gone_out-id, overtake-id}
 use Rattle.proxy_core.proofs.Moves.{and_none}
 use Rattle.proxy_core.proofs.HeldLaw.{good_plain, exchanges_are_open}
 
@@ -26,18 +26,6 @@ use Rattle.proxy_core.proofs.HeldLaw.{good_plain, exchanges_are_open}
 ids-map : (f : Exchange → Exchange) → ((x : Exchange) → (f x).id ≡ x.id) → (xs : List Exchange) → ids_of (map f xs) ≡ ids_of xs
 ids-map f k [] = refl
 ids-map f k (x ∷ xs) = ap (λ n. n ∷ ids_of (map f xs)) (k x) ∙ ap (λ ns. x.id ∷ ns) (ids-map f k xs)
-
-gone_out-id : (i now : ℕ) (x : Exchange) → (gone_out i now x).id ≡ x.id
-gone_out-id i now x = elim (eqb x.id i) as (λ b. (cond b (record x { request_time = now; condition = None; overtaken = false }) x).id ≡ x.id) [
-  | true ↦ refl
-  | false ↦ refl
-]
-
-overtake-id : (key : Key) (x : Exchange) → (overtake key x).id ≡ x.id
-overtake-id key x = elim (same_key x.asked.target.key key) as (λ b. (cond b (record x { overtaken = true }) x).id ≡ x.id) [
-  | true ↦ refl
-  | false ↦ refl
-]
 
 abbrev but : ℕ → List ℕ → List ℕ
 but id ids = filter (λ n. not (eqb n id)) ids

@@ -328,7 +328,10 @@ impl World {
         let is_open = self.callers.iter().any(|caller| caller.number == n);
         let is_linked = self.forwarded == 0 || self.links.iter().any(|link| link.number == l);
         match self.dice.below(6) {
-            0 if !is_open => self.happen(Happening::Client(n, b"GET /late HTTP/1.1\r\n"), Told::Other),
+            0 if !is_open => self.happen(
+                Happening::Client(n, b"GET /late HTTP/1.1\r\n"),
+                Told::Other,
+            ),
             1 if !is_open => self.happen(Happening::End(n), Told::Other),
             2 if !is_open => self.happen(Happening::Gone(n), Told::Gone(n)),
             3 if !is_linked => self.happen(Happening::Fail(l, FailKind::Closed), Told::Other),
