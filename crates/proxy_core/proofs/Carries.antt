@@ -85,9 +85,9 @@ again_by table es now x r next d = by_304 (is_validation x r)
     by_validation None (decision.Hit s) = tt
     by_validation None (decision.Forward rule against) = (refl, refl)
 
-    by_rescue : (fallback : Fallback) → IsAgain table x (failed table es now x BadAnswer (Some r.status) fallback)
-    by_rescue (Sends s detail) = tt
-    by_rescue (Refuses rule error) = tt
+    by_fallback : (fallback : Fallback) → IsAgain table x (failed table es now x BadAnswer (Some r.status) fallback)
+    by_fallback (Sends s detail) = tt
+    by_fallback (Refuses rule error) = tt
 
     by_error : (b : Bool) (fallback : Fallback) → IsAgain table x (passed_unless table es now x r next b fallback)
     by_error true (Sends s detail) = tt
@@ -96,7 +96,7 @@ again_by table es now x r next d = by_304 (is_validation x r)
 
     by_unasked : (b : Bool) → IsAgain table x (cond b (failed table es now x BadAnswer (Some r.status) (fallback_for es x.asked now d))
         (passed_unless table es now x r next (is_error_status r.status) (fallback_for es x.asked now d)))
-    by_unasked true = by_rescue (fallback_for es x.asked now d)
+    by_unasked true = by_fallback (fallback_for es x.asked now d)
     by_unasked false = by_error (is_error_status r.status) (fallback_for es x.asked now d)
 
     by_304 : (b : Bool) → IsAgain table x (cond b (revalidated table es now x r (validated es x r now) d)

@@ -44,7 +44,7 @@ use Rattle.proxy_core.specs.Outcomes.{find_exchange, id_of, arrived, allowed, un
 use Rattle.proxy_core.specs.State.{used_in}
 use Rattle.proxy_core.specs.Traces.{Item}
 use Rattle.proxy_core.specs.Histories.{IsGoodHistory, held_entries, open_exchanges, next_serial}
-use Rattle.proxy_core.specs.Sending.{IsReusable, MayBeSentInstead, IsRescue, MayBeSentAt, IsReached, IsTurnedAway, SendsStoredWhereItMay, SendsStoredNowhereElse, ForwardsWhereAllowed, ForwardsNowhereElse, ReachesWhereAllowed, RefusesWhereNotAllowed}
+use Rattle.proxy_core.specs.Sending.{IsReusable, MayBeSentInstead, IsFallback, MayBeSentAt, IsReached, IsTurnedAway, SendsStoredWhereItMay, SendsStoredNowhereElse, ForwardsWhereAllowed, ForwardsNowhereElse, ReachesWhereAllowed, RefusesWhereNotAllowed}
 use Rattle.proxy_core.proofs.Leaving.{serial_stays}
 use Rattle.proxy_core.proofs.FirstRules.{held_distinct}
 
@@ -87,14 +87,14 @@ module _ (es : List Stored) (distinct : Distinct (serials es)) (asked : Asked) (
           }
 
   -- what is sent may be
-  fallback_may : (d : Decision) (s : ℕ) (detail : Detail) → decision_of es asked now ≡ d → fallback_for es asked now d ≡ Sends s detail → IsRescue es asked now s
+  fallback_may : (d : Decision) (s : ℕ) (detail : Detail) → decision_of es asked now ≡ d → fallback_for es asked now d ≡ Sends s detail → IsFallback es asked now s
   fallback_may (decision.Hit t) s detail d_is h =
       let same : t ≡ s = cc in
       inl (subst (λ n. IsReusable es asked now n) same (reused_is_allowed es asked now t d_is))
   fallback_may (decision.Forward rule None) s detail d_is h = absurd (cc)
   fallback_may (decision.Forward rule (Some t)) s detail d_is h = by_rule (error_rule_at es t asked now) refl h
     where
-      by_rule : (o : Option ErrorRule) → error_rule_at es t asked now ≡ o → fallback_by rule t o ≡ Sends s detail → IsRescue es asked now s
+      by_rule : (o : Option ErrorRule) → error_rule_at es t asked now ≡ o → fallback_by rule t o ≡ Sends s detail → IsFallback es asked now s
       by_rule None k h =
           let n = named_is rule t d_is in
           let least = (names_the_least es asked now rule (Some t) d_is).0 in
@@ -143,22 +143,22 @@ module _ (es : List Stored) (distinct : Distinct (serials es)) (asked : Asked) (
       in
       record { detail = StaleIfError; fallback = ap (fallback_for es asked now) d_is ∙ ap (fallback_by rule t) none ∙ ap (λ n. Sends n StaleIfError) t_is }
 
-  fallback_sent : (s : ℕ) → IsRescue es asked now s → IsSent s
+  fallback_sent : (s : ℕ) → IsFallback es asked now s → IsSent s
   fallback_sent s (inl may) = record { detail = ReuseAfterError; fallback = ap (fallback_for es asked now) (reusable_hit s may) }
   fallback_sent s (inr may) = instead_sent s may.0 may.1 may.2 (decision_of es asked now) refl
 
 -- ---- what each step uses
 
 module _ (table : Table) (es : List Stored) (distinct : Distinct (serials es)) where
-  failed_uses : (now : ℕ) (x : Exchange) (kind : FailKind) (came : Option ℕ) (s : ℕ) → IsRescue es x.asked now s →
+  failed_uses : (now : ℕ) (x : Exchange) (kind : FailKind) (came : Option ℕ) (s : ℕ) → IsFallback es x.asked now s →
       used_in (failed table es now x kind came (fallback_for es x.asked now (decision_of es x.asked now))) ≡ Some s
   failed_uses now x kind came s may =
       let sent = fallback_sent es distinct x.asked now s may in ap (λ (q : Fallback). used_in (failed table es now x kind came q)) sent.fallback
 
   used_failed : (now : ℕ) (x : Exchange) (kind : FailKind) (came : Option ℕ) (s : ℕ) (fallback : Fallback) → fallback_for es x.asked now (decision_of es x.asked now) ≡ fallback →
-      used_in (failed table es now x kind came fallback) ≡ Some s → IsRescue es x.asked now s
+      used_in (failed table es now x kind came fallback) ≡ Some s → IsFallback es x.asked now s
   used_failed now x kind came s (Sends t detail) k h =
-      subst (λ n. IsRescue es x.asked now n) (same_Some t s h) (fallback_may es distinct x.asked now (decision_of es x.asked now) t detail refl k)
+      subst (λ n. IsFallback es x.asked now n) (same_Some t s h) (fallback_may es distinct x.asked now (decision_of es x.asked now) t detail refl k)
   used_failed now x kind came s (Refuses rule error) k h = absurd (never_one s h)
 
   -- an arrival
@@ -187,9 +187,9 @@ module _ (table : Table) (es : List Stored) (distinct : Distinct (serials es)) w
     used_revalidated None (decision.Forward rule against) v k h = absurd (never_one s h)
 
     used_passed : (b : Bool) (fallback : Fallback) → fallback_for es x.asked now (decision_of es x.asked now) ≡ fallback → IsUsed (passed_unless table es now x r next b fallback) →
-        (b ≡ true) × IsRescue es x.asked now s
+        (b ≡ true) × IsFallback es x.asked now s
     used_passed true (Sends t detail) k h =
-        (refl, subst (λ n. IsRescue es x.asked now n) (same_Some t s h) (fallback_may es distinct x.asked now (decision_of es x.asked now) t detail refl k))
+        (refl, subst (λ n. IsFallback es x.asked now n) (same_Some t s h) (fallback_may es distinct x.asked now (decision_of es x.asked now) t detail refl k))
     used_passed true (Refuses rule error) k h = absurd (never_one s h)
     used_passed false fallback k h = absurd (never_one s h)
 
@@ -201,7 +201,7 @@ module _ (table : Table) (es : List Stored) (distinct : Distinct (serials es)) w
 
         by_unasked : (b : Bool) → is_unasked x.asked r ≡ b → IsUsed (cond b (failed table es now x BadAnswer (Some r.status) (fallback_for es x.asked now (decision_of es x.asked now)))
             (passed_unless table es now x r next (is_error_status r.status) (fallback_for es x.asked now (decision_of es x.asked now)))) →
-            ((is_unasked x.asked r || is_error_status r.status) ≡ true) × IsRescue es x.asked now s
+            ((is_unasked x.asked r || is_error_status r.status) ≡ true) × IsFallback es x.asked now s
         by_unasked true k h =
             (ap (λ b. b || is_error_status r.status) k, used_failed now x BadAnswer (Some r.status) s (fallback_for es x.asked now (decision_of es x.asked now)) refl h)
         by_unasked false k h =
@@ -221,7 +221,7 @@ module _ (table : Table) (es : List Stored) (distinct : Distinct (serials es)) w
         by_304 false k h = let p = by_unasked (is_unasked x.asked r) refl h in inr (inr (k, p.0, p.1))
 
     -- the other way round
-    fallback_uses : (b e : Bool) → (b || e) ≡ true → IsRescue es x.asked now s →
+    fallback_uses : (b e : Bool) → (b || e) ≡ true → IsFallback es x.asked now s →
         IsUsed (cond b (failed table es now x BadAnswer (Some r.status) (fallback_for es x.asked now (decision_of es x.asked now)))
         (passed_unless table es now x r next e (fallback_for es x.asked now (decision_of es x.asked now))))
     fallback_uses true e h may = failed_uses now x BadAnswer (Some r.status) s may

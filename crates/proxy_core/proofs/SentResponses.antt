@@ -54,12 +54,12 @@ module _ (table : Table) (es : List Stored) (distinct : Distinct (serials es)) w
       let chosen = latest_is_the_chosen es asked hit.0 distinct hit.1 in
       (hit.0, ap (λ z. find_entry z es) (sym hit.2) ∙ found_by_serial es distinct hit.0 (chosen_is_held es asked hit.0 chosen))
 
-  found_rescue : (asked : Asked) (now s : ℕ) (detail : Detail) (d : Decision) → decision_of es asked now ≡ d → fallback_for es asked now d ≡ Sends s detail → IsFound es s
-  found_rescue asked now s detail (decision.Hit t) d_is h =
+  found_fallback : (asked : Asked) (now s : ℕ) (detail : Detail) (d : Decision) → decision_of es asked now ≡ d → fallback_for es asked now d ≡ Sends s detail → IsFound es s
+  found_fallback asked now s detail (decision.Hit t) d_is h =
       let same : t ≡ s = cc in
       subst (IsFound es) same (found_hit asked now t d_is)
-  found_rescue asked now s detail (decision.Forward rule None) d_is h = absurd (cc)
-  found_rescue asked now s detail (decision.Forward rule (Some t)) d_is h = by_rule (error_rule_at es t asked now) h
+  found_fallback asked now s detail (decision.Forward rule None) d_is h = absurd (cc)
+  found_fallback asked now s detail (decision.Forward rule (Some t)) d_is h = by_rule (error_rule_at es t asked now) h
     where
       by_rule : (o : Option ErrorRule) → fallback_by rule t o ≡ Sends s detail → IsFound es s
       by_rule None h =
@@ -69,19 +69,19 @@ module _ (table : Table) (es : List Stored) (distinct : Distinct (serials es)) w
       by_rule (Some e) h = absurd (cc)
 
   -- sent as it is held
-  as_held : (x : Option Exchange) (event : Event) (s now : ℕ) (handling : CacheStatusInfo) (asked : Asked) (f : IsFound es s) → used_form x event f.0 ≡ f.0 →
-      IsAbout x event now asked → TellsHow x event handling → IsThatResponse table es x event (sent table es s now handling asked) s
-  as_held x event s now handling asked f same about how = record {
+  as_held : (x : Option Exchange) (event : Event) (s now : ℕ) (info : CacheStatusInfo) (asked : Asked) (f : IsFound es s) → used_form x event f.0 ≡ f.0 →
+      IsAbout x event now asked → TellsHow x event info → IsThatResponse table es x event (sent table es s now info asked) s
+  as_held x event s now info asked f same about how = record {
     response = f.0;
     is_held = f.1;
     now = now;
     asked = asked;
     about = about;
-    handling = handling;
+    info = info;
     tells_how = how;
-    reply = record { bytes = sent_text table.name (find_entry s es) now handling asked; close = asked.close; stored = None; used = Some s; removed = _ };
+    reply = record { bytes = sent_text table.name (find_entry s es) now info asked; close = asked.close; stored = None; used = Some s; removed = _ };
     outcome_is = refl;
-    bytes_are = ap (λ (o : Option Stored). sent_text table.name o now handling asked) f.1 ∙ ap (λ (e : Stored). stored_text table.name e now handling asked) (sym same);
+    bytes_are = ap (λ (o : Option Stored). sent_text table.name o now info asked) f.1 ∙ ap (λ (e : Stored). stored_text table.name e now info asked) (sym same);
   }
 
   -- at another serial that is the same
@@ -112,15 +112,15 @@ module _ (table : Table) (es : List Stored) (distinct : Distinct (serials es)) w
   arrival_sends x now id asked s verdict.NoLine h = absurd (never_one s h)
 
   -- after an error
-  rescue_sends : (x : Exchange) (event : Event) (now : ℕ) (kind : FailKind) (came : Option ℕ) (s : ℕ) (fallback : Fallback) →
+  fallback_sends : (x : Exchange) (event : Event) (now : ℕ) (kind : FailKind) (came : Option ℕ) (s : ℕ) (fallback : Fallback) →
       fallback_for es x.asked now (decision_of es x.asked now) ≡ fallback → ((e : Stored) → used_form (Some x) event e ≡ e) → IsAbout (Some x) event now x.asked →
       ((detail : Option Detail) → TellsHow (Some x) event (forwarded_as x came detail)) →
       used_in (failed table es now x kind came fallback) ≡ Some s → IsThatResponse table es (Some x) event (failed table es now x kind came fallback) s
-  rescue_sends x event now kind came s (Sends t detail) k same about how h =
-      let f = found_rescue x.asked now t detail (decision_of es x.asked now) refl k in
+  fallback_sends x event now kind came s (Sends t detail) k same about how h =
+      let f = found_fallback x.asked now t detail (decision_of es x.asked now) refl k in
       at_serial (Some x) event (sent table es t now (forwarded_as x came (Some detail)) x.asked) t s (same_Some t s h)
       (as_held (Some x) event t now (forwarded_as x came (Some detail)) x.asked f (same f.0) about (how (Some detail)))
-  rescue_sends x event now kind came s (Refuses rule error) k same about how h = absurd (never_one s h)
+  fallback_sends x event now kind came s (Refuses rule error) k same about how h = absurd (never_one s h)
 
   module _ (x : Exchange) (now id : ℕ) (r : Response) (next : Option ℕ) (s : ℕ) where
     abbrev Is : Outcome → Type 0
@@ -128,7 +128,7 @@ module _ (table : Table) (es : List Stored) (distinct : Distinct (serials es)) w
 
     passes : (b : Bool) (fallback : Fallback) → fallback_for es x.asked now (decision_of es x.asked now) ≡ fallback → is_validation x r ≡ false → Is (passed_unless table es now x r next b fallback)
     passes true (Sends t detail) k n =
-        let f = found_rescue x.asked now t detail (decision_of es x.asked now) refl k in
+        let f = found_fallback x.asked now t detail (decision_of es x.asked now) refl k in
         λ h. at_serial (Some x) (Answer now id r) (sent table es t now (forwarded_as x (Some r.status) (Some detail)) x.asked) t s (same_Some t s h)
         (as_held (Some x) (Answer now id r) t now (forwarded_as x (Some r.status) (Some detail)) x.asked f
         (ap (λ b. cond b (refreshed x r now f.0) f.0) (never_answered x r now f.0 n)) (refl, refl) (Some detail, refl))
@@ -145,7 +145,7 @@ module _ (table : Table) (es : List Stored) (distinct : Distinct (serials es)) w
           now = now;
           asked = x.asked;
           about = (refl, refl);
-          handling = forwarded_as x (Some r.status) None;
+          info = forwarded_as x (Some r.status) None;
           tells_how = (None, refl);
           reply = record {
             bytes = stored_text table.name (refreshed x r now e) now (forwarded_as x (Some r.status) None) x.asked;
@@ -170,7 +170,7 @@ module _ (table : Table) (es : List Stored) (distinct : Distinct (serials es)) w
             Is (cond b (failed table es now x BadAnswer (Some r.status) (fallback_for es x.asked now (decision_of es x.asked now)))
             (passed_unless table es now x r next (is_error_status r.status) (fallback_for es x.asked now (decision_of es x.asked now))))
         by_unasked true n =
-            rescue_sends x (Answer now id r) now BadAnswer (Some r.status) s (fallback_for es x.asked now (decision_of es x.asked now)) refl
+            fallback_sends x (Answer now id r) now BadAnswer (Some r.status) s (fallback_for es x.asked now (decision_of es x.asked now)) refl
             (λ e. ap (λ b. cond b (refreshed x r now e) e) (never_answered x r now e n)) (refl, refl) (λ detail. (detail, refl))
         by_unasked false n = passes (is_error_status r.status) (fallback_for es x.asked now (decision_of es x.asked now)) refl n
 
@@ -186,7 +186,7 @@ module _ (table : Table) (es : List Stored) (distinct : Distinct (serials es)) w
   sends_by_event xs (Some x) next (Answer now id r) s h = answer_sends x now id r next s h
   sends_by_event xs None next (Answer now id r) s h = absurd (never_one s h)
   sends_by_event xs (Some x) next (Fail now id kind) s h =
-      rescue_sends x (Fail now id kind) now kind None s (fallback_for es x.asked now (decision_of es x.asked now)) refl (λ e. refl) (refl, refl) (λ detail. (detail, refl)) h
+      fallback_sends x (Fail now id kind) now kind None s (fallback_for es x.asked now (decision_of es x.asked now)) refl (λ e. refl) (refl, refl) (λ detail. (detail, refl)) h
   sends_by_event xs None next (Fail now id kind) s h = absurd (never_one s h)
   sends_by_event xs x next (Abandon id) s h = absurd (never_one s h)
 

@@ -48,8 +48,8 @@ pub record MayBeSentInstead (held : List Stored) (asked : Asked) (now : ℕ) (re
   pub may_be_sent : MayBeSentOnError response (occurrences_of asked.fields) now
 
 -- after a failure or an error: one that may be sent anyway, or in place of the error
-abbrev pub IsRescue : List Stored → Asked → ℕ → ℕ → Type 0
-IsRescue held asked now s =
+abbrev pub IsFallback : List Stored → Asked → ℕ → ℕ → Type 0
+IsFallback held asked now s =
     IsReusable held asked now s ⊎ ((response : Stored) × MayBeSentInstead held asked now response × (response.serial ≡ s))
 
 -- At an event, of an exchange that is open, the response of this serial may be sent: at an arrival that the table allows;
@@ -61,8 +61,8 @@ MayBeSentAt table held x (Arrive now id asked) s =
 MayBeSentAt table held (Some x) (Answer now id r) s =
     ((is_validation x r ≡ true) × ((e : Stored) × (validated held x r now ≡ Some e) × (e.serial ≡ s)))
     ⊎ (((is_validation x r ≡ true) × (validated held x r now ≡ None) × IsReusable held x.asked now s)
-    ⊎ ((is_validation x r ≡ false) × ((is_unasked x.asked r || is_error_status r.status) ≡ true) × IsRescue held x.asked now s))
-MayBeSentAt table held (Some x) (Fail now id kind) s = IsRescue held x.asked now s
+    ⊎ ((is_validation x r ≡ false) × ((is_unasked x.asked r || is_error_status r.status) ≡ true) × IsFallback held x.asked now s))
+MayBeSentAt table held (Some x) (Fail now id kind) s = IsFallback held x.asked now s
 MayBeSentAt table held None (Answer now id r) s = ⊥
 MayBeSentAt table held None (Fail now id kind) s = ⊥
 MayBeSentAt table held x (Abandon id) s = ⊥
@@ -109,11 +109,11 @@ pub record IsThatResponse (table : Table) (held : List Stored) (x : Option Excha
   pub now : ℕ
   pub asked : Asked
   pub about : IsAbout x event now asked
-  pub handling : CacheStatusInfo
-  pub tells_how : TellsHow x event handling
+  pub info : CacheStatusInfo
+  pub tells_how : TellsHow x event info
   pub reply : Reply
   pub outcome_is : outcome ≡ Replied reply
-  pub bytes_are : reply.bytes ≡ stored_text table.name (used_form x event response) now handling asked
+  pub bytes_are : reply.bytes ≡ stored_text table.name (used_form x event response) now info asked
 
 -- ---- the statements
 
