@@ -1,60 +1,156 @@
 -- A change of one connection or link, on both sides.
-use Rattle.std.proofs.Common.{◌≡◌, ℕ, ◌+◌, ◌<◌, ◌≤◌, ◌^◌, List, [], ◌∷◌, ◌++◌, length, get_or, set, refl, sym, ap, ◌∙◌, subst, arith, Bool, false, None, Some, length-append}
+use Rattle.std.proofs.Common.{◌≡◌, ℕ, ◌+◌, ◌<◌, ◌≤◌, ◌^◌, List, [], ◌∷◌, ◌++◌, length, get_or, set, refl, sym, ap, ◌∙◌, subst, arith, Bool, true, false, not, cond, Option, None, Some, is_some, length-append, ◌||◌}
 use Rattle.std.proofs.Math.ListN.{length-set}
 use Rattle.proxy_core.specs.State.{State as CoreState}
 use Rattle.hx_framing.specs.Progress.{start}
-use Rattle.proxy_engine.specs.Acts.{linked, with_opened}
+use Rattle.hx_framing.specs.declared.answer.Next.{Next}
+use Rattle.hx_framing.specs.declared.answer.Next.TheVariants as next
+use Rattle.hx_framing.specs.declared.requests.Request.{Request}
+use Rattle.proxy_engine.specs.Look.{Look, Unknown, Quiet, Due, known}
+use Rattle.proxy_engine.specs.Due.{is_busy}
+use Rattle.proxy_engine.specs.Acts.{linked, with_opened, closing}
 use Rattle.proxy_engine.specs.ResponseWatch.{Watched, Stands as WatchStands}
 use Rattle.proxy_engine.specs.Story.{Story, ConnStory, LinkStory, opened, no_connection, no_link, connection_at, link_at, with_connection, with_link, with_core}
-use Rattle.proxy_engine.specs.State.{Both, ConnStands, LinkStands, Stands, state}
+use Rattle.proxy_engine.specs.Wiring.{link_of}
+use Rattle.proxy_engine.specs.State.{Both, ConnStands, LinkStands, Stands, state, wish_at, wish_seen, wish_load, is_free, gone_at, finish_at, connection_load}
 use Rattle.proxy_engine.specs.declared.ends.Connection.{Connection}
 use Rattle.proxy_engine.specs.declared.ends.Link.{Link}
-use Rattle.proxy_engine.proofs.Parts.{both_length, both_here, both_set, both_push}
+use Rattle.proxy_engine.proofs.Parts.{both_length, both_at, both_set, both_push}
 
--- where x stands at i, a y that f tells of
-pub changed_connection : (f : ConnStory → ConnStory) (cs : List Connection) (ks : List Link) (core : CoreState) (first : ℕ) (s : Story) (i : ℕ) (x y : Connection) → i < length cs → x ≡ get_or cs i x
-    → ((c : ConnStory) → ConnStands x c → ConnStands y (f c)) → Stands (state cs ks core first) s → Stands (state (set cs i y) ks core first) (with_connection s i f)
-changed_connection f cs ks core first s i x y l e keep h = record {
-  connections = both_set ConnStands cs s.connections i y (f (connection_at s i)) h.connections (keep (connection_at s i) (both_here ConnStands cs s.connections i x no_connection l e h.connections));
+-- at i stands o then, which f tells of
+pub changed_connection : (f : ConnStory → ConnStory) (cs : List (Option Connection)) (ks : List (Option Link)) (core : CoreState) (first : ℕ) (s : Story) (i : ℕ) (o : Option Connection) → i < length cs
+    → ((c : ConnStory) → ConnStands (get_or cs i None) c → ConnStands o (f c)) → Stands (state cs ks core first) s → Stands (state (set cs i o) ks core first) (with_connection s i f)
+changed_connection f cs ks core first s i o l keep h = record {
+  connections = both_set ConnStands cs s.connections i o (f (connection_at s i)) h.connections (keep (connection_at s i) (both_at ConnStands cs s.connections i None no_connection h.connections l));
   links = h.links;
   core = h.core;
   first = h.first;
   numbers = h.numbers;
 }
 
-pub changed_link : (f : LinkStory → LinkStory) (cs : List Connection) (ks : List Link) (core : CoreState) (first : ℕ) (s : Story) (j : ℕ) (x y : Link) → j < length ks → x ≡ get_or ks j x
-    → ((k : LinkStory) → LinkStands x k → LinkStands y (f k)) → Stands (state cs ks core first) s → Stands (state cs (set ks j y) core first) (with_link s j f)
-changed_link f cs ks core first s j x y l e keep h = record {
+pub changed_link : (f : LinkStory → LinkStory) (cs : List (Option Connection)) (ks : List (Option Link)) (core : CoreState) (first : ℕ) (s : Story) (j : ℕ) (o : Option Link) → j < length ks
+    → ((k : LinkStory) → LinkStands (get_or ks j None) k → LinkStands o (f k)) → Stands (state cs ks core first) s → Stands (state cs (set ks j o) core first) (with_link s j f)
+changed_link f cs ks core first s j o l keep h = record {
   connections = h.connections;
-  links = both_set LinkStands ks s.links j y (f (link_at s j)) h.links (keep (link_at s j) (both_here LinkStands ks s.links j x no_link l e h.links));
+  links = both_set LinkStands ks s.links j o (f (link_at s j)) h.links (keep (link_at s j) (both_at LinkStands ks s.links j None no_link h.links l));
   core = h.core;
   first = h.first;
   numbers = subst (λ n. s.first + n ≤ 2 ^ 64) (sym (length-set s.links j (f (link_at s j)))) h.numbers;
 }
 
-pub changed_core : (cs : List Connection) (ks : List Link) (core : CoreState) (first : ℕ) (new : CoreState) (s : Story) → Stands (state cs ks core first) s → Stands (state cs ks new first) (with_core s new)
+pub changed_core : (cs : List (Option Connection)) (ks : List (Option Link)) (core : CoreState) (first : ℕ) (new : CoreState) (s : Story) → Stands (state cs ks core first) s → Stands (state cs ks new first) (with_core s new)
 changed_core cs ks core first new s h = record { connections = h.connections; links = h.links; core = refl; first = h.first; numbers = h.numbers }
 
--- a link is opened for the connection at i, which becomes y
-pub opened_link : (cs : List Connection) (ks : List Link) (core : CoreState) (first max_body place : ℕ) (to_head : Bool) (s : Story) (i : ℕ) (x y : Connection) (w : Watched)
-    → i < length cs → x ≡ get_or cs i x → place ≡ length ks → ((c : ConnStory) → ConnStands x c → ConnStands y (linked (Some place) c)) → core.table.max_body ≡ max_body → WatchStands w (start max_body to_head)
-    → first + length ks < 2 ^ 64 → Stands (state cs ks core first) s
-    → Stands (state (set cs i y) (ks ++ record { watch = w; ended = false; failed = None; dropped = false; connection = i } ∷ []) core first) (with_opened s i to_head)
-opened_link cs ks core first max_body place to_head s i x y w l e at keep most fresh small h =
+-- a link is opened for the connection at i, which has it already
+pub opened_link : (cs : List (Option Connection)) (ks : List (Option Link)) (core : CoreState) (first max_body place : ℕ) (to_head : Bool) (s : Story) (i : ℕ) (w : Watched)
+    → place ≡ length ks → core.table.max_body ≡ max_body → WatchStands w (start max_body to_head) → first + length ks < 2 ^ 64 → Stands (state cs ks core first) (with_connection s i (linked (Some place)))
+    → Stands (state cs (ks ++ Some (record { watch = w; ended = false; failed = None; connection = i }) ∷ []) core first) (with_opened s i to_head)
+opened_link cs ks core first max_body place to_head s i w at most fresh small h =
     let same = both_length LinkStands ks s.links h.links in
     let watch : WatchStands w (start s.core.table.max_body to_head) = subst (λ (n : ℕ). WatchStands w (start n to_head)) (sym most ∙ ap (λ (k : CoreState). k.table.max_body) h.core) fresh in
-    let linked_to : (c : ConnStory) → ConnStands x c → ConnStands y (linked (Some (length s.links)) c) = λ c q. subst (λ (n : ℕ). ConnStands y (linked (Some n) c)) (at ∙ same) (keep c q) in
     record {
-      connections = both_set ConnStands cs s.connections i y (linked (Some (length s.links)) (connection_at s i)) h.connections (linked_to (connection_at s i) (both_here ConnStands cs s.connections i x no_connection l e h.connections));
-      links = both_push LinkStands ks s.links record { watch = w; ended = false; failed = None; dropped = false; connection = i } (opened s.core.table.max_body to_head i) h.links record { watch = watch; ended = refl; failed = refl; dropped = refl; connection = refl };
+      connections = subst (λ (n : ℕ). Both ConnStands cs (set s.connections i (linked (Some n) (connection_at s i)))) (at ∙ same) h.connections;
+      links = both_push LinkStands ks s.links (Some (record { watch = w; ended = false; failed = None; connection = i })) (opened s.core.table.max_body to_head i) h.links record { watch = watch; ended = refl; failed = refl; still = refl; connection = refl };
       core = h.core;
       first = h.first;
       numbers = let first_is : first ≡ s.first = h.first in rw length-append (omega (arith, same));
     }
 
 -- ends that were looked at
-pub looked_connections : (cs ds : List Connection) (ks : List Link) (core : CoreState) (first : ℕ) (s : Story) → Both ConnStands ds s.connections → Stands (state cs ks core first) s → Stands (state ds ks core first) s
+pub looked_connections : (cs ds : List (Option Connection)) (ks : List (Option Link)) (core : CoreState) (first : ℕ) (s : Story) → Both ConnStands ds s.connections → Stands (state cs ks core first) s → Stands (state ds ks core first) s
 looked_connections cs ds ks core first s b h = record { connections = b; links = h.links; core = h.core; first = h.first; numbers = h.numbers }
 
-pub looked_links : (cs : List Connection) (ks ls : List Link) (core : CoreState) (first : ℕ) (s : Story) → Both LinkStands ls s.links → Stands (state cs ks core first) s → Stands (state cs ls core first) s
+pub looked_links : (cs : List (Option Connection)) (ks ls : List (Option Link)) (core : CoreState) (first : ℕ) (s : Story) → Both LinkStands ls s.links → Stands (state cs ks core first) s → Stands (state cs ls core first) s
 looked_links cs ks ls core first s b h = record { connections = h.connections; links = b; core = h.core; first = h.first; numbers = h.numbers }
+
+-- ---- what stands at a place
+
+some_same : {B : Type 0} {x y : B} → Some x ≡ Some y → x ≡ y
+some_same h = cc
+
+free_by : (gone : Bool) (link : Option ℕ) → not (is_busy gone false link) ≡ true → (gone ≡ false) × (link ≡ None)
+free_by true link e = absurd (cc)
+free_by false None e = (refl, refl)
+free_by false (Some l) e = absurd (cc)
+
+-- a free connection is there, isn't gone, and has no link
+pub free_there : (o : Option Connection) → is_free o ≡ true → is_some o ≡ true
+free_there None e = absurd (cc)
+free_there (Some c) e = refl
+
+pub free_link : (o : Option Connection) → is_free o ≡ true → link_of o ≡ None
+free_link None e = absurd (cc)
+free_link (Some c) e = (free_by c.gone c.link e).1
+
+wish_by : (busy : Bool) (o : Option (Next Request)) → is_some (cond busy None o) ≡ true → not busy ≡ true
+wish_by true o e = absurd (cc)
+wish_by false o e = refl
+
+-- one on which something is due is free
+pub wish_free : (o : Option Connection) → is_some (wish_at o) ≡ true → is_free o ≡ true
+wish_free None e = absurd (cc)
+wish_free (Some c) e = wish_by (is_busy c.gone false c.link) (wish_seen c.watch.look) e
+
+or_true : (a b : Bool) → a || (b || true) ≡ true
+or_true true b = refl
+or_true false true = refl
+or_true false false = refl
+
+or_false : (b : Bool) → b || false ≡ b
+or_false true = refl
+or_false false = refl
+
+-- a closed connection without an open exchange is over
+pub closed_over : (o : Option Connection) (c : ConnStory) → link_of o ≡ None → ConnStands o c → ConnStands None (closing true c)
+closed_over None c none h = (or_true c.gone c.closed, h.1)
+closed_over (Some x) c none h = (or_true c.gone c.closed, sym h.link ∙ none)
+
+-- a gone one whose exchange is over
+pub lost_over : (o : Option Connection) (c : ConnStory) → gone_at o ≡ Some true → ConnStands o c → ConnStands None (linked None c)
+lost_over None c g h = (h.0, refl)
+lost_over (Some x) c g h = (ap (λ (b : Bool). b || c.closed) (sym h.gone ∙ some_same g), refl)
+
+pub gone_there : (o : Option Connection) (b : Bool) → gone_at o ≡ Some b → is_some o ≡ true
+gone_there None b e = absurd (cc)
+gone_there (Some c) b e = refl
+
+-- what is open counts
+pub counts_one : (o : Option Connection) → is_some o ≡ true → 1 ≤ connection_load o
+counts_one None e = absurd (cc)
+counts_one (Some c) e = omega arith
+
+pub finish_there : (o : Option Link) → is_some (finish_at o) ≡ true → is_some o ≡ true
+finish_there None e = absurd (cc)
+finish_there (Some k) e = refl
+
+-- where it isn't closed
+pub left_open : (o : Option Connection) (c : ConnStory) → ConnStands o c → ConnStands o (closing false c)
+left_open None c h = (ap (λ (b : Bool). c.gone || b) (or_false c.closed) ∙ h.0, h.1)
+left_open (Some x) c h = record { watch = h.watch; ended = h.ended; gone = h.gone; link = h.link; still = ap (λ (b : Bool). b || false) h.still; used = h.used }
+
+-- what a look shows to be due, and how much that counts
+wish_due : (busy : Bool) (l : Look Request) (a : Next Request) → cond busy None (wish_seen l) ≡ Some a → l ≡ Due a
+wish_due true l a e = absurd (cc)
+wish_due false Unknown a e = absurd (cc)
+wish_due false Quiet a e = absurd (cc)
+wish_due false (Due next.More) a e = absurd (cc)
+wish_due false (Due next.NeedsContinue) a e = ap (λ (b : Next Request). Due b) (some_same e)
+wish_due false (Due (next.Message m)) a e = ap (λ (b : Next Request). Due b) (some_same e)
+wish_due false (Due (next.Refused f)) a e = ap (λ (b : Next Request). Due b) (some_same e)
+wish_due false (Due next.End) a e = ap (λ (b : Next Request). Due b) (some_same e)
+
+pub due_at : (c : Connection) (a : Next Request) → wish_at (Some c) ≡ Some a → c.watch.look ≡ Due a
+due_at c a e = wish_due (is_busy c.gone false c.link) c.watch.look a e
+
+known_by : (busy : Bool) (l : Look Request) → wish_load (cond busy None (wish_seen l)) ≤ known l
+known_by true l = omega arith
+known_by false Unknown = omega arith
+known_by false Quiet = omega arith
+known_by false (Due next.More) = omega arith
+known_by false (Due next.NeedsContinue) = omega arith
+known_by false (Due (next.Message m)) = omega arith
+known_by false (Due (next.Refused f)) = omega arith
+known_by false (Due next.End) = omega arith
+
+pub wish_known : (c : Connection) → wish_load (wish_at (Some c)) ≤ known c.watch.look
+wish_known c = known_by (is_busy c.gone false c.link) c.watch.look

@@ -27,14 +27,9 @@ use Rattle.proxy_engine.specs.State.{finish_seen, finish_at}
 use Rattle.proxy_engine.specs.Wishes.{Ends, gives, goes_forward, again_address}
 use Rattle.proxy_engine.specs.declared.ends.Link.{Link}
 
--- something stands on the link, and it shows a response
-pub given_seen : (k : Link) (m : Response) → is_some (finish_at k) ≡ true → k.watch.look ≡ Due (next.Message m) → finish_at k ≡ Some (Gives m)
-given_seen k m due shown = by_dropped k.dropped due
-  where
-    by_dropped : (d : Bool) → is_some (if d then None else finish_seen k.watch.look k.failed) ≡ true
-        → (if d then None else finish_seen k.watch.look k.failed) ≡ Some (Gives m)
-    by_dropped true due = absurd cc
-    by_dropped false due = ap (λ l. finish_seen l k.failed) shown
+-- a link that shows a response
+pub given_seen : (k : Link) (m : Response) → k.watch.look ≡ Due (next.Message m) → finish_at (Some k) ≡ Some (Gives m)
+given_seen k m shown = ap (λ l. finish_seen l k.failed) shown
 
 abbrev pub is_reply : Outcome → Bool
 is_reply (outcomes.Reply r) = true

@@ -1,12 +1,14 @@
 pub mod RequestWatching
 pub mod ResponseWatching
 pub mod Parts
+pub mod Keeping
 pub mod Shown
 pub mod Changes
 pub mod Taking
 pub mod Searching
 pub mod Falling
 pub mod Marking
+pub mod Finding
 pub mod Once
 pub mod Ending
 pub mod Wishing

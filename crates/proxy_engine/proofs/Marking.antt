@@ -1,144 +1,246 @@
--- Lists whose items that have a flag are at marked places.
-use Rattle.std.proofs.Common.{◌≡◌, ◌⊎◌, inl, inr, ℕ, ◌+◌, ◌-◌, min, ◌<◌, ◌≤◌, List, [], ◌∷◌, ◌++◌, length, take, get_or, set, refl, sym, ap, ◌∙◌, subst, arith, Bool, true, false, not, cond, if◌then◌else◌, ◌&&◌, ◌||◌, Contains, Option, None, Some, is_some}
+-- Ends that have a flag are at marked places.
+use Rattle.std.proofs.Common.{◌≡◌, ◌≢◌, ◌⊎◌, inl, inr, ℕ, zero, suc, ◌+◌, ◌-◌, ◌<◌, ◌≤◌, List, [], ◌∷◌, length, get_or, refl, sym, ap, ◌∙◌, subst, arith, Bool, true, false, not, cond, ◌&&◌, ◌||◌, Contains, Option, None, Some, is_some}
 use Rattle.std.specs.Option.{option_map}
-use Rattle.std.proofs.lemmas.Bool.{cases_lt, cases_eq, cases_Bool}
-use Rattle.std.proofs.lemmas.List.{get_or-set_same, get_or-set_other, get_or_append_left, get_or-map, get_or_default, get_or-take, length-take-le, length_push}
-use Rattle.std.proofs.Math.ListN.{length-set}
+use Rattle.std.specs.Ordering.{nat_cmp}
+use Rattle.std.specs.Map.{lookup}
+use Rattle.std.specs.BTreeMap.{BTreeMap, get, is_at}
+use Rattle.std.proofs.lemmas.Bool.{cases_eq, cases_Bool}
 use Rattle.hx_framing.specs.declared.answer.Next.{Next}
 use Rattle.hx_framing.specs.declared.answer.Next.TheVariants as next
 use Rattle.hx_status.specs.declared.cause.FailKind.{FailKind}
 use Rattle.proxy_engine.specs.Look.{Look, Unknown, Quiet, Due, Shows, is_due, may_show}
 use Rattle.proxy_engine.specs.Story.{ConnStory, LinkStory}
-use Rattle.proxy_engine.specs.Due.{Breaks, Lost, Stood, Wanted, is_busy}
-use Rattle.proxy_engine.specs.State.{ConnStands, LinkStands, finish_seen, wish_seen}
-use Rattle.proxy_engine.specs.Wiring.{at, link_of, links_of}
-use Rattle.proxy_engine.specs.Places.{Kept, IsLeast, IsMarked}
-use Rattle.proxy_engine.specs.Marked.{may_be_lost, may_want, may_stand}
+use Rattle.proxy_engine.specs.Due.{Breaks, Lost, Stood, Wanted, WishBy, FinishBy, is_busy}
+use Rattle.proxy_engine.specs.State.{ConnStands, LinkStands, wish_seen}
+use Rattle.proxy_engine.specs.Places.{Kept, Falls, AllBelow, IsLeast, IsMarked}
+use Rattle.proxy_engine.specs.Marked.{LinkList, may_be_lost, may_want, may_stand, LooksLikeConnection, LooksLikeLink, Alike, AtEach, NoneBelow, NoneAtAll, lost_at}
 use Rattle.proxy_engine.specs.declared.ends.Connection.{Connection}
 use Rattle.proxy_engine.specs.declared.ends.Link.{Link}
-use Rattle.proxy_engine.proofs.Searching.{Passed}
-use Rattle.proxy_engine.proofs.Shown.{stood, stood_dropped, wanted, wanted_busy, finish_by, wish_by, lost}
+use Rattle.proxy_engine.proofs.Keeping.{fits}
+use Rattle.proxy_engine.proofs.Falling.{falls_none}
+use Rattle.proxy_engine.proofs.Shown.{stood, wanted, wanted_busy, finish_by, wish_by}
 
--- without the least place
-left : (places : List ℕ) (i j : ℕ) → IsLeast places i → (j ≡ i → ⊥) → Contains places j → Contains (take (length places - 1) places) j
-left places i j first other c =
-    let count : length (take (length places - 1) places) ≡ length places - 1 = length-take-le (length places - 1) places (omega arith) in
-    elim (cases_lt c.0 (length places - 1)) [
-      | inl before ↦ (c.0, omega (arith, count), get_or-take (length places - 1) places c.0 j before ∙ c.2)
-      | inr last ↦ absurd (other (sym c.2 ∙ (ap (λ (k : ℕ). get_or places k j) (at_end c.0 c.1 last) ∙ first.last j)))
-    ]
-  where
-    at_end : (k : ℕ) → k < length places → length places - 1 ≤ k → k ≡ length places - 1
-    at_end k l m = omega arith
-
-was : (places : List ℕ) (j : ℕ) → Contains (take (length places - 1) places) j → Contains places j
-was places j c =
-    let count : length (take (length places - 1) places) ≡ length places - 1 = length-take-le (length places - 1) places (omega arith) in
-    let within = c.1 in
-    (c.0, omega (arith, count, within), sym (get_or-take (length places - 1) places c.0 j (omega (arith, count, within))) ∙ c.2)
+pub some_same : {B : Type 0} {a b : B} → Some a ≡ Some b → a ≡ b
+some_same h = cc
 
 pub least_there : (places : List ℕ) (i : ℕ) → IsLeast places i → Contains places i
 least_there places i h = (length places - 1, omega (arith, h.some), h.last i)
 
--- what room for all leaves for each
-pub room_in_each : (n a b c : ℕ) → n < min a (min b c) → (n < a) × (n < b) × (n < c)
-room_in_each n a b c h = (omega (arith, h), omega (arith, h), omega (arith, h))
-
-pub room_in_both : (n a b : ℕ) → n < min a b → (n < a) × (n < b)
-room_in_both n a b h = (omega (arith, h), omega (arith, h))
+-- what is open stays so
+pub alike_some : {A : Type 0} (R : A → A → Type 0) (m k : BTreeMap ℕ A) → AtEach R m k → (i : ℕ) → is_some (get nat_cmp m i) ≡ true → is_some (get nat_cmp k i) ≡ true
+alike_some {A} R m k alike i e = by_new (get nat_cmp m i) (get nat_cmp k i) (alike i) e
+  where
+    by_new : (o p : Option A) → Alike R o p → is_some o ≡ true → is_some p ≡ true
+    by_new (Some x) (Some y) r e = refl
+    by_new (Some x) None r e = absurd r
+    by_new None p r e = absurd (cc)
 
 module _ {A : Type 0} (flag : A → Bool) where
-  pub marked_none : (kept : Kept) → kept.places ≡ [] → IsMarked flag [] kept
-  marked_none kept none = record {
-    marked = λ i d l e. absurd (omega arith);
-    below = λ i c. absurd (nothing i (subst (λ (ps : List ℕ). Contains ps i) none c));
-    room = omega arith;
+  -- nothing is open
+  pub marked_none : (m : BTreeMap ℕ A) (kept : Kept) → m.entries ≡ [] → kept.places ≡ [] → IsMarked flag m kept
+  marked_none m kept empty none = record {
+    marked = λ i x e f. absurd (nowhere i x e);
+    filled = λ i c. absurd (nothing i (subst (λ (ps : List ℕ). Contains ps i) none c));
+    room = let len = ap length empty in omega (arith, len);
+    falls = falls_none kept.places none;
   }
     where
       nothing : (i : ℕ) → Contains [] i → ⊥
       nothing i c = omega (arith, c.1)
 
-  -- an item changes whose place is marked then
-  pub marked_set : (xs : List A) (old new : Kept) (i : ℕ) (z : A) → IsMarked flag xs old → (flag z ≡ true → Contains new.places i)
-      → ((q : ℕ) → Contains old.places q → Contains new.places q) → ((q : ℕ) → Contains new.places q → Contains old.places q ⊎ (q ≡ i)) → i < length xs → old.room ≤ new.room
-      → IsMarked flag (set xs i z) new
-  marked_set xs old new i z h here others only within room =
-      let same : length (set xs i z) ≡ length xs = length-set xs i z in
-      record {
-        marked = λ j d l e. elim (cases_eq j i) [
-          | inl is ↦ subst (λ (k : ℕ). Contains new.places k) (sym is) (here (sym (ap flag (get_or-set_same xs i z d within)) ∙ (sym (ap (λ (k : ℕ). flag (get_or (set xs i z) k d)) is) ∙ e)))
-          | inr other ↦ others j (h.marked j d (omega (arith, same)) (sym (ap flag (get_or-set_other xs i j z d other)) ∙ e))
-        ];
-        below = λ j c. elim (only j c) [
-          | inl was ↦ omega (arith, same, h.below j was)
-          | inr is ↦ omega (arith, same, is)
-        ];
-        room = omega (arith, same, h.room);
-      }
+      nowhere : (i : ℕ) (x : A) → get nat_cmp m i ≡ Some x → ⊥
+      nowhere i x e = let none_here : get nat_cmp m i ≡ None = ap (λ (es : List (ℕ × A)). lookup (is_at (nat_cmp i)) es) empty in cc
 
-  -- an item changes whose place is the least
-  pub marked_least : (xs : List A) (kept : Kept) (i : ℕ) (z : A) → IsMarked flag xs kept → IsLeast kept.places i → i < length xs → IsMarked flag (set xs i z) kept
-  marked_least xs kept i z h first within = marked_set xs kept kept i z h (λ e. least_there kept.places i first) (λ q c. c) (λ q c. inl c) within (omega arith)
+  -- as many are marked as are open, at most
+  pub few : (m : BTreeMap ℕ A) (kept : Kept) → IsMarked flag m kept → length kept.places ≤ length m.entries
+  few m kept h = fits kept.places m.entries (λ i j l within e. absurd (let falling = h.falls.falls i j l within in omega (arith, falling, e))) h.filled
 
-  pub within_list : (xs : List A) (kept : Kept) (i : ℕ) → IsMarked flag xs kept → IsLeast kept.places i → i < length xs
-  within_list xs kept i h first = h.below i (least_there kept.places i first)
+  -- so there is room for the mark of one that is open
+  pub has_room : (m : BTreeMap ℕ A) (kept : Kept) (i : ℕ) → IsMarked flag m kept → is_some (get nat_cmp m i) ≡ true → Contains kept.places i ⊎ (length kept.places < kept.room)
+  has_room m kept i h here = by_place (place_or_not kept.places i)
+    where
+      place_or_not : (ps : List ℕ) (p : ℕ) → Contains ps p ⊎ (Contains ps p → ⊥)
+      place_or_not [] p = inr (λ c. omega (arith, c.1))
+      place_or_not (q ∷ ps) p = elim (cases_eq q p) [
+        | inl same ↦ inl (0, omega arith, same)
+        | inr other ↦ elim (place_or_not ps p) [
+          | inl there ↦ inl (suc there.0, omega (arith, there.1), there.2)
+          | inr none ↦ inr (not_in q ps p other none)
+        ]
+      ]
+        where
+          not_in : (q : ℕ) (ps : List ℕ) (p : ℕ) → q ≢ p → (Contains ps p → ⊥) → Contains (q ∷ ps) p → ⊥
+          not_in q ps p other none (zero, l, e) = other e
+          not_in q ps p other none (suc k, l, e) = none (k, omega (arith, l), e)
 
-  -- an item changes that gets no flag
-  pub marked_kept : (xs : List A) (kept : Kept) (i : ℕ) (x z : A) → IsMarked flag xs kept → i < length xs → x ≡ get_or xs i x → (flag z ≡ true → flag x ≡ true) → IsMarked flag (set xs i z) kept
-  marked_kept xs kept i x z h within here keep =
-      marked_set xs kept kept i z h (λ e. h.marked i x within (sym (ap flag here) ∙ keep e)) (λ q c. c) (λ q c. inl c) within (omega arith)
+      by_place : Contains kept.places i ⊎ (Contains kept.places i → ⊥) → Contains kept.places i ⊎ (length kept.places < kept.room)
+      by_place (inl there) = inl there
+      by_place (inr none) =
+          let more : suc (length kept.places) ≤ length m.entries = fits (i ∷ kept.places) m.entries (apart none) filled in
+          inr (omega (arith, more, h.room))
+        where
+          at_any : (xs : List ℕ) (n c d : ℕ) → n < length xs → get_or xs n d ≡ get_or xs n c
+          at_any [] n c d l = absurd (omega (arith, l))
+          at_any (x ∷ xs) zero c d l = refl
+          at_any (x ∷ xs) (suc n) c d l = at_any xs n c d (omega (arith, l))
 
-  -- an item more, whose place is marked
-  pub marked_push : (xs : List A) (old new : Kept) (z : A) → IsMarked flag xs old → Contains new.places (length xs)
-      → ((q : ℕ) → Contains old.places q → Contains new.places q) → ((q : ℕ) → Contains new.places q → Contains old.places q ⊎ (q ≡ length xs)) → length xs < new.room
-      → IsMarked flag (xs ++ z ∷ []) new
-  marked_push xs old new z h here others only room =
-      let more : length (xs ++ z ∷ []) ≡ length xs + 1 = length_push xs z in
-      record {
-        marked = λ j d l e. elim (cases_lt j (length xs)) [
-          | inl before ↦ others j (h.marked j d before (sym (ap flag (get_or_append_left xs (z ∷ []) d j before)) ∙ e))
-          | inr behind ↦ subst (λ (k : ℕ). Contains new.places k) (omega (arith, more)) here
-        ];
-        below = λ j c. elim (only j c) [
-          | inl was ↦ omega (arith, more, h.below j was)
-          | inr is ↦ omega (arith, more, is)
-        ];
-        room = omega (arith, more);
-      }
+          apart : (Contains kept.places i → ⊥) → (j k : ℕ) → j < k → k < length (i ∷ kept.places) → get_or (i ∷ kept.places) k 0 ≢ get_or (i ∷ kept.places) j 0
+          apart none j zero l within = absurd (omega (arith, l))
+          apart none zero (suc k) l within = λ e. none (k, omega (arith, within), at_any kept.places k 0 i (omega (arith, within)) ∙ e)
+          apart none (suc j) (suc k) l within = λ e. absurd (let falling = h.falls.falls j k (omega (arith, l)) (omega (arith, within)) in omega (arith, falling, e))
+
+          filled : (p : ℕ) → Contains (i ∷ kept.places) p → is_some (get nat_cmp m p) ≡ true
+          filled p (zero, l, e) = subst (λ (q : ℕ). is_some (get nat_cmp m q) ≡ true) e here
+          filled p (suc k, l, e) = h.filled p (k, omega (arith, l), e)
+
+  -- what is open changes at one place, and so do the marks
+  pub marked_by : (m k : BTreeMap ℕ A) (old new : Kept) (i : ℕ) → IsMarked flag m old → ((q : ℕ) → q ≢ i → get nat_cmp k q ≡ get nat_cmp m q) → length k.entries ≤ new.room → Falls new.places
+      → ((q : ℕ) → q ≢ i → Contains old.places q → Contains new.places q) → ((q : ℕ) → q ≢ i → Contains new.places q → Contains old.places q)
+      → ((x : A) → get nat_cmp k i ≡ Some x → flag x ≡ true → Contains new.places i) → (Contains new.places i → is_some (get nat_cmp k i) ≡ true) → IsMarked flag k new
+  marked_by m k old new i h same room falls others only here there = record {
+    marked = λ j x e f. elim (cases_eq j i) [
+      | inl is ↦ subst (λ (p : ℕ). Contains new.places p) (sym is) (here x (sym (ap (get nat_cmp k) is) ∙ e) f)
+      | inr other ↦ others j other (h.marked j x (sym (same j other) ∙ e) f)
+    ];
+    filled = λ j c. elim (cases_eq j i) [
+      | inl is ↦ subst (λ (p : ℕ). is_some (get nat_cmp k p) ≡ true) (sym is) (there (subst (λ (p : ℕ). Contains new.places p) is c))
+      | inr other ↦ ap is_some (same j other) ∙ h.filled j (only j other c)
+    ];
+    room = room;
+    falls = falls;
+  }
+
+  -- one that is open changes, and its place is marked
+  pub marked_put : (m k : BTreeMap ℕ A) (old new : Kept) (i : ℕ) → IsMarked flag m old → ((q : ℕ) → q ≢ i → get nat_cmp k q ≡ get nat_cmp m q) → is_some (get nat_cmp k i) ≡ true → length k.entries ≡ length m.entries
+      → Contains new.places i → ((q : ℕ) → Contains old.places q → Contains new.places q) → ((q : ℕ) → q ≢ i → Contains new.places q → Contains old.places q) → new.room ≡ old.room → Falls new.places → IsMarked flag k new
+  marked_put m k old new i h same some size there others only room falls =
+      marked_by m k old new i h same (omega (arith, h.room, size, room)) falls (λ q other c. others q c) only (λ x e f. there) (λ c. some)
+
+  -- one more is open, and its place is marked
+  pub marked_more : (m k : BTreeMap ℕ A) (old new : Kept) (i : ℕ) → IsMarked flag m old → ((q : ℕ) → q ≢ i → get nat_cmp k q ≡ get nat_cmp m q) → is_some (get nat_cmp k i) ≡ true → length k.entries ≤ new.room
+      → Contains new.places i → ((q : ℕ) → Contains old.places q → Contains new.places q) → ((q : ℕ) → q ≢ i → Contains new.places q → Contains old.places q) → Falls new.places → IsMarked flag k new
+  marked_more m k old new i h same some room there others only falls = marked_by m k old new i h same room falls (λ q other c. others q c) only (λ x e f. there) (λ c. some)
+
+  -- one more is there that has no flag
+  pub marked_spare : (m k : BTreeMap ℕ A) (old new : Kept) (i : ℕ) (x : A) → IsMarked flag m old → ((q : ℕ) → q ≢ i → get nat_cmp k q ≡ get nat_cmp m q) → get nat_cmp k i ≡ Some x → flag x ≡ false → length k.entries ≤ new.room → new.places ≡ old.places
+      → IsMarked flag k new
+  marked_spare m k old new i x h same here none room places =
+      marked_by m k old new i h same room (subst Falls (sym places) h.falls) (λ q other c. subst (λ (ps : List ℕ). Contains ps q) (sym places) c) (λ q other c. subst (λ (ps : List ℕ). Contains ps q) places c)
+      (λ y e f. absurd (let both : true ≡ false = sym f ∙ (ap flag (some_same (sym e ∙ here)) ∙ none) in absurd (cc))) (λ c. ap is_some here)
+
+  -- one is let go, and its place isn't marked
+  pub marked_gone : (m k : BTreeMap ℕ A) (old new : Kept) (i : ℕ) → IsMarked flag m old → ((q : ℕ) → q ≢ i → get nat_cmp k q ≡ get nat_cmp m q) → get nat_cmp k i ≡ None → length k.entries ≤ length m.entries
+      → ((q : ℕ) → q ≢ i → Contains old.places q → Contains new.places q) → ((q : ℕ) → Contains new.places q → (q ≢ i) × Contains old.places q) → new.room ≡ old.room → Falls new.places → IsMarked flag k new
+  marked_gone m k old new i h same none size others only room falls =
+      marked_by m k old new i h same (omega (arith, h.room, size, room)) falls others (λ q other c. (only q c).1) (λ x e f. absurd (let both : None ≡ Some x = sym none ∙ e in absurd (cc))) (λ c. absurd ((only i c).0 refl))
 
   -- room is made
-  pub marked_room : (xs ys : List A) (old new : Kept) → IsMarked flag xs old → ys ≡ xs → new.places ≡ old.places → old.room ≤ new.room → IsMarked flag ys new
-  marked_room xs ys old new h is same more = subst (λ (zs : List A). IsMarked flag zs new) (sym is) record {
-    marked = λ j d l e. subst (λ (ps : List ℕ). Contains ps j) (sym same) (h.marked j d l e);
-    below = λ j c. h.below j (subst (λ (ps : List ℕ). Contains ps j) same c);
-    room = omega (arith, h.room, more);
-  }
-
-  -- the least place is dropped, since the item there has no flag
-  pub marked_drop : (xs : List A) (old new : Kept) (i : ℕ) (x : A) → IsMarked flag xs old → IsLeast old.places i → new.places ≡ take (length old.places - 1) old.places → new.room ≡ old.room
-      → x ≡ get_or xs i x → flag x ≡ false → IsMarked flag xs new
-  marked_drop xs old new i x h first dropped room here none = record {
-    marked = λ j d l e. elim (cases_eq j i) [
-      | inl is ↦ absurd (no_flag j d l is e)
-      | inr other ↦ subst (λ (ps : List ℕ). Contains ps j) (sym dropped) (left old.places i j first other (h.marked j d l e))
-    ];
-    below = λ j c. h.below j (was old.places j (subst (λ (ps : List ℕ). Contains ps j) dropped c));
-    room = omega (arith, h.room, room);
+  pub marked_room : (m k : BTreeMap ℕ A) (old new : Kept) → IsMarked flag m old → k.entries ≡ m.entries → new.places ≡ old.places → old.room ≤ new.room → IsMarked flag k new
+  marked_room m k old new h is same more = record {
+    marked = λ j x e f. subst (λ (ps : List ℕ). Contains ps j) (sym same) (h.marked j x (sym (at_each j) ∙ e) f);
+    filled = λ j c. ap is_some (at_each j) ∙ h.filled j (subst (λ (ps : List ℕ). Contains ps j) same c);
+    room = let len = ap length is in omega (arith, h.room, more, len);
+    falls = subst Falls (sym same) h.falls;
   }
     where
-      no_flag : (j : ℕ) (d : A) → j < length xs → j ≡ i → flag (get_or xs j d) ≡ true → ⊥
-      no_flag j d l is e =
-          let same : get_or xs j d ≡ x = ap (λ (k : ℕ). get_or xs k d) is ∙ (get_or_default xs i d x (omega (arith, is)) ∙ sym here) in
-          let yes : true ≡ false = sym e ∙ (ap flag same ∙ none) in
-          absurd cc
+      at_each : (j : ℕ) → get nat_cmp k j ≡ get nat_cmp m j
+      at_each j = ap (λ (es : List (ℕ × A)). lookup (is_at (nat_cmp j)) es) is
 
-  -- an item before the least place has no flag
-  pub unmarked : {B : Type 0} (R : A → B → Type 0) (P : B → Type 0) (xs : List A) (kept : Kept) (n : ℕ) → IsMarked flag xs kept → n ≤ length xs → ((j : ℕ) → j < n → Contains kept.places j → ⊥)
-      → ((a : A) (y : B) → flag a ≡ false → R a y → P y) → Passed R P xs n
-  unmarked R P xs kept n h most none keep j l a y r = elim (cases_Bool (flag (get_or xs j a))) [
-    | inl shown ↦ absurd (none j l (h.marked j a (omega arith) shown))
-    | inr hidden ↦ keep (get_or xs j a) y hidden r
+  -- a look at each place leaves the flags
+  pub marked_alike : (R : A → A → Type 0) (m k : BTreeMap ℕ A) (kept : Kept) → ((x y : A) → R x y → flag y ≡ true → flag x ≡ true) → IsMarked flag m kept → AtEach R m k → length k.entries ≡ length m.entries → IsMarked flag k kept
+  marked_alike R m k kept keep h alike size = record {
+    marked = λ j y e f. by_old j y (get nat_cmp m j) refl (subst (λ (o : Option A). Alike R (get nat_cmp m j) o) e (alike j)) f;
+    filled = λ j c. alike_some R m k alike j (h.filled j c);
+    room = omega (arith, h.room, size);
+    falls = h.falls;
+  }
+    where
+      by_old : (j : ℕ) (y : A) (o : Option A) → get nat_cmp m j ≡ o → Alike R (get nat_cmp m j) (Some y) → flag y ≡ true → Contains kept.places j
+      by_old j y None e r f = absurd (subst (λ (p : Option A). Alike R p (Some y)) e r)
+      by_old j y (Some x) e r f = h.marked j x e (keep x y (subst (λ (p : Option A). Alike R p (Some y)) e r) f)
+
+  -- a look at the least place
+  pub marked_look : (R : A → A → Type 0) (m k : BTreeMap ℕ A) (kept : Kept) (i : ℕ) → IsMarked flag m kept → IsLeast kept.places i → ((q : ℕ) → q ≢ i → get nat_cmp k q ≡ get nat_cmp m q) → AtEach R m k → length k.entries ≡ length m.entries → IsMarked flag k kept
+  marked_look R m k kept i h first others alike size =
+      marked_by m k kept kept i h others (omega (arith, h.room, size)) h.falls (λ q other c. c) (λ q other c. c) (λ x e f. least_there kept.places i first) (λ c. alike_some R m k alike i (h.filled i c))
+
+  -- the least place is dropped, since what is open there has no flag
+  pub marked_dropped : (m : BTreeMap ℕ A) (old new : Kept) (i : ℕ) → IsMarked flag m old → IsLeast old.places i → ((x : A) → get nat_cmp m i ≡ Some x → flag x ≡ false) → ((p q : ℕ) → IsLeast old.places p → q ≢ p → Contains old.places q → Contains new.places q)
+      → ((p q : ℕ) → IsLeast old.places p → Contains new.places q → (q ≢ p) × Contains old.places q) → new.room ≡ old.room → Falls new.places → IsMarked flag m new
+  marked_dropped m old new i h first none others only room falls =
+      marked_by m m old new i h (λ q other. refl) (omega (arith, h.room, room)) falls (λ q other c. others i q first other c) (λ q other c. (only i q first c).1)
+      (λ x e f. absurd (let both : true ≡ false = sym f ∙ none x e in absurd (cc))) (λ c. absurd ((only i i first c).0 refl))
+
+  -- nothing that is open before the least place has the flag
+  pub none_before : (m : BTreeMap ℕ A) (kept : Kept) (n : ℕ) → IsMarked flag m kept → IsLeast kept.places n → NoneBelow flag m n
+  none_before m kept n h first j x l e = elim (cases_Bool (flag x)) [
+    | inl shown ↦ absurd (let most = first.least j (h.marked j x e shown) in omega (arith, most, l))
+    | inr hidden ↦ hidden
   ]
+
+  -- where no place is marked, nothing has it
+  pub none_at_all : (m : BTreeMap ℕ A) (kept : Kept) → IsMarked flag m kept → kept.places ≡ [] → NoneAtAll flag m
+  none_at_all m kept h none j x e = elim (cases_Bool (flag x)) [
+    | inl shown ↦ absurd (let c = subst (λ (ps : List ℕ). Contains ps j) none (h.marked j x e shown) in omega (arith, c.1))
+    | inr hidden ↦ hidden
+  ]
+
+-- ---- looks
+
+-- ---- below the count
+
+pub below_put : (n : ℕ) (old new : List ℕ) (i : ℕ) → AllBelow n old → i < n → ((q : ℕ) → q ≢ i → Contains new q → Contains old q) → AllBelow n new
+below_put n old new i h l only q c = elim (cases_eq q i) [
+  | inl is ↦ omega (arith, is, l)
+  | inr other ↦ h q (only q other c)
+]
+
+pub below_more : (n : ℕ) (places : List ℕ) → AllBelow n places → AllBelow (n + 1) places
+below_more n places h q c = let less = h q c in omega (arith, less)
+
+pub below_same : (n : ℕ) (old new : List ℕ) → AllBelow n old → new ≡ old → AllBelow n new
+below_same n old new h same = subst (AllBelow n) (sym same) h
+
+pub same_list : (xs ys : List (Option Link)) (a b : Bool) → xs ≡ ys → a ≡ b → ◌≡◌ {A = LinkList} (record { items = xs; has_room = a }) (record { items = ys; has_room = b })
+same_list xs ys a b e f = ap {B = LinkList} (λ (zs : List (Option Link)). record { items = zs; has_room = a }) e ∙ ap {B = LinkList} (λ (c : Bool). record { items = ys; has_room = c }) f
+
+-- one look after another
+pub alike_trans : {A : Type 0} (R : A → A → Type 0) → ((x y z : A) → R x y → R y z → R x z) → (m k l : BTreeMap ℕ A) → AtEach R m k → AtEach R k l → AtEach R m l
+alike_trans {A} R trans m k l first second i = by_each (get nat_cmp m i) (get nat_cmp k i) (get nat_cmp l i) (first i) (second i)
+  where
+    by_each : (o p q : Option A) → Alike R o p → Alike R p q → Alike R o q
+    by_each None None None r s = tt
+    by_each None None (Some z) r s = absurd s
+    by_each None (Some y) q r s = absurd r
+    by_each (Some x) None q r s = absurd r
+    by_each (Some x) (Some y) None r s = absurd s
+    by_each (Some x) (Some y) (Some z) r s = trans x y z r s
+
+pub alike_refl : {A : Type 0} (R : A → A → Type 0) → ((x : A) → R x x) → (m : BTreeMap ℕ A) → AtEach R m m
+alike_refl {A} R same m i = by_each (get nat_cmp m i)
+  where
+    by_each : (o : Option A) → Alike R o o
+    by_each None = tt
+    by_each (Some x) = same x
+
+-- a look at one place
+pub alike_at : {A : Type 0} (R : A → A → Type 0) → ((x : A) → R x x) → (m k : BTreeMap ℕ A) (i : ℕ) → Alike R (get nat_cmp m i) (get nat_cmp k i) → ((q : ℕ) → q ≢ i → get nat_cmp k q ≡ get nat_cmp m q) → AtEach R m k
+alike_at {A} R same m k i here others j = elim (cases_eq j i) [
+  | inl is ↦ subst (λ (p : ℕ). Alike R (get nat_cmp m p) (get nat_cmp k p)) (sym is) here
+  | inr other ↦ subst (λ (o : Option A). Alike R (get nat_cmp m j) o) (sym (others j other)) (alike_refl R same m j)
+]
+
+pub same_connection : (c : Connection) → LooksLikeConnection c c
+same_connection c = record { stands = λ s h. h; gone = refl; link = refl; load = omega arith }
+
+pub next_connection : (x y z : Connection) → LooksLikeConnection x y → LooksLikeConnection y z → LooksLikeConnection x z
+next_connection x y z r q = record { stands = λ s h. q.stands s (r.stands s h); gone = q.gone ∙ r.gone; link = q.link ∙ r.link; load = omega (arith, r.load, q.load) }
+
+pub same_link : (k : Link) → LooksLikeLink k k
+same_link k = record { stands = λ s h. h; connection = refl; load = omega arith }
+
+pub next_link : (x y z : Link) → LooksLikeLink x y → LooksLikeLink y z → LooksLikeLink x z
+next_link x y z r q = record { stands = λ s h. q.stands s (r.stands s h); connection = q.connection ∙ r.connection; load = omega (arith, r.load, q.load) }
 
 -- a look that shows nothing
 quiet_shows : {M : Type 0} (l : Look M) → may_show l ≡ false → Shows l next.More
@@ -156,60 +258,59 @@ settled Unknown a shows e = absurd shows
 settled Quiet a shows e = refl
 settled (Due b) a shows e = e
 
-pub unlost : (c : Connection) (s : ConnStory) → may_be_lost c ≡ false → ConnStands c s → Lost s None
-unlost c s e h = lost c s None h (by_mark c.gone c.link e)
+-- ---- what has no flag
+
+pub unlost : (c : Connection) (s : ConnStory) → may_be_lost c ≡ false → ConnStands (Some c) s → Lost s None
+unlost c s e h = subst (λ (b : Bool). None ≡ cond b s.link None) h.gone (subst (λ (o : Option ℕ). None ≡ cond c.gone o None) h.link (by_mark c.gone c.link e))
   where
     by_mark : (b : Bool) (o : Option ℕ) → b && is_some o ≡ false → None ≡ cond b o None
     by_mark true None e = refl
     by_mark true (Some l) e = absurd cc
     by_mark false o e = refl
 
--- no link of a gone connection was read
-pub no_mark : (c : Connection) → None ≡ (if c.gone then c.link else None) → may_be_lost c ≡ false
-no_mark c e = by_mark c.gone c.link e
+pub unlost_over : (s : ConnStory) → ConnStands None s → Lost s None
+unlost_over s h = by_gone s.gone
   where
-    by_mark : (b : Bool) (o : Option ℕ) → None ≡ cond b o None → b && is_some o ≡ false
-    by_mark true None e = refl
-    by_mark true (Some l) e = absurd cc
-    by_mark false o e = refl
+    by_gone : (b : Bool) → None ≡ cond b s.link None
+    by_gone true = sym h.1
+    by_gone false = refl
 
--- the link that was read of a gone connection
-pub linked_at : (cs : List Connection) (i : ℕ) (x : Connection) (l : ℕ) → i < length cs → x ≡ get_or cs i x → Some l ≡ (if x.gone then x.link else None) → at (links_of cs) i ≡ Some l
-linked_at cs i x l within here e = get_or-map link_of cs i x None within ∙ (ap link_of (sym here) ∙ sym (by_mark x.gone x.link e))
+pub unwanted : (c : Connection) (s : ConnStory) → may_want c ≡ false → ConnStands (Some c) s → Wanted s None
+unwanted c s e h = by_busy (is_busy c.gone false c.link) refl e
   where
-    by_mark : (b : Bool) (o : Option ℕ) → Some l ≡ cond b o None → Some l ≡ o
-    by_mark true o e = e
-    by_mark false o e = absurd cc
-
-pub unwanted : (c : Connection) (s : ConnStory) → may_want c ≡ false → ConnStands c s → Wanted s None
-unwanted c s e h = by_busy (is_busy c.gone c.closed c.link) refl e
-  where
-    by_busy : (b : Bool) → is_busy c.gone c.closed c.link ≡ b → not b && may_show c.watch.look ≡ false → Wanted s None
+    by_busy : (b : Bool) → is_busy c.gone false c.link ≡ b → not b && may_show c.watch.look ≡ false → Wanted s None
     by_busy true busy e = subst (λ o. Wanted s o) (ap (λ (b : Bool). cond b None (wish_seen c.watch.look)) busy) (wanted_busy c s busy h)
     by_busy false idle e =
         let shows = quiet_shows c.watch.look e in
         subst (λ o. Wanted s o) (ap (λ (b : Bool). cond b None (wish_seen c.watch.look)) idle ∙ wish_by c.watch.look next.More shows) (wanted c s next.More idle h shows)
 
-pub unstood : (k : Link) (s : LinkStory) → may_stand k ≡ false → LinkStands k s → Stood s None
-unstood k s e h = by_dropped k.dropped refl e
+pub unwanted_over : (s : ConnStory) → ConnStands None s → Wanted s None
+unwanted_over s h = subst (λ (b : Bool). WishBy b s None) (sym (by_over s.gone s.closed h.0)) refl
+  where
+    by_over : (gone closed : Bool) → gone || closed ≡ true → is_busy gone closed s.link ≡ true
+    by_over true closed e = refl
+    by_over false true e = refl
+    by_over false false e = absurd (cc)
+
+pub unstood : (k : Link) (s : LinkStory) → may_stand k ≡ false → LinkStands (Some k) s → Stood s None
+unstood k s e h =
+    let none = no_failure (may_show k.watch.look) k.failed e in
+    let shows = quiet_shows k.watch.look none.0 in
+    subst (λ o. Stood s o) (finish_by k.watch.look k.failed next.More shows ∙ none.1) (stood k s next.More h shows)
   where
     no_failure : (quiet : Bool) (o : Option FailKind) → quiet || is_some o ≡ false → (quiet ≡ false) × (option_map Breaks o ≡ None)
     no_failure true o e = absurd cc
     no_failure false None e = (refl, refl)
     no_failure false (Some kind) e = absurd cc
 
-    by_dropped : (b : Bool) → k.dropped ≡ b → not b && (may_show k.watch.look || is_some k.failed) ≡ false → Stood s None
-    by_dropped true gone e = subst (λ o. Stood s o) (ap (λ (b : Bool). cond b None (finish_seen k.watch.look k.failed)) gone) (stood_dropped k s gone h)
-    by_dropped false still e =
-        let none = no_failure (may_show k.watch.look) k.failed e in
-        let shows = quiet_shows k.watch.look none.0 in
-        subst (λ o. Stood s o) (ap (λ (b : Bool). cond b None (finish_seen k.watch.look k.failed)) still ∙ (finish_by k.watch.look k.failed next.More shows ∙ none.1)) (stood k s next.More still h shows)
+pub unstood_over : (s : LinkStory) → LinkStands None s → Stood s None
+unstood_over s h = subst (λ (b : Bool). FinishBy b s None) (sym h) refl
 
-module _ {A B : Type 0} (flag : A → Bool) (R : A → B → Type 0) (P : B → Type 0) (xs : List A) (kept : Kept) (keep : (a : A) (y : B) → flag a ≡ false → R a y → P y) where
-  pub passed_least : (i : ℕ) → IsMarked flag xs kept → IsLeast kept.places i → Passed R P xs i
-  passed_least i h first =
-      let within = within_list flag xs kept i h first in
-      unmarked flag R P xs kept i h (omega (arith, within)) (λ j l c. let most = first.least j c in omega (arith, most)) keep
-
-  pub passed_all : IsMarked flag xs kept → kept.places ≡ [] → Passed R P xs (length xs)
-  passed_all h none = unmarked flag R P xs kept (length xs) h (omega arith) (λ j l c. let l2 : c.0 < 0 = subst (λ (ps : List ℕ). c.0 < length ps) none c.1 in omega (arith, l2)) keep
+-- the link that was read of a gone connection
+pub no_mark : (c : Connection) → None ≡ lost_at (Some c) → may_be_lost c ≡ false
+no_mark c e = by_mark c.gone c.link e
+  where
+    by_mark : (b : Bool) (o : Option ℕ) → None ≡ cond b o None → b && is_some o ≡ false
+    by_mark true None e = refl
+    by_mark true (Some l) e = absurd cc
+    by_mark false o e = refl

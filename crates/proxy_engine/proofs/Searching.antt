@@ -1,68 +1,110 @@
 -- A search for the first place at which something stands.
-use Rattle.std.proofs.Common.{◌≡◌, ℕ, ◌+◌, ◌<◌, ◌≤◌, List, [], ◌∷◌, length, get_or, set, refl, sym, ap, ◌∙◌, subst, arith, true, Option, None, Some, is_some, sum_by, map}
-use Rattle.std.proofs.lemmas.List.Sums.{sum_by-set}
-use Rattle.std.proofs.lemmas.List.{get_or-set_same, get_or-set_other}
-use Rattle.std.proofs.Math.ListN.{length-set}
+use Rattle.std.proofs.Common.{◌≡◌, ℕ, suc, ◌+◌, ◌<◌, ◌≤◌, List, [], ◌∷◌, length, get_or, set, refl, sym, ap, ◌∙◌, subst, arith, Bool, true, false, Option, None, Some, is_some, sum_by, map}
+use Rattle.std.specs.Ordering.{nat_cmp}
+use Rattle.std.specs.BTreeMap.{BTreeMap, get}
+use Rattle.std.proofs.lemmas.List.Sums.{sum_by-cons, sum_by-set}
 use Rattle.std.proofs.Math.Seq.{map-set_same}
-use borrow.Author.Count.{below_more}
 use Rattle.proxy_engine.specs.Due.{IsFirst}
 use Rattle.proxy_engine.specs.State.{Both}
+use Rattle.proxy_engine.specs.Places.{listed}
+use Rattle.proxy_engine.specs.Marked.{Alike, AtEach, NoneBelow, NoneAtAll}
 use Rattle.proxy_engine.proofs.Parts.{both_length, both_at}
-
--- before that place P holds of all that a part agrees with
-abbrev pub Passed : {A B : Type 0} → (A → B → Type 0) → (B → Type 0) → List A → ℕ → Type 0
-Passed {A} {B} R P xs i = (j : ℕ) → j < i → (a : A) (y : B) → R (get_or xs j a) y → P y
-
-pub passed_more : {A B : Type 0} (R : A → B → Type 0) (P : B → Type 0) (xs : List A) (i : ℕ) (z : A) → i < length xs → ((y : B) → R z y → P y) → Passed R P xs i → Passed R P (set xs i z) (i + 1)
-passed_more {A} {B} R P xs i z within now h =
-    below_more (λ j. (a : A) (y : B) → R (get_or (set xs i z) j a) y → P y) i
-    (λ j l a y r. h j l a y (subst (λ x. R x y) (get_or-set_other xs i j z a (omega arith)) r))
-    (λ a y r. now y (subst (λ x. R x y) (get_or-set_same xs i z a within) r))
-
-pub passed_at : {A B : Type 0} (R : A → B → Type 0) (P : B → Type 0) (xs : List A) (ys : List B) (i j : ℕ) (a : A) (b : B) → Passed R P xs i → i ≤ length xs → Both R xs ys → j < i → P (get_or ys j b)
-passed_at R P xs ys i j a b h most both l = h j l a (get_or ys j b) (both_at R xs ys j a b both (omega arith))
+use Rattle.proxy_engine.proofs.Keeping.{listed_length, listed_at}
 
 pub some_from : {C : Type 0} (o : Option C) → true ≡ is_some o → (c : C) × (o ≡ Some c)
 some_from None e = cc
 some_from (Some c) e = (c, refl)
 
--- the part at i changed to z, which shows c
-pub found_first : {A B C : Type 0} (R : A → B → Type 0) (P : B → Option C → Type 0) (f : A → Option C) (d : B) (xs : List A) (i : ℕ) (z : A) (c : C) → i < length xs → f z ≡ Some c
-    → ((y : B) → R z y → P y (f z)) → Passed R (λ y. P y None) xs i → (ys : List B) → Both R (set xs i z) ys → IsFirst P d ys (Some (i, c))
-found_first R P f d xs i z c within shows now h ys both =
-    let same : length xs ≡ length ys = sym (length-set xs i z) ∙ both_length R (set xs i z) ys both in
-    let here = subst (λ x. R x (get_or ys i d)) (get_or-set_same xs i z z within) (both_at R (set xs i z) ys i z d both (subst (λ n. i < n) (sym (length-set xs i z)) within)) in (
-      subst (λ n. i < n) same within,
-      subst (λ o. P (get_or ys i d) o) shows (now (get_or ys i d) here),
-      λ j l. h j l z (get_or ys j d) (subst (λ x. R x (get_or ys j d)) (get_or-set_other xs i j z z (omega arith))
-          (both_at R (set xs i z) ys j z d both (subst (λ n. j < n) (sym (length-set xs i z)) (omega arith)))),
-    )
+module _ {A B C : Type 0} (R : Option A → B → Type 0) (P : B → Option C → Type 0) (flag : A → Bool) (d : B) (m : BTreeMap ℕ A) (n : ℕ)
+    (hidden : (x : A) (y : B) → flag x ≡ false → R (Some x) y → P y None) (over : (y : B) → R None y → P y None) where
+  passed : (j : ℕ) (y : B) (o : Option A) → get nat_cmp m j ≡ o → ((x : A) → get nat_cmp m j ≡ Some x → flag x ≡ false) → R o y → P y None
+  passed j y None e none r = over y r
+  passed j y (Some x) e none r = hidden x y (none x e) r
 
-pub some_part : {A : Type 0} (xs : List A) (j : ℕ) → j < length xs → A
-some_part [] j l = absurd (omega arith)
-some_part (x ∷ xs) j l = x
+  at_place : (ys : List B) → Both R (listed m n) ys → (j : ℕ) → j < n → R (get nat_cmp m j) (get_or ys j d)
+  at_place ys both j l = subst (λ (o : Option A). R o (get_or ys j d)) (listed_at m n j None l) (both_at R (listed m n) ys j None d both (omega (arith, l, listed_length m n)))
 
-pub none_first : {A B C : Type 0} (R : A → B → Type 0) (P : B → Option C → Type 0) (d : B) (xs : List A) (n : ℕ) → n ≡ length xs → Passed R (λ y. P y None) xs n
-    → (ys : List B) → Both R xs ys → IsFirst P d ys None
-none_first R P d xs n all h ys both j l =
-    let same = both_length R xs ys both in
-    let within : j < length xs = omega arith in
-    let a = some_part xs j within in
-    h j (omega arith) a (get_or ys j d) (both_at R xs ys j a d both within)
+  -- what is open at i shows c, and nothing before it has the flag
+  pub found_first : (i : ℕ) (c : C) → i < n → ((y : B) → R (get nat_cmp m i) y → P y (Some c)) → NoneBelow flag m i → (ys : List B) → Both R (listed m n) ys → IsFirst P d ys (Some (i, c))
+  found_first i c within here before ys both =
+      let same = both_length R (listed m n) ys both in (
+        omega (arith, within, same, listed_length m n),
+        here (get_or ys i d) (at_place ys both i within),
+        λ j l. passed j (get_or ys j d) (get nat_cmp m j) refl (λ x e. before j x l e) (at_place ys both j (omega (arith, l, within))),
+      )
+
+  -- nothing has the flag
+  pub none_first : NoneAtAll flag m → (ys : List B) → Both R (listed m n) ys → IsFirst P d ys None
+  none_first none ys both j l =
+      let same = both_length R (listed m n) ys both in
+      let within : j < n = omega (arith, l, same, listed_length m n) in
+      passed j (get_or ys j d) (get nat_cmp m j) refl (λ x e. none j x e) (at_place ys both j within)
+
+-- ---- what a look at each place leaves
+
+module _ {A B : Type 0} (R : A → A → Type 0) (S : Option A → B → Type 0) (keep : (x y : A) → R x y → (s : B) → S (Some x) s → S (Some y) s) where
+  kept_one : (o p : Option A) → Alike R o p → (s : B) → S o s → S p s
+  kept_one None None r s h = h
+  kept_one None (Some y) r s h = absurd r
+  kept_one (Some x) None r s h = absurd r
+  kept_one (Some x) (Some y) r s h = keep x y r s h
+
+  both_alike : (xs ys : List (Option A)) → length ys ≡ length xs → ((i : ℕ) → i < length xs → Alike R (get_or xs i None) (get_or ys i None)) → (ss : List B) → Both S xs ss → Both S ys ss
+  both_alike [] [] e each ss h = h
+  both_alike [] (y ∷ ys) e each ss h = absurd (omega (arith, e))
+  both_alike (x ∷ xs) [] e each ss h = absurd (omega (arith, e))
+  both_alike (x ∷ xs) (y ∷ ys) e each [] h = absurd h
+  both_alike (x ∷ xs) (y ∷ ys) e each (s ∷ ss) h = (kept_one x y (each 0 (omega arith)) s h.0, both_alike xs ys (omega (arith, e)) (λ i l. each (suc i) (omega (arith, l))) ss h.1)
+
+each_listed : {A : Type 0} (R : A → A → Type 0) (m k : BTreeMap ℕ A) (n : ℕ) → AtEach R m k → (i : ℕ) → i < length (listed m n) → Alike R (get_or (listed m n) i None) (get_or (listed k n) i None)
+each_listed {A} R m k n alike i l =
+    let within : i < n = omega (arith, l, listed_length m n) in
+    subst (λ (o : Option A). Alike R o (get_or (listed k n) i None)) (sym (listed_at m n i None within)) (subst (λ (o : Option A). Alike R (get nat_cmp m i) o) (sym (listed_at k n i None within)) (alike i))
+
+pub both_listed : {A B : Type 0} (R : A → A → Type 0) (S : Option A → B → Type 0) → ((x y : A) → R x y → (s : B) → S (Some x) s → S (Some y) s) → (m k : BTreeMap ℕ A) (n : ℕ) → AtEach R m k → (ss : List B) → Both S (listed m n) ss → Both S (listed k n) ss
+both_listed R S keep m k n alike ss h = both_alike R S keep (listed m n) (listed k n) (listed_length k n ∙ sym (listed_length m n)) (each_listed R m k n alike) ss h
+
+-- what is read of each is as it was
+pub map_listed : {A B : Type 0} (R : A → A → Type 0) (f : Option A → B) → ((x y : A) → R x y → f (Some y) ≡ f (Some x)) → (m k : BTreeMap ℕ A) (n : ℕ) → AtEach R m k → map f (listed k n) ≡ map f (listed m n)
+map_listed {A} R f same m k n alike = by_list (listed m n) (listed k n) (listed_length k n ∙ sym (listed_length m n)) (each_listed R m k n alike)
+  where
+    one : (o p : Option A) → Alike R o p → f p ≡ f o
+    one None None r = refl
+    one None (Some y) r = absurd r
+    one (Some x) None r = absurd r
+    one (Some x) (Some y) r = same x y r
+
+    by_list : (xs ys : List (Option A)) → length ys ≡ length xs → ((i : ℕ) → i < length xs → Alike R (get_or xs i None) (get_or ys i None)) → map f ys ≡ map f xs
+    by_list [] [] e each = refl
+    by_list [] (y ∷ ys) e each = absurd (omega (arith, e))
+    by_list (x ∷ xs) [] e each = absurd (omega (arith, e))
+    by_list (x ∷ xs) (y ∷ ys) e each = ap (λ b. b ∷ map f ys) (one x y (each 0 (omega arith))) ∙ ap (λ bs. f x ∷ bs) (by_list xs ys (omega (arith, e)) (λ i l. each (suc i) (omega (arith, l))))
+
+-- a sum over what is read of each is no greater
+pub sum_listed : {A : Type 0} (R : A → A → Type 0) (f : Option A → ℕ) → ((x y : A) → R x y → f (Some y) ≤ f (Some x)) → (m k : BTreeMap ℕ A) (n : ℕ) → AtEach R m k → sum_by f (listed k n) ≤ sum_by f (listed m n)
+sum_listed {A} R f less m k n alike = by_list (listed m n) (listed k n) (listed_length k n ∙ sym (listed_length m n)) (each_listed R m k n alike)
+  where
+    one : (o p : Option A) → Alike R o p → f p ≤ f o
+    one None None r = omega arith
+    one None (Some y) r = absurd r
+    one (Some x) None r = absurd r
+    one (Some x) (Some y) r = less x y r
+
+    by_list : (xs ys : List (Option A)) → length ys ≡ length xs → ((i : ℕ) → i < length xs → Alike R (get_or xs i None) (get_or ys i None)) → sum_by f ys ≤ sum_by f xs
+    by_list [] [] e each = omega arith
+    by_list [] (y ∷ ys) e each = absurd (omega (arith, e))
+    by_list (x ∷ xs) [] e each = absurd (omega (arith, e))
+    by_list (x ∷ xs) (y ∷ ys) e each =
+        let head = one x y (each 0 (omega arith)) in
+        let tail = by_list xs ys (omega (arith, e)) (λ i l. each (suc i) (omega (arith, l))) in
+        omega (arith, head, tail, sum_by-cons f x xs, sum_by-cons f y ys)
+
+-- ---- one changes
 
 -- a sum over the parts, one of which changed
-pub sum_kept : {A : Type 0} (f : A → ℕ) (xs : List A) (i : ℕ) (x z : A) → i < length xs → x ≡ get_or xs i x → f z ≡ f x → sum_by f (set xs i z) ≡ sum_by f xs
-sum_kept f xs i x z within here same =
-    let sum = sum_by-set f xs i z x within in
-    let old : f x ≡ f (get_or xs i x) = ap f here in
-    omega (arith, sum, old, same)
-
-pub sum_most : {A : Type 0} (f : A → ℕ) (xs : List A) (i : ℕ) (x z : A) → i < length xs → x ≡ get_or xs i x → f z ≤ f x → sum_by f (set xs i z) ≤ sum_by f xs
-sum_most f xs i x z within here less =
-    let sum = sum_by-set f xs i z x within in
-    let old : f x ≡ f (get_or xs i x) = ap f here in
-    omega (arith, sum, old, less)
+pub sum_changed : {A : Type 0} (f : A → ℕ) (xs : List A) (i : ℕ) (d z : A) → i < length xs → sum_by f (set xs i z) + f (get_or xs i d) ≡ sum_by f xs + f z
+sum_changed f xs i d z within = sum_by-set f xs i z d within
 
 -- what is read of each part, where one changed that reads the same
-pub map_kept : {A B : Type 0} (f : A → B) (xs : List A) (i : ℕ) (x z : A) → x ≡ get_or xs i x → f z ≡ f x → map f (set xs i z) ≡ map f xs
-map_kept f xs i x z here same = map-set_same f xs i z x (same ∙ ap f here)
+pub map_kept : {A B : Type 0} (f : A → B) (xs : List A) (i : ℕ) (d z : A) → f z ≡ f (get_or xs i d) → map f (set xs i z) ≡ map f xs
+map_kept f xs i d z same = map-set_same f xs i z d same

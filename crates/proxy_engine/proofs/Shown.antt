@@ -9,7 +9,9 @@ use Rattle.proxy_engine.proofs.RequestWatching.{answers_shown as request_shown}
 use Rattle.proxy_engine.proofs.ResponseWatching.{answers_shown as response_shown}
 use Rattle.proxy_engine.specs.Story.{LinkStory, ConnStory}
 use Rattle.proxy_engine.specs.Due.{Stood, FinishBy, Wanted, WishBy, finish_of, wish_of, is_busy}
-use Rattle.proxy_engine.specs.State.{LinkStands, ConnStands, finish_seen, finish_at, wish_seen, wish_at}
+use Rattle.proxy_engine.specs.State.{LinkStands, ConnStands, finish_seen, finish_at, wish_seen, wish_at, gone_at}
+use Rattle.proxy_engine.specs.Wiring.{link_of}
+use Rattle.proxy_engine.specs.Marked.{lost_at}
 use Rattle.proxy_engine.specs.declared.ends.Connection.{Connection}
 use Rattle.proxy_engine.specs.declared.ends.Link.{Link}
 use Rattle.hx_status.specs.declared.cause.FailKind.{FailKind}
@@ -47,42 +49,47 @@ wish_by Quiet a s = ap (λ (a : Next Request). wish_of a) (sym s)
 wish_by (Due b) a s = ap (λ (a : Next Request). wish_of a) (sym s)
 
 -- a link that was looked at
-pub stood : (k : Link) (s : LinkStory) (a : Next Response) → k.dropped ≡ false → LinkStands k s → Shows k.watch.look a → Stood s (finish_at k)
-stood k s a open_still h shows =
-    subst (λ (b : Bool). FinishBy b s (finish_at k)) (sym open_still ∙ h.dropped) (
+pub stood : (k : Link) (s : LinkStory) (a : Next Response) → LinkStands (Some k) s → Shows k.watch.look a → Stood s (finish_at (Some k))
+stood k s a h shows =
+    subst (λ (b : Bool). FinishBy b s (finish_at (Some k))) (sym h.still) (
       a,
       response_shown k.watch s.progress a h.watch shows,
-      ap (λ (b : Bool). cond b None (finish_seen k.watch.look k.failed)) open_still ∙ (finish_by k.watch.look k.failed a shows ∙ ap (finish_of a) h.failed),
+      finish_by k.watch.look k.failed a shows ∙ ap (finish_of a) h.failed,
     )
 
--- a dropped one
-pub stood_dropped : (k : Link) (s : LinkStory) → k.dropped ≡ true → LinkStands k s → Stood s (finish_at k)
-stood_dropped k s gone h =
-    subst (λ (b : Bool). FinishBy b s (finish_at k)) (sym gone ∙ h.dropped) (ap (λ (b : Bool). cond b None (finish_seen k.watch.look k.failed)) gone)
+busy_same : (c : Connection) (s : ConnStory) → ConnStands (Some c) s → is_busy c.gone false c.link ≡ is_busy s.gone s.closed s.link
+busy_same c s h = ap (λ (b : Bool). is_busy b false c.link) h.gone ∙ (ap (λ (b : Bool). is_busy s.gone b c.link) (sym h.still) ∙ ap (λ (o : Option ℕ). is_busy s.gone s.closed o) h.link)
 
-busy_same : (c : Connection) (s : ConnStory) → ConnStands c s → is_busy c.gone c.closed c.link ≡ is_busy s.gone s.closed s.link
-busy_same c s h = ap (λ (b : Bool). is_busy b c.closed c.link) h.gone ∙ (ap (λ (b : Bool). is_busy s.gone b c.link) h.closed ∙ ap (λ (o : Option ℕ). is_busy s.gone s.closed o) h.link)
-
-pub wanted : (c : Connection) (s : ConnStory) (a : Next Request) → is_busy c.gone c.closed c.link ≡ false → ConnStands c s → Shows c.watch.look a → Wanted s (wish_at c)
+pub wanted : (c : Connection) (s : ConnStory) (a : Next Request) → is_busy c.gone false c.link ≡ false → ConnStands (Some c) s → Shows c.watch.look a → Wanted s (wish_at (Some c))
 wanted c s a idle h shows =
-    subst (λ (b : Bool). WishBy b s (wish_at c)) (sym idle ∙ busy_same c s h) (
+    subst (λ (b : Bool). WishBy b s (wish_at (Some c))) (sym idle ∙ busy_same c s h) (
       a,
       request_shown c.watch s.progress a h.watch shows,
       ap (λ (b : Bool). cond b None (wish_seen c.watch.look)) idle ∙ wish_by c.watch.look a shows,
     )
 
-pub wanted_busy : (c : Connection) (s : ConnStory) → is_busy c.gone c.closed c.link ≡ true → ConnStands c s → Wanted s (wish_at c)
+pub wanted_busy : (c : Connection) (s : ConnStory) → is_busy c.gone false c.link ≡ true → ConnStands (Some c) s → Wanted s (wish_at (Some c))
 wanted_busy c s busy h =
-    subst (λ (b : Bool). WishBy b s (wish_at c)) (sym busy ∙ busy_same c s h) (ap (λ (b : Bool). cond b None (wish_seen c.watch.look)) busy)
+    subst (λ (b : Bool). WishBy b s (wish_at (Some c))) (sym busy ∙ busy_same c s h) (ap (λ (b : Bool). cond b None (wish_seen c.watch.look)) busy)
 
--- neither gone nor closed, and no exchange is open
-pub idle : (gone closed : Bool) (link : Option ℕ) → gone ≡ false → closed ≡ false → is_some link ≡ false → is_busy gone closed link ≡ false
-idle gone closed link here open_still none = ap (λ (b : Bool). is_busy b closed link) here ∙ (ap (λ (b : Bool). is_busy false b link) open_still ∙ none)
+-- it isn't gone, and no exchange is open
+pub idle : (gone : Bool) (link : Option ℕ) → gone ≡ false → is_some link ≡ false → is_busy gone false link ≡ false
+idle gone link here none = ap (λ (b : Bool). is_busy b false link) here ∙ none
 
 pub none_from : {A : Type 0} (o : Option A) → false ≡ is_some o → o ≡ None
 none_from None h = refl
 none_from (Some a) h = cc
 
 -- a connection that is gone, or not
-pub lost : (c : Connection) (s : ConnStory) (o : Option ℕ) → ConnStands c s → o ≡ cond c.gone c.link None → o ≡ cond s.gone s.link None
-lost c s o h e = e ∙ (ap (λ (b : Bool). cond b c.link None) h.gone ∙ ap (λ (o : Option ℕ). cond s.gone o None) h.link)
+pub lost : (c : Option Connection) (s : ConnStory) (l : ℕ) → ConnStands c s → lost_at c ≡ Some l → Some l ≡ cond s.gone s.link None
+lost None s l h e = absurd (cc)
+lost (Some c) s l h e = sym e ∙ (ap (λ (b : Bool). cond b c.link None) h.gone ∙ ap (λ (o : Option ℕ). cond s.gone o None) h.link)
+
+gone_by : (gone : Bool) (link : Option ℕ) (l : ℕ) → cond gone link None ≡ Some l → (gone ≡ true) × (link ≡ Some l)
+gone_by true link l e = (refl, e)
+gone_by false link l e = absurd (cc)
+
+-- it is gone, and has that link
+pub lost_link : (o : Option Connection) (l : ℕ) → lost_at o ≡ Some l → (gone_at o ≡ Some true) × (link_of o ≡ Some l)
+lost_link None l e = absurd (cc)
+lost_link (Some c) l e = let both = gone_by c.gone c.link l e in (ap (λ (b : Bool). Some b) both.0, both.1)

@@ -1,7 +1,6 @@
 -- The core's steps, done on both sides.
-use Rattle.std.proofs.Common.{◌≡◌, ℕ, ◌+◌, ◌<◌, ◌≤◌, ◌^◌, List, [], ◌∷◌, length, get_or, set, refl, sym, ap, ◌∙◌, subst, arith, Bool, true, false, cond, Option, Some, None, is_some, Ok}
+use Rattle.std.proofs.Common.{◌≡◌, ℕ, ◌+◌, ◌<◌, ◌≤◌, ◌^◌, List, [], ◌∷◌, length, refl, sym, ap, ◌∙◌, subst, arith, Bool, true, false, Option, Some, None, is_some, Ok}
 use Rattle.hx_framing.specs.declared.requests.Request.{Request}
-use Rattle.hx_framing.specs.declared.answer.Next.{Next}
 use Rattle.hx_framing.specs.declared.answer.Next.TheVariants as next
 use Rattle.hx_hop.specs.declared.asked_for.Asked.{Asked}
 use Rattle.proxy_engine.specs.Admitted.{IsAdmitted}
@@ -29,18 +28,17 @@ use Rattle.proxy_script.specs.declared.effect_list.Effect.TheVariants as effects
 use Rattle.hx_framing.specs.declared.responses.Response.{Response}
 use Rattle.hx_status.specs.declared.cause.FailKind.{FailKind}
 use Rattle.proxy_engine.specs.Look.{Look, Unknown, Quiet, Due}
-use Rattle.proxy_engine.specs.Story.{Story, ConnStory, link_at, with_connection, with_core}
+use Rattle.proxy_engine.specs.Story.{Story, link_at, with_connection, with_core}
 use Rattle.proxy_engine.specs.Due.{Abandons, Finish, Gives, Breaks, Finishes, Serves, IsDueFirst}
 use Rattle.proxy_engine.specs.Acts.{Came, Forwards, StepsOn, Finished, address_of, asks_head, came, came_at, passing, freed, effects_on, after_on, next_number}
-use Rattle.proxy_engine.specs.State.{ConnStands, LinkStands, Stands, state, finish_seen, finish_at, finish_load, link_load, Done, Failed}
+use Rattle.proxy_engine.specs.State.{LinkStands, Stands, state, finish_seen, finish_at, finish_load, link_load, Done, Failed}
 use Rattle.proxy_engine.specs.Wishes.{verdict_address, again_address, gives, Ends, EndFault}
 use Rattle.proxy_engine.specs.declared.happening.EngineFault.TheVariants.{OutOfMemory, Spent}
 use Rattle.proxy_engine.specs.declared.ends.Connection.{Connection}
 use Rattle.proxy_engine.specs.declared.ends.Link.{Link}
 use Rattle.proxy_engine.proofs.Parts.{both_length}
-use Rattle.proxy_engine.proofs.Changes.{changed_connection, changed_core}
+use Rattle.proxy_engine.proofs.Changes.{changed_core}
 use Rattle.proxy_engine.proofs.Ending.{again_way}
-use Rattle.proxy_engine.proofs.Wishing.{same_place}
 
 line_of_unanswered : (table : Table) (n now : ℕ) (asked : Asked) (rule : ReuseRule) (condition : Option Condition) (only : Bool) (line : ℕ) (bytes : List ℕ) → unanswered table n now asked rule condition only ≡ outcomes.Forward line bytes → n ≡ line
 line_of_unanswered table n now asked rule condition true line bytes e = absurd (cc)
@@ -66,23 +64,20 @@ arrival_way core core1 now id asked o address steps e =
     same_way address core.table o (λ line bytes f. e ∙ forward_address core.table core.entries now asked (verdict_of core.table.lines asked.method asked.target) line bytes (sym steps.outcome_is ∙ f))
 
 -- a request has arrived
-pub arrived_done : (s : Story) (cs cs2 : List Connection) (ks ks1 ks2 : List Link) (core core1 : CoreState) (first now i max_body : ℕ) (r : Request) (asked : Asked) (o : Outcome) (address : List ℕ) (to_head : Bool) (x y d : Connection) (told : List Effect)
-    → i < length cs → x ≡ get_or cs i x → (get_or cs i d).watch.look ≡ Due (next.Message r) → ((c : ConnStory) (a : Next Request) → x.watch.look ≡ Due a → ConnStands x c → ConnStands y (passing a c))
-    → IsAdmitted r (Ok asked) → Steps core (events.Arrive now (i + 1) asked) o core1 → ks1 ≡ ks → first + length ks1 < 2 ^ 64
+pub arrived_done : (s : Story) (cs1 cs2 : List (Option Connection)) (ks1 ks2 : List (Option Link)) (core core1 : CoreState) (first now i max_body : ℕ) (r : Request) (asked : Asked) (o : Outcome) (address : List ℕ) (to_head : Bool) (told : List Effect)
+    → IsAdmitted r (Ok asked) → Steps core (events.Arrive now (i + 1) asked) o core1 → first + length ks1 < 2 ^ 64
     → address ≡ verdict_address core.table (verdict_of core.table.lines asked.method asked.target) → max_body ≡ core.table.max_body → to_head ≡ is_head asked
     → told ≡ effects_on i (first + length ks1) (came_at address o)
-    → ((t : Story) (k : CoreState) → k.table.max_body ≡ max_body → Stands (state (set cs i y) ks1 k first) t → Stands (state cs2 ks2 k first) (after_on i to_head (came_at address o) t))
-    → Stands (state cs ks core first) s → Done s now (Serves i (next.Message r)) told (state cs2 ks2 core1 first)
-arrived_done s cs cs2 ks ks1 ks2 core core1 first now i max_body r asked o address to_head x y d told l e due keep is_asked steps same small way most head tells applies h =
-    let here : x.watch.look ≡ Due (next.Message r) = ap (λ (c : Connection). c.watch.look) (sym (same_place cs i x d l e)) ∙ due in
+    → ((t : Story) (k : CoreState) → k.table.max_body ≡ max_body → Stands (state cs1 ks1 k first) t → Stands (state cs2 ks2 k first) (after_on i to_head (came_at address o) t))
+    → Stands (state cs1 ks1 core first) (with_connection s i (passing (next.Message r))) → Done s now (Serves i (next.Message r)) told (state cs2 ks2 core1 first)
+arrived_done s cs1 cs2 ks1 ks2 core core1 first now i max_body r asked o address to_head told is_asked steps small way most head tells applies before =
     let passed = with_connection s i (passing (next.Message r)) in
-    let before : Stands (state (set cs i y) ks core first) passed = changed_connection (passing (next.Message r)) cs ks core first s i x y l e (λ c q. keep c (next.Message r) here q) h in
-    let stepped : Stands (state (set cs i y) ks1 core1 first) (with_core passed core1) =
-    subst (λ (ls : List Link). Stands (state (set cs i y) ls core1 first) (with_core passed core1)) (sym same) (changed_core (set cs i y) ks core first core1 passed before) in
-    let coming : came_at address o ≡ came s.core.table o = arrival_way core core1 now (i + 1) asked o address steps way ∙ ap (λ (k : CoreState). came k.table o) h.core in
-    let links = both_length LinkStands ks s.links h.links in
-    let first_is : first ≡ s.first = h.first in
-    let number : first + length ks1 ≡ next_number s = omega (arith, ap length same, links) in
+    let core_is : core ≡ s.core = before.core in
+    let stepped : Stands (state cs1 ks1 core1 first) (with_core passed core1) = changed_core cs1 ks1 core first core1 passed before in
+    let coming : came_at address o ≡ came s.core.table o = arrival_way core core1 now (i + 1) asked o address steps way ∙ ap (λ (k : CoreState). came k.table o) core_is in
+    let links : length ks1 ≡ length s.links = both_length LinkStands ks1 s.links before.links in
+    let first_is : first ≡ s.first = before.first in
+    let number : first + length ks1 ≡ next_number s = omega (arith, links, first_is) in
     let most_after : core1.table.max_body ≡ max_body = ap (λ (k : CoreState). k.table.max_body) steps.leaves ∙ sym most in
     let done = applies (with_core passed core1) core1 most_after stepped in
     record {
@@ -91,11 +86,11 @@ arrived_done s cs cs2 ks ks1 ks2 core core1 first now i max_body r asked o addre
         Ok asked,
         is_asked,
         (
-          omega (arith, number),
+          omega (arith, number, small),
           record {
             outcome = o;
             core = core1;
-            steps = subst (λ (k : CoreState). Steps k (events.Arrive now (i + 1) asked) o core1) h.core steps;
+            steps = subst (λ (k : CoreState). Steps k (events.Arrive now (i + 1) asked) o core1) core_is steps;
             told_is = tells ∙ (ap (λ n. effects_on i n (came_at address o)) number ∙ ap (effects_on i (next_number s)) coming);
             after_is = refl;
           },
@@ -110,7 +105,7 @@ abandoned_by table es xs None next id = refl
 abandoned_by table es xs (Some x) next id = refl
 
 -- a link whose connection is gone is dropped
-pub abandoned_done : (s : Story) (cs1 : List Connection) (ks1 : List Link) (core core1 : CoreState) (first now i l : ℕ) (o : Outcome) (told : List Effect) → Steps core (events.Abandon (i + 1)) o core1
+pub abandoned_done : (s : Story) (cs1 : List (Option Connection)) (ks1 : List (Option Link)) (core core1 : CoreState) (first now i l : ℕ) (o : Outcome) (told : List Effect) → Steps core (events.Abandon (i + 1)) o core1
     → told ≡ effects.Drop (first + l) ∷ [] → first ≡ s.first → core ≡ s.core → Stands (state cs1 ks1 core first) (freed s l i) → Done s now (Abandons i l) told (state cs1 ks1 core1 first)
 abandoned_done s cs1 ks1 core core1 first now i l o told steps is first_is core_is h =
     let ends : o ≡ outcomes.Ended = steps.outcome_is ∙ abandoned_by core.table core.entries core.exchanges (find_exchange (i + 1) core.exchanges) core.next (i + 1) in
@@ -154,7 +149,7 @@ ends_table core core1 now id (Gives r) o h = ap (λ (k : CoreState). k.table) h.
 ends_table core core1 now id (Breaks kind) o h = ap (λ (k : CoreState). k.table) h.leaves
 
 -- an exchange was finished, or goes forward once more
-pub finished_done : (s : Story) (cs1 cs2 : List Connection) (ks1 ks2 : List Link) (core core1 : CoreState) (first now i j max_body : ℕ) (f : Finish) (o : Outcome) (address : List ℕ) (to_head : Bool) (told : List Effect)
+pub finished_done : (s : Story) (cs1 cs2 : List (Option Connection)) (ks1 ks2 : List (Option Link)) (core core1 : CoreState) (first now i j max_body : ℕ) (f : Finish) (o : Outcome) (address : List ℕ) (to_head : Bool) (told : List Effect)
     → is_some (find_exchange (i + 1) core.exchanges) ≡ true → (gives f ≡ true → next_number s < 2 ^ 64) → Ends core now (i + 1) f o core1 → address ≡ again_address core.table (find_exchange (i + 1) core.exchanges) → max_body ≡ core.table.max_body
     → to_head ≡ asks_head (find_exchange (i + 1) core.exchanges) → first + length ks1 ≡ next_number s → told ≡ effects.Drop (first + j) ∷ effects_on i (first + length ks1) (came_at address o) → first ≡ s.first → core ≡ s.core → i ≡ (link_at s j).connection
     → Stands (state cs1 ks1 core first) (freed s j i) → ((t : Story) (k : CoreState) → k.table.max_body ≡ max_body → Stands (state cs1 ks1 k first) t → Stands (state cs2 ks2 k first) (after_on i to_head (came_at address o) t))
@@ -192,8 +187,9 @@ memory_told spent (Gives r) left = left refl
 memory_told spent (Breaks kind) left = tt
 
 -- a link on which something stands counts two
-pub link_counts : (k : Link) (f : Finish) → finish_at k ≡ Some f → link_load k ≡ 2
-link_counts k f h = by_dropped k.dropped h
+pub link_counts : (k : Option Link) (f : Finish) → finish_at k ≡ Some f → link_load k ≡ 2
+link_counts None f h = absurd (cc)
+link_counts (Some k) f h = ap (λ n. 1 + n) (by_look k.watch.look k.failed h)
   where
     by_look : (l : Look Response) (failed : Option FailKind) → finish_seen l failed ≡ Some f → finish_load l failed ≡ 1
     by_look Unknown None h = absurd (cc)
@@ -202,7 +198,3 @@ link_counts k f h = by_dropped k.dropped h
     by_look Quiet (Some kind) h = refl
     by_look (Due a) None h = refl
     by_look (Due a) (Some kind) h = refl
-
-    by_dropped : (d : Bool) → cond d None (finish_seen k.watch.look k.failed) ≡ Some f → cond d 0 (1 + finish_load k.watch.look k.failed) ≡ 2
-    by_dropped true h = absurd (cc)
-    by_dropped false h = ap (λ n. 1 + n) (by_look k.watch.look k.failed h)

@@ -1,74 +1,126 @@
 -- What is taken, on both sides.
-use Rattle.std.proofs.Common.{◌≡◌, ℕ, ◌+◌, ◌-◌, ◌<◌, ◌&&◌, ◌||◌, ◌==◌, not, nat_lt, nat_le, List, [], ◌∷◌, ◌++◌, length, get_or, set, refl, sym, ap, ◌∙◌, subst, arith, Bool, true, false, cond, Option, None, Some, is_some, Result, Ok, Err, OnOk}
-use Rattle.hx_framing.specs.Progress.{start}
+use Rattle.std.proofs.Common.{◌≡◌, ℕ, ◌+◌, ◌-◌, ◌<◌, ◌&&◌, ◌||◌, ◌==◌, not, nat_lt, nat_le, List, [], ◌∷◌, ◌++◌, length, get_or, set, refl, sym, ap, ◌∙◌, subst, Bool, true, false, cond, Option, None, Some, is_some, Result, Ok, Err, OnOk}
+use Rattle.hx_framing.specs.Progress.{start, fed, finished}
+use Rattle.hx_status.specs.declared.cause.FailKind.{FailKind}
 use Rattle.proxy_core.specs.State.{State as CoreState}
 use Rattle.proxy_engine.specs.Happenings.{Accepts}
 use Rattle.proxy_engine.specs.RequestWatch.{Watched, Stands as WatchStands}
-use Rattle.proxy_engine.specs.Story.{Story, ConnStory, LinkStory, accepted, no_connection, no_link, connection_at, link_at, with_connection, with_link, connection_fault, link_fault, heard, fault_of, keeps_bytes, keeps_answer}
+use Rattle.proxy_engine.specs.Story.{Story, ConnStory, LinkStory, accepted, no_connection, no_link, connection_at, link_at, with_connection, with_link, connection_fault, link_fault, heard, fault_of, sent, ended, left, heard_by, shut, failed_by, keeps_bytes, keeps_answer}
 use Rattle.proxy_engine.specs.State.{ConnStands, LinkStands, Stands, state, IsRefusal}
+use Rattle.proxy_engine.specs.Wiring.{link_of}
 use Rattle.proxy_engine.specs.declared.happening.EngineFault.{EngineFault}
 use Rattle.proxy_engine.specs.declared.happening.EngineFault.TheVariants.{WrongNumber, NotAccepted, OutOfMemory}
 use Rattle.proxy_engine.specs.declared.ends.Connection.{Connection}
 use Rattle.proxy_engine.specs.declared.ends.Link.{Link}
-use Rattle.proxy_engine.proofs.Parts.{both_length, both_push, both_here}
+use Rattle.proxy_engine.proofs.Parts.{both_length, both_at, both_push}
+use Rattle.proxy_engine.proofs.Keeping.{set_none}
 use Rattle.proxy_engine.proofs.Changes.{changed_connection, changed_link}
 
-pub connection_free : (cs ys : List Connection) (ks : List Link) (core : CoreState) (first : ℕ) (s : Story) (n : ℕ) (b : Bool) → ys ≡ cs → nat_lt 0 n && nat_le n (length ys) ≡ b → Stands (state cs ks core first) s → connection_fault (length s.connections) n ≡ cond b None (Some NotAccepted)
-connection_free cs ys ks core first s n b same e h =
-    let len : length s.connections ≡ length ys = sym (both_length ConnStands cs s.connections h.connections) ∙ ap length (sym same) in
+pub connection_free : (cs : List (Option Connection)) (ks : List (Option Link)) (core : CoreState) (first : ℕ) (s : Story) (n : ℕ) (b : Bool) → nat_lt 0 n && nat_le n (length cs) ≡ b → Stands (state cs ks core first) s → connection_fault (length s.connections) n ≡ cond b None (Some NotAccepted)
+connection_free cs ks core first s n b e h =
+    let len : length s.connections ≡ length cs = sym (both_length ConnStands cs s.connections h.connections) in
     ap (λ k. cond (nat_lt 0 n && nat_le n k) None (Some NotAccepted)) len ∙ ap (λ (b : Bool). cond b None (Some NotAccepted)) e
 
-pub link_free : (cs : List Connection) (ks ys : List Link) (core : CoreState) (first : ℕ) (s : Story) (l : ℕ) (b : Bool) → ys ≡ ks → nat_le first l && nat_lt (l - first) (length ys) ≡ b → Stands (state cs ks core first) s → link_fault s.first (length s.links) l ≡ cond b None (Some WrongNumber)
-link_free cs ks ys core first s l b same e h =
-    let len : length s.links ≡ length ys = sym (both_length LinkStands ks s.links h.links) ∙ ap length (sym same) in
-    ap (λ k. link_fault s.first k l) len ∙ (ap (λ f. link_fault f (length ys) l) (sym h.first) ∙ ap (λ (b : Bool). cond b None (Some WrongNumber)) e)
+pub link_free : (cs : List (Option Connection)) (ks : List (Option Link)) (core : CoreState) (first : ℕ) (s : Story) (l : ℕ) (b : Bool) → nat_le first l && nat_lt (l - first) (length ks) ≡ b → Stands (state cs ks core first) s → link_fault s.first (length s.links) l ≡ cond b None (Some WrongNumber)
+link_free cs ks core first s l b e h =
+    let len : length s.links ≡ length ks = sym (both_length LinkStands ks s.links h.links) in
+    ap (λ k. link_fault s.first k l) len ∙ (ap (λ f. link_fault f (length ks) l) (sym h.first) ∙ ap (λ (b : Bool). cond b None (Some WrongNumber)) e)
 
-pub connection_refused : (cs ys : List Connection) (ks : List Link) (core : CoreState) (first : ℕ) (s : Story) (n : ℕ) → ys ≡ cs → nat_lt 0 n && nat_le n (length ys) ≡ false → Stands (state cs ks core first) s → IsRefusal (connection_fault (length s.connections) n) NotAccepted
-connection_refused cs ys ks core first s n same e h = subst (λ (o : Option EngineFault). IsRefusal o NotAccepted) (sym (connection_free cs ys ks core first s n false same e h)) refl
+pub connection_refused : (cs : List (Option Connection)) (ks : List (Option Link)) (core : CoreState) (first : ℕ) (s : Story) (n : ℕ) → nat_lt 0 n && nat_le n (length cs) ≡ false → Stands (state cs ks core first) s → IsRefusal (connection_fault (length s.connections) n) NotAccepted
+connection_refused cs ks core first s n e h = subst (λ (o : Option EngineFault). IsRefusal o NotAccepted) (sym (connection_free cs ks core first s n false e h)) refl
 
-pub connection_full : (cs ys : List Connection) (ks : List Link) (core : CoreState) (first : ℕ) (s : Story) (n : ℕ) → ys ≡ cs → nat_lt 0 n && nat_le n (length ys) ≡ true → Stands (state cs ks core first) s → IsRefusal (connection_fault (length s.connections) n) OutOfMemory
-connection_full cs ys ks core first s n same e h = subst (λ (o : Option EngineFault). IsRefusal o OutOfMemory) (sym (connection_free cs ys ks core first s n true same e h)) refl
+pub connection_full : (cs : List (Option Connection)) (ks : List (Option Link)) (core : CoreState) (first : ℕ) (s : Story) (n : ℕ) → nat_lt 0 n && nat_le n (length cs) ≡ true → Stands (state cs ks core first) s → IsRefusal (connection_fault (length s.connections) n) OutOfMemory
+connection_full cs ks core first s n e h = subst (λ (o : Option EngineFault). IsRefusal o OutOfMemory) (sym (connection_free cs ks core first s n true e h)) refl
 
-pub link_refused : (cs : List Connection) (ks ys : List Link) (core : CoreState) (first : ℕ) (s : Story) (l : ℕ) → ys ≡ ks → nat_le first l && nat_lt (l - first) (length ys) ≡ false → Stands (state cs ks core first) s → IsRefusal (link_fault s.first (length s.links) l) WrongNumber
-link_refused cs ks ys core first s l same e h = subst (λ (o : Option EngineFault). IsRefusal o WrongNumber) (sym (link_free cs ks ys core first s l false same e h)) refl
+pub link_refused : (cs : List (Option Connection)) (ks : List (Option Link)) (core : CoreState) (first : ℕ) (s : Story) (l : ℕ) → nat_le first l && nat_lt (l - first) (length ks) ≡ false → Stands (state cs ks core first) s → IsRefusal (link_fault s.first (length s.links) l) WrongNumber
+link_refused cs ks core first s l e h = subst (λ (o : Option EngineFault). IsRefusal o WrongNumber) (sym (link_free cs ks core first s l false e h)) refl
 
-pub link_full : (cs : List Connection) (ks ys : List Link) (core : CoreState) (first : ℕ) (s : Story) (l : ℕ) → ys ≡ ks → nat_le first l && nat_lt (l - first) (length ys) ≡ true → Stands (state cs ks core first) s → IsRefusal (link_fault s.first (length s.links) l) OutOfMemory
-link_full cs ks ys core first s l same e h = subst (λ (o : Option EngineFault). IsRefusal o OutOfMemory) (sym (link_free cs ks ys core first s l true same e h)) refl
+pub link_full : (cs : List (Option Connection)) (ks : List (Option Link)) (core : CoreState) (first : ℕ) (s : Story) (l : ℕ) → nat_le first l && nat_lt (l - first) (length ks) ≡ true → Stands (state cs ks core first) s → IsRefusal (link_fault s.first (length s.links) l) OutOfMemory
+link_full cs ks core first s l e h = subst (λ (o : Option EngineFault). IsRefusal o OutOfMemory) (sym (link_free cs ks core first s l true e h)) refl
 
 -- a change of the n-th connection, which stands at i
-pub connection_taken : (f : ConnStory → ConnStory) (cs ys : List Connection) (ks : List Link) (core : CoreState) (first : ℕ) (s : Story) (n i : ℕ) (x y : Connection) → ys ≡ cs → i ≡ n - 1 → i < length ys → x ≡ get_or cs i x
-    → ((c : ConnStory) → ConnStands x c → ConnStands y (f c)) → Stands (state cs ks core first) s → Stands (state (set cs i y) ks core first) (with_connection s (n - 1) f)
-connection_taken f cs ys ks core first s n i x y same place l e keep h =
-    subst (λ k. Stands (state (set cs i y) ks core first) (with_connection s k f)) place (changed_connection f cs ks core first s i x y (omega (arith, ap length same)) e keep h)
+pub connection_taken : (f : ConnStory → ConnStory) (cs : List (Option Connection)) (ks : List (Option Link)) (core : CoreState) (first : ℕ) (s : Story) (n i : ℕ) (o : Option Connection) → i ≡ n - 1 → i < length cs
+    → ((c : ConnStory) → ConnStands (get_or cs i None) c → ConnStands o (f c)) → Stands (state cs ks core first) s → Stands (state (set cs i o) ks core first) (with_connection s (n - 1) f)
+connection_taken f cs ks core first s n i o place l keep h =
+    subst (λ k. Stands (state (set cs i o) ks core first) (with_connection s k f)) place (changed_connection f cs ks core first s i o l keep h)
 
-pub link_taken : (f : LinkStory → LinkStory) (cs : List Connection) (ks ys : List Link) (core : CoreState) (first : ℕ) (s : Story) (l j : ℕ) (x y : Link) → ys ≡ ks → j ≡ l - first → j < length ys → x ≡ get_or ks j x
-    → ((c : LinkStory) → LinkStands x c → LinkStands y (f c)) → Stands (state cs ks core first) s → Stands (state cs (set ks j y) core first) (with_link s (l - s.first) f)
-link_taken f cs ks ys core first s l j x y same place within e keep h =
-    subst (λ k. Stands (state cs (set ks j y) core first) (with_link s k f)) (place ∙ ap (λ f. l - f) h.first) (changed_link f cs ks core first s j x y (omega (arith, ap length same)) e keep h)
+-- none of one that is over
+pub connection_over : (f : ConnStory → ConnStory) (cs : List (Option Connection)) (ks : List (Option Link)) (core : CoreState) (first : ℕ) (s : Story) (n i : ℕ) → i ≡ n - 1 → i < length cs → None ≡ get_or cs i None
+    → ((c : ConnStory) → ConnStands None c → ConnStands None (f c)) → Stands (state cs ks core first) s → Stands (state cs ks core first) (with_connection s (n - 1) f)
+connection_over f cs ks core first s n i place l none keep h =
+    subst (λ (ds : List (Option Connection)). Stands (state ds ks core first) (with_connection s (n - 1) f)) (set_none cs i (sym none))
+    (connection_taken f cs ks core first s n i None place l (λ c q. keep c (subst (λ (o : Option Connection). ConnStands o c) (sym none) q)) h)
 
--- an end that found no memory for bytes is still read
-pub connection_keeps : (cs ys : List Connection) (ks : List Link) (core : CoreState) (first : ℕ) (s : Story) (n i : ℕ) (x : Connection) → ys ≡ cs → i ≡ n - 1 → i < length ys → x ≡ get_or cs i x
-    → x.gone || (x.closed || x.ended) ≡ false → Stands (state cs ks core first) s → keeps_bytes (connection_at s (n - 1)) ≡ true
-connection_keeps cs ys ks core first s n i x same place l e read h =
+pub link_taken : (f : LinkStory → LinkStory) (cs : List (Option Connection)) (ks : List (Option Link)) (core : CoreState) (first : ℕ) (s : Story) (l j : ℕ) (o : Option Link) → j ≡ l - first → j < length ks
+    → ((k : LinkStory) → LinkStands (get_or ks j None) k → LinkStands o (f k)) → Stands (state cs ks core first) s → Stands (state cs (set ks j o) core first) (with_link s (l - s.first) f)
+link_taken f cs ks core first s l j o place within keep h =
+    subst (λ k. Stands (state cs (set ks j o) core first) (with_link s k f)) (place ∙ ap (λ f. l - f) h.first) (changed_link f cs ks core first s j o within keep h)
+
+pub link_over : (f : LinkStory → LinkStory) (cs : List (Option Connection)) (ks : List (Option Link)) (core : CoreState) (first : ℕ) (s : Story) (l j : ℕ) → j ≡ l - first → j < length ks → None ≡ get_or ks j None
+    → ((k : LinkStory) → LinkStands None k → LinkStands None (f k)) → Stands (state cs ks core first) s → Stands (state cs ks core first) (with_link s (l - s.first) f)
+link_over f cs ks core first s l j place within none keep h =
+    subst (λ (ls : List (Option Link)). Stands (state cs ls core first) (with_link s (l - s.first) f)) (set_none ks j (sym none))
+    (link_taken f cs ks core first s l j None place within (λ k q. keep k (subst (λ (o : Option Link). LinkStands o k) (sym none) q)) h)
+
+-- ---- what comes for an end that is over changes nothing
+
+or_more : (a b d : Bool) → a || b ≡ true → a || (b || d) ≡ true
+or_more true b d e = refl
+or_more false true d e = refl
+or_more false false d e = absurd (cc)
+
+pub sent_over : (bytes : List ℕ) (c : ConnStory) → ConnStands None c → ConnStands None (sent bytes c)
+sent_over bytes c h = subst (λ (b : Bool). ConnStands None (cond b c (record c { progress = fed c.progress bytes }))) (sym (or_more c.gone c.closed c.progress.ended h.0)) h
+
+pub ended_over : (c : ConnStory) → ConnStands None c → ConnStands None (ended c)
+ended_over c h = subst (λ (b : Bool). ConnStands None (cond b c (record c { progress = finished c.progress }))) (sym h.0) h
+
+left_by : (b : Bool) (c : ConnStory) → ConnStands None c → ConnStands None (cond b c (record c { gone = true }))
+left_by true c h = h
+left_by false c h = (refl, h.1)
+
+pub link_none : (o : Option ℕ) → is_some o ≡ false → o ≡ None
+link_none None e = refl
+link_none (Some l) e = absurd (cc)
+
+-- a client without an open exchange is over when it goes
+pub left_gone : (o : Option Connection) (c : ConnStory) → is_some (link_of o) ≡ false → ConnStands o c → ConnStands None (left c)
+left_gone None c e h = left_by c.closed c h
+left_gone (Some x) c e h = subst (λ (b : Bool). ConnStands None (cond b c (record c { gone = true }))) (sym h.still) (refl, sym h.link ∙ link_none x.link e)
+
+pub heard_over : (bytes : List ℕ) (k : LinkStory) → LinkStands None k → LinkStands None (heard_by bytes k)
+heard_over bytes k h = subst (λ (b : Bool). LinkStands None (cond (b || (is_some k.failed || k.progress.ended)) k (record k { progress = fed k.progress bytes }))) (sym h) h
+
+pub shut_over : (k : LinkStory) → LinkStands None k → LinkStands None (shut k)
+shut_over k h = subst (λ (b : Bool). LinkStands None (cond (b || is_some k.failed) k (record k { progress = finished k.progress }))) (sym h) h
+
+pub failed_over : (kind : FailKind) (k : LinkStory) → LinkStands None k → LinkStands None (failed_by kind k)
+failed_over kind k h = subst (λ (b : Bool). LinkStands None (cond (b || is_some k.failed) k (record k { failed = Some kind }))) (sym h) h
+
+-- ---- an end that found no memory for bytes is still read
+
+pub connection_keeps : (cs : List (Option Connection)) (ks : List (Option Link)) (core : CoreState) (first : ℕ) (s : Story) (n i : ℕ) (x : Connection) → i ≡ n - 1 → i < length cs → Some x ≡ get_or cs i None
+    → x.gone || x.ended ≡ false → Stands (state cs ks core first) s → keeps_bytes (connection_at s (n - 1)) ≡ true
+connection_keeps cs ks core first s n i x place l e read h =
     let c = connection_at s i in
-    let q : ConnStands x c = both_here ConnStands cs s.connections i x no_connection (omega (arith, l, ap length same)) e h.connections in
+    let q : ConnStands (Some x) c = subst (λ (o : Option Connection). ConnStands o c) (sym e) (both_at ConnStands cs s.connections i None no_connection h.connections l) in
     subst (λ k. keeps_bytes (connection_at s k) ≡ true) place
-    (ap (λ (b : Bool). not (b || (c.closed || c.progress.ended))) (sym q.gone) ∙ (ap (λ (b : Bool). not (x.gone || (b || c.progress.ended))) (sym q.closed) ∙ (ap (λ (b : Bool). not (x.gone || (x.closed || b))) (sym q.ended) ∙ ap not read)))
+    (ap (λ (b : Bool). not (b || (c.closed || c.progress.ended))) (sym q.gone) ∙ (ap (λ (b : Bool). not (x.gone || (b || c.progress.ended))) q.still ∙ (ap (λ (b : Bool). not (x.gone || b)) (sym q.ended) ∙ ap not read)))
 
-pub link_keeps : (cs : List Connection) (ks ys : List Link) (core : CoreState) (first : ℕ) (s : Story) (l j : ℕ) (x : Link) → ys ≡ ks → j ≡ l - first → j < length ys → x ≡ get_or ks j x
-    → x.dropped || (is_some x.failed || x.ended) ≡ false → Stands (state cs ks core first) s → keeps_answer (link_at s (l - s.first)) ≡ true
-link_keeps cs ks ys core first s l j x same place within e read h =
+pub link_keeps : (cs : List (Option Connection)) (ks : List (Option Link)) (core : CoreState) (first : ℕ) (s : Story) (l j : ℕ) (x : Link) → j ≡ l - first → j < length ks → Some x ≡ get_or ks j None
+    → is_some x.failed || x.ended ≡ false → Stands (state cs ks core first) s → keeps_answer (link_at s (l - s.first)) ≡ true
+link_keeps cs ks core first s l j x place within e read h =
     let k = link_at s j in
-    let q : LinkStands x k = both_here LinkStands ks s.links j x no_link (omega (arith, within, ap length same)) e h.links in
+    let q : LinkStands (Some x) k = subst (λ (o : Option Link). LinkStands o k) (sym e) (both_at LinkStands ks s.links j None no_link h.links within) in
     subst (λ n. keeps_answer (link_at s n) ≡ true) (place ∙ ap (λ f. l - f) h.first)
-    (ap (λ (b : Bool). not (b || (is_some k.failed || k.progress.ended))) (sym q.dropped) ∙ (ap (λ o. not (x.dropped || (is_some o || k.progress.ended))) (sym q.failed) ∙ (ap (λ (b : Bool). not (x.dropped || (is_some x.failed || b))) (sym q.ended) ∙ ap not read)))
+    (ap (λ (b : Bool). not (b || (is_some k.failed || k.progress.ended))) q.still ∙ (ap (λ o. not (is_some o || k.progress.ended)) (sym q.failed) ∙ (ap (λ (b : Bool). not (is_some x.failed || b)) (sym q.ended) ∙ ap not read)))
 
 -- a connection more
-pub accepted_more : (cs : List Connection) (ks : List Link) (core : CoreState) (first : ℕ) (s : Story) (max_body : ℕ) (w : Watched) → core.table.max_body ≡ max_body → WatchStands w (start max_body false) → Stands (state cs ks core first) s
-    → Stands (state (cs ++ record { watch = w; ended = false; gone = false; closed = false; link = None } ∷ []) ks core first) (heard s (Accepts 0))
+pub accepted_more : (cs : List (Option Connection)) (ks : List (Option Link)) (core : CoreState) (first : ℕ) (s : Story) (max_body : ℕ) (w : Watched) → core.table.max_body ≡ max_body → WatchStands w (start max_body false) → Stands (state cs ks core first) s
+    → Stands (state (cs ++ Some (record { watch = w; ended = false; gone = false; link = None }) ∷ []) ks core first) (heard s (Accepts 0))
 accepted_more cs ks core first s max_body w most fresh h = record {
-  connections = both_push ConnStands cs s.connections record { watch = w; ended = false; gone = false; closed = false; link = None } (accepted s.core.table.max_body) h.connections
-      record { watch = subst (λ (n : ℕ). WatchStands w (start n false)) (sym most ∙ ap (λ (k : CoreState). k.table.max_body) h.core) fresh; ended = refl; gone = refl; closed = refl; link = refl };
+  connections = both_push ConnStands cs s.connections (Some (record { watch = w; ended = false; gone = false; link = None })) (accepted s.core.table.max_body) h.connections
+      record { watch = subst (λ (n : ℕ). WatchStands w (start n false)) (sym most ∙ ap (λ (k : CoreState). k.table.max_body) h.core) fresh; ended = refl; gone = refl; link = refl; still = refl; used = λ e. absurd (cc) };
   links = h.links;
   core = h.core;
   first = h.first;
@@ -79,13 +131,13 @@ pub on_ok : {A E : Type 0} (r : Result A E) (P Q : Type 0) → (P → Q) → OnO
 on_ok (Ok a) P Q f p = f p
 on_ok (Err e) P Q f p = tt
 
-pub opens_free : (cs ys : List Connection) (ks : List Link) (core : CoreState) (first : ℕ) (s : Story) (n : ℕ) (b : Bool) → ys ≡ cs → (n == length ys + 1) ≡ b → Stands (state cs ks core first) s → fault_of s (Accepts n) ≡ cond b None (Some WrongNumber)
-opens_free cs ys ks core first s n b same e h =
-    let len : length s.connections ≡ length ys = sym (both_length ConnStands cs s.connections h.connections) ∙ ap length (sym same) in
+pub opens_free : (cs : List (Option Connection)) (ks : List (Option Link)) (core : CoreState) (first : ℕ) (s : Story) (n : ℕ) (b : Bool) → (n == length cs + 1) ≡ b → Stands (state cs ks core first) s → fault_of s (Accepts n) ≡ cond b None (Some WrongNumber)
+opens_free cs ks core first s n b e h =
+    let len : length s.connections ≡ length cs = sym (both_length ConnStands cs s.connections h.connections) in
     ap (λ k. cond (n == k + 1) None (Some WrongNumber)) len ∙ ap (λ (b : Bool). cond b None (Some WrongNumber)) e
 
-pub opens_refused : (cs ys : List Connection) (ks : List Link) (core : CoreState) (first : ℕ) (s : Story) (n : ℕ) (b : Bool) → ys ≡ cs → b ≡ (n == length ys + 1) → b ≡ false → Stands (state cs ks core first) s → IsRefusal (fault_of s (Accepts n)) WrongNumber
-opens_refused cs ys ks core first s n b same e isnt h = subst (λ (o : Option EngineFault). IsRefusal o WrongNumber) (sym (opens_free cs ys ks core first s n false same (sym e ∙ isnt) h)) refl
+pub opens_refused : (cs : List (Option Connection)) (ks : List (Option Link)) (core : CoreState) (first : ℕ) (s : Story) (n : ℕ) (b : Bool) → b ≡ (n == length cs + 1) → b ≡ false → Stands (state cs ks core first) s → IsRefusal (fault_of s (Accepts n)) WrongNumber
+opens_refused cs ks core first s n b e isnt h = subst (λ (o : Option EngineFault). IsRefusal o WrongNumber) (sym (opens_free cs ks core first s n false (sym e ∙ isnt) h)) refl
 
-pub opens_full : (cs ys : List Connection) (ks : List Link) (core : CoreState) (first : ℕ) (s : Story) (n : ℕ) (b : Bool) → ys ≡ cs → b ≡ (n == length ys + 1) → b ≡ true → Stands (state cs ks core first) s → IsRefusal (fault_of s (Accepts n)) OutOfMemory
-opens_full cs ys ks core first s n b same e it h = subst (λ (o : Option EngineFault). IsRefusal o OutOfMemory) (sym (opens_free cs ys ks core first s n true same (sym e ∙ it) h)) refl
+pub opens_full : (cs : List (Option Connection)) (ks : List (Option Link)) (core : CoreState) (first : ℕ) (s : Story) (n : ℕ) (b : Bool) → b ≡ (n == length cs + 1) → b ≡ true → Stands (state cs ks core first) s → IsRefusal (fault_of s (Accepts n)) OutOfMemory
+opens_full cs ks core first s n b e it h = subst (λ (o : Option EngineFault). IsRefusal o OutOfMemory) (sym (opens_free cs ks core first s n true (sym e ∙ it) h)) refl

@@ -1,8 +1,8 @@
 -- What keeps connections, links and open exchanges together.
-use Rattle.std.proofs.Common.{◌≡◌, ◌≢◌, ◌⊎◌, inl, inr, ℕ, zero, suc, ◌+◌, ◌<◌, ◌≤◌, ◌==◌, List, [], ◌∷◌, ◌++◌, length, get_or, set, refl, sym, ap, ◌∙◌, subst, arith, Bool, true, false, not, ◌&&◌, cond, if◌then◌else◌, Option, None, Some, is_some, map, Result, Ok, Err, OnOk, OnErr}
+use Rattle.std.proofs.Common.{◌≡◌, ◌≢◌, ◌⊎◌, inl, inr, ℕ, zero, suc, ◌+◌, ◌<◌, ◌≤◌, ◌==◌, List, [], ◌∷◌, ◌++◌, length, get_or, set, refl, sym, ap, ◌∙◌, subst, arith, Bool, true, false, not, ◌&&◌, cond, Option, None, Some, is_some, map, Result, Ok, Err, OnOk, OnErr}
 use Rattle.std.proofs.lemmas.Bool.{cases_lt, eqb-true, eq-eqb, lt-ltb}
 use Rattle.std.proofs.lemmas.Bool.Decides.{eqb_tells}
-use Rattle.std.proofs.lemmas.List.{get_or-set_same, get_or-set_other, length_push}
+use Rattle.std.proofs.lemmas.List.{get_or-set_same, get_or-set_other, get_or-map, length_push}
 use Rattle.std.proofs.Math.ListN.{get_or-append, length-map, length-set}
 use Rattle.std.proofs.Math.Seq.{get_or-append_seam}
 use Rattle.proxy_core.specs.Moments.{too_late}
@@ -20,9 +20,9 @@ use Rattle.proxy_core.specs.declared.event.Event.TheVariants.{Arrive}
 use Rattle.proxy_core.specs.declared.outcome.Outcome.TheVariants.{Reply, Forward, Ended}
 use Rattle.proxy_core.specs.declared.exchange.Exchange.{Exchange}
 use Rattle.proxy_engine.specs.Wiring.{Wired, at, link_of, owner_of, links_of, owners_of, wires_after, owners_after}
-use Rattle.proxy_engine.specs.Due.{Finish}
-use Rattle.proxy_engine.specs.State.{finish_seen, finish_at, gone_load, lost_load}
-use Rattle.proxy_engine.proofs.Wishing.{same_place}
+use Rattle.proxy_engine.specs.State.{NoneLost, gone_at, is_free}
+use Rattle.proxy_engine.proofs.Keeping.{inside}
+use Rattle.proxy_engine.proofs.Changes.{free_there, free_link}
 use Rattle.proxy_engine.proofs.Searching.{some_from}
 use Rattle.proxy_engine.specs.declared.ends.Connection.{Connection}
 use Rattle.proxy_engine.specs.declared.ends.Link.{Link}
@@ -268,7 +268,7 @@ wired_again links owners xs i j now here there h =
         ∙ (sym (ap is_some (find_kept (i + 1) (k + 1) xs (λ q. other (omega (arith, q))))) ∙ sym (find_before (k + 1) (closed (i + 1) xs) x (λ q. other (omega (arith, q)))))
 
 -- a request has arrived: it goes forward, or not
-pub wired_arrived : (cs cs1 cs2 : List Connection) (ks ks2 : List Link) (held : List Stored) (xs : List Exchange) (now i : ℕ) (asked : Asked) (o : Outcome) → i < length cs → links_of cs1 ≡ links_of cs → at (links_of cs) i ≡ None
+pub wired_arrived : (cs cs1 cs2 : List (Option Connection)) (ks ks2 : List (Option Link)) (held : List Stored) (xs : List Exchange) (now i : ℕ) (asked : Asked) (o : Outcome) → i < length cs → links_of cs1 ≡ links_of cs → at (links_of cs) i ≡ None
     → links_of cs2 ≡ wires_after i (length ks) o (links_of cs1) → owners_of ks2 ≡ owners_after i o (owners_of ks) → Wired (links_of cs) (owners_of ks) xs → Wired (links_of cs2) (owners_of ks2) (open_after held xs (Arrive now (i + 1) asked) o)
 wired_arrived cs cs1 cs2 ks ks2 held xs now i asked (Reply r) inside same free links owners h = wired_same _ _ _ _ xs (links ∙ same) owners h
 wired_arrived cs cs1 cs2 ks ks2 held xs now i asked (Forward line bytes) inside same free links owners h =
@@ -282,42 +282,59 @@ wired_arrived cs cs1 cs2 ks ks2 held xs now i asked Ended inside same free links
 -- ---- on both sides
 
 -- what is read of the part at a place
-pub mapped_at : {A : Type 0} (f : A → Option ℕ) (xs : List A) (i : ℕ) (x : A) → i < length xs → x ≡ get_or xs i x → at (map f xs) i ≡ f x
-mapped_at f [] i x l e = absurd (omega (arith, l))
-mapped_at f (y ∷ xs) zero x l e = ap f (sym e)
-mapped_at f (y ∷ xs) (suc i) x l e = mapped_at f xs i x (omega (arith, l)) e
+pub mapped_at : {A : Type 0} (f : A → Option ℕ) (xs : List A) (i : ℕ) (d : A) → i < length xs → at (map f xs) i ≡ f (get_or xs i d)
+mapped_at f xs i d l = get_or-map f xs i d None l
 
-owner_by : (dropped : Bool) (o : Option Finish) (f : Finish) (n : ℕ) → cond dropped None o ≡ Some f → ◌≡◌ {A = Option ℕ} (cond dropped None (Some n)) (Some n)
-owner_by true o f n h = cc
-owner_by false o f n h = refl
-
--- a link on which something stands is open, and its connection has it
-pub finished_link : (cs : List Connection) (ks : List Link) (xs : List Exchange) (j : ℕ) (x y : Link) (f : Finish) → j < length ks → x ≡ get_or ks j x → y ≡ get_or ks j y → finish_at y ≡ Some f → Wired (links_of cs) (owners_of ks) xs
-    → at (links_of cs) x.connection ≡ Some j
-finished_link cs ks xs j x y f l e d h w =
-    let same : x ≡ y = sym (same_place ks j x y l e) ∙ sym d in
-    let owner : owner_of y ≡ Some y.connection = owner_by y.dropped (finish_seen y.watch.look y.failed) f y.connection h in
-    w.linked x.connection j (mapped_at owner_of ks j x l e ∙ (ap owner_of same ∙ (owner ∙ ap (λ (k : Link). Some k.connection) (sym same))))
+-- a link that is open belongs to a connection that has it
+pub owned_link : (cs : List (Option Connection)) (ks : List (Option Link)) (xs : List Exchange) (j : ℕ) (x : Link) → get_or ks j None ≡ Some x → Wired (links_of cs) (owners_of ks) xs → at (links_of cs) x.connection ≡ Some j
+owned_link cs ks xs j x e w = w.linked x.connection j (mapped_at owner_of ks j None (inside ks j (ap is_some e)) ∙ ap owner_of e)
 
 -- the place of a connection that has a link, and that of its link
-pub within_connections : (cs : List Connection) (i j : ℕ) → at (links_of cs) i ≡ Some j → i < length cs
+pub within_connections : (cs : List (Option Connection)) (i j : ℕ) → at (links_of cs) i ≡ Some j → i < length cs
 within_connections cs i j h = subst (λ n. i < n) (length-map cs link_of) (within (links_of cs) i j h)
 
-pub within_links : (cs : List Connection) (ks : List Link) (xs : List Exchange) (i j : ℕ) → at (links_of cs) i ≡ Some j → Wired (links_of cs) (owners_of ks) xs → j < length ks
+pub within_links : (cs : List (Option Connection)) (ks : List (Option Link)) (xs : List Exchange) (i j : ℕ) → at (links_of cs) i ≡ Some j → Wired (links_of cs) (owners_of ks) xs → j < length ks
 within_links cs ks xs i j h w = subst (λ n. j < n) (length-map ks owner_of) (within (owners_of ks) j i (w.owned i j h))
 
 -- its exchange is open
-pub is_open : (cs : List Connection) (ks : List Link) (xs : List Exchange) (i j : ℕ) → at (links_of cs) i ≡ Some j → Wired (links_of cs) (owners_of ks) xs → is_some (find_exchange (i + 1) xs) ≡ true
+pub is_open : (cs : List (Option Connection)) (ks : List (Option Link)) (xs : List Exchange) (i j : ℕ) → at (links_of cs) i ≡ Some j → Wired (links_of cs) (owners_of ks) xs → is_some (find_exchange (i + 1) xs) ≡ true
 is_open cs ks xs i j h w = w.opened i ∙ ap is_some h
 
 -- that of a connection without a link isn't
-pub is_free : (cs : List Connection) (ks : List Link) (xs : List Exchange) (i : ℕ) (x : Connection) → i < length cs → x ≡ get_or cs i x → x.link ≡ None → Wired (links_of cs) (owners_of ks) xs → (at (links_of cs) i ≡ None) × (is_some (find_exchange (i + 1) xs) ≡ false)
-is_free cs ks xs i x l e free w =
-    let none : at (links_of cs) i ≡ None = mapped_at link_of cs i x l e ∙ free in
+pub no_link : (cs : List (Option Connection)) (ks : List (Option Link)) (xs : List Exchange) (i : ℕ) → is_free (get_or cs i None) ≡ true → Wired (links_of cs) (owners_of ks) xs → (at (links_of cs) i ≡ None) × (is_some (find_exchange (i + 1) xs) ≡ false)
+no_link cs ks xs i free w =
+    let none : at (links_of cs) i ≡ None = mapped_at link_of cs i None (inside cs i (free_there (get_or cs i None) free)) ∙ free_link (get_or cs i None) free in
     (none, w.opened i ∙ ap is_some none)
 
+-- what has a link is open
+linked_there : (o : Option Connection) (j : ℕ) → link_of o ≡ Some j → (c : Connection) × (o ≡ Some c) × (c.link ≡ Some j)
+linked_there None j e = absurd (cc)
+linked_there (Some c) j e = (c, refl, e)
+
+pub linked_at : (cs : List (Option Connection)) (i j : ℕ) → at (links_of cs) i ≡ Some j → (c : Connection) × (get_or cs i None ≡ Some c) × (c.link ≡ Some j)
+linked_at cs i j e = linked_there (get_or cs i None) j (sym (mapped_at link_of cs i None (within_connections cs i j e)) ∙ e)
+
+owned_there : (o : Option Link) (i : ℕ) → owner_of o ≡ Some i → is_some o ≡ true
+owned_there None i e = absurd (cc)
+owned_there (Some k) i e = refl
+
+-- the link of a connection is open
+pub link_there : (cs : List (Option Connection)) (ks : List (Option Link)) (xs : List Exchange) (i j : ℕ) → at (links_of cs) i ≡ Some j → Wired (links_of cs) (owners_of ks) xs → is_some (get_or ks j None) ≡ true
+link_there cs ks xs i j e w = owned_there (get_or ks j None) i (sym (mapped_at owner_of ks j None (within_links cs ks xs i j e w)) ∙ w.owned i j e)
+
+here_by : (gone : Bool) (link : Option ℕ) (j : ℕ) → link ≡ Some j → gone && is_some link ≡ false → gone ≡ false
+here_by true None j l e = absurd (cc)
+here_by true (Some k) j l e = absurd (cc)
+here_by false link j l e = refl
+
+-- where none is lost, a connection that has a link isn't gone
+pub still_here : (cs : List (Option Connection)) (i j : ℕ) → NoneLost cs → at (links_of cs) i ≡ Some j → gone_at (get_or cs i None) ≡ Some false
+still_here cs i j none e =
+    let c = linked_at cs i j e in
+    ap gone_at c.1 ∙ ap (λ (b : Bool). Some b) (here_by c.0.gone c.0.link j c.2 (none i c.0 c.1))
+
 -- an exchange has ended, on all sides
-pub wired_ended : (cs cs1 : List Connection) (ks ks1 : List Link) (xs xs1 : List Exchange) (i j : ℕ) → at (links_of cs) i ≡ Some j → links_of cs1 ≡ set (links_of cs) i None → owners_of ks1 ≡ set (owners_of ks) j None → (key : Option Key) → xs1 ≡ left_open key (i + 1) xs
+pub wired_ended : (cs cs1 : List (Option Connection)) (ks ks1 : List (Option Link)) (xs xs1 : List Exchange) (i j : ℕ) → at (links_of cs) i ≡ Some j → links_of cs1 ≡ set (links_of cs) i None → owners_of ks1 ≡ set (owners_of ks) j None → (key : Option Key) → xs1 ≡ left_open key (i + 1) xs
     → Wired (links_of cs) (owners_of ks) xs → Wired (links_of cs1) (owners_of ks1) xs1
 wired_ended cs cs1 ks ks1 xs xs1 i j h links owners key exchanges w =
     subst (λ (ls : List (Option ℕ)). Wired ls (owners_of ks1) xs1) (sym links)
@@ -325,7 +342,7 @@ wired_ended cs cs1 ks ks1 xs xs1 i j h links owners key exchanges w =
     (subst (λ (es : List Exchange). Wired (set (links_of cs) i None) (set (owners_of ks) j None) es) (sym exchanges) (wired_left (set (links_of cs) i None) (set (owners_of ks) j None) xs key (i + 1) (wired_freed (links_of cs) (owners_of ks) xs i j h w))))
 
 -- an exchange was finished, or goes forward once more
-pub wired_finished : (cs cs1 cs2 : List Connection) (ks ks1 ks2 : List Link) (xs ys : List Exchange) (i j : ℕ) (o : Outcome) → at (links_of cs) i ≡ Some j → links_of cs1 ≡ set (links_of cs) i None → owners_of ks1 ≡ set (owners_of ks) j None
+pub wired_finished : (cs cs1 cs2 : List (Option Connection)) (ks ks1 ks2 : List (Option Link)) (xs ys : List Exchange) (i j : ℕ) (o : Outcome) → at (links_of cs) i ≡ Some j → links_of cs1 ≡ set (links_of cs) i None → owners_of ks1 ≡ set (owners_of ks) j None
     → links_of cs2 ≡ wires_after i (length ks1) o (links_of cs1) → owners_of ks2 ≡ owners_after i o (owners_of ks1) → is_some (find_exchange (i + 1) xs) ≡ true → Remains o (i + 1) xs ys → Wired (links_of cs) (owners_of ks) xs → Wired (links_of cs2) (owners_of ks2) ys
 wired_finished cs cs1 cs2 ks ks1 ks2 xs ys i j (Reply r) here links owners links2 owners2 there left h = wired_ended cs cs2 ks ks2 xs ys i j here (links2 ∙ links) (owners2 ∙ owners) left.0 left.1 h
 wired_finished cs cs1 cs2 ks ks1 ks2 xs ys i j (Forward line bytes) here links owners links2 owners2 there left h =
@@ -337,39 +354,10 @@ wired_finished cs cs1 cs2 ks ks1 ks2 xs ys i j (Forward line bytes) here links o
     (owners2 ∙ ap (λ (os : List (Option ℕ)). os ++ Some i ∷ []) owners) (wired_again (links_of cs) (owners_of ks) xs i j left.0 here there h))
 wired_finished cs cs1 cs2 ks ks1 ks2 xs ys i j Ended here links owners links2 owners2 there left h = wired_ended cs cs2 ks ks2 xs ys i j here (links2 ∙ links) (owners2 ∙ owners) left.0 left.1 h
 
--- the connection of a link on which something stands has it
-pub due_link : (cs : List Connection) (ks : List Link) (xs : List Exchange) (j : ℕ) (x : Link) → j < length ks → x ≡ get_or ks j x → is_some (finish_at (get_or ks j x)) ≡ true → Wired (links_of cs) (owners_of ks) xs → at (links_of cs) x.connection ≡ Some j
-due_link cs ks xs j x l e h w =
-    let known = some_from (finish_at (get_or ks j x)) (sym h) in
-    finished_link cs ks xs j x x known.0 l e e (ap finish_at e ∙ known.1) w
-
-gone_by_one : (gone : Bool) → cond gone 1 0 ≤ 1
-gone_by_one true = omega arith
-gone_by_one false = omega arith
-
-pub gone_most : (c : Connection) → gone_load c ≤ 1
-gone_most c = gone_by_one c.gone
-
-linked_by : (gone : Bool) (o : Option ℕ) (j : ℕ) → o ≡ Some j → ◌≡◌ {A = ℕ} (if is_some o && gone then 1 else 0) (if gone then 1 else 0)
-linked_by gone None j h = absurd (cc)
-linked_by gone (Some l) j h = refl
-
--- a connection that has a link counts by whether it is gone
-pub linked_load : (cs : List Connection) (i j : ℕ) (x : Connection) → x ≡ get_or cs i x → at (links_of cs) i ≡ Some j → lost_load (get_or cs i x) ≡ gone_load (get_or cs i x)
-linked_load cs i j x e h =
-    let here : at (links_of cs) i ≡ link_of x = mapped_at link_of cs i x (within_connections cs i j h) e in
-    subst (λ (c : Connection). lost_load c ≡ gone_load c) e (linked_by x.gone x.link j (sym here ∙ h))
-
 -- a connection was accepted, or wasn't
-pub wired_accepted : {E : Type 0} (r : Result (Unit {0}) E) (cs cs1 : List Connection) (os : List (Option ℕ)) (xs : List Exchange) → OnOk r (links_of cs1 ≡ links_of cs ++ None ∷ []) → OnErr r (cs1 ≡ cs) → Wired (links_of cs) os xs → Wired (links_of cs1) os xs
+pub wired_accepted : {E : Type 0} (r : Result (Unit {0}) E) (cs cs1 : List (Option Connection)) (os : List (Option ℕ)) (xs : List Exchange) → OnOk r (links_of cs1 ≡ links_of cs ++ None ∷ []) → OnErr r (cs1 ≡ cs) → Wired (links_of cs) os xs → Wired (links_of cs1) os xs
 wired_accepted (Ok u) cs cs1 os xs more same w = subst (λ (ls : List (Option ℕ)). Wired ls os xs) (sym more) (wired_more (links_of cs) os xs w)
-wired_accepted (Err e) cs cs1 os xs more same w = subst (λ (ds : List Connection). Wired (links_of ds) os xs) (sym same) w
-
--- within the list the stand-in doesn't matter
-pub same_default : {A : Type 0} (xs : List A) (i : ℕ) (x : A) → i < length xs → get_or xs i x ≡ get_or xs i (get_or xs i x)
-same_default [] i x l = absurd (omega (arith, l))
-same_default (y ∷ xs) zero x l = refl
-same_default (y ∷ xs) (suc i) x l = same_default xs i x (omega (arith, l))
+wired_accepted (Err e) cs cs1 os xs more same w = subst (λ (ds : List (Option Connection)). Wired (links_of ds) os xs) (sym same) w
 
 early_by : (now : ℕ) → now < 253402300800 → too_late now ≡ None
 early_by now l = ap (λ (b : Bool). cond b None (Some MomentTooLate)) (lt-ltb now 253402300800 l)

@@ -1,5 +1,5 @@
 -- What a client's stream asks for, done on both sides.
-use Rattle.std.proofs.Common.{◌≡◌, ℕ, zero, suc, ◌+◌, ◌<◌, List, [], ◌∷◌, ◌++◌, length, get_or, set, refl, sym, ap, ◌∙◌, subst, arith, Bool, true, false, cond, ◌&&◌, is_some, Option, None, Some, Result, Ok, Err, IfOk, OnOk}
+use Rattle.std.proofs.Common.{◌≡◌, ℕ, List, [], ◌∷◌, ◌++◌, refl, sym, ap, ◌∙◌, subst, Bool, false, Option, Some, Result, Ok, Err, IfOk, IfErr, OnOk, OnErr}
 use Rattle.hx_framing.specs.declared.requests.Request.{Request}
 use Rattle.hx_framing.specs.declared.fault.FrameFault.{FrameFault}
 use Rattle.hx_framing.specs.declared.fault.FrameFault.TheVariants as frame
@@ -8,43 +8,21 @@ use Rattle.hx_framing.specs.declared.answer.Next.TheVariants as next
 use Rattle.hx_hop.specs.declared.asked_for.Asked.{Asked}
 use Rattle.hx_status.specs.declared.cause.Cause.{Cause}
 use Rattle.hx_status.specs.declared.cause.Cause.TheVariants as cause
-use Rattle.proxy_core.specs.State.{State as CoreState}
 use Rattle.proxy_script.specs.declared.effect_list.Effect.{Effect}
-use Rattle.proxy_script.specs.declared.effect_list.Effect.TheVariants as effects
 use Rattle.proxy_engine.specs.Admitted.{IsAdmitted}
-use Rattle.proxy_engine.specs.Look.{Due}
-use Rattle.proxy_engine.specs.Story.{Story, ConnStory, with_connection}
-use Rattle.proxy_engine.specs.Due.{Serves, Finish}
-use Rattle.proxy_engine.specs.Acts.{passing, continue_text, Refuses, Closes, Served}
-use Rattle.proxy_engine.specs.State.{ConnStands, Stands, state, wish_at, finish_at, lost_load, Done}
+use Rattle.proxy_engine.specs.Story.{Story}
+use Rattle.proxy_engine.specs.Due.{Finish}
+use Rattle.proxy_engine.specs.Acts.{Refuses, Closes, Served}
+use Rattle.proxy_engine.specs.State.{wish_at, finish_at}
 use Rattle.proxy_engine.specs.Wishes.{IsMessageWish, IsWish, wish_by}
 use Rattle.proxy_engine.specs.declared.wishes.Wish.{Wish}
 use Rattle.proxy_engine.specs.declared.wishes.Wish.TheVariants as wish
 use Rattle.proxy_engine.specs.declared.ends.Connection.{Connection}
 use Rattle.proxy_engine.specs.declared.ends.Link.{Link}
-use Rattle.proxy_engine.proofs.Changes.{changed_connection}
-
--- within the list the stand-in doesn't matter
-pub same_place : {A : Type 0} (xs : List A) (i : ℕ) (x d : A) → i < length xs → x ≡ get_or xs i x → get_or xs i d ≡ x
-same_place [] i x d l e = absurd (omega arith)
-same_place (y ∷ xs) zero x d l e = sym e
-same_place (y ∷ xs) (suc i) x d l e = same_place xs i x d (omega arith) e
 
 -- the only effect
 pub told_one : (before now : List Effect) (e : Effect) → now ≡ before ++ e ∷ [] → before ≡ [] → now ≡ e ∷ []
 told_one before now e is none = is ∙ ap (λ (b : List Effect). b ++ e ∷ []) none
-
--- a continue is sent
-pub continued : (s : Story) (cs : List Connection) (ks : List Link) (core : CoreState) (first now i : ℕ) (x y d : Connection) (told : List Effect) → i < length cs → x ≡ get_or cs i x → (get_or cs i d).watch.look ≡ Due next.NeedsContinue
-    → ((c : ConnStory) (a : Next Request) → x.watch.look ≡ Due a → ConnStands x c → ConnStands y (passing a c)) → told ≡ effects.Client (i + 1) continue_text ∷ [] → Stands (state cs ks core first) s
-    → Done s now (Serves i next.NeedsContinue) told (state (set cs i y) ks core first)
-continued s cs ks core first now i x y d told l e due keep is h =
-    let here : x.watch.look ≡ Due next.NeedsContinue = ap (λ (c : Connection). c.watch.look) (sym (same_place cs i x d l e)) ∙ due in
-    record {
-      after = with_connection s i (passing next.NeedsContinue);
-      does = (is, refl);
-      stands = changed_connection (passing next.NeedsContinue) cs ks core first s i x y l e (λ c q. keep c next.NeedsContinue here q) h;
-    }
 
 refuses_same : (s : Story) (now i : ℕ) (a b : Cause) (c d : Bool) (told : List Effect) (after : Story) → wish.Refuse a c ≡ wish.Refuse b d → Refuses s now i a c told after → Refuses s now i b d told after
 refuses_same s now i a b c d told after e h =
@@ -114,12 +92,12 @@ arrival_wish next.End w asked e h = cc
 some_same : {B : Type 0} {a b : B} → Some a ≡ Some b → a ≡ b
 some_same h = cc
 
--- what is due at a place is due there, whatever stands in
-pub wish_known : (cs : List Connection) (i : ℕ) (x d : Connection) (a b : Next Request) → i < length cs → x ≡ get_or cs i x → wish_at x ≡ Some a → wish_at (get_or cs i d) ≡ Some b → b ≡ a
-wish_known cs i x d a b l e here there = some_same (sym there ∙ (ap wish_at (same_place cs i x d l e) ∙ here))
+-- what is due is due once
+pub one_wish : (o : Option Connection) (a b : Next Request) → wish_at o ≡ Some a → wish_at o ≡ Some b → b ≡ a
+one_wish o a b here there = some_same (sym there ∙ here)
 
-pub finish_known : (ks : List Link) (j : ℕ) (x d : Link) (f g : Finish) → j < length ks → x ≡ get_or ks j x → finish_at x ≡ Some f → finish_at (get_or ks j d) ≡ Some g → g ≡ f
-finish_known ks j x d f g l e here there = some_same (sym there ∙ (ap finish_at (same_place ks j x d l e) ∙ here))
+pub one_finish : (o : Option Link) (f g : Finish) → finish_at o ≡ Some f → finish_at o ≡ Some g → g ≡ f
+one_finish o f g here there = some_same (sym there ∙ here)
 
 pub on_ok : {A E : Type 0} (r : Result A E) (P Q : A → Type 0) → ((a : A) → P a → Q a) → IfOk r P → IfOk r Q
 on_ok (Ok a) P Q f p = f a p
@@ -129,11 +107,10 @@ pub does_ok : {A E : Type 0} (r : Result A E) (P Q : Type 0) → (P → Q) → O
 does_ok (Ok a) P Q f p = f p
 does_ok (Err e) P Q f p = tt
 
-lost_by : (gone : Bool) (link : Option ℕ) (l : ℕ) → Some l ≡ cond gone link None → ◌≡◌ {A = ℕ} (cond (is_some link && gone) 1 0) 1
-lost_by true None l h = cc
-lost_by true (Some k) l h = refl
-lost_by false link l h = cc
+pub on_err : {A E : Type 0} (r : Result A E) (P Q : E → Type 0) → ((e : E) → P e → Q e) → IfErr r P → IfErr r Q
+on_err (Ok a) P Q f p = tt
+on_err (Err e) P Q f p = f e p
 
--- a gone connection with an open exchange counts one
-pub lost_counts : (cs : List Connection) (i : ℕ) (x d : Connection) (l : ℕ) → i < length cs → x ≡ get_or cs i x → Some l ≡ cond x.gone x.link None → lost_load (get_or cs i d) ≡ 1
-lost_counts cs i x d l within e h = ap lost_load (same_place cs i x d within e) ∙ lost_by x.gone x.link l h
+pub stays_err : {A E : Type 0} (r : Result A E) (P Q : Type 0) → (P → Q) → OnErr r P → OnErr r Q
+stays_err (Ok a) P Q f p = tt
+stays_err (Err e) P Q f p = f p

@@ -1,22 +1,27 @@
--- At which of the proxy's ends something may be due.
+-- What is kept of the proxy's ends, and at which of them something may be due.
 --
 -- ConnectionList, LinkList: what contracts see of the connections and links
 -- may_be_lost, may_want, may_stand: something may be due there
-use Rattle.std.specs.Prelude.{ℕ, List, Bool, ◌&&◌, ◌||◌, not, is_some}
+-- LooksLikeConnection, LooksLikeLink, AtEach: what a look leaves
+-- NoneBelow, NoneAtAll: nothing may be due          lost_at, StandsThere, WantsThere: something is
+use Rattle.std.specs.Prelude.{◌≡◌, ℕ, ◌<◌, ◌≤◌, List, Bool, true, false, ◌&&◌, ◌||◌, not, Option, None, Some, is_some, if◌then◌else◌}
+use Rattle.std.specs.Ordering.{nat_cmp}
+use Rattle.std.specs.BTreeMap.{BTreeMap, get}
 use Rattle.proxy_engine.specs.Look.{may_show}
-use Rattle.proxy_engine.specs.Due.{is_busy}
+use Rattle.proxy_engine.specs.Story.{ConnStory, LinkStory}
+use Rattle.proxy_engine.specs.Due.{is_busy, Stood, Wanted}
+use Rattle.proxy_engine.specs.State.{ConnStands, LinkStands, finish_at, wish_at, connection_load, link_load}
 use Rattle.proxy_engine.specs.declared.ends.Connection.{Connection}
 use Rattle.proxy_engine.specs.declared.ends.Link.{Link}
 
--- the connections, and for how many there is room
+-- what is kept of each connection in the order of their numbers: nothing of one that is over
 pub record ConnectionList : Type 0 where
-  pub items : List Connection
-  pub room : ℕ
+  pub items : List (Option Connection)
 
--- the links, and for how many there is room
+-- what is kept of each link, and whether there is room for one more
 pub record LinkList : Type 0 where
-  pub items : List Link
-  pub room : ℕ
+  pub items : List (Option Link)
+  pub has_room : Bool
 
 -- it is gone with an open exchange
 abbrev pub may_be_lost : Connection → Bool
@@ -24,8 +29,51 @@ may_be_lost c = c.gone && is_some c.link
 
 -- no look has found that its stream asks for nothing
 abbrev pub may_want : Connection → Bool
-may_want c = not (is_busy c.gone c.closed c.link) && may_show c.watch.look
+may_want c = not (is_busy c.gone false c.link) && may_show c.watch.look
 
 -- it has failed, or no look has found that no answer stands on it
 abbrev pub may_stand : Link → Bool
-may_stand k = not k.dropped && (may_show k.watch.look || is_some k.failed)
+may_stand k = may_show k.watch.look || is_some k.failed
+
+-- after a look: it stands for the same stories, and no more is to come
+pub record LooksLikeConnection (old new : Connection) : Type 0 where
+  pub stands : (s : ConnStory) → ConnStands (Some old) s → ConnStands (Some new) s
+  pub gone : new.gone ≡ old.gone
+  pub link : new.link ≡ old.link
+  pub load : connection_load (Some new) ≤ connection_load (Some old)
+
+pub record LooksLikeLink (old new : Link) : Type 0 where
+  pub stands : (s : LinkStory) → LinkStands (Some old) s → LinkStands (Some new) s
+  pub connection : new.connection ≡ old.connection
+  pub load : link_load (Some new) ≤ link_load (Some old)
+
+-- both have nothing, or R holds of what they have
+abbrev pub Alike : {A : Type 0} → (A → A → Type 0) → Option A → Option A → Type 0
+Alike R None None = Unit {0}
+Alike R None (Some y) = ⊥
+Alike R (Some x) None = ⊥
+Alike R (Some x) (Some y) = R x y
+
+-- at each place
+abbrev pub AtEach : {A : Type 0} → (A → A → Type 0) → BTreeMap ℕ A → BTreeMap ℕ A → Type 0
+AtEach R old new = (i : ℕ) → Alike R (get nat_cmp old i) (get nat_cmp new i)
+
+-- nothing that is open below that place has the flag
+abbrev pub NoneBelow : {A : Type 0} → (A → Bool) → BTreeMap ℕ A → ℕ → Type 0
+NoneBelow {A} flag open_ends n = (j : ℕ) (x : A) → j < n → get nat_cmp open_ends j ≡ Some x → flag x ≡ false
+
+-- nothing that is open has it
+abbrev pub NoneAtAll : {A : Type 0} → (A → Bool) → BTreeMap ℕ A → Type 0
+NoneAtAll {A} flag open_ends = (j : ℕ) (x : A) → get nat_cmp open_ends j ≡ Some x → flag x ≡ false
+
+-- the link of a connection that is gone
+abbrev pub lost_at : Option Connection → Option ℕ
+lost_at None = None
+lost_at (Some c) = if c.gone then c.link else None
+
+-- a look has found something, and that is what stands there
+abbrev pub StandsThere : Option Link → Type 0
+StandsThere k = (is_some (finish_at k) ≡ true) × ((s : LinkStory) → LinkStands k s → Stood s (finish_at k))
+
+abbrev pub WantsThere : Option Connection → Type 0
+WantsThere c = (is_some (wish_at c) ≡ true) × ((s : ConnStory) → ConnStands c s → Wanted s (wish_at c))

@@ -4,11 +4,12 @@
 -- finish_at, wish_at: what a look has found  FoundLinks, FoundConnections: the first place at which it found something
 -- load_of: a bound on the acts still to come
 -- Did, Failed, Lessens: what a call of work did, or why it did nothing
-use Rattle.std.specs.Prelude.{◌≡◌, ℕ, ◌+◌, ◌*◌, ◌<◌, ◌≤◌, ◌^◌, List, [], ◌∷◌, length, sum_by, ◌&&◌, Option, None, Some, is_some, slice_index_or, if◌then◌else◌}
+use Rattle.std.specs.Prelude.{◌≡◌, ℕ, ◌+◌, ◌*◌, ◌<◌, ◌≤◌, ◌^◌, List, [], ◌∷◌, length, sum_by, ◌&&◌, ◌||◌, not, Bool, true, false, Option, None, Some, is_some, slice_index_or, if◌then◌else◌}
 use Rattle.std.specs.Option.{option_map}
 use Rattle.hx_framing.specs.declared.requests.Request.{Request}
 use Rattle.hx_framing.specs.declared.responses.Response.{Response}
 use Rattle.hx_framing.specs.declared.answer.Next.{Next}
+use Rattle.hx_framing.specs.declared.answer.Next.TheVariants as next
 use Rattle.hx_status.specs.declared.cause.FailKind.{FailKind}
 use Rattle.proxy_core.specs.State.{State as CoreState}
 use Rattle.proxy_engine.specs.Happenings.{Said}
@@ -26,9 +27,10 @@ use Rattle.proxy_engine.specs.declared.happening.Work.{Work}
 use Rattle.proxy_engine.specs.declared.happening.Work.TheVariants as work
 use Rattle.proxy_engine.specs.Acts.{Does, MayForward, next_number}
 
+-- at the place of each connection and link what is kept of it: nothing of one that is over
 pub record State : Type 0 where
-  pub connections : List Connection
-  pub links : List Link
+  pub connections : List (Option Connection)
+  pub links : List (Option Link)
   pub core : CoreState
   pub first : ℕ
 
@@ -39,19 +41,31 @@ Both R [] (y ∷ ys) = ⊥
 Both R (x ∷ xs) [] = ⊥
 Both R (x ∷ xs) (y ∷ ys) = R x y × Both R xs ys
 
-pub record ConnStands (c : Connection) (s : ConnStory) : Type 0 where
+-- a connection that isn't over
+pub record ConnHolds (c : Connection) (s : ConnStory) : Type 0 where
   pub watch : RequestStands c.watch s.progress
   pub ended : c.ended ≡ s.progress.ended
   pub gone : c.gone ≡ s.gone
-  pub closed : c.closed ≡ s.closed
   pub link : c.link ≡ s.link
+  pub still : s.closed ≡ false
+  pub used : s.gone ≡ true → is_some s.link ≡ true
 
-pub record LinkStands (k : Link) (s : LinkStory) : Type 0 where
+-- one that is over was closed by the proxy, or is gone, and has no open exchange: nothing is kept of it
+abbrev pub ConnStands : Option Connection → ConnStory → Type 0
+ConnStands None s = (s.gone || s.closed ≡ true) × (s.link ≡ None)
+ConnStands (Some c) s = ConnHolds c s
+
+pub record LinkHolds (k : Link) (s : LinkStory) : Type 0 where
   pub watch : ResponseStands k.watch s.progress
   pub ended : k.ended ≡ s.progress.ended
   pub failed : k.failed ≡ s.failed
-  pub dropped : k.dropped ≡ s.dropped
+  pub still : s.dropped ≡ false
   pub connection : k.connection ≡ s.connection
+
+-- nothing is kept of a link that was dropped
+abbrev pub LinkStands : Option Link → LinkStory → Type 0
+LinkStands None s = s.dropped ≡ true
+LinkStands (Some k) s = LinkHolds k s
 
 pub record Stands (e : State) (s : Story) : Type 0 where
   pub connections : Both ConnStands e.connections s.connections
@@ -60,7 +74,7 @@ pub record Stands (e : State) (s : Story) : Type 0 where
   pub first : e.first ≡ s.first
   pub numbers : s.first + length s.links ≤ 2 ^ 64
 
-abbrev pub state : List Connection → List Link → CoreState → ℕ → State
+abbrev pub state : List (Option Connection) → List (Option Link) → CoreState → ℕ → State
 state connections links core first = record { connections = connections; links = links; core = core; first = first }
 
 -- the happening was taken
@@ -83,51 +97,67 @@ finish_seen Unknown kind = option_map Breaks kind
 finish_seen Quiet kind = option_map Breaks kind
 finish_seen (Due a) kind = finish_of a kind
 
-abbrev pub finish_at : Link → Option Finish
-finish_at k = if k.dropped then None else finish_seen k.watch.look k.failed
+abbrev pub finish_at : Option Link → Option Finish
+finish_at None = None
+finish_at (Some k) = finish_seen k.watch.look k.failed
 
 abbrev pub wish_seen : Look Request → Option (Next Request)
 wish_seen Unknown = None
 wish_seen Quiet = None
 wish_seen (Due a) = wish_of a
 
-abbrev pub wish_at : Connection → Option (Next Request)
-wish_at c = if is_busy c.gone c.closed c.link then None else wish_seen c.watch.look
+abbrev pub wish_at : Option Connection → Option (Next Request)
+wish_at None = None
+wish_at (Some c) = if is_busy c.gone false c.link then None else wish_seen c.watch.look
+
+-- it isn't gone, and has no open exchange
+abbrev pub is_free : Option Connection → Bool
+is_free None = false
+is_free (Some c) = not (is_busy c.gone false c.link)
+
+-- whether it is gone, where it isn't over
+abbrev pub gone_at : Option Connection → Option Bool
+gone_at None = None
+gone_at (Some c) = Some c.gone
+
+-- no connection is gone with an open exchange
+abbrev pub NoneLost : List (Option Connection) → Type 0
+NoneLost cs = (i : ℕ) (c : Connection) → slice_index_or cs i None ≡ Some c → c.gone && is_some c.link ≡ false
 
 -- something is shown at that place, and it is the first of what stands
-pub record FoundLink (ks : List Link) (j : ℕ) : Type 0 where
-  pub within : j < length ks
+pub record FoundLink (ks : List (Option Link)) (j : ℕ) : Type 0 where
   pub finish : Finish
-  pub shown : (d : Link) → finish_at (slice_index_or ks j d) ≡ Some finish
+  pub shown : finish_at (slice_index_or ks j None) ≡ Some finish
   pub first : (ss : List LinkStory) → Both LinkStands ks ss → IsFirst Stood no_link ss (Some (j, finish))
 
-abbrev pub FoundLinks : List Link → Option ℕ → Type 0
+abbrev pub FoundLinks : List (Option Link) → Option ℕ → Type 0
 FoundLinks ks None = (ss : List LinkStory) → Both LinkStands ks ss → IsFirst Stood no_link ss None
 FoundLinks ks (Some j) = FoundLink ks j
 
-pub record FoundConnection (cs : List Connection) (i : ℕ) : Type 0 where
-  pub within : i < length cs
+pub record FoundConnection (cs : List (Option Connection)) (i : ℕ) : Type 0 where
   pub wish : Next Request
-  pub shown : (d : Connection) → wish_at (slice_index_or cs i d) ≡ Some wish
+  pub shown : wish_at (slice_index_or cs i None) ≡ Some wish
   pub first : (ss : List ConnStory) → Both ConnStands cs ss → IsFirst Wanted no_connection ss (Some (i, wish))
 
-abbrev pub FoundConnections : List Connection → Option ℕ → Type 0
+abbrev pub FoundConnections : List (Option Connection) → Option ℕ → Type 0
 FoundConnections cs None = (ss : List ConnStory) → Both ConnStands cs ss → IsFirst Wanted no_connection ss None
 FoundConnections cs (Some i) = FoundConnection cs i
 
 -- ---- how much is still to come
 
--- a gone connection counts one
-abbrev pub gone_load : Connection → ℕ
-gone_load c = if c.gone then 1 else 0
+-- a message or a continue that is due
+abbrev pub wish_load : Option (Next Request) → ℕ
+wish_load None = 0
+wish_load (Some next.More) = 0
+wish_load (Some next.NeedsContinue) = 1
+wish_load (Some (next.Message m)) = 1
+wish_load (Some (next.Refused fault)) = 0
+wish_load (Some next.End) = 0
 
--- a gone connection with an open exchange counts one
-abbrev pub lost_load : Connection → ℕ
-lost_load c = if is_some c.link && c.gone then 1 else 0
-
--- a message or a continue counts three, a connection that isn't closed one
-abbrev pub connection_load : Connection → ℕ
-connection_load c = 3 * load c.watch + (if c.closed then 0 else 1) + lost_load c
+-- a message or a continue counts three, a connection that isn't over one
+abbrev pub connection_load : Option Connection → ℕ
+connection_load None = 0
+connection_load (Some c) = 3 * load c.watch + 1
 
 -- an answer that may stand there counts one, and so does a failure
 abbrev pub finish_load : Look Response → Option FailKind → ℕ
@@ -135,11 +165,12 @@ finish_load look None = unsettled look
 finish_load look (Some kind) = 1
 
 -- a link that isn't dropped counts one, and what may stand on it one more: so a request that goes forward again leaves less
-abbrev pub link_load : Link → ℕ
-link_load k = if k.dropped then 0 else 1 + finish_load k.watch.look k.failed
+abbrev pub link_load : Option Link → ℕ
+link_load None = 0
+link_load (Some k) = 1 + finish_load k.watch.look k.failed
 
 -- no more acts than this are due, one after another, while nothing is taken
-abbrev pub load_of : List Connection → List Link → ℕ
+abbrev pub load_of : List (Option Connection) → List (Option Link) → ℕ
 load_of connections links = sum_by connection_load connections + sum_by link_load links
 
 abbrev pub load_at : State → ℕ

@@ -2,7 +2,7 @@
 --
 -- wires_after, owners_after: what an outcome of the core adds
 -- Wired: connections, links and open exchanges belong together     IsWired: those of an engine do
-use Rattle.std.specs.Prelude.{◌≡◌, ℕ, ◌+◌, List, [], ◌∷◌, ◌++◌, map, Option, None, Some, is_some, if◌then◌else◌, slice_set, slice_index_or}
+use Rattle.std.specs.Prelude.{◌≡◌, ℕ, ◌+◌, List, [], ◌∷◌, ◌++◌, map, Option, None, Some, is_some, slice_set, slice_index_or}
 use Rattle.proxy_core.specs.Outcomes.{find_exchange}
 use Rattle.proxy_core.specs.declared.exchange.Exchange.{Exchange}
 use Rattle.proxy_core.specs.declared.outcome.Outcome.{Outcome}
@@ -12,12 +12,14 @@ use Rattle.proxy_engine.specs.declared.ends.Connection.{Connection}
 use Rattle.proxy_engine.specs.declared.ends.Link.{Link}
 
 -- the place of the link that a connection has
-abbrev pub link_of : Connection → Option ℕ
-link_of c = c.link
+abbrev pub link_of : Option Connection → Option ℕ
+link_of None = None
+link_of (Some c) = c.link
 
 -- the place of the connection that an open link belongs to
-abbrev pub owner_of : Link → Option ℕ
-owner_of k = if k.dropped then None else Some k.connection
+abbrev pub owner_of : Option Link → Option ℕ
+owner_of None = None
+owner_of (Some k) = Some k.connection
 
 -- the links of the connections behind an outcome for the connection at i, where the next link has the place n
 abbrev pub wires_after : ℕ → ℕ → Outcome → List (Option ℕ) → List (Option ℕ)
@@ -42,10 +44,10 @@ pub record Wired (links owners : List (Option ℕ)) (exchanges : List Exchange) 
   pub linked : (i j : ℕ) → at owners j ≡ Some i → at links i ≡ Some j
   pub opened : (i : ℕ) → is_some (find_exchange (i + 1) exchanges) ≡ is_some (at links i)
 
-abbrev pub links_of : List Connection → List (Option ℕ)
+abbrev pub links_of : List (Option Connection) → List (Option ℕ)
 links_of connections = map link_of connections
 
-abbrev pub owners_of : List Link → List (Option ℕ)
+abbrev pub owners_of : List (Option Link) → List (Option ℕ)
 owners_of links = map owner_of links
 
 abbrev pub IsWired : State → Type 0

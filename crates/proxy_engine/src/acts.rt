@@ -3,7 +3,7 @@ ghost use Rattle.std.specs.Prelude.{◌≡◌, ◌<◌, ◌≤◌, None, Some, I
 ghost use Rattle.proxy_engine.specs.Story.{Story, no_connection, no_link};
 ghost use Rattle.proxy_engine.specs.Due.{IsFirst, Lost, Stood};
 ghost use Rattle.proxy_engine.specs.Wiring.{IsWired};
-ghost use Rattle.proxy_engine.specs.State.{Stands, state, load_of, Did, Failed, Lessens};
+ghost use Rattle.proxy_engine.specs.State.{Stands, state, NoneLost, load_of, Did, Failed, Lessens};
 
 use crate::connections::Connections;
 use crate::finishing::{abandon, finish};
@@ -54,6 +54,7 @@ fn finish_first<S: Shelf>(
     now: u64,
 ) -> Result<Work, EngineFault>
     requires early { now < 253402300800 }
+    requires here { NoneLost connections.old.items }
     requires wired { IsWired (state connections.old.items links.old.items core.old first) }
     ensures wired { IsWired (state connections.new.items links.new.items core.new first) }
     ensures ok { IfOk result (λ work. (s : Story) → IsFirst Lost no_connection s.connections None

@@ -1,36 +1,38 @@
-//! The connections of clients in the order of their numbers, and at which of them something may be due.
-ghost use Rattle.std.specs.Prelude.{◌≡◌, ◌<◌, ◌≤◌, ◌++◌, ◌∷◌, [], List, length, sum_by, IfOk, IfSome, OnOk, Some, slice_index_or, slice_set};
-ghost use Rattle.std.specs.Borrow.{Lends, sem};
+//! The connections of clients by their places, and at which of them something may be due.
+ghost use Rattle.std.specs.Prelude.{◌≡◌, ◌+◌, ◌<◌, ◌≤◌, ◌^◌, ◌++◌, ◌∷◌, [], List, length, sum_by, true, is_some, IfOk, IfSome, IfNone, OnOk, OnErr, Some, None, slice_index_or, slice_set};
+ghost use Rattle.std.specs.Option.{option_copied_mut};
+ghost use Rattle.std.specs.Borrow.{LendsIf, sem};
 ghost use Rattle.proxy_engine.specs.Story.{ConnStory, no_connection};
 ghost use Rattle.proxy_engine.specs.Due.{IsFirst, Lost};
-ghost use Rattle.proxy_engine.specs.Wiring.{at, links_of};
-ghost use Rattle.proxy_engine.specs.State.{Both, ConnStands, FoundConnections, connection_load, lost_load};
+ghost use Rattle.proxy_engine.specs.Wiring.{at, link_of, links_of};
+ghost use Rattle.proxy_engine.specs.State.{Both, ConnStands, gone_at, NoneLost, FoundConnections, connection_load};
 
 use crate::ends::Connection;
 use crate::finds::{first_due, first_lost};
 use crate::places::Places;
 use std::alloc::{AllocError, Global};
+use std::collections::BTreeMap;
 use std::marker::Model;
 
-/// All connections that were ever accepted. Where one may be gone with an open exchange, or its stream may ask for something,
-/// its place is marked; whatever changes one marks it. So a search looks at marked places alone.
+/// The connections that aren't over, and how many were ever accepted. Where one may be gone with an open exchange, or its
+/// stream may ask for something, its place is marked; whatever changes one marks it. So a search looks at marked places alone.
 #[derive(Drop)]
 pub(crate) struct Connections {
-    items: Vec<Connection>,
+    ends: BTreeMap<u64, Connection>,
+    count: u64,
     lost: Places,
     waiting: Places,
 }
 
 impl Model for Connections {
-    ghost use Rattle.std.specs.Prelude.{vec_capacity, min};
-    ghost use Rattle.proxy_engine.specs.Places.{IsMarked};
+    ghost use Rattle.proxy_engine.specs.Places.{listed, AllBelow, IsMarked};
     ghost use Rattle.proxy_engine.specs.Marked.{ConnectionList, may_be_lost, may_want};
 
     ghost Value = { ConnectionList };
 
-    ghost view = { λ c. record { items = c.items.items; room = min (vec_capacity c.items) (min c.lost.room c.waiting.room) } };
+    ghost view = { λ c. record { items = listed c.ends c.count } };
 
-    ghost invariant = { λ c. IsMarked may_be_lost c.items.items c.lost × IsMarked may_want c.items.items c.waiting };
+    ghost invariant = { λ c. IsMarked may_be_lost c.ends c.lost × AllBelow c.count c.lost.places × IsMarked may_want c.ends c.waiting × AllBelow c.count c.waiting.places };
 }
 
 impl Connections {
@@ -41,75 +43,98 @@ impl Connections {
         ensures { result.items ≡ [] }
     {
         Connections {
-            items: Vec::new(alloc),
+            ends: BTreeMap::new(alloc),
+            count: 0,
             lost: Places::new(alloc),
             waiting: Places::new(alloc),
         }
     }
 
-    pub(crate) fn len(&self) -> usize
+    /// How many were ever accepted.
+    pub(crate) fn len(&self) -> u64
         ensures { result ≡ length self.now.items }
     {
-        self.items.len()
+        self.count
     }
 
-    pub(crate) fn at(&self, i: usize) -> &Connection
+    /// The connection at a place, which isn't over.
+    pub(crate) fn at(&self, i: u64) -> &Connection
+        requires { is_some (slice_index_or self.now.items i None) ≡ true }
+        ensures { slice_index_or self.now.items i None ≡ Some result.now }
+    {
+        &self.ends[&i]
+    }
+
+    /// Whether the connection at a place has an open exchange.
+    pub(crate) fn has_exchange(&self, i: u64) -> bool
         requires { i < length self.now.items }
-        ensures { result.now ≡ slice_index_or self.now.items i result.now }
+        ensures { result ≡ is_some (link_of (slice_index_or self.now.items i None)) }
     {
-        &self.items[i]
+        match self.ends.get(&i) {
+            Some(connection) => connection.link.is_some(),
+            None => false,
+        }
     }
 
-    /// The connection at a place, to be changed. Something may be due there afterwards.
-    pub(crate) fn at_mut(&mut self, i: usize) -> &mut Connection
+    /// The connection at a place, to be changed, if it isn't over. Something may be due there afterwards.
+    pub(crate) fn at_mut(&mut self, i: u64) -> Option<&mut Connection>
         requires { i < length self.old.items }
-        ensures* writes_back { sem 𝓛 (Lends the_row connection_row self.entry result (λ w. record { items = slice_set self.old.items i w; room = self.old.room })) }
-        ensures value { result.now ≡ slice_index_or self.old.items i result.now }
+        ensures* writes_back { sem 𝓛 (LendsIf the_row connection_row self.entry result (λ w. record { items = slice_set self.old.items i (Some w) }) self.old) }
+        ensures value { option_copied_mut result ≡ slice_index_or self.old.items i None }
     {
+        if !self.ends.contains_key(&i) {
+            return None;
+        }
         self.lost.put(i);
         self.waiting.put(i);
-        &mut self.items[i]
+        self.ends.get_mut(&i)
     }
 
-    /// Makes room for one more, and for the mark at its place.
-    pub(crate) fn reserve_one(&mut self) -> Result<(), AllocError>
-        ensures items { self.new.items ≡ self.old.items }
-        ensures ok { OnOk result (length self.new.items < self.new.room) }
+    /// Puts a connection at the place behind the last, and marks it.
+    pub(crate) fn accept(&mut self, connection: Connection) -> Result<(), AllocError>
+        requires { length self.old.items + 1 < 2 ^ 64 }
+        ensures ok { OnOk result (self.new.items ≡ self.old.items ++ Some connection ∷ []) }
+        ensures err { OnErr result (self.new.items ≡ self.old.items) }
     {
-        self.items.reserve(1)?;
-        self.lost.reserve_for(self.items.capacity())?;
-        self.waiting.reserve_for(self.items.capacity())
-    }
-
-    /// Puts a connection at the end. There is room, so no memory is taken.
-    pub(crate) fn put(&mut self, connection: Connection)
-        requires { length self.old.items < self.old.room }
-        ensures { self.new.items ≡ self.old.items ++ connection ∷ [] }
-    {
-        let place = self.items.len();
+        let open = self.ends.len() + 1;
+        self.lost.reserve_for(open)?;
+        self.waiting.reserve_for(open)?;
+        let place = self.count;
+        self.ends.insert(place, connection)?;
         self.lost.put(place);
         self.waiting.put(place);
-        let _ = self.items.push(connection);
+        self.count = place + 1;
+        Ok(())
+    }
+
+    /// Lets go of the connection at a place, which is over.
+    pub(crate) fn let_go(&mut self, i: u64)
+        requires { i < length self.old.items }
+        ensures { self.new.items ≡ slice_set self.old.items i None }
+    {
+        let _ = self.ends.remove(&i);
+        self.lost.remove(i);
+        self.waiting.remove(i);
     }
 
     /// The first connection that is gone with an open exchange, and its link.
-    pub(crate) fn find_lost(&mut self) -> Option<(usize, usize)>
+    pub(crate) fn find_lost(&mut self) -> Option<(u64, u64)>
         ensures same { self.new.items ≡ self.old.items }
         ensures first { (ss : List ConnStory) → Both ConnStands self.old.items ss → IsFirst Lost no_connection ss result }
-        ensures within { IfSome result (λ p. p.0 < length self.old.items) }
+        ensures none { IfNone result (NoneLost self.old.items) }
         ensures linked { IfSome result (λ p. at (links_of self.old.items) p.0 ≡ Some p.1) }
-        ensures load { IfSome result (λ p. (c : Connection) → lost_load (slice_index_or self.old.items p.0 c) ≡ 1) }
+        ensures gone { IfSome result (λ p. gone_at (slice_index_or self.old.items p.0 None) ≡ Some true) }
     {
-        first_lost(&self.items, &mut self.lost)
+        first_lost(&self.ends, &mut self.lost)
     }
 
     /// The first connection on which something is due.
-    pub(crate) fn find_due(&mut self, alloc: Global) -> Result<Option<usize>, AllocError>
+    pub(crate) fn find_due(&mut self, alloc: Global) -> Result<Option<u64>, AllocError>
         ensures stands { (ss : List ConnStory) → Both ConnStands self.old.items ss → Both ConnStands self.new.items ss }
         ensures found { IfOk result (λ found. FoundConnections self.new.items found) }
         ensures links { links_of self.new.items ≡ links_of self.old.items }
         ensures load { sum_by connection_load self.new.items ≤ sum_by connection_load self.old.items }
     {
-        first_due(&mut self.items, &mut self.waiting, alloc)
+        first_due(&mut self.ends, &mut self.waiting, alloc)
     }
 }

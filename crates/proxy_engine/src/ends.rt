@@ -1,20 +1,18 @@
-//! The proxy's ends: connections of clients, and links to origins.
+//! The proxy's ends: connections of clients, and links to origins. Only those that aren't over are kept.
 
 use crate::request_watch::RequestWatch;
 use crate::response_watch::ResponseWatch;
 use hx_status::FailKind;
 
-/// A client's connection.
+/// A client's connection that isn't closed, and isn't gone without an open exchange.
 pub(crate) struct Connection {
     pub(crate) watch: RequestWatch,
     /// The client sends no more.
     pub(crate) ended: bool,
     /// The client went away.
     pub(crate) gone: bool,
-    /// The proxy closed it.
-    pub(crate) closed: bool,
     /// The place of the link on which its request went forward.
-    pub(crate) link: Option<usize>,
+    pub(crate) link: Option<u64>,
 }
 
 /// One call drops it, wherever that is.
@@ -24,21 +22,19 @@ impl Drop for Connection {
             watch: _,
             ended: _,
             gone: _,
-            closed: _,
             link: _,
         } = self;
     }
 }
 
-/// A link to an origin.
+/// A link to an origin that isn't dropped.
 pub(crate) struct Link {
     pub(crate) watch: ResponseWatch,
     /// The origin closed it.
     pub(crate) ended: bool,
     pub(crate) failed: Option<FailKind>,
-    pub(crate) dropped: bool,
     /// The place of the connection whose request went forward on it.
-    pub(crate) connection: usize,
+    pub(crate) connection: u64,
 }
 
 /// One call drops it, wherever that is.
@@ -48,7 +44,6 @@ impl Drop for Link {
             watch: _,
             ended: _,
             failed: _,
-            dropped: _,
             connection: _,
         } = self;
     }

@@ -6,7 +6,7 @@ ghost use Rattle.proxy_core.specs.declared.event.Event.TheVariants.{Fail};
 ghost use Rattle.proxy_core.specs.State.{State as CoreState, Steps};
 ghost use Rattle.proxy_engine.specs.Story.{Story};
 ghost use Rattle.proxy_engine.specs.Due.{Abandons, Finish, Finishes, kind_of, IsDueFirst};
-ghost use Rattle.proxy_engine.specs.State.{Stands, state, finish_at, lost_load, load_of, Done, Failed};
+ghost use Rattle.proxy_engine.specs.State.{Stands, state, finish_at, gone_at, NoneLost, load_of, Done, Failed};
 ghost use Rattle.proxy_core.specs.Outcomes.{find_exchange};
 ghost use Rattle.proxy_engine.specs.Wiring.{IsWired, at, links_of};
 ghost use Rattle.proxy_engine.specs.Acts.{asks_head};
@@ -17,7 +17,9 @@ use crate::connections::Connections;
 use crate::ends::Link;
 use crate::happening::EngineFault;
 use crate::links::Links;
-use crate::outcomes::{Way, carry_out, free, is_spent, lacks_memory, number_at, put, room, way_to};
+use crate::outcomes::{
+    Way, carry_out, free, free_lost, is_spent, lacks_memory, number_at, put, room, way_to,
+};
 use hx_allow::Config;
 use hx_framing::{FrameFault, Next};
 use hx_status::FailKind;
@@ -94,10 +96,10 @@ fn end<S: Shelf>(
     now: u64,
     id: u64,
 ) -> Result<Outcome, AllocError>
-    requires due { is_some (finish_at link.now) ≡ true }
+    requires due { is_some (finish_at (Some link.now)) ≡ true }
     requires open { is_some (find_exchange id core.old.exchanges) ≡ true }
     requires early { now < 253402300800 }
-    ensures ok { IfOk result (λ outcome. (f : Finish) × (finish_at link.now ≡ Some f) × Ends core.old now id f outcome core.new) }
+    ensures ok { IfOk result (λ outcome. (f : Finish) × (finish_at (Some link.now) ≡ Some f) × Ends core.old now id f outcome core.new) }
     ensures err { OnErr result (core.new ≡ core.old) }
 {
     match link.watch.due() {
@@ -125,33 +127,34 @@ pub(crate) fn abandon<S: Shelf>(
     core: &mut Core<S>,
     alloc: Global,
     first: u64,
-    i: usize,
-    l: usize,
+    i: u64,
+    l: u64,
 ) -> Result<Vec<Effect>, AllocError>
     requires linked { at (links_of connections.old.items) i ≡ Some l }
+    requires gone { gone_at (slice_index_or connections.old.items i None) ≡ Some true }
     requires wired { IsWired (state connections.old.items links.old.items core.old first) }
     ensures wired { IsWired (state connections.new.items links.new.items core.new first) }
     ensures ok { IfOk result (λ effects. (s : Story) → (now : ℕ) → Stands (state connections.old.items links.old.items core.old first) s
         → Done s now (Abandons i l) effects.items (state connections.new.items links.new.items core.new first)) }
-    ensures less { OnOk result ((c : Connection) → lost_load (slice_index_or connections.old.items i c) ≡ 1 → load_of connections.new.items links.new.items < load_of connections.old.items links.old.items) }
+    ensures less { OnOk result (load_of connections.new.items links.new.items < load_of connections.old.items links.old.items) }
     ensures err { OnErr result ((connections.new.items ≡ connections.old.items) × (links.new.items ≡ links.old.items) × (core.new ≡ core.old)) }
 {
     let mut effects = room(alloc)?;
     let count = connections.len();
     prove!(i < count);
-    match core.abandon(i as u64 + 1) {
+    match core.abandon(i + 1) {
         Ok(_) => {}
         Err(_) => unreachable!(),
     }
-    free(connections, links, l, i);
+    free_lost(connections, links, l, i);
     put(&mut effects, Effect::Drop(number_at(first, l)));
     Ok(effects)
 }
 
 /// Whether a whole answer stands on a link. Its exchange may go forward once more, and then needs a link.
 fn is_answered(link: &Link) -> bool
-    requires { is_some (finish_at link.now) ≡ true }
-    ensures { (f : Finish) → finish_at link.now ≡ Some f → result ≡ gives f }
+    requires { is_some (finish_at (Some link.now)) ≡ true }
+    ensures { (f : Finish) → finish_at (Some link.now) ≡ Some f → result ≡ gives f }
 {
     match link.watch.due() {
         Some(next) => match next {
@@ -174,26 +177,26 @@ fn complete<S: Shelf>(
     alloc: Global,
     first: u64,
     now: u64,
-    j: usize,
+    j: u64,
 ) -> Result<Vec<Effect>, AllocError>
-    requires within { j < length links.old.items }
-    requires due { (k : Link) → is_some (finish_at (slice_index_or links.old.items j k)) ≡ true }
-    requires left { (f : Finish) → (k : Link) → finish_at (slice_index_or links.old.items j k) ≡ Some f → gives f ≡ true → first + length links.old.items < 2 ^ 64 }
+    requires due { is_some (finish_at (slice_index_or links.old.items j None)) ≡ true }
+    requires here { NoneLost connections.old.items }
+    requires left { (f : Finish) → finish_at (slice_index_or links.old.items j None) ≡ Some f → gives f ≡ true → first + length links.old.items < 2 ^ 64 }
     requires wired { IsWired (state connections.old.items links.old.items core.old first) }
     requires early { now < 253402300800 }
     ensures wired { IsWired (state connections.new.items links.new.items core.new first) }
-    ensures ok { IfOk result (λ effects. (s : Story) → (f : Finish) → (k : Link) → finish_at (slice_index_or links.old.items j k) ≡ Some f
+    ensures ok { IfOk result (λ effects. (s : Story) → (f : Finish) → finish_at (slice_index_or links.old.items j None) ≡ Some f
         → Stands (state connections.old.items links.old.items core.old first) s → Done s now (Finishes j f) effects.items (state connections.new.items links.new.items core.new first)) }
     ensures less { OnOk result (load_of connections.new.items links.new.items < load_of connections.old.items links.old.items) }
     ensures err { OnErr result ((connections.new.items ≡ connections.old.items) × (links.new.items ≡ links.old.items) × (core.new ≡ core.old)) }
 {
     let mut effects = room(alloc)?;
-    links.reserve_one()?;
+    links.reserve_one(alloc)?;
     let i = links.at(j).connection;
     let count = connections.len();
     prove!(i < count);
-    let way = way_again(core, alloc, i as u64 + 1)?;
-    let outcome = end(links.at(j), core, alloc, now, i as u64 + 1)?;
+    let way = way_again(core, alloc, i + 1)?;
+    let outcome = end(links.at(j), core, alloc, now, i + 1)?;
     free(connections, links, j, i);
     put(&mut effects, Effect::Drop(number_at(first, j)));
     carry_out(
@@ -218,18 +221,18 @@ pub(crate) fn finish<S: Shelf>(
     alloc: Global,
     first: u64,
     now: u64,
-    j: usize,
+    j: u64,
 ) -> Result<Vec<Effect>, EngineFault>
-    requires within { j < length links.old.items }
-    requires due { (k : Link) → is_some (finish_at (slice_index_or links.old.items j k)) ≡ true }
+    requires due { is_some (finish_at (slice_index_or links.old.items j None)) ≡ true }
+    requires here { NoneLost connections.old.items }
     requires wired { IsWired (state connections.old.items links.old.items core.old first) }
     requires early { now < 253402300800 }
     ensures wired { IsWired (state connections.new.items links.new.items core.new first) }
-    ensures ok { IfOk result (λ effects. (s : Story) → (f : Finish) → (k : Link) → finish_at (slice_index_or links.old.items j k) ≡ Some f
+    ensures ok { IfOk result (λ effects. (s : Story) → (f : Finish) → finish_at (slice_index_or links.old.items j None) ≡ Some f
         → Stands (state connections.old.items links.old.items core.old first) s → Done s now (Finishes j f) effects.items (state connections.new.items links.new.items core.new first)) }
     ensures less { OnOk result (load_of connections.new.items links.new.items < load_of connections.old.items links.old.items) }
-    ensures spent { IfErr result (λ fault. (f : Finish) → (k : Link) → finish_at (slice_index_or links.old.items j k) ≡ Some f → EndFault (nat_le (2 ^ 64) (first + length links.old.items)) f fault) }
-    ensures fault { IfErr result (λ fault. (s : Story) → (f : Finish) → (k : Link) → finish_at (slice_index_or links.old.items j k) ≡ Some f → IsDueFirst s (Some (Finishes j f))
+    ensures spent { IfErr result (λ fault. (f : Finish) → finish_at (slice_index_or links.old.items j None) ≡ Some f → EndFault (nat_le (2 ^ 64) (first + length links.old.items)) f fault) }
+    ensures fault { IfErr result (λ fault. (s : Story) → (f : Finish) → finish_at (slice_index_or links.old.items j None) ≡ Some f → IsDueFirst s (Some (Finishes j f))
         → Stands (state connections.old.items links.old.items core.old first) s → Failed s fault) }
     ensures err { OnErr result ((connections.new.items ≡ connections.old.items) × (links.new.items ≡ links.old.items) × (core.new ≡ core.old)) }
 {

@@ -1,6 +1,7 @@
-//! The links to origins in the order of their numbers, and on which of them something may stand.
-ghost use Rattle.std.specs.Prelude.{◌≡◌, ◌<◌, ◌≤◌, ◌++◌, ◌∷◌, [], List, length, sum_by, IfOk, OnOk, slice_index_or, slice_set};
-ghost use Rattle.std.specs.Borrow.{Lends, sem};
+//! The links to origins by their places, and on which of them something may stand.
+ghost use Rattle.std.specs.Prelude.{◌≡◌, ◌<◌, ◌≤◌, ◌++◌, ◌∷◌, [], List, length, sum_by, true, is_some, IfOk, OnOk, Some, None, slice_index_or, slice_set};
+ghost use Rattle.std.specs.Option.{option_copied_mut};
+ghost use Rattle.std.specs.Borrow.{LendsIf, sem};
 ghost use Rattle.proxy_engine.specs.Story.{LinkStory};
 ghost use Rattle.proxy_engine.specs.Wiring.{owners_of};
 ghost use Rattle.proxy_engine.specs.State.{Both, LinkStands, FoundLinks, link_load};
@@ -8,27 +9,32 @@ ghost use Rattle.proxy_engine.specs.State.{Both, LinkStands, FoundLinks, link_lo
 use crate::ends::Link;
 use crate::finds::first_finished;
 use crate::places::Places;
+use crate::response_watch::ResponseWatch;
 use std::alloc::{AllocError, Global};
+use std::collections::BTreeMap;
 use std::marker::Model;
 
-/// All links that were ever opened. Where an answer or a failure may stand on one, its place is marked; whatever changes one
-/// marks it.
+/// The links that aren't dropped, and how many were ever opened. Where an answer or a failure may stand on one, its place is
+/// marked; whatever changes one marks it. Behind the last stands an empty one where there is room for one more.
 #[derive(Drop)]
 pub(crate) struct Links {
-    items: Vec<Link>,
+    ends: BTreeMap<u64, Link>,
+    count: u64,
     stirred: Places,
 }
 
 impl Model for Links {
-    ghost use Rattle.std.specs.Prelude.{vec_capacity, min};
-    ghost use Rattle.proxy_engine.specs.Places.{IsMarked};
+    ghost use Rattle.std.specs.Prelude.{◌&&◌, ◌+◌, ◌^◌, nat_lt, is_some};
+    ghost use Rattle.std.specs.Ordering.{nat_cmp};
+    ghost use Rattle.std.specs.BTreeMap.{get};
+    ghost use Rattle.proxy_engine.specs.Places.{listed, AllBelow, IsMarked};
     ghost use Rattle.proxy_engine.specs.Marked.{LinkList, may_stand};
 
     ghost Value = { LinkList };
 
-    ghost view = { λ k. record { items = k.items.items; room = min (vec_capacity k.items) k.stirred.room } };
+    ghost view = { λ k. record { items = listed k.ends k.count; has_room = nat_lt (k.count + 1) (2 ^ 64) && is_some (get nat_cmp k.ends k.count) } };
 
-    ghost invariant = { λ k. IsMarked may_stand k.items.items k.stirred };
+    ghost invariant = { λ k. IsMarked may_stand k.ends k.stirred × AllBelow k.count k.stirred.places };
 }
 
 impl Links {
@@ -39,59 +45,91 @@ impl Links {
         ensures { result.items ≡ [] }
     {
         Links {
-            items: Vec::new(alloc),
+            ends: BTreeMap::new(alloc),
+            count: 0,
             stirred: Places::new(alloc),
         }
     }
 
-    pub(crate) fn len(&self) -> usize
+    /// How many were ever opened.
+    pub(crate) fn len(&self) -> u64
         ensures { result ≡ length self.now.items }
     {
-        self.items.len()
+        self.count
     }
 
-    pub(crate) fn at(&self, j: usize) -> &Link
-        requires { j < length self.now.items }
-        ensures { result.now ≡ slice_index_or self.now.items j result.now }
+    /// The link at a place, which isn't dropped.
+    pub(crate) fn at(&self, j: u64) -> &Link
+        requires { is_some (slice_index_or self.now.items j None) ≡ true }
+        ensures { slice_index_or self.now.items j None ≡ Some result.now }
     {
-        &self.items[j]
+        &self.ends[&j]
     }
 
-    /// The link at a place, to be changed. Something may stand on it afterwards.
-    pub(crate) fn at_mut(&mut self, j: usize) -> &mut Link
+    /// The link at a place, to be changed, if it isn't dropped. Something may stand on it afterwards.
+    pub(crate) fn at_mut(&mut self, j: u64) -> Option<&mut Link>
         requires { j < length self.old.items }
-        ensures* writes_back { sem 𝓛 (Lends the_row link_row self.entry result (λ w. record { items = slice_set self.old.items j w; room = self.old.room })) }
-        ensures value { result.now ≡ slice_index_or self.old.items j result.now }
+        ensures* writes_back { sem 𝓛 (LendsIf the_row link_row self.entry result (λ w. record { items = slice_set self.old.items j (Some w); has_room = self.old.has_room }) self.old) }
+        ensures value { option_copied_mut result ≡ slice_index_or self.old.items j None }
     {
+        if !self.ends.contains_key(&j) {
+            return None;
+        }
         self.stirred.put(j);
-        &mut self.items[j]
+        self.ends.get_mut(&j)
     }
 
-    /// Makes room for one more, and for the mark at its place.
-    pub(crate) fn reserve_one(&mut self) -> Result<(), AllocError>
+    /// Makes room for one more, and for the mark at its place. An empty link stands there until then.
+    pub(crate) fn reserve_one(&mut self, alloc: Global) -> Result<(), AllocError>
         ensures items { self.new.items ≡ self.old.items }
-        ensures ok { OnOk result (length self.new.items < self.new.room) }
+        ensures ok { OnOk result (self.new.has_room ≡ true) }
     {
-        self.items.reserve(1)?;
-        self.stirred.reserve_for(self.items.capacity())
+        let place = self.count;
+        if place == u64::MAX {
+            return Err(AllocError);
+        }
+        if self.ends.contains_key(&place) {
+            return Ok(());
+        }
+        self.stirred.reserve_for(self.ends.len() + 1)?;
+        let empty = Link {
+            watch: ResponseWatch::new(alloc, 0, false),
+            ended: false,
+            failed: None,
+            connection: 0,
+        };
+        self.ends.insert(place, empty)?;
+        Ok(())
     }
 
-    /// Puts a link at the end. There is room, so no memory is taken.
+    /// Puts a link at the place behind the last. There is room, so no memory is taken.
     pub(crate) fn put(&mut self, link: Link)
-        requires { length self.old.items < self.old.room }
-        ensures { self.new.items ≡ self.old.items ++ link ∷ [] }
+        requires { self.old.has_room ≡ true }
+        ensures { self.new.items ≡ self.old.items ++ Some link ∷ [] }
     {
-        self.stirred.put(self.items.len());
-        let _ = self.items.push(link);
+        let place = self.count;
+        self.stirred.put(place);
+        let _ = self.ends.insert(place, link);
+        self.count = place + 1;
+    }
+
+    /// Lets go of the link at a place, which is dropped.
+    pub(crate) fn let_go(&mut self, j: u64)
+        requires { j < length self.old.items }
+        ensures items { self.new.items ≡ slice_set self.old.items j None }
+        ensures room { self.new.has_room ≡ self.old.has_room }
+    {
+        let _ = self.ends.remove(&j);
+        self.stirred.remove(j);
     }
 
     /// The first link whose answer is complete, refused or failed.
-    pub(crate) fn find_finished(&mut self, alloc: Global) -> Result<Option<usize>, AllocError>
+    pub(crate) fn find_finished(&mut self, alloc: Global) -> Result<Option<u64>, AllocError>
         ensures stands { (ss : List LinkStory) → Both LinkStands self.old.items ss → Both LinkStands self.new.items ss }
         ensures found { IfOk result (λ found. FoundLinks self.new.items found) }
         ensures owners { owners_of self.new.items ≡ owners_of self.old.items }
         ensures load { sum_by link_load self.new.items ≤ sum_by link_load self.old.items }
     {
-        first_finished(&mut self.items, &mut self.stirred, alloc)
+        first_finished(&mut self.ends, &mut self.stirred, alloc)
     }
 }

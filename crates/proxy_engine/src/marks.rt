@@ -1,58 +1,102 @@
-//! Marks on one connection or link. None takes memory.
-ghost use Rattle.std.specs.Prelude.{◌≡◌, ℕ, ◌+◌, ◌*◌, ◌<◌, ◌≤◌, true, false, Some, None};
+//! Changes of one connection. None takes memory.
+ghost use Rattle.std.specs.Prelude.{◌≡◌, ℕ, ◌+◌, ◌*◌, ◌<◌, ◌≤◌, List, sum_by, true, false, Option, Some, None, is_some, slice_index_or, slice_set};
 ghost use Rattle.hx_framing.specs.declared.requests.Request.{Request};
 ghost use Rattle.hx_framing.specs.declared.answer.Next.{Next};
+ghost use Rattle.proxy_core.specs.State.{State as CoreState};
 ghost use Rattle.proxy_engine.specs.Look.{Due, known};
-ghost use Rattle.proxy_engine.specs.Story.{ConnStory, LinkStory};
-ghost use Rattle.proxy_engine.specs.Acts.{closing, linked, passing, dropping};
-ghost use Rattle.proxy_engine.specs.State.{ConnStands, LinkStands, connection_load, gone_load, lost_load, link_load};
-ghost use Rattle.proxy_engine.specs.Wiring.{owner_of};
+ghost use Rattle.proxy_engine.specs.Story.{Story, ConnStory, with_connection};
+ghost use Rattle.proxy_engine.specs.Acts.{closing, linked, passing};
+ghost use Rattle.proxy_engine.specs.Wiring.{links_of};
+ghost use Rattle.proxy_engine.specs.State.{Stands, ConnStands, state, wish_at, gone_at, is_free, connection_load, wish_load};
+ghost use Rattle.proxy_engine.specs.declared.ends.Link.{Link};
 
-use crate::ends::{Connection, Link};
+use crate::connections::Connections;
+use crate::ends::Connection;
 
-/// The proxy closes the connection, or leaves it as it is.
-pub(crate) fn close(connection: &mut Connection, close: bool)
-    ensures stands { (c : ConnStory) → ConnStands connection.old c → ConnStands connection.new (closing close c) }
-    ensures link { connection.new.link ≡ connection.old.link }
-    ensures load { connection_load connection.new ≤ connection_load connection.old }
-    ensures less { close ≡ true → connection.old.closed ≡ false → connection_load connection.new < connection_load connection.old }
-{
-    connection.closed = connection.closed || close;
-}
-
-/// The connection has no open exchange any more.
-pub(crate) fn unlink(connection: &mut Connection)
-    ensures stands { (c : ConnStory) → ConnStands connection.old c → ConnStands connection.new (linked None c) }
+/// The connection, which isn't gone, has no open exchange any more.
+fn unlink(connection: &mut Connection)
+    requires { connection.old.gone ≡ false }
+    ensures stands { (c : ConnStory) → ConnStands (Some connection.old) c → ConnStands (Some connection.new) (linked None c) }
     ensures link { connection.new.link ≡ None }
-    ensures gone { connection.new.gone ≡ connection.old.gone }
-    ensures load { connection_load connection.new + lost_load connection.old ≡ connection_load connection.old }
+    ensures gone { connection.new.gone ≡ false }
+    ensures load { connection_load (Some connection.new) ≡ connection_load (Some connection.old) }
 {
     connection.link = None;
 }
 
 /// The connection's request went forward on the link at a place.
-pub(crate) fn link_to(connection: &mut Connection, place: usize)
-    ensures stands { (c : ConnStory) → ConnStands connection.old c → ConnStands connection.new (linked (Some place) c) }
+fn link_to(connection: &mut Connection, place: u64)
+    ensures stands { (c : ConnStory) → ConnStands (Some connection.old) c → ConnStands (Some connection.new) (linked (Some place) c) }
     ensures link { connection.new.link ≡ Some place }
-    ensures load { connection_load connection.new ≤ connection_load connection.old + gone_load connection.old }
+    ensures load { connection_load (Some connection.new) ≡ connection_load (Some connection.old) }
 {
     connection.link = Some(place);
 }
 
 /// What was due on the connection is done.
-pub(crate) fn pass(connection: &mut Connection)
-    ensures stands { (c : ConnStory) → (a : Next Request) → connection.old.watch.look ≡ Due a → ConnStands connection.old c → ConnStands connection.new (passing a c) }
+fn pass(connection: &mut Connection)
+    ensures stands { (c : ConnStory) → (a : Next Request) → connection.old.watch.look ≡ Due a → ConnStands (Some connection.old) c → ConnStands (Some connection.new) (passing a c) }
     ensures link { connection.new.link ≡ connection.old.link }
-    ensures load { connection_load connection.new + 3 * known connection.old.watch.look ≤ connection_load connection.old }
+    ensures gone { connection.new.gone ≡ connection.old.gone }
+    ensures load { connection_load (Some connection.new) + 3 * known connection.old.watch.look ≤ connection_load (Some connection.old) }
 {
     connection.watch.pass();
 }
 
-/// Nothing more is read of the link.
-pub(crate) fn drop_link(link: &mut Link)
-    ensures stands { (k : LinkStory) → LinkStands link.old k → LinkStands link.new (dropping k) }
-    ensures owner { owner_of link.new ≡ None }
-    ensures load { link_load link.new ≡ 0 }
+/// What was due on the connection at a place is done.
+pub(crate) fn pass_at(connections: &mut Connections, i: u64)
+    requires { is_some (wish_at (slice_index_or connections.old.items i None)) ≡ true }
+    ensures stands { (s : Story) → (a : Next Request) → (links : List (Option Link)) → (core : CoreState) → (first : ℕ) → wish_at (slice_index_or connections.old.items i None) ≡ Some a
+        → Stands (state connections.old.items links core first) s → Stands (state connections.new.items links core first) (with_connection s i (passing a)) }
+    ensures links { links_of connections.new.items ≡ links_of connections.old.items }
+    ensures free { is_free (slice_index_or connections.new.items i None) ≡ true }
+    ensures load { sum_by connection_load connections.new.items + 3 * wish_load (wish_at (slice_index_or connections.old.items i None)) ≤ sum_by connection_load connections.old.items }
 {
-    link.dropped = true;
+    match connections.at_mut(i) {
+        Some(connection) => pass(connection),
+        None => unreachable!(),
+    }
+}
+
+/// The connection at a place has the link at another one.
+pub(crate) fn link_at(connections: &mut Connections, i: u64, place: u64)
+    requires { is_free (slice_index_or connections.old.items i None) ≡ true }
+    ensures stands { (s : Story) → (links : List (Option Link)) → (core : CoreState) → (first : ℕ) → Stands (state connections.old.items links core first) s
+        → Stands (state connections.new.items links core first) (with_connection s i (linked (Some place))) }
+    ensures links { links_of connections.new.items ≡ slice_set (links_of connections.old.items) i (Some place) }
+    ensures load { sum_by connection_load connections.new.items ≡ sum_by connection_load connections.old.items }
+{
+    match connections.at_mut(i) {
+        Some(connection) => link_to(connection, place),
+        None => unreachable!(),
+    }
+}
+
+/// The connection at a place, which isn't gone, has no open exchange any more.
+pub(crate) fn unlink_at(connections: &mut Connections, i: u64)
+    requires { gone_at (slice_index_or connections.old.items i None) ≡ Some false }
+    ensures stands { (s : Story) → (links : List (Option Link)) → (core : CoreState) → (first : ℕ) → Stands (state connections.old.items links core first) s
+        → Stands (state connections.new.items links core first) (with_connection s i (linked None)) }
+    ensures links { links_of connections.new.items ≡ slice_set (links_of connections.old.items) i None }
+    ensures free { is_free (slice_index_or connections.new.items i None) ≡ true }
+    ensures load { sum_by connection_load connections.new.items ≡ sum_by connection_load connections.old.items }
+{
+    match connections.at_mut(i) {
+        Some(connection) => unlink(connection),
+        None => unreachable!(),
+    }
+}
+
+/// The proxy closes the connection at a place, which is over then, or leaves it as it is.
+pub(crate) fn close_at(connections: &mut Connections, i: u64, close: bool)
+    requires free { is_free (slice_index_or connections.old.items i None) ≡ true }
+    ensures stands { (s : Story) → (links : List (Option Link)) → (core : CoreState) → (first : ℕ) → Stands (state connections.old.items links core first) s
+        → Stands (state connections.new.items links core first) (with_connection s i (closing close)) }
+    ensures links { links_of connections.new.items ≡ links_of connections.old.items }
+    ensures load { sum_by connection_load connections.new.items ≤ sum_by connection_load connections.old.items }
+    ensures less { close ≡ true → sum_by connection_load connections.new.items < sum_by connection_load connections.old.items }
+{
+    if close {
+        connections.let_go(i);
+    }
 }

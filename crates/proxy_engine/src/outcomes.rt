@@ -1,13 +1,13 @@
 //! What an outcome of the core does on the proxy's ends. Room is made first, so none of this takes memory.
-ghost use Rattle.std.specs.Prelude.{◌≡◌, ℕ, ◌+◌, ◌<◌, ◌≤◌, ◌^◌, nat_le, ◌++◌, ◌∷◌, [], List, Bool, length, sum_by, true, false, IfOk, OnOk, None, Some, vec_len, vec_capacity, slice_index_or, slice_set};
+ghost use Rattle.std.specs.Prelude.{◌≡◌, ℕ, ◌+◌, ◌<◌, ◌≤◌, ◌^◌, nat_le, ◌++◌, ◌∷◌, [], List, Bool, length, sum_by, true, false, is_some, Option, IfOk, OnOk, None, Some, vec_len, vec_capacity, slice_index_or, slice_set};
 ghost use Rattle.proxy_core.specs.Replies.{is_head};
 ghost use Rattle.proxy_core.specs.State.{State as CoreState};
-ghost use Rattle.proxy_engine.specs.Story.{Story, with_connection};
-ghost use Rattle.proxy_engine.specs.Acts.{closing, came_at, effects_on, after_on, freed, with_opened};
+ghost use Rattle.proxy_engine.specs.Story.{Story, ConnStory, with_connection};
+ghost use Rattle.proxy_engine.specs.Acts.{closing, linked, came_at, effects_on, after_on, freed, with_opened};
 ghost use Rattle.proxy_engine.specs.Acts.Came.{Replies};
 ghost use Rattle.proxy_engine.specs.Wiring.{links_of, owners_of, wires_after, owners_after};
 ghost use Rattle.proxy_engine.specs.Wishes.{goes_forward};
-ghost use Rattle.proxy_engine.specs.State.{Stands, state, connection_load, gone_load, lost_load, link_load, load_of};
+ghost use Rattle.proxy_engine.specs.State.{Stands, ConnStands, state, is_free, gone_at, connection_load, link_load, load_of};
 ghost use Rattle.proxy_engine.specs.declared.ends.Connection.{Connection};
 
 use crate::connections::Connections;
@@ -33,17 +33,17 @@ pub(crate) fn put(effects: &mut Vec<Effect>, effect: Effect)
 }
 
 /// The number of the link at a place.
-pub(crate) fn number_at(first: u64, place: usize) -> u64
+pub(crate) fn number_at(first: u64, place: u64) -> u64
     ensures { first + place < 2 ^ 64 → result ≡ first + place }
 {
-    first.wrapping_add(place as u64)
+    first.wrapping_add(place)
 }
 
 /// Whether no link number is left behind so many links.
-pub(crate) fn is_spent(first: u64, count: usize) -> bool
+pub(crate) fn is_spent(first: u64, count: u64) -> bool
     ensures { result ≡ nat_le (2 ^ 64) (first + count) }
 {
-    count as u64 > u64::MAX - first
+    count > u64::MAX - first
 }
 
 /// Room for the effects of one act.
@@ -66,41 +66,29 @@ pub(crate) fn lacks_memory(fault: CoreFault) -> AllocError
     }
 }
 
-/// The proxy closes the connection at a place, or leaves it as it is.
-pub(crate) fn close_at(connections: &mut Connections, i: usize, close: bool)
-    requires within { i < length connections.old.items }
-    ensures stands { (s : Story) → (links : List Link) → (core : CoreState) → (first : ℕ) → Stands (state connections.old.items links core first) s
-        → Stands (state connections.new.items links core first) (with_connection s i (closing close)) }
-    ensures links { links_of connections.new.items ≡ links_of connections.old.items }
-    ensures load { sum_by connection_load connections.new.items ≤ sum_by connection_load connections.old.items }
-    ensures less { (c : Connection) → close ≡ true → (slice_index_or connections.old.items i c).closed ≡ false → sum_by connection_load connections.new.items < sum_by connection_load connections.old.items }
-{
-    marks::close(connections.at_mut(i), close);
-}
-
 /// Bytes go to the client, and the connection closes behind them or doesn't.
 pub(crate) fn send_reply(
     connections: &mut Connections,
     effects: &mut Vec<Effect>,
-    i: usize,
+    i: u64,
     bytes: Bytes,
     close: bool,
 )
-    requires within { i < length connections.old.items }
+    requires free { is_free (slice_index_or connections.old.items i None) ≡ true }
     requires room { vec_len effects.old + 2 ≤ vec_capacity effects.old }
     ensures effects { effects.new.items ≡ effects.old.items ++ effects_on i 0 (Replies bytes close) }
-    ensures stands { (s : Story) → (links : List Link) → (core : CoreState) → (first : ℕ) → Stands (state connections.old.items links core first) s
+    ensures stands { (s : Story) → (links : List (Option Link)) → (core : CoreState) → (first : ℕ) → Stands (state connections.old.items links core first) s
         → Stands (state connections.new.items links core first) (with_connection s i (closing close)) }
     ensures links { links_of connections.new.items ≡ links_of connections.old.items }
     ensures load { sum_by connection_load connections.new.items ≤ sum_by connection_load connections.old.items }
-    ensures less { (c : Connection) → close ≡ true → (slice_index_or connections.old.items i c).closed ≡ false → sum_by connection_load connections.new.items < sum_by connection_load connections.old.items }
+    ensures less { close ≡ true → sum_by connection_load connections.new.items < sum_by connection_load connections.old.items }
 {
     let count = connections.len();
     prove!(i < count);
-    close_at(connections, i, close);
-    put(effects, Effect::Client(i as u64 + 1, bytes));
+    marks::close_at(connections, i, close);
+    put(effects, Effect::Client(i + 1, bytes));
     if close {
-        put(effects, Effect::Close(i as u64 + 1));
+        put(effects, Effect::Close(i + 1));
     }
 }
 
@@ -111,22 +99,21 @@ fn open_link(
     alloc: Global,
     max_body: u64,
     to_head: bool,
-    i: usize,
+    i: u64,
 )
-    requires within { i < length connections.old.items }
-    requires room { length links.old.items < links.old.room }
+    requires free { is_free (slice_index_or connections.old.items i None) ≡ true }
+    requires room { links.old.has_room ≡ true }
     ensures stands { (s : Story) → (core : CoreState) → (first : ℕ) → core.table.max_body ≡ max_body → first + length links.old.items < 2 ^ 64 → Stands (state connections.old.items links.old.items core first) s
         → Stands (state connections.new.items links.new.items core first) (with_opened s i to_head) }
     ensures links { links_of connections.new.items ≡ slice_set (links_of connections.old.items) i (Some (length links.old.items)) }
     ensures owners { owners_of links.new.items ≡ owners_of links.old.items ++ Some i ∷ [] }
-    ensures load { (c : Connection) → load_of connections.new.items links.new.items ≤ load_of connections.old.items links.old.items + gone_load (slice_index_or connections.old.items i c) + 1 }
+    ensures load { load_of connections.new.items links.new.items ≤ load_of connections.old.items links.old.items + 1 }
 {
-    marks::link_to(connections.at_mut(i), links.len());
+    marks::link_at(connections, i, links.len());
     links.put(Link {
         watch: ResponseWatch::new(alloc, max_body, to_head),
         ended: false,
         failed: None,
-        dropped: false,
         connection: i,
     });
 }
@@ -171,12 +158,12 @@ pub(crate) fn carry_out(
     effects: &mut Vec<Effect>,
     alloc: Global,
     first: u64,
-    i: usize,
+    i: u64,
     way: Way,
     outcome: Outcome,
 )
-    requires within { i < length connections.old.items }
-    requires room_for_link { length links.old.items < links.old.room }
+    requires free { is_free (slice_index_or connections.old.items i None) ≡ true }
+    requires room_for_link { links.old.has_room ≡ true }
     requires room { vec_len effects.old + 2 ≤ vec_capacity effects.old }
     requires left { goes_forward outcome ≡ true → first + length links.old.items < 2 ^ 64 }
     ensures effects { effects.new.items ≡ effects.old.items ++ effects_on i (first + length links.old.items) (came_at way.address outcome) }
@@ -184,7 +171,7 @@ pub(crate) fn carry_out(
         → Stands (state connections.new.items links.new.items core first) (after_on i way.to_head (came_at way.address outcome) s) }
     ensures links { links_of connections.new.items ≡ wires_after i (length links.old.items) outcome (links_of connections.old.items) }
     ensures owners { owners_of links.new.items ≡ owners_after i outcome (owners_of links.old.items) }
-    ensures load { (c : Connection) → load_of connections.new.items links.new.items ≤ load_of connections.old.items links.old.items + gone_load (slice_index_or connections.old.items i c) + 1 }
+    ensures load { load_of connections.new.items links.new.items ≤ load_of connections.old.items links.old.items + 1 }
 {
     match outcome {
         Outcome::Reply(reply) => send_reply(connections, effects, i, reply.bytes, reply.close),
@@ -197,21 +184,33 @@ pub(crate) fn carry_out(
     }
 }
 
-/// The exchange of a link and a connection is over.
-pub(crate) fn free(connections: &mut Connections, links: &mut Links, j: usize, i: usize)
-    requires link { j < length links.old.items }
-    requires connection { i < length connections.old.items }
+/// The exchange of a link is over, and its connection goes on.
+pub(crate) fn free(connections: &mut Connections, links: &mut Links, j: u64, i: u64)
+    requires link { is_some (slice_index_or links.old.items j None) ≡ true }
+    requires connection { gone_at (slice_index_or connections.old.items i None) ≡ Some false }
     ensures stands { (s : Story) → (core : CoreState) → (first : ℕ) → Stands (state connections.old.items links.old.items core first) s
         → Stands (state connections.new.items links.new.items core first) (freed s j i) }
     ensures wires { links_of connections.new.items ≡ slice_set (links_of connections.old.items) i None }
     ensures owners { owners_of links.new.items ≡ slice_set (owners_of links.old.items) j None }
-    ensures load { (c : Connection) → (k : Link) → load_of connections.new.items links.new.items + lost_load (slice_index_or connections.old.items i c) + link_load (slice_index_or links.old.items j k)
-        ≡ load_of connections.old.items links.old.items }
-    ensures gone { (c : Connection) → gone_load (slice_index_or connections.new.items i c) ≡ gone_load (slice_index_or connections.old.items i c) }
-    ensures room { length links.old.items < links.old.room → length links.new.items < links.new.room }
-    ensures connections { length connections.new.items ≡ length connections.old.items }
+    ensures load { load_of connections.new.items links.new.items + link_load (slice_index_or links.old.items j None) ≡ load_of connections.old.items links.old.items }
+    ensures free { is_free (slice_index_or connections.new.items i None) ≡ true }
+    ensures room { links.new.has_room ≡ links.old.has_room }
     ensures links { length links.new.items ≡ length links.old.items }
 {
-    marks::drop_link(links.at_mut(j));
-    marks::unlink(connections.at_mut(i));
+    links.let_go(j);
+    marks::unlink_at(connections, i);
+}
+
+/// The exchange of a link is over, and so is its connection, which is gone.
+pub(crate) fn free_lost(connections: &mut Connections, links: &mut Links, j: u64, i: u64)
+    requires link { is_some (slice_index_or links.old.items j None) ≡ true }
+    requires connection { gone_at (slice_index_or connections.old.items i None) ≡ Some true }
+    ensures stands { (s : Story) → (core : CoreState) → (first : ℕ) → Stands (state connections.old.items links.old.items core first) s
+        → Stands (state connections.new.items links.new.items core first) (freed s j i) }
+    ensures wires { links_of connections.new.items ≡ slice_set (links_of connections.old.items) i None }
+    ensures owners { owners_of links.new.items ≡ slice_set (owners_of links.old.items) j None }
+    ensures load { load_of connections.new.items links.new.items < load_of connections.old.items links.old.items }
+{
+    links.let_go(j);
+    connections.let_go(i);
 }

@@ -1,14 +1,14 @@
-//! Places of a list at which something may be due: none is there twice, and the least is at hand.
-ghost use Rattle.std.specs.Prelude.{◌≡◌, ◌⊎◌, ℕ, ◌-◌, ◌<◌, ◌≤◌, [], length, take, Contains, IfSome, IfNone, OnOk};
-ghost use Rattle.proxy_engine.specs.Places.{IsBehind, IsLeast};
+//! Places at which something may be due: none is there twice, and the least is at hand.
+ghost use Rattle.std.specs.Prelude.{◌≡◌, ◌≢◌, ◌⊎◌, ℕ, ◌-◌, ◌<◌, ◌≤◌, [], length, Contains, IfSome, IfNone, IfOk, IfErr, OnOk, slice_index_or};
+ghost use Rattle.proxy_engine.specs.Places.{Falls, IsBehind, IsLeast};
 
 use std::alloc::{AllocError, Global};
 use std::marker::Model;
 
-/// Places, the greatest first. Below a count for which room was made, no memory is taken to add one.
+/// Places, the greatest first. Where room was made, no memory is taken to add one.
 #[derive(Drop)]
 pub(crate) struct Places {
-    items: Vec<usize>,
+    items: Vec<u64>,
 }
 
 impl Model for Places {
@@ -19,23 +19,23 @@ impl Model for Places {
 
     ghost view = { λ p. record { places = p.items.items; room = vec_capacity p.items } };
 
-    ghost invariant = { λ p. Falls (vec_capacity p.items) p.items.items };
+    ghost invariant = { λ p. Falls p.items.items };
 }
 
-/// Behind how many greater ones a place belongs, if it isn't there.
-fn place_for(places: &[usize], place: usize) -> Option<usize>
-    ensures there { IfNone result (Contains places.now place) }
-    ensures behind { IfSome result (λ count. IsBehind places.now place count) }
+/// Where a place stands, or behind how many greater ones it belongs.
+fn find(places: &[u64], place: u64) -> Result<usize, usize>
+    ensures there { IfOk result (λ at. (at < length places.now) × (slice_index_or places.now at 0 ≡ place)) }
+    ensures behind { IfErr result (λ count. IsBehind places.now place count) }
 {
     for (i, x) in places.iter().enumerate() {
         if *x == place {
-            return None;
+            return Ok(i);
         }
         if *x < place {
-            return Some(i);
+            return Err(i);
         }
     }
-    Some(places.len())
+    Err(places.len())
 }
 
 impl Places {
@@ -47,7 +47,7 @@ impl Places {
         }
     }
 
-    /// Makes room for all places below a count.
+    /// Makes room for so many places.
     pub(crate) fn reserve_for(&mut self, count: usize) -> Result<(), AllocError>
         ensures places { self.new.places ≡ self.old.places }
         ensures room { self.old.room ≤ self.new.room }
@@ -58,20 +58,39 @@ impl Places {
     }
 
     /// Adds a place, if it isn't there.
-    pub(crate) fn put(&mut self, place: usize)
-        requires { place < self.old.room }
+    pub(crate) fn put(&mut self, place: u64)
+        requires { Contains self.old.places place ⊎ (length self.old.places < self.old.room) }
         ensures there { Contains self.new.places place }
         ensures others { (q : ℕ) → Contains self.old.places q → Contains self.new.places q }
-        ensures only { (q : ℕ) → Contains self.new.places q → Contains self.old.places q ⊎ (q ≡ place) }
+        ensures only { (q : ℕ) → q ≢ place → Contains self.new.places q → Contains self.old.places q }
         ensures room { self.new.room ≡ self.old.room }
+        ensures falls { Falls self.new.places }
     {
-        if let Some(count) = place_for(&self.items, place) {
-            let _ = self.items.insert(count, place);
+        match find(&self.items, place) {
+            Ok(_) => {}
+            Err(count) => {
+                let _ = self.items.insert(count, place);
+            }
+        }
+    }
+
+    /// Takes a place away, if it is there.
+    pub(crate) fn remove(&mut self, place: u64)
+        ensures others { (q : ℕ) → q ≢ place → Contains self.old.places q → Contains self.new.places q }
+        ensures only { (q : ℕ) → Contains self.new.places q → (q ≢ place) × Contains self.old.places q }
+        ensures room { self.new.room ≡ self.old.room }
+        ensures falls { Falls self.new.places }
+    {
+        match find(&self.items, place) {
+            Ok(at) => {
+                self.items.remove(at);
+            }
+            Err(_) => {}
         }
     }
 
     /// The least place.
-    pub(crate) fn least(&self) -> Option<usize>
+    pub(crate) fn least(&self) -> Option<u64>
         ensures none { IfNone result (self.now.places ≡ []) }
         ensures some { IfSome result (λ place. IsLeast self.now.places place) }
     {
@@ -85,8 +104,11 @@ impl Places {
 
     /// Drops the least place, if there is one.
     pub(crate) fn drop_least(&mut self)
-        ensures places { self.new.places ≡ take (length self.old.places - 1) self.old.places }
+        ensures others { (p q : ℕ) → IsLeast self.old.places p → q ≢ p → Contains self.old.places q → Contains self.new.places q }
+        ensures only { (p q : ℕ) → IsLeast self.old.places p → Contains self.new.places q → (q ≢ p) × Contains self.old.places q }
+        ensures fewer { length self.new.places ≡ length self.old.places - 1 }
         ensures room { self.new.room ≡ self.old.room }
+        ensures falls { Falls self.new.places }
     {
         let _ = self.items.pop();
     }

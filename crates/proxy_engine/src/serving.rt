@@ -1,5 +1,5 @@
 //! What a client's stream asks for is done.
-ghost use Rattle.std.specs.Prelude.{◌≡◌, ℕ, ◌+◌, ◌<◌, ◌≤◌, ◌^◌, List, length, sum_by, true, false, None, Some, is_some, IfOk, IfErr, OnOk, OnErr, Ok, Err, slice_index_or};
+ghost use Rattle.std.specs.Prelude.{◌≡◌, ℕ, ◌+◌, ◌<◌, ◌≤◌, ◌^◌, List, length, sum_by, true, false, Option, None, Some, is_some, IfOk, IfErr, OnOk, OnErr, Ok, Err, slice_index_or};
 ghost use Rattle.hx_framing.specs.declared.requests.Request.{Request};
 ghost use Rattle.hx_framing.specs.declared.answer.Next.{Next};
 ghost use Rattle.hx_framing.specs.declared.answer.Next.TheVariants as next;
@@ -11,7 +11,7 @@ ghost use Rattle.proxy_core.specs.State.{State as CoreState};
 ghost use Rattle.proxy_engine.specs.Look.{Due};
 ghost use Rattle.proxy_engine.specs.Story.{Story};
 ghost use Rattle.proxy_engine.specs.Due.{Serves, IsDueFirst};
-ghost use Rattle.proxy_engine.specs.State.{Stands, state, wish_at, connection_load, load_of, Done, Failed};
+ghost use Rattle.proxy_engine.specs.State.{Stands, state, wish_at, is_free, connection_load, load_of, Done, Failed};
 ghost use Rattle.proxy_engine.specs.Wiring.{IsWired, links_of};
 ghost use Rattle.proxy_engine.specs.Wishes.{verdict_address, IsWish};
 ghost use Rattle.proxy_engine.specs.declared.ends.Connection.{Connection};
@@ -21,9 +21,7 @@ use crate::connections::Connections;
 use crate::happening::EngineFault;
 use crate::links::Links;
 use crate::marks;
-use crate::outcomes::{
-    Way, carry_out, close_at, is_spent, lacks_memory, put, room, send_reply, way_to,
-};
+use crate::outcomes::{Way, carry_out, is_spent, lacks_memory, put, room, send_reply, way_to};
 use crate::wishes::{Wish, wish_of};
 use hx_allow::{Config, Verdict};
 use hx_fields::Bytes;
@@ -38,12 +36,12 @@ use std::alloc::{AllocError, Global};
 fn send_continue(
     connections: &mut Connections,
     alloc: Global,
-    i: usize,
+    i: u64,
 ) -> Result<Vec<Effect>, AllocError>
-    requires { i < length connections.old.items }
-    ensures ok { IfOk result (λ effects. (s : Story) → (links : List Link) → (core : CoreState) → (first now : ℕ) → (c : Connection) → (slice_index_or connections.old.items i c).watch.look ≡ Due next.NeedsContinue
+    requires { is_some (wish_at (slice_index_or connections.old.items i None)) ≡ true }
+    ensures ok { IfOk result (λ effects. (s : Story) → (links : List (Option Link)) → (core : CoreState) → (first now : ℕ) → wish_at (slice_index_or connections.old.items i None) ≡ Some next.NeedsContinue
         → Stands (state connections.old.items links core first) s → Done s now (Serves i next.NeedsContinue) effects.items (state connections.new.items links core first)) }
-    ensures less { OnOk result ((c : Connection) → (slice_index_or connections.old.items i c).watch.look ≡ Due next.NeedsContinue → sum_by connection_load connections.new.items < sum_by connection_load connections.old.items) }
+    ensures less { OnOk result (wish_at (slice_index_or connections.old.items i None) ≡ Some next.NeedsContinue → sum_by connection_load connections.new.items < sum_by connection_load connections.old.items) }
     ensures links { links_of connections.new.items ≡ links_of connections.old.items }
     ensures err { OnErr result (connections.new.items ≡ connections.old.items) }
 {
@@ -51,8 +49,8 @@ fn send_continue(
     let count = connections.len();
     prove!(i < count);
     let bytes = Bytes::copy_of(alloc, b"HTTP/1.1 100 Continue\r\n\r\n")?;
-    marks::pass(connections.at_mut(i));
-    put(&mut effects, Effect::Client(i as u64 + 1, bytes));
+    marks::pass_at(connections, i);
+    put(&mut effects, Effect::Client(i + 1, bytes));
     Ok(effects)
 }
 
@@ -69,15 +67,15 @@ fn refuse(
     connections: &mut Connections,
     alloc: Global,
     now: u64,
-    i: usize,
+    i: u64,
     why: Cause,
     head: bool,
 ) -> Result<Vec<Effect>, AllocError>
-    requires within { i < length connections.old.items }
+    requires free { is_free (slice_index_or connections.old.items i None) ≡ true }
     requires early { now < 253402300800 }
-    ensures ok { IfOk result (λ effects. (s : Story) → (links : List Link) → (core : CoreState) → (first : ℕ) → (a : Next Request) → IsWish a (Wish.Refuse why head)
+    ensures ok { IfOk result (λ effects. (s : Story) → (links : List (Option Link)) → (core : CoreState) → (first : ℕ) → (a : Next Request) → IsWish a (Wish.Refuse why head)
         → Stands (state connections.old.items links core first) s → Done s now (Serves i a) effects.items (state connections.new.items links core first)) }
-    ensures less { OnOk result ((c : Connection) → (slice_index_or connections.old.items i c).closed ≡ false → sum_by connection_load connections.new.items < sum_by connection_load connections.old.items) }
+    ensures less { OnOk result (sum_by connection_load connections.new.items < sum_by connection_load connections.old.items) }
     ensures links { links_of connections.new.items ≡ links_of connections.old.items }
     ensures err { OnErr result (connections.new.items ≡ connections.old.items) }
 {
@@ -88,19 +86,19 @@ fn refuse(
 }
 
 /// The connection is closed without an answer.
-fn shut(connections: &mut Connections, alloc: Global, i: usize) -> Result<Vec<Effect>, AllocError>
-    requires { i < length connections.old.items }
-    ensures ok { IfOk result (λ effects. (s : Story) → (links : List Link) → (core : CoreState) → (first now : ℕ) → (a : Next Request) → IsWish a Wish.Close
+fn shut(connections: &mut Connections, alloc: Global, i: u64) -> Result<Vec<Effect>, AllocError>
+    requires { is_free (slice_index_or connections.old.items i None) ≡ true }
+    ensures ok { IfOk result (λ effects. (s : Story) → (links : List (Option Link)) → (core : CoreState) → (first now : ℕ) → (a : Next Request) → IsWish a Wish.Close
         → Stands (state connections.old.items links core first) s → Done s now (Serves i a) effects.items (state connections.new.items links core first)) }
-    ensures less { OnOk result ((c : Connection) → (slice_index_or connections.old.items i c).closed ≡ false → sum_by connection_load connections.new.items < sum_by connection_load connections.old.items) }
+    ensures less { OnOk result (sum_by connection_load connections.new.items < sum_by connection_load connections.old.items) }
     ensures links { links_of connections.new.items ≡ links_of connections.old.items }
     ensures err { OnErr result (connections.new.items ≡ connections.old.items) }
 {
     let mut effects = room(alloc)?;
     let count = connections.len();
     prove!(i < count);
-    close_at(connections, i, true);
-    put(&mut effects, Effect::Close(i as u64 + 1));
+    marks::close_at(connections, i, true);
+    put(&mut effects, Effect::Close(i + 1));
     Ok(effects)
 }
 
@@ -133,31 +131,30 @@ fn admit<S: Shelf>(
     alloc: Global,
     first: u64,
     now: u64,
-    i: usize,
+    i: u64,
     asked: &Asked,
 ) -> Result<Vec<Effect>, AllocError>
-    requires within { i < length connections.old.items }
-    requires free { (c : Connection) → (slice_index_or connections.old.items i c).link ≡ None }
+    requires due { is_some (wish_at (slice_index_or connections.old.items i None)) ≡ true }
     requires left { first + length links.old.items < 2 ^ 64 }
     requires wired { IsWired (state connections.old.items links.old.items core.old first) }
     requires early { now < 253402300800 }
     ensures wired { IsWired (state connections.new.items links.new.items core.new first) }
-    ensures ok { IfOk result (λ effects. (s : Story) → (r : Request) → (c : Connection) → IsAdmitted r (Ok asked.now) → (slice_index_or connections.old.items i c).watch.look ≡ Due (next.Message r)
+    ensures ok { IfOk result (λ effects. (s : Story) → (r : Request) → IsAdmitted r (Ok asked.now) → wish_at (slice_index_or connections.old.items i None) ≡ Some (next.Message r)
         → Stands (state connections.old.items links.old.items core.old first) s → Done s now (Serves i (next.Message r)) effects.items (state connections.new.items links.new.items core.new first)) }
-    ensures less { OnOk result ((r : Request) → (c : Connection) → (slice_index_or connections.old.items i c).watch.look ≡ Due (next.Message r)
+    ensures less { OnOk result ((r : Request) → wish_at (slice_index_or connections.old.items i None) ≡ Some (next.Message r)
         → load_of connections.new.items links.new.items < load_of connections.old.items links.old.items) }
     ensures err { OnErr result ((connections.new.items ≡ connections.old.items) × (links.new.items ≡ links.old.items) × (core.new ≡ core.old)) }
 {
     let mut effects = room(alloc)?;
-    links.reserve_one()?;
+    links.reserve_one(alloc)?;
     let way = way_for(alloc, core.config(), asked)?;
     let count = connections.len();
     prove!(i < count);
-    let outcome = match core.arrive(alloc, now, i as u64 + 1, asked) {
+    let outcome = match core.arrive(alloc, now, i + 1, asked) {
         Ok(outcome) => outcome,
         Err(fault) => return Err(lacks_memory(fault)),
     };
-    marks::pass(connections.at_mut(i));
+    marks::pass_at(connections, i);
     carry_out(
         connections,
         links,
@@ -179,17 +176,16 @@ fn arrive<S: Shelf>(
     alloc: Global,
     first: u64,
     now: u64,
-    i: usize,
+    i: u64,
     asked: &Asked,
 ) -> Result<Vec<Effect>, EngineFault>
-    requires within { i < length connections.old.items }
-    requires free { (c : Connection) → (slice_index_or connections.old.items i c).link ≡ None }
+    requires due { is_some (wish_at (slice_index_or connections.old.items i None)) ≡ true }
     requires wired { IsWired (state connections.old.items links.old.items core.old first) }
     requires early { now < 253402300800 }
     ensures wired { IsWired (state connections.new.items links.new.items core.new first) }
-    ensures ok { IfOk result (λ effects. (s : Story) → (r : Request) → (c : Connection) → IsAdmitted r (Ok asked.now) → (slice_index_or connections.old.items i c).watch.look ≡ Due (next.Message r)
+    ensures ok { IfOk result (λ effects. (s : Story) → (r : Request) → IsAdmitted r (Ok asked.now) → wish_at (slice_index_or connections.old.items i None) ≡ Some (next.Message r)
         → Stands (state connections.old.items links.old.items core.old first) s → Done s now (Serves i (next.Message r)) effects.items (state connections.new.items links.new.items core.new first)) }
-    ensures less { OnOk result ((r : Request) → (c : Connection) → (slice_index_or connections.old.items i c).watch.look ≡ Due (next.Message r)
+    ensures less { OnOk result ((r : Request) → wish_at (slice_index_or connections.old.items i None) ≡ Some (next.Message r)
         → load_of connections.new.items links.new.items < load_of connections.old.items links.old.items) }
     ensures spent { result ≡ Err EngineFault.OutOfMemory → first + length links.old.items < 2 ^ 64 }
     ensures fault { IfErr result (λ fault. (s : Story) → (r : Request) → IsAdmitted r (Ok asked.now) → IsDueFirst s (Some (Serves i (next.Message r)))
@@ -213,17 +209,16 @@ pub(crate) fn serve<S: Shelf>(
     alloc: Global,
     first: u64,
     now: u64,
-    i: usize,
+    i: u64,
 ) -> Result<Vec<Effect>, EngineFault>
-    requires within { i < length connections.old.items }
-    requires due { (c : Connection) → is_some (wish_at (slice_index_or connections.old.items i c)) ≡ true }
+    requires due { is_some (wish_at (slice_index_or connections.old.items i None)) ≡ true }
     requires wired { IsWired (state connections.old.items links.old.items core.old first) }
     requires early { now < 253402300800 }
     ensures wired { IsWired (state connections.new.items links.new.items core.new first) }
-    ensures ok { IfOk result (λ effects. (s : Story) → (a : Next Request) → (c : Connection) → wish_at (slice_index_or connections.old.items i c) ≡ Some a
+    ensures ok { IfOk result (λ effects. (s : Story) → (a : Next Request) → wish_at (slice_index_or connections.old.items i None) ≡ Some a
         → Stands (state connections.old.items links.old.items core.old first) s → Done s now (Serves i a) effects.items (state connections.new.items links.new.items core.new first)) }
     ensures less { OnOk result (load_of connections.new.items links.new.items < load_of connections.old.items links.old.items) }
-    ensures fault { IfErr result (λ fault. (s : Story) → (a : Next Request) → (c : Connection) → wish_at (slice_index_or connections.old.items i c) ≡ Some a → IsDueFirst s (Some (Serves i a))
+    ensures fault { IfErr result (λ fault. (s : Story) → (a : Next Request) → wish_at (slice_index_or connections.old.items i None) ≡ Some a → IsDueFirst s (Some (Serves i a))
         → Stands (state connections.old.items links.old.items core.old first) s → Failed s fault) }
     ensures err { OnErr result ((connections.new.items ≡ connections.old.items) × (links.new.items ≡ links.old.items) × (core.new ≡ core.old)) }
 {

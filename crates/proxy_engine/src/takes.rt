@@ -15,87 +15,86 @@ use hx_status::FailKind;
 use std::alloc::{AllocError, Global};
 
 /// Where the connection of this number stands.
-fn connection_place(connections: &Connections, n: u64) -> Option<usize>
+fn connection_place(connections: &Connections, n: u64) -> Option<u64>
     ensures { MatchOption result (nat_lt 0 n && nat_le n (length connections.now.items) ≡ false)
         (λ i. (nat_lt 0 n && nat_le n (length connections.now.items) ≡ true) × (i ≡ n - 1) × (i < length connections.now.items)) }
 {
-    if 0 < n && n <= connections.len() as u64 {
-        Some((n - 1) as usize)
+    if 0 < n && n <= connections.len() {
+        Some(n - 1)
     } else {
         None
     }
 }
 
 /// Where the link of this number stands.
-fn link_place(links: &Links, first: u64, l: u64) -> Option<usize>
+fn link_place(links: &Links, first: u64, l: u64) -> Option<u64>
     ensures { MatchOption result (nat_le first l && nat_lt (l - first) (length links.now.items) ≡ false)
         (λ j. (nat_le first l && nat_lt (l - first) (length links.now.items) ≡ true) × (j ≡ l - first) × (j < length links.now.items)) }
 {
-    if first <= l && l - first < links.len() as u64 {
-        Some((l - first) as usize)
+    if first <= l && l - first < links.len() {
+        Some(l - first)
     } else {
         None
     }
 }
 
 fn send(connection: &mut Connection, bytes: &[u8]) -> Result<(), AllocError>
-    ensures stands { OnOk result ((s : ConnStory) → ConnStands connection.old s → ConnStands connection.new (sent bytes.now s)) }
+    ensures stands { OnOk result ((s : ConnStory) → ConnStands (Some connection.old) s → ConnStands (Some connection.new) (sent bytes.now s)) }
     ensures err { OnErr result (connection.new ≡ connection.old) }
-    ensures kept { OnErr result (connection.old.gone || (connection.old.closed || connection.old.ended) ≡ false) }
+    ensures kept { OnErr result (connection.old.gone || connection.old.ended ≡ false) }
     ensures link { connection.new.link ≡ connection.old.link }
 {
-    if connection.gone || connection.closed || connection.ended {
+    if connection.gone || connection.ended {
         return Ok(());
     }
     connection.watch.feed(bytes)
 }
 
 fn hear(link: &mut Link, bytes: &[u8]) -> Result<(), AllocError>
-    ensures stands { OnOk result ((s : LinkStory) → LinkStands link.old s → LinkStands link.new (heard_by bytes.now s)) }
+    ensures stands { OnOk result ((s : LinkStory) → LinkStands (Some link.old) s → LinkStands (Some link.new) (heard_by bytes.now s)) }
     ensures err { OnErr result (link.new ≡ link.old) }
-    ensures kept { OnErr result (link.old.dropped || (is_some link.old.failed || link.old.ended) ≡ false) }
-    ensures owner { owner_of link.new ≡ owner_of link.old }
+    ensures kept { OnErr result (is_some link.old.failed || link.old.ended ≡ false) }
+    ensures connection { link.new.connection ≡ link.old.connection }
 {
-    if link.dropped || link.failed.is_some() || link.ended {
+    if link.failed.is_some() || link.ended {
         return Ok(());
     }
     link.watch.feed(bytes)
 }
 
 fn end(connection: &mut Connection)
-    ensures stands { (s : ConnStory) → ConnStands connection.old s → ConnStands connection.new (ended s) }
+    ensures stands { (s : ConnStory) → ConnStands (Some connection.old) s → ConnStands (Some connection.new) (ended s) }
     ensures link { connection.new.link ≡ connection.old.link }
 {
-    if !connection.gone && !connection.closed {
+    if !connection.gone {
         connection.watch.finish();
         connection.ended = true;
     }
 }
 
+/// A client with an open exchange goes away.
 fn lose(connection: &mut Connection)
-    ensures stands { (s : ConnStory) → ConnStands connection.old s → ConnStands connection.new (left s) }
+    ensures stands { is_some connection.old.link ≡ true → (s : ConnStory) → ConnStands (Some connection.old) s → ConnStands (Some connection.new) (left s) }
     ensures link { connection.new.link ≡ connection.old.link }
 {
-    if !connection.closed {
-        connection.gone = true;
-    }
+    connection.gone = true;
 }
 
 fn close_link(link: &mut Link)
-    ensures stands { (s : LinkStory) → LinkStands link.old s → LinkStands link.new (shut s) }
-    ensures owner { owner_of link.new ≡ owner_of link.old }
+    ensures stands { (s : LinkStory) → LinkStands (Some link.old) s → LinkStands (Some link.new) (shut s) }
+    ensures connection { link.new.connection ≡ link.old.connection }
 {
-    if !link.dropped && link.failed.is_none() {
+    if link.failed.is_none() {
         link.watch.finish();
         link.ended = true;
     }
 }
 
 fn fail_link(link: &mut Link, kind: FailKind)
-    ensures stands { (s : LinkStory) → LinkStands link.old s → LinkStands link.new (failed_by kind s) }
-    ensures owner { owner_of link.new ≡ owner_of link.old }
+    ensures stands { (s : LinkStory) → LinkStands (Some link.old) s → LinkStands (Some link.new) (failed_by kind s) }
+    ensures connection { link.new.connection ≡ link.old.connection }
 {
-    if !link.dropped && link.failed.is_none() {
+    if link.failed.is_none() {
         link.failed = Some(kind);
     }
 }
@@ -104,7 +103,7 @@ fn fail_link(link: &mut Link, kind: FailKind)
 fn is_next(connections: &Connections, n: u64) -> bool
     ensures { result ≡ (n == length connections.now.items + 1) }
 {
-    n != 0 && n - 1 == connections.len() as u64
+    n != 0 && n - 1 == connections.len()
 }
 
 pub(crate) fn accept(
@@ -113,53 +112,51 @@ pub(crate) fn accept(
     max_body: u64,
     n: u64,
 ) -> Result<(), EngineFault>
-    ensures ok { OnOk result ((s : Story) → (links : List Link) → (core : CoreState) → (first : ℕ) → core.table.max_body ≡ max_body → Stands (state connections.old.items links core first) s
+    ensures ok { OnOk result ((s : Story) → (links : List (Option Link)) → (core : CoreState) → (first : ℕ) → core.table.max_body ≡ max_body → Stands (state connections.old.items links core first) s
         → Takes s (Accepts n) (state connections.new.items links core first)) }
-    ensures fault { IfErr result (λ e. (s : Story) → (links : List Link) → (core : CoreState) → (first : ℕ) → Stands (state connections.old.items links core first) s → TakeFault s (Accepts n) e) }
+    ensures fault { IfErr result (λ e. (s : Story) → (links : List (Option Link)) → (core : CoreState) → (first : ℕ) → Stands (state connections.old.items links core first) s → TakeFault s (Accepts n) e) }
     ensures links { OnOk result (links_of connections.new.items ≡ links_of connections.old.items ++ None ∷ []) }
     ensures err { OnErr result (connections.new.items ≡ connections.old.items) }
 {
-    if is_next(connections, n) {
-        match connections.reserve_one() {
-            Ok(()) => {
-                let watch = RequestWatch::new(alloc, max_body);
-                connections.put(Connection {
-                    watch,
-                    ended: false,
-                    gone: false,
-                    closed: false,
-                    link: None,
-                });
-                Ok(())
-            }
-            Err(_) => Err(EngineFault::OutOfMemory),
-        }
-    } else {
-        Err(EngineFault::WrongNumber)
+    if !is_next(connections, n) {
+        return Err(EngineFault::WrongNumber);
+    }
+    let watch = RequestWatch::new(alloc, max_body);
+    match connections.accept(Connection {
+        watch,
+        ended: false,
+        gone: false,
+        link: None,
+    }) {
+        Ok(()) => Ok(()),
+        Err(_) => Err(EngineFault::OutOfMemory),
     }
 }
 
 pub(crate) fn client(connections: &mut Connections, n: u64, bytes: &[u8]) -> Result<(), EngineFault>
-    ensures ok { OnOk result ((s : Story) → (links : List Link) → (core : CoreState) → (first : ℕ) → Stands (state connections.old.items links core first) s
+    ensures ok { OnOk result ((s : Story) → (links : List (Option Link)) → (core : CoreState) → (first : ℕ) → Stands (state connections.old.items links core first) s
         → Takes s (Sends n bytes.now) (state connections.new.items links core first)) }
-    ensures fault { IfErr result (λ e. (s : Story) → (links : List Link) → (core : CoreState) → (first : ℕ) → Stands (state connections.old.items links core first) s → TakeFault s (Sends n bytes.now) e) }
-    ensures kept { result ≡ Err EngineFault.OutOfMemory → (s : Story) → (links : List Link) → (core : CoreState) → (first : ℕ) → Stands (state connections.old.items links core first) s → keeps s (Sends n bytes.now) ≡ true }
+    ensures fault { IfErr result (λ e. (s : Story) → (links : List (Option Link)) → (core : CoreState) → (first : ℕ) → Stands (state connections.old.items links core first) s → TakeFault s (Sends n bytes.now) e) }
+    ensures kept { result ≡ Err EngineFault.OutOfMemory → (s : Story) → (links : List (Option Link)) → (core : CoreState) → (first : ℕ) → Stands (state connections.old.items links core first) s → keeps s (Sends n bytes.now) ≡ true }
     ensures links { links_of connections.new.items ≡ links_of connections.old.items }
     ensures err { OnErr result (connections.new.items ≡ connections.old.items) }
 {
     let Some(i) = connection_place(connections, n) else {
         return Err(EngineFault::NotAccepted);
     };
-    match send(connections.at_mut(i), bytes) {
+    let Some(connection) = connections.at_mut(i) else {
+        return Ok(());
+    };
+    match send(connection, bytes) {
         Ok(()) => Ok(()),
         Err(_) => Err(EngineFault::OutOfMemory),
     }
 }
 
 pub(crate) fn finish_client(connections: &mut Connections, n: u64) -> Result<(), EngineFault>
-    ensures ok { OnOk result ((s : Story) → (links : List Link) → (core : CoreState) → (first : ℕ) → Stands (state connections.old.items links core first) s
+    ensures ok { OnOk result ((s : Story) → (links : List (Option Link)) → (core : CoreState) → (first : ℕ) → Stands (state connections.old.items links core first) s
         → Takes s (Ends n) (state connections.new.items links core first)) }
-    ensures fault { IfErr result (λ e. (s : Story) → (links : List Link) → (core : CoreState) → (first : ℕ) → Stands (state connections.old.items links core first) s → TakeFault s (Ends n) e) }
+    ensures fault { IfErr result (λ e. (s : Story) → (links : List (Option Link)) → (core : CoreState) → (first : ℕ) → Stands (state connections.old.items links core first) s → TakeFault s (Ends n) e) }
     ensures memory { IfErr result (λ e. e ≡ EngineFault.NotAccepted) }
     ensures links { links_of connections.new.items ≡ links_of connections.old.items }
     ensures err { OnErr result (connections.new.items ≡ connections.old.items) }
@@ -167,14 +164,16 @@ pub(crate) fn finish_client(connections: &mut Connections, n: u64) -> Result<(),
     let Some(i) = connection_place(connections, n) else {
         return Err(EngineFault::NotAccepted);
     };
-    end(connections.at_mut(i));
+    if let Some(connection) = connections.at_mut(i) {
+        end(connection);
+    }
     Ok(())
 }
 
 pub(crate) fn lose_client(connections: &mut Connections, n: u64) -> Result<(), EngineFault>
-    ensures ok { OnOk result ((s : Story) → (links : List Link) → (core : CoreState) → (first : ℕ) → Stands (state connections.old.items links core first) s
+    ensures ok { OnOk result ((s : Story) → (links : List (Option Link)) → (core : CoreState) → (first : ℕ) → Stands (state connections.old.items links core first) s
         → Takes s (Leaves n) (state connections.new.items links core first)) }
-    ensures fault { IfErr result (λ e. (s : Story) → (links : List Link) → (core : CoreState) → (first : ℕ) → Stands (state connections.old.items links core first) s → TakeFault s (Leaves n) e) }
+    ensures fault { IfErr result (λ e. (s : Story) → (links : List (Option Link)) → (core : CoreState) → (first : ℕ) → Stands (state connections.old.items links core first) s → TakeFault s (Leaves n) e) }
     ensures memory { IfErr result (λ e. e ≡ EngineFault.NotAccepted) }
     ensures links { links_of connections.new.items ≡ links_of connections.old.items }
     ensures err { OnErr result (connections.new.items ≡ connections.old.items) }
@@ -182,31 +181,38 @@ pub(crate) fn lose_client(connections: &mut Connections, n: u64) -> Result<(), E
     let Some(i) = connection_place(connections, n) else {
         return Err(EngineFault::NotAccepted);
     };
-    lose(connections.at_mut(i));
+    if !connections.has_exchange(i) {
+        connections.let_go(i);
+    } else if let Some(connection) = connections.at_mut(i) {
+        lose(connection);
+    }
     Ok(())
 }
 
 pub(crate) fn answer(links: &mut Links, first: u64, l: u64, bytes: &[u8]) -> Result<(), EngineFault>
-    ensures ok { OnOk result ((s : Story) → (connections : List Connection) → (core : CoreState) → Stands (state connections links.old.items core first) s
+    ensures ok { OnOk result ((s : Story) → (connections : List (Option Connection)) → (core : CoreState) → Stands (state connections links.old.items core first) s
         → Takes s (Hears l bytes.now) (state connections links.new.items core first)) }
-    ensures fault { IfErr result (λ e. (s : Story) → (connections : List Connection) → (core : CoreState) → Stands (state connections links.old.items core first) s → TakeFault s (Hears l bytes.now) e) }
-    ensures kept { result ≡ Err EngineFault.OutOfMemory → (s : Story) → (connections : List Connection) → (core : CoreState) → Stands (state connections links.old.items core first) s → keeps s (Hears l bytes.now) ≡ true }
+    ensures fault { IfErr result (λ e. (s : Story) → (connections : List (Option Connection)) → (core : CoreState) → Stands (state connections links.old.items core first) s → TakeFault s (Hears l bytes.now) e) }
+    ensures kept { result ≡ Err EngineFault.OutOfMemory → (s : Story) → (connections : List (Option Connection)) → (core : CoreState) → Stands (state connections links.old.items core first) s → keeps s (Hears l bytes.now) ≡ true }
     ensures owners { owners_of links.new.items ≡ owners_of links.old.items }
     ensures err { OnErr result (links.new.items ≡ links.old.items) }
 {
     let Some(j) = link_place(links, first, l) else {
         return Err(EngineFault::WrongNumber);
     };
-    match hear(links.at_mut(j), bytes) {
+    let Some(link) = links.at_mut(j) else {
+        return Ok(());
+    };
+    match hear(link, bytes) {
         Ok(()) => Ok(()),
         Err(_) => Err(EngineFault::OutOfMemory),
     }
 }
 
 pub(crate) fn shut_link(links: &mut Links, first: u64, l: u64) -> Result<(), EngineFault>
-    ensures ok { OnOk result ((s : Story) → (connections : List Connection) → (core : CoreState) → Stands (state connections links.old.items core first) s
+    ensures ok { OnOk result ((s : Story) → (connections : List (Option Connection)) → (core : CoreState) → Stands (state connections links.old.items core first) s
         → Takes s (Shuts l) (state connections links.new.items core first)) }
-    ensures fault { IfErr result (λ e. (s : Story) → (connections : List Connection) → (core : CoreState) → Stands (state connections links.old.items core first) s → TakeFault s (Shuts l) e) }
+    ensures fault { IfErr result (λ e. (s : Story) → (connections : List (Option Connection)) → (core : CoreState) → Stands (state connections links.old.items core first) s → TakeFault s (Shuts l) e) }
     ensures memory { IfErr result (λ e. e ≡ EngineFault.WrongNumber) }
     ensures owners { owners_of links.new.items ≡ owners_of links.old.items }
     ensures err { OnErr result (links.new.items ≡ links.old.items) }
@@ -214,7 +220,9 @@ pub(crate) fn shut_link(links: &mut Links, first: u64, l: u64) -> Result<(), Eng
     let Some(j) = link_place(links, first, l) else {
         return Err(EngineFault::WrongNumber);
     };
-    close_link(links.at_mut(j));
+    if let Some(link) = links.at_mut(j) {
+        close_link(link);
+    }
     Ok(())
 }
 
@@ -224,9 +232,9 @@ pub(crate) fn break_link(
     l: u64,
     kind: FailKind,
 ) -> Result<(), EngineFault>
-    ensures ok { OnOk result ((s : Story) → (connections : List Connection) → (core : CoreState) → Stands (state connections links.old.items core first) s
+    ensures ok { OnOk result ((s : Story) → (connections : List (Option Connection)) → (core : CoreState) → Stands (state connections links.old.items core first) s
         → Takes s (Fails l kind) (state connections links.new.items core first)) }
-    ensures fault { IfErr result (λ e. (s : Story) → (connections : List Connection) → (core : CoreState) → Stands (state connections links.old.items core first) s → TakeFault s (Fails l kind) e) }
+    ensures fault { IfErr result (λ e. (s : Story) → (connections : List (Option Connection)) → (core : CoreState) → Stands (state connections links.old.items core first) s → TakeFault s (Fails l kind) e) }
     ensures memory { IfErr result (λ e. e ≡ EngineFault.WrongNumber) }
     ensures owners { owners_of links.new.items ≡ owners_of links.old.items }
     ensures err { OnErr result (links.new.items ≡ links.old.items) }
@@ -234,6 +242,8 @@ pub(crate) fn break_link(
     let Some(j) = link_place(links, first, l) else {
         return Err(EngineFault::WrongNumber);
     };
-    fail_link(links.at_mut(j), kind);
+    if let Some(link) = links.at_mut(j) {
+        fail_link(link, kind);
+    }
     Ok(())
 }

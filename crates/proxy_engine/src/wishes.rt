@@ -56,8 +56,8 @@ fn fault_wish(fault: FrameFault) -> Wish
 
 /// What is to be done on a connection on which something is due.
 pub(crate) fn wish_of(connection: &Connection, alloc: Global) -> Result<Wish, AllocError>
-    requires { is_some (wish_at connection.now) ≡ true }
-    ensures { IfOk result (λ wish. (a : Told Spelled) × (wish_at connection.now ≡ Some a) × (connection.now.watch.look ≡ Due a) × IsWish a wish) }
+    requires { is_some (wish_at (Some connection.now)) ≡ true }
+    ensures { IfOk result (λ wish. (a : Told Spelled) × (wish_at (Some connection.now) ≡ Some a) × (connection.now.watch.look ≡ Due a) × IsWish a wish) }
 {
     match connection.watch.due() {
         Some(next) => match next {

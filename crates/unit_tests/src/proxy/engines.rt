@@ -121,3 +121,44 @@ fn numbers_run_out(rt: HostRuntime) -> Result<(), Fail> {
     assert!(&rt; matches!(work(rt.alloc(), &mut engine, 100), Err(EngineFault::Spent)));
     Ok(())
 }
+
+const ANSWER: &[u8] = b"HTTP/1.1 200 OK\r\nCache-Control: no-store\r\nContent-Length: 2\r\n\r\nhi";
+
+const LAST_FORWARDED: &[u8] = b"forward 2000 127.0.0.1:8081 62
+GET /a HTTP/1.1\r
+Host: h\r
+Via: 1.1 edge\r
+Connection: close\r
+\r
+
+";
+
+/// A client asks, its request goes forward, the origin answers, and the client goes.
+fn comes_and_goes(rt: &impl Abort, alloc: Global, engine: &mut Engine<ListShelf>, n: u64) {
+    takes(rt, alloc, engine, Happening::Accept(n));
+    takes(rt, alloc, engine, Happening::Client(n, ASK));
+    assert!(rt; matches!(work(alloc, engine, 100), Ok(Some(_))));
+    takes(rt, alloc, engine, Happening::Link(n, ANSWER));
+    assert!(rt; matches!(work(alloc, engine, 100), Ok(Some(_))));
+    takes(rt, alloc, engine, Happening::Gone(n));
+    rests(rt, alloc, engine, 100);
+}
+
+/// What is over is let go, so the last of many clients is served as the first.
+#[test]
+fn many_clients_come_and_go(rt: HostRuntime) -> Result<(), Fail> {
+    let mut engine = engine(rt.alloc(), 1)?;
+    for n in 1..2_000u64 {
+        comes_and_goes(&rt, rt.alloc(), &mut engine, n);
+    }
+    takes(&rt, rt.alloc(), &mut engine, Happening::Accept(2_000));
+    takes(&rt, rt.alloc(), &mut engine, Happening::Client(2_000, ASK));
+    does(&rt, rt.alloc(), &mut engine, 100, LAST_FORWARDED);
+    takes(&rt, rt.alloc(), &mut engine, Happening::Gone(2_000));
+    does(&rt, rt.alloc(), &mut engine, 100, b"drop 2000\n");
+    // Those that are over are still known by their numbers.
+    takes(&rt, rt.alloc(), &mut engine, Happening::Gone(1));
+    takes(&rt, rt.alloc(), &mut engine, Happening::Link(1, ANSWER));
+    rests(&rt, rt.alloc(), &mut engine, 100);
+    Ok(())
+}

@@ -5,4 +5,4 @@ use Rattle.proxy_engine.proofs.finds.wants.Goals as goal
 pub returns-clause-meaning : goal.returns-clause-meaning
 returns-clause-meaning c = λ s h.
     let none : is_some c.args.connection.now.link ≡ false = search rules in
-    wanted _ s c.in_ok-look.ensures.looked.0 (idle c.args.connection.now.gone c.args.connection.now.closed c.args.connection.now.link c.if-connection.false c.if-connection-2.false none) h c.in_ok-look.ensures.looked.1
+    wanted _ s c.in_ok-look.ensures.looked.0 (idle c.args.connection.now.gone c.args.connection.now.link c.if-connection.false none) h c.in_ok-look.ensures.looked.1

@@ -1,13 +1,15 @@
-use Rattle.proxy_core.specs.State.{State as CoreState}
 use Rattle.std.proofs.Common.{None, ◌≡◌, ◌+◌, ◌≤◌, ◌^◌, ◌∙◌, ◌∷◌, [], ℕ, length, ap, arith}
+use Rattle.proxy_core.specs.State.{State as CoreState}
 use Rattle.proxy_script.specs.declared.effect_list.Effect.TheVariants.{Drop}
 use Rattle.proxy_engine.specs.State.{LinkStands}
 use Rattle.proxy_engine.proofs.Parts.{both_length}
-use Rattle.proxy_engine.proofs.Searching.{some_part}
 use Rattle.proxy_engine.proofs.Wishing.{told_one}
-use Rattle.proxy_engine.proofs.Wires.{within_links, wired_ended}
+use Rattle.proxy_engine.proofs.Wires.{within_links, link_there, wired_ended}
 use Rattle.proxy_engine.proofs.Stepping.{abandoned_done}
 use Rattle.proxy_engine.proofs.finishing.abandon.Goals as goal
+
+pub free_lost-requires-clause-link : goal.free_lost-requires-clause-link
+free_lost-requires-clause-link g c = link_there c.args.connections.now.items c.args.links.now.items c.args.core.now.exchanges c.args.i c.args.l c.requires.linked c.requires.wired
 
 pub returns-clause-ok : goal.returns-clause-ok
 returns-clause-ok g c = λ s now h.
@@ -16,21 +18,11 @@ returns-clause-ok g c = λ s now h.
     let numbers : s.first + length s.links ≤ 2 ^ 64 = h.numbers in
     let within = within_links c.args.connections.now.items c.args.links.now.items c.args.core.now.exchanges c.args.i c.args.l c.requires.linked c.requires.wired in
     let number : c.number_at.result ≡ c.args.first + c.args.l = c.number_at.ensures (omega (arith, links, within)) in
-    abandoned_done s c.free.new.connections.items c.free.new.links.items c.args.core.now c.abandon.new.self c.args.first now c.args.i c.args.l c.in-Ok.field-0 c.put.new.effects.items c.in-Ok.ensures.ok
+    abandoned_done s c.free_lost.new.connections.items c.free_lost.new.links.items c.args.core.now c.abandon.new.self c.args.first now c.args.i c.args.l c.in-Ok.field-0 c.put.new.effects.items c.in-Ok.ensures.ok
     (told_one c.in_ok-effects.effects.items c.put.new.effects.items _ c.put.ensures.items c.in_ok-effects.ensures.items ∙ ap (λ (n : ℕ). Drop n ∷ []) number) first_is h.core
-    (c.free.ensures.stands s c.args.core.now c.args.first h)
-
-pub returns-clause-less : goal.returns-clause-less
-returns-clause-less g c = λ d one.
-    let ks = c.args.links.now.items in
-    let within = within_links c.args.connections.now.items ks c.args.core.now.exchanges c.args.i c.args.l c.requires.linked c.requires.wired in
-    let load = c.free.ensures.load d (some_part ks c.args.l within) in
-    omega (arith, load, one)
-
-pub free-requires-clause-link : goal.free-requires-clause-link
-free-requires-clause-link g c = within_links c.args.connections.now.items c.args.links.now.items c.args.core.now.exchanges c.args.i c.args.l c.requires.linked c.requires.wired
+    (c.free_lost.ensures.stands s c.args.core.now c.args.first h)
 
 pub returns-clause-wired : goal.returns-clause-wired
 returns-clause-wired g c =
-    wired_ended c.args.connections.now.items c.free.new.connections.items c.args.links.now.items c.free.new.links.items c.args.core.now.exchanges c.abandon.new.self.exchanges c.args.i c.args.l c.requires.linked c.free.ensures.wires c.free.ensures.owners None
-    (ap (λ (k : CoreState). k.exchanges) c.in-Ok.ensures.ok.leaves) c.requires.wired
+    wired_ended c.args.connections.now.items c.free_lost.new.connections.items c.args.links.now.items c.free_lost.new.links.items c.args.core.now.exchanges c.abandon.new.self.exchanges c.args.i c.args.l c.requires.linked c.free_lost.ensures.wires c.free_lost.ensures.owners
+    None (ap (λ (k : CoreState). k.exchanges) c.in-Ok.ensures.ok.leaves) c.requires.wired

@@ -9,6 +9,6 @@ use Rattle.proxy_engine.proofs.finishing.end.Goals as goal
 pub returns-in-Ok-clause-ok : goal.returns-in-Ok-clause-ok
 returns-in-Ok-clause-ok g c = (
   Gives c.in-Message.response,
-  given_seen c.args.link.now c.in-Message.response c.requires.due (c.in-Some.ensures.value ∙ ap (λ (a : Next Response). Due a) c.in-Message.is),
+  given_seen c.args.link.now c.in-Message.response (c.in-Some.ensures.value ∙ ap (λ (a : Next Response). Due a) c.in-Message.is),
   c.in-Ok.ensures.ok,
 )

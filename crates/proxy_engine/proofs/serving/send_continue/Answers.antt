@@ -1,14 +1,27 @@
-use Rattle.proxy_engine.specs.Wiring.{link_of}
-use Rattle.proxy_engine.proofs.Searching.{map_kept}
-use Rattle.std.proofs.Common.{ap, ◌∙◌, ◌+◌, List, ℕ, ◌∷◌, []}
+use Rattle.std.proofs.Common.{◌+◌, List, ℕ, ◌∷◌, [], refl, ap, ◌∙◌, arith}
+use Rattle.hx_framing.specs.declared.answer.Next.TheVariants.{NeedsContinue}
 use Rattle.proxy_script.specs.declared.effect_list.Effect.TheVariants.{Client}
-use Rattle.proxy_engine.proofs.Wishing.{continued, told_one}
+use Rattle.proxy_engine.specs.Story.{with_connection}
+use Rattle.proxy_engine.specs.Acts.{passing}
+use Rattle.proxy_engine.specs.State.{wish_load}
+use Rattle.proxy_engine.proofs.Keeping.{inside}
+use Rattle.proxy_engine.proofs.Changes.{free_there, wish_free}
+use Rattle.proxy_engine.proofs.Wishing.{told_one}
 use Rattle.proxy_engine.proofs.serving.send_continue.Goals as goal
 
-pub returns-clause-ok : goal.returns-clause-ok
-returns-clause-ok c = λ s links core first now d due h.
-    continued s c.args.connections.now.items links core first now c.args.i c.at_mut.result.now c.pass.new.connection d c.put.new.effects.items c.requires c.at_mut.ensures.value due c.pass.ensures.stands
-    (told_one c.in_ok-effects.effects.items c.put.new.effects.items _ c.put.ensures.items c.in_ok-effects.ensures.items ∙ ap (λ (b : List ℕ). Client (c.args.i + 1) b ∷ []) c.in_ok-bytes.ensures) h
+pub prove-unreachable-requires : goal.prove-unreachable-requires
+prove-unreachable-requires c =
+    let within = inside c.args.connections.now.items c.args.i (free_there _ (wish_free _ c.requires)) in
+    absurd (omega (arith, within, c.if-prove.true, c.len-count.ensures))
 
-pub returns-clause-links : goal.returns-clause-links
-returns-clause-links c = map_kept link_of c.args.connections.now.items c.args.i c.at_mut.result.now c.pass.new.connection c.at_mut.ensures.value c.pass.ensures.link
+pub returns-clause-ok : goal.returns-clause-ok
+returns-clause-ok c = λ s links core first now due h. record {
+  after = with_connection s c.args.i (passing NeedsContinue);
+  does = (told_one c.in_ok-effects.effects.items c.put.new.effects.items _ c.put.ensures.items c.in_ok-effects.ensures.items ∙ ap (λ (b : List ℕ). Client (c.args.i + 1) b ∷ []) c.in_ok-bytes.ensures, refl);
+  stands = c.pass_at.ensures.stands s NeedsContinue links core first due h;
+}
+
+pub returns-clause-less : goal.returns-clause-less
+returns-clause-less c = λ due.
+    let one = ap wish_load due in
+    omega (arith, one, c.pass_at.ensures.load)

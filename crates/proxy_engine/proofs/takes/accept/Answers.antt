@@ -1,4 +1,4 @@
-use Rattle.std.proofs.Common.{refl, true, false, sym, subst, ap, ◌∙◌, List, ◌++◌, ◌∷◌, [], None}
+use Rattle.std.proofs.Common.{true, List, Option, sym, subst, ◌∙◌}
 use Rattle.proxy_engine.specs.State.{Stands, state}
 use Rattle.proxy_engine.specs.Story.{heard}
 use Rattle.proxy_engine.specs.Happenings.{Accepts}
@@ -6,15 +6,15 @@ use Rattle.proxy_engine.specs.declared.ends.Connection.{Connection}
 use Rattle.proxy_engine.proofs.Taking.{opens_free, opens_refused, opens_full, accepted_more}
 use Rattle.proxy_engine.proofs.takes.accept.Goals as goal
 
-pub returns-else-is_next-clause-fault : goal.returns-else-is_next-clause-fault
-returns-else-is_next-clause-fault c = λ s links core first h. opens_refused c.args.connections.now.items c.args.connections.now.items links core first s c.args.n _ refl c.is_next.ensures c.if-is_next.false h
+pub returns-then-not-is_next-clause-fault : goal.returns-then-not-is_next-clause-fault
+returns-then-not-is_next-clause-fault c = λ s links core first h. opens_refused c.args.connections.now.items links core first s c.args.n _ c.is_next.ensures c.if-not-is_next.true h
 
 pub returns-in-Err-clause-fault : goal.returns-in-Err-clause-fault
-returns-in-Err-clause-fault c = λ s links core first h. opens_full c.args.connections.now.items c.args.connections.now.items links core first s c.args.n _ refl c.is_next.ensures c.if-is_next.true h
+returns-in-Err-clause-fault c = λ s links core first h. opens_full c.args.connections.now.items links core first s c.args.n _ c.is_next.ensures c.if-not-is_next.false h
 
 pub returns-in-Ok-clause-ok : goal.returns-in-Ok-clause-ok
 returns-in-Ok-clause-ok c = λ s links core first most h. record {
-  free = opens_free c.args.connections.now.items c.args.connections.now.items links core first s c.args.n true refl (sym c.is_next.ensures ∙ c.if-is_next.true) h;
-  stands = subst (λ (cs : List Connection). Stands (state cs links core first) (heard s (Accepts c.args.n))) (sym (c.put.ensures ∙ ap (λ (cs : List Connection). cs ++ record { watch = c.new-watch.result; ended = false; gone = false; closed = false; link = None } ∷ []) c.reserve_one.ensures.items))
+  free = opens_free c.args.connections.now.items links core first s c.args.n true (sym c.is_next.ensures ∙ c.if-not-is_next.false) h;
+  stands = subst (λ (cs : List (Option Connection)). Stands (state cs links core first) (heard s (Accepts c.args.n))) (sym c.in-Ok.ensures.ok)
       (accepted_more c.args.connections.now.items links core first s c.args.max_body c.new-watch.result most c.new-watch.ensures.stands h);
 }

@@ -1,24 +1,33 @@
+use Rattle.std.proofs.Common.{true, Option, Some, None, sym, ap, subst, ◌∙◌}
 use Rattle.proxy_engine.specs.Wiring.{owner_of}
-use Rattle.proxy_engine.proofs.Searching.{map_kept}
-use Rattle.proxy_engine.proofs.Taking.{link_free, link_refused, link_full, link_taken, link_keeps}
-use Rattle.std.proofs.Common.{refl, true}
 use Rattle.proxy_engine.specs.Story.{heard_by}
+use Rattle.proxy_engine.specs.State.{LinkStands}
+use Rattle.proxy_engine.specs.declared.ends.Link.{Link}
+use Rattle.proxy_engine.proofs.Searching.{map_kept}
+use Rattle.proxy_engine.proofs.Taking.{link_free, link_refused, link_full, link_taken, link_over, link_keeps, heard_over}
 use Rattle.proxy_engine.proofs.takes.answer.Goals as goal
 
 pub returns-in_default-clause-fault : goal.returns-in_default-clause-fault
-returns-in_default-clause-fault c = λ s connections core h. link_refused connections c.args.links.now.items c.args.links.now.items core c.args.first s c.args.l refl c.in_default.ensures h
+returns-in_default-clause-fault c = λ s connections core h. link_refused connections c.args.links.now.items core c.args.first s c.args.l c.in_default.ensures h
+
+pub returns-in_default-at_mut-clause-ok : goal.returns-in_default-at_mut-clause-ok
+returns-in_default-at_mut-clause-ok c = λ s connections core h. record {
+  free = link_free connections c.args.links.now.items core c.args.first s c.args.l true c.in-Some.ensures.0 h;
+  stands = link_over (heard_by c.args.bytes.now) connections c.args.links.now.items core c.args.first s c.args.l c.in-Some.j c.in-Some.ensures.1 c.in-Some.ensures.2 c.in_default-at_mut.ensures.value (λ k q. heard_over c.args.bytes.now k q) h;
+}
 
 pub returns-in-Ok-clause-ok : goal.returns-in-Ok-clause-ok
 returns-in-Ok-clause-ok c = λ s connections core h. record {
-  free = link_free connections c.args.links.now.items c.args.links.now.items core c.args.first s c.args.l true refl c.in-Some.ensures.0 h;
-  stands = link_taken (heard_by c.args.bytes.now) connections c.args.links.now.items c.args.links.now.items core c.args.first s c.args.l c.in-Some.j c.at_mut.result.now c.hear.new.link refl c.in-Some.ensures.1 c.in-Some.ensures.2 c.at_mut.ensures.value c.in-Ok.ensures.stands h;
+  free = link_free connections c.args.links.now.items core c.args.first s c.args.l true c.in-Some.ensures.0 h;
+  stands = link_taken (heard_by c.args.bytes.now) connections c.args.links.now.items core c.args.first s c.args.l c.in-Some.j (Some c.hear.new.link) c.in-Some.ensures.1 c.in-Some.ensures.2
+      (λ k q. c.in-Ok.ensures.stands k (subst (λ (o : Option Link). LinkStands o k) (sym c.in-Some-at_mut.ensures.value) q)) h;
 }
 
 pub returns-in-Err-clause-fault : goal.returns-in-Err-clause-fault
-returns-in-Err-clause-fault c = λ s connections core h. link_full connections c.args.links.now.items c.args.links.now.items core c.args.first s c.args.l refl c.in-Some.ensures.0 h
+returns-in-Err-clause-fault c = λ s connections core h. link_full connections c.args.links.now.items core c.args.first s c.args.l c.in-Some.ensures.0 h
 
 pub returns-in-Ok-clause-owners : goal.returns-in-Ok-clause-owners
-returns-in-Ok-clause-owners c = map_kept owner_of c.args.links.now.items c.in-Some.j c.at_mut.result.now c.hear.new.link c.at_mut.ensures.value c.hear.ensures.owner
+returns-in-Ok-clause-owners c = map_kept owner_of c.args.links.now.items c.in-Some.j None (Some c.hear.new.link) (ap Some c.hear.ensures.connection ∙ ap owner_of c.in-Some-at_mut.ensures.value)
 
 pub returns-in-Err-clause-kept : goal.returns-in-Err-clause-kept
-returns-in-Err-clause-kept c = λ e s connections core h. link_keeps connections c.args.links.now.items c.args.links.now.items core c.args.first s c.args.l c.in-Some.j c.at_mut.result.now refl c.in-Some.ensures.1 c.in-Some.ensures.2 c.at_mut.ensures.value c.in-Err.ensures.kept h
+returns-in-Err-clause-kept c = λ e s connections core h. link_keeps connections c.args.links.now.items core c.args.first s c.args.l c.in-Some.j c.in-Some-at_mut.link.now c.in-Some.ensures.1 c.in-Some.ensures.2 c.in-Some-at_mut.ensures.value c.in-Err.ensures.kept h

@@ -1,24 +1,33 @@
+use Rattle.std.proofs.Common.{true, Option, Some, None, sym, ap, subst, ◌∙◌}
 use Rattle.proxy_engine.specs.Wiring.{link_of}
-use Rattle.proxy_engine.proofs.Searching.{map_kept}
-use Rattle.proxy_engine.proofs.Taking.{connection_free, connection_refused, connection_full, connection_taken, connection_keeps}
-use Rattle.std.proofs.Common.{refl, true}
 use Rattle.proxy_engine.specs.Story.{sent}
+use Rattle.proxy_engine.specs.State.{ConnStands}
+use Rattle.proxy_engine.specs.declared.ends.Connection.{Connection}
+use Rattle.proxy_engine.proofs.Searching.{map_kept}
+use Rattle.proxy_engine.proofs.Taking.{connection_free, connection_refused, connection_full, connection_taken, connection_over, connection_keeps, sent_over}
 use Rattle.proxy_engine.proofs.takes.client.Goals as goal
 
 pub returns-in_default-clause-fault : goal.returns-in_default-clause-fault
-returns-in_default-clause-fault c = λ s links core first h. connection_refused c.args.connections.now.items c.args.connections.now.items links core first s c.args.n refl c.in_default.ensures h
+returns-in_default-clause-fault c = λ s links core first h. connection_refused c.args.connections.now.items links core first s c.args.n c.in_default.ensures h
+
+pub returns-in_default-at_mut-clause-ok : goal.returns-in_default-at_mut-clause-ok
+returns-in_default-at_mut-clause-ok c = λ s links core first h. record {
+  free = connection_free c.args.connections.now.items links core first s c.args.n true c.in-Some.ensures.0 h;
+  stands = connection_over (sent c.args.bytes.now) c.args.connections.now.items links core first s c.args.n c.in-Some.i c.in-Some.ensures.1 c.in-Some.ensures.2 c.in_default-at_mut.ensures.value (λ k q. sent_over c.args.bytes.now k q) h;
+}
 
 pub returns-in-Ok-clause-ok : goal.returns-in-Ok-clause-ok
 returns-in-Ok-clause-ok c = λ s links core first h. record {
-  free = connection_free c.args.connections.now.items c.args.connections.now.items links core first s c.args.n true refl c.in-Some.ensures.0 h;
-  stands = connection_taken (sent c.args.bytes.now) c.args.connections.now.items c.args.connections.now.items links core first s c.args.n c.in-Some.i c.at_mut.result.now c.send.new.connection refl c.in-Some.ensures.1 c.in-Some.ensures.2 c.at_mut.ensures.value c.in-Ok.ensures.stands h;
+  free = connection_free c.args.connections.now.items links core first s c.args.n true c.in-Some.ensures.0 h;
+  stands = connection_taken (sent c.args.bytes.now) c.args.connections.now.items links core first s c.args.n c.in-Some.i (Some c.send.new.connection) c.in-Some.ensures.1 c.in-Some.ensures.2
+      (λ k q. c.in-Ok.ensures.stands k (subst (λ (o : Option Connection). ConnStands o k) (sym c.in-Some-at_mut.ensures.value) q)) h;
 }
 
 pub returns-in-Err-clause-fault : goal.returns-in-Err-clause-fault
-returns-in-Err-clause-fault c = λ s links core first h. connection_full c.args.connections.now.items c.args.connections.now.items links core first s c.args.n refl c.in-Some.ensures.0 h
+returns-in-Err-clause-fault c = λ s links core first h. connection_full c.args.connections.now.items links core first s c.args.n c.in-Some.ensures.0 h
 
 pub returns-in-Ok-clause-links : goal.returns-in-Ok-clause-links
-returns-in-Ok-clause-links c = map_kept link_of c.args.connections.now.items c.in-Some.i c.at_mut.result.now c.send.new.connection c.at_mut.ensures.value c.send.ensures.link
+returns-in-Ok-clause-links c = map_kept link_of c.args.connections.now.items c.in-Some.i None (Some c.send.new.connection) (c.send.ensures.link ∙ ap link_of c.in-Some-at_mut.ensures.value)
 
 pub returns-in-Err-clause-kept : goal.returns-in-Err-clause-kept
-returns-in-Err-clause-kept c = λ e s links core first h. connection_keeps c.args.connections.now.items c.args.connections.now.items links core first s c.args.n c.in-Some.i c.at_mut.result.now refl c.in-Some.ensures.1 c.in-Some.ensures.2 c.at_mut.ensures.value c.in-Err.ensures.kept h
+returns-in-Err-clause-kept c = λ e s links core first h. connection_keeps c.args.connections.now.items links core first s c.args.n c.in-Some.i c.in-Some-at_mut.connection.now c.in-Some.ensures.1 c.in-Some.ensures.2 c.in-Some-at_mut.ensures.value c.in-Err.ensures.kept h

@@ -1,18 +1,27 @@
+use Rattle.std.proofs.Common.{true, Option, Some, None, sym, ap, subst, ◌∙◌}
 use Rattle.proxy_engine.specs.Wiring.{link_of}
-use Rattle.proxy_engine.proofs.Searching.{map_kept}
-use Rattle.proxy_engine.proofs.Taking.{connection_free, connection_refused, connection_taken}
-use Rattle.std.proofs.Common.{refl, true}
 use Rattle.proxy_engine.specs.Story.{ended}
+use Rattle.proxy_engine.specs.State.{ConnStands}
+use Rattle.proxy_engine.specs.declared.ends.Connection.{Connection}
+use Rattle.proxy_engine.proofs.Searching.{map_kept}
+use Rattle.proxy_engine.proofs.Taking.{connection_free, connection_refused, connection_taken, connection_over, ended_over}
 use Rattle.proxy_engine.proofs.takes.finish_client.Goals as goal
 
 pub returns-in_default-clause-fault : goal.returns-in_default-clause-fault
-returns-in_default-clause-fault c = λ s links core first h. connection_refused c.args.connections.now.items c.args.connections.now.items links core first s c.args.n refl c.in_default.ensures h
+returns-in_default-clause-fault c = λ s links core first h. connection_refused c.args.connections.now.items links core first s c.args.n c.in_default.ensures h
 
-pub returns-clause-ok : goal.returns-clause-ok
-returns-clause-ok c = λ s links core first h. record {
-  free = connection_free c.args.connections.now.items c.args.connections.now.items links core first s c.args.n true refl c.in-Some.ensures.0 h;
-  stands = connection_taken ended c.args.connections.now.items c.args.connections.now.items links core first s c.args.n c.in-Some.i c.at_mut.result.now c.end.new.connection refl c.in-Some.ensures.1 c.in-Some.ensures.2 c.at_mut.ensures.value c.end.ensures.stands h;
+pub returns-in_default-at_mut-clause-ok : goal.returns-in_default-at_mut-clause-ok
+returns-in_default-at_mut-clause-ok c = λ s links core first h. record {
+  free = connection_free c.args.connections.now.items links core first s c.args.n true c.in-Some.ensures.0 h;
+  stands = connection_over ended c.args.connections.now.items links core first s c.args.n c.in-Some.i c.in-Some.ensures.1 c.in-Some.ensures.2 c.in_default-at_mut.ensures.value ended_over h;
 }
 
-pub returns-clause-links : goal.returns-clause-links
-returns-clause-links c = map_kept link_of c.args.connections.now.items c.in-Some.i c.at_mut.result.now c.end.new.connection c.at_mut.ensures.value c.end.ensures.link
+pub returns-in-Some-at_mut-clause-ok : goal.returns-in-Some-at_mut-clause-ok
+returns-in-Some-at_mut-clause-ok c = λ s links core first h. record {
+  free = connection_free c.args.connections.now.items links core first s c.args.n true c.in-Some.ensures.0 h;
+  stands = connection_taken ended c.args.connections.now.items links core first s c.args.n c.in-Some.i (Some c.end.new.connection) c.in-Some.ensures.1 c.in-Some.ensures.2
+      (λ k q. c.end.ensures.stands k (subst (λ (o : Option Connection). ConnStands o k) (sym c.in-Some-at_mut.ensures.value) q)) h;
+}
+
+pub returns-in-Some-at_mut-clause-links : goal.returns-in-Some-at_mut-clause-links
+returns-in-Some-at_mut-clause-links c = map_kept link_of c.args.connections.now.items c.in-Some.i None (Some c.end.new.connection) (c.end.ensures.link ∙ ap link_of c.in-Some-at_mut.ensures.value)

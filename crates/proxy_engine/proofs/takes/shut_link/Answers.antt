@@ -1,18 +1,27 @@
+use Rattle.std.proofs.Common.{true, Option, Some, None, sym, ap, subst, ◌∙◌}
 use Rattle.proxy_engine.specs.Wiring.{owner_of}
-use Rattle.proxy_engine.proofs.Searching.{map_kept}
-use Rattle.proxy_engine.proofs.Taking.{link_free, link_refused, link_taken}
-use Rattle.std.proofs.Common.{refl, true}
 use Rattle.proxy_engine.specs.Story.{shut}
+use Rattle.proxy_engine.specs.State.{LinkStands}
+use Rattle.proxy_engine.specs.declared.ends.Link.{Link}
+use Rattle.proxy_engine.proofs.Searching.{map_kept}
+use Rattle.proxy_engine.proofs.Taking.{link_free, link_refused, link_taken, link_over, shut_over}
 use Rattle.proxy_engine.proofs.takes.shut_link.Goals as goal
 
 pub returns-in_default-clause-fault : goal.returns-in_default-clause-fault
-returns-in_default-clause-fault c = λ s connections core h. link_refused connections c.args.links.now.items c.args.links.now.items core c.args.first s c.args.l refl c.in_default.ensures h
+returns-in_default-clause-fault c = λ s connections core h. link_refused connections c.args.links.now.items core c.args.first s c.args.l c.in_default.ensures h
 
-pub returns-clause-ok : goal.returns-clause-ok
-returns-clause-ok c = λ s connections core h. record {
-  free = link_free connections c.args.links.now.items c.args.links.now.items core c.args.first s c.args.l true refl c.in-Some.ensures.0 h;
-  stands = link_taken shut connections c.args.links.now.items c.args.links.now.items core c.args.first s c.args.l c.in-Some.j c.at_mut.result.now c.close_link.new.link refl c.in-Some.ensures.1 c.in-Some.ensures.2 c.at_mut.ensures.value c.close_link.ensures.stands h;
+pub returns-in_default-at_mut-clause-ok : goal.returns-in_default-at_mut-clause-ok
+returns-in_default-at_mut-clause-ok c = λ s connections core h. record {
+  free = link_free connections c.args.links.now.items core c.args.first s c.args.l true c.in-Some.ensures.0 h;
+  stands = link_over shut connections c.args.links.now.items core c.args.first s c.args.l c.in-Some.j c.in-Some.ensures.1 c.in-Some.ensures.2 c.in_default-at_mut.ensures.value shut_over h;
 }
 
-pub returns-clause-owners : goal.returns-clause-owners
-returns-clause-owners c = map_kept owner_of c.args.links.now.items c.in-Some.j c.at_mut.result.now c.close_link.new.link c.at_mut.ensures.value c.close_link.ensures.owner
+pub returns-in-Some-at_mut-clause-ok : goal.returns-in-Some-at_mut-clause-ok
+returns-in-Some-at_mut-clause-ok c = λ s connections core h. record {
+  free = link_free connections c.args.links.now.items core c.args.first s c.args.l true c.in-Some.ensures.0 h;
+  stands = link_taken shut connections c.args.links.now.items core c.args.first s c.args.l c.in-Some.j (Some c.close_link.new.link) c.in-Some.ensures.1 c.in-Some.ensures.2
+      (λ k q. c.close_link.ensures.stands k (subst (λ (o : Option Link). LinkStands o k) (sym c.in-Some-at_mut.ensures.value) q)) h;
+}
+
+pub returns-in-Some-at_mut-clause-owners : goal.returns-in-Some-at_mut-clause-owners
+returns-in-Some-at_mut-clause-owners c = map_kept owner_of c.args.links.now.items c.in-Some.j None (Some c.close_link.new.link) (ap Some c.close_link.ensures.connection ∙ ap owner_of c.in-Some-at_mut.ensures.value)

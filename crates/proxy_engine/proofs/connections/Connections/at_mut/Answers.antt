@@ -1,12 +1,67 @@
-use Rattle.std.proofs.Common.{◌<◌, length, ap, arith}
+use Rattle.std.proofs.Common.{◌≡◌, ◌≢◌, inr, ℕ, List, set, refl, sym, ap, ◌∙◌, subst, Option, Some, is_some}
+use Rattle.std.specs.BTreeMap.{BTreeMap}
+use Rattle.proxy_engine.specs.Places.{listed, IsMarked}
 use Rattle.proxy_engine.specs.Marked.{ConnectionList, may_be_lost, may_want}
-use Rattle.proxy_engine.proofs.Marking.{marked_set}
+use Rattle.proxy_engine.specs.declared.ends.Connection.{Connection}
+use Rattle.proxy_engine.proofs.Shown.{none_from}
+use Rattle.proxy_engine.proofs.Keeping.{seen_at, listed_set, lent_if, elsewhere}
+use Rattle.proxy_engine.proofs.Marking.{has_room, marked_put, below_put}
 use Rattle.proxy_engine.proofs.connections.Connections.at_mut.Goals as goal
 
+pub put-requires : goal.put-requires
+put-requires c = has_room may_be_lost c.self.inside.ends c.self.inside.lost c.args.i c.self.invariant.0 (sym c.contains_key.ensures ∙ c.if-not-contains_key.false)
+
+pub put-requires-2 : goal.put-requires-2
+put-requires-2 c = has_room may_want c.self.inside.ends c.self.inside.waiting c.args.i c.self.invariant.2 (sym c.contains_key.ensures ∙ c.if-not-contains_key.false)
+
 pub invariant_of-self-lent : goal.invariant_of-self-lent
-invariant_of-self-lent c = λ w.
-    let xs = c.self.inside.items.items in
-    let within : c.args.i < length xs = omega (arith, c.requires, ap (λ (v : ConnectionList). length v.items) c.self.view_is) in (
-      marked_set may_be_lost xs c.self.inside.lost c.put.new.self c.args.i w c.self.invariant.0 (λ e. c.put.ensures.there) c.put.ensures.others c.put.ensures.only within (omega (arith, c.put.ensures.room)),
-      marked_set may_want xs c.self.inside.waiting c.put-2.new.self c.args.i w c.self.invariant.1 (λ e. c.put-2.ensures.there) c.put-2.ensures.others c.put-2.ensures.only within (omega (arith, c.put-2.ensures.room)),
+invariant_of-self-lent c = λ r.
+    let m = c.self.inside.ends in
+    let i = c.args.i in
+    let here = sym c.contains_key.ensures ∙ c.if-not-contains_key.false in
+    let seen = seen_at m c.self.inside.count i c.args.self.now.items (ap (λ (v : ConnectionList). v.items) c.self.view_is) c.requires in
+    let within = seen.0 in (
+      (λ w.
+          let held = c.get_mut.follows.holds w in
+          let k = c.get_mut.follows.lender w in
+          let updates = held.3 here in
+          let others = λ (q : ℕ) (other : q ≢ i). updates.2 q (elsewhere i q other) in
+          let some = ap is_some updates.1 in (
+            marked_put may_be_lost m k c.self.inside.lost c.put.new.self i c.self.invariant.0 others some held.2 c.put.ensures.there c.put.ensures.others c.put.ensures.only c.put.ensures.room c.put.ensures.falls,
+            below_put c.self.inside.count c.self.inside.lost.places c.put.new.self.places i c.self.invariant.1 within c.put.ensures.only,
+            marked_put may_want m k c.self.inside.waiting c.put-2.new.self i c.self.invariant.2 others some held.2 c.put-2.ensures.there c.put-2.ensures.others c.put-2.ensures.only c.put-2.ensures.room c.put-2.ensures.falls,
+            below_put c.self.inside.count c.self.inside.waiting.places c.put-2.new.self.places i c.self.invariant.3 within c.put-2.ensures.only,
+          )),
+      (
+        subst (λ (k : BTreeMap ℕ Connection). IsMarked may_be_lost k c.put.new.self) (sym c.get_mut.follows.holds-at-none)
+            (marked_put may_be_lost m m c.self.inside.lost c.put.new.self i c.self.invariant.0 (λ q other. refl) here refl c.put.ensures.there c.put.ensures.others c.put.ensures.only c.put.ensures.room c.put.ensures.falls),
+        below_put c.self.inside.count c.self.inside.lost.places c.put.new.self.places i c.self.invariant.1 within c.put.ensures.only,
+        subst (λ (k : BTreeMap ℕ Connection). IsMarked may_want k c.put-2.new.self) (sym c.get_mut.follows.holds-at-none)
+            (marked_put may_want m m c.self.inside.waiting c.put-2.new.self i c.self.invariant.2 (λ q other. refl) here refl c.put-2.ensures.there c.put-2.ensures.others c.put-2.ensures.only c.put-2.ensures.room c.put-2.ensures.falls),
+        below_put c.self.inside.count c.self.inside.waiting.places c.put-2.new.self.places i c.self.invariant.3 within c.put-2.ensures.only,
+      ),
+    )
+
+pub returns-then-not-contains_key : goal.returns-then-not-contains_key
+returns-then-not-contains_key c =
+    let seen = seen_at c.self.inside.ends c.self.inside.count c.args.i c.args.self.now.items (ap (λ (v : ConnectionList). v.items) c.self.view_is) c.requires in (
+      ap inr c.self.view_is,
+      record { writes_back = tt; value = sym (none_from _ (sym c.if-not-contains_key.true ∙ c.contains_key.ensures)) ∙ seen.1 },
+    )
+
+pub returns : goal.returns
+returns c =
+    let m = c.self.inside.ends in
+    let n = c.self.inside.count in
+    let i = c.args.i in
+    let old : listed m n ≡ c.args.self.now.items = ap (λ (v : ConnectionList). v.items) c.self.view_is in
+    let seen = seen_at m n i c.args.self.now.items old c.requires in
+    let here = sym c.contains_key.ensures ∙ c.if-not-contains_key.false in (
+      lent_if c.get_mut.result _ _ _ _
+          (λ e w.
+          let updates = (c.get_mut.follows.holds w).3 here in
+          ap {B = ConnectionList} (λ (xs : List (Option Connection)). record { items = xs })
+          (listed_set m (c.get_mut.follows.lender w) n i (Some w) updates.1 (λ q other. updates.2 q (elsewhere i q other)) ∙ ap (λ (xs : List (Option Connection)). set xs i (Some w)) old))
+          (ap {B = ConnectionList} (λ (k : BTreeMap ℕ Connection). record { items = listed k n }) c.get_mut.follows.holds-at-none ∙ c.self.view_is),
+      record { writes_back = tt; value = c.get_mut.ensures.value ∙ seen.1 },
     )

@@ -2,11 +2,12 @@ use Rattle.std.proofs.Common.{◌≡◌, sym, subst, ap, ◌∙◌, true}
 use Rattle.hx_allow.specs.Lines.{Table}
 use Rattle.proxy_engine.specs.Happenings.{said}
 use Rattle.proxy_engine.specs.Story.{keeps}
-use Rattle.proxy_engine.specs.State.{State, Stands, Takes, state}
+use Rattle.proxy_engine.specs.State.{State, Stands, Takes, TakeFault, state}
 use Rattle.proxy_engine.specs.declared.happening.Happening.{Happening}
 use Rattle.proxy_engine.specs.Wiring.{owners_of}
 use Rattle.proxy_engine.proofs.Wires.{wired_accepted}
 use Rattle.proxy_engine.proofs.Taking.{on_ok}
+use Rattle.proxy_engine.proofs.Wishing.{on_err}
 use Rattle.proxy_engine.proofs.engine.Engine.take.Goals as goal
 
 pub returns-in-Accept-clause-ok : goal.returns-in-Accept-clause-ok
@@ -52,3 +53,13 @@ returns-in-Link-clause-kept g c = λ e s h. subst (λ (x : Happening). keeps s (
 
 pub invariant_of-self : goal.invariant_of-self
 invariant_of-self g c = wired_accepted c.accept.result c.self.inside.connections.items c.accept.new.connections.items (owners_of c.self.inside.links.items) c.self.inside.core.exchanges c.accept.ensures.links c.accept.ensures.err c.self.invariant
+
+pub returns-in-Client-clause-fault : goal.returns-in-Client-clause-fault
+returns-in-Client-clause-fault g c = on_err c.client.result _ _
+    (λ e k s h. subst (λ (x : Happening). TakeFault s (said x) e) (sym c.in-Client.is) (k s c.self.inside.links.items c.self.inside.core c.self.inside.first_link (subst (λ (e : State). Stands e s) (sym c.self.view_is) h)))
+    c.client.ensures.fault
+
+pub returns-in-Link-clause-fault : goal.returns-in-Link-clause-fault
+returns-in-Link-clause-fault g c = on_err c.answer.result _ _
+    (λ e k s h. subst (λ (x : Happening). TakeFault s (said x) e) (sym c.in-Link.is) (k s c.self.inside.connections.items c.self.inside.core (subst (λ (e : State). Stands e s) (sym c.self.view_is) h)))
+    c.answer.ensures.fault

@@ -1,21 +1,36 @@
-use Rattle.std.proofs.Common.{◌≡◌, ◌<◌, ◌⊎◌, ℕ, List, Contains, length, min, rules, subst, sym, arith, ◌∙◌}
-use Rattle.std.specs.Prelude.{vec_len, vec_capacity}
+use Rattle.std.proofs.Common.{◌≡◌, ◌+◌, ◌^◌, nat_lt, List, [], ◌∷◌, ◌++◌, length, ap, ◌∙◌, arith, Option, Some, is_some}
+use Rattle.std.specs.Ordering.{nat_cmp}
+use Rattle.std.specs.BTreeMap.{get, Updates}
+use Rattle.proxy_engine.specs.Places.{listed}
 use Rattle.proxy_engine.specs.Marked.{LinkList, may_stand}
-use Rattle.proxy_engine.specs.Places.{IsMarked}
 use Rattle.proxy_engine.specs.declared.ends.Link.{Link}
-use Rattle.proxy_engine.proofs.Falling.{with_room}
-use Rattle.proxy_engine.proofs.Marking.{marked_push, room_in_both}
+use Rattle.proxy_engine.proofs.Keeping.{elsewhere, listed_more, listed_same, surely, surely_size, both_true}
+use Rattle.proxy_engine.proofs.Marking.{has_room, marked_put, below_put, below_more}
 use Rattle.proxy_engine.proofs.links.Links.put.Goals as goal
+
+pub put-requires : goal.put-requires
+put-requires c =
+    let there = both_true (nat_lt (c.self.inside.count + 1) (2 ^ 64)) (is_some (get nat_cmp c.self.inside.ends c.self.inside.count)) (ap (λ (v : LinkList). v.has_room) c.self.view_is ∙ c.requires) in
+    has_room may_stand c.self.inside.ends c.self.inside.stirred c.self.inside.count c.self.invariant.0 there.1
 
 pub invariant_of-self : goal.invariant_of-self
 invariant_of-self c =
-    let xs = c.self.inside.items.items in
-    let fits : length xs < min (vec_capacity c.self.inside.items) c.self.inside.stirred.room =
-    subst (λ (v : LinkList). length v.items < v.room) (sym c.self.view_is) c.requires in
-    let room = room_in_both (length xs) _ _ fits in
-    let same : vec_len c.self.inside.items ≡ length xs = search rules in
-    let place : c.len.result ≡ length xs = c.len.ensures ∙ same in
-    let added = with_room c.push.result _ _ _ (c.push.ensures.succeeds (omega (arith, same, room.0))) c.push.ensures.items in
-    subst (λ (ys : List Link). IsMarked may_stand ys c.put.new.self) (sym added)
-    (marked_push may_stand xs c.self.inside.stirred c.put.new.self c.args.link c.self.invariant (subst (λ (n : ℕ). Contains c.put.new.self.places n) place c.put.ensures.there) c.put.ensures.others
-    (subst (λ (n : ℕ). (q : ℕ) → Contains c.put.new.self.places q → Contains c.self.inside.stirred.places q ⊎ (q ≡ n)) place c.put.ensures.only) (omega (arith, room.1, c.put.ensures.room)))
+    let m = c.self.inside.ends in
+    let k = c.insert.new.self in
+    let n = c.self.inside.count in
+    let there = both_true (nat_lt (c.self.inside.count + 1) (2 ^ 64)) (is_some (get nat_cmp c.self.inside.ends c.self.inside.count)) (ap (λ (v : LinkList). v.has_room) c.self.view_is ∙ c.requires) in
+    let updates = surely c.insert.result (get nat_cmp m n) (Updates nat_cmp m k n (Some c.args.link)) c.insert.ensures.updates c.insert.ensures.absent there.1 in
+    let size = surely_size c.insert.result (get nat_cmp m n) (length k.entries) (length m.entries) c.insert.ensures.old c.insert.ensures.len c.insert.ensures.absent there.1 in (
+      marked_put may_stand m k c.self.inside.stirred c.put.new.self n c.self.invariant.0 (λ q other. updates.2 q (elsewhere n q other)) (ap is_some updates.1) size c.put.ensures.there c.put.ensures.others c.put.ensures.only c.put.ensures.room c.put.ensures.falls,
+      below_put (n + 1) c.self.inside.stirred.places c.put.new.self.places n (below_more n _ c.self.invariant.1) (omega arith) c.put.ensures.only,
+    )
+
+pub returns : goal.returns
+returns c =
+    let m = c.self.inside.ends in
+    let k = c.insert.new.self in
+    let n = c.self.inside.count in
+    let there = both_true (nat_lt (c.self.inside.count + 1) (2 ^ 64)) (is_some (get nat_cmp c.self.inside.ends c.self.inside.count)) (ap (λ (v : LinkList). v.has_room) c.self.view_is ∙ c.requires) in
+    let updates = surely c.insert.result (get nat_cmp m n) (Updates nat_cmp m k n (Some c.args.link)) c.insert.ensures.updates c.insert.ensures.absent there.1 in
+    let same : listed k n ≡ c.args.self.now.items = listed_same m k n (λ q l. updates.2 q (elsewhere n q (λ e. absurd (omega (arith, e, l))))) ∙ ap (λ (v : LinkList). v.items) c.self.view_is in
+    listed_more k n ∙ (ap (λ (xs : List (Option Link)). xs ++ get nat_cmp k n ∷ []) same ∙ ap (λ (o : Option Link). c.args.self.now.items ++ o ∷ []) updates.1)

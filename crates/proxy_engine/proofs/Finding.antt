@@ -1,0 +1,75 @@
+-- What a search over the map of open ends has found, in the list of all.
+use Rattle.std.proofs.Common.{◌≡◌, ℕ, ◌<◌, List, length, get_or, sym, ap, ◌∙◌, subst, Contains, Option, None, Some, is_some, IfNone, IfSome, MatchOption, true}
+use Rattle.std.specs.Ordering.{nat_cmp}
+use Rattle.std.specs.BTreeMap.{BTreeMap, get}
+use Rattle.std.proofs.lemmas.List.{get_or-map}
+use Rattle.proxy_engine.specs.Story.{ConnStory, no_connection, no_link}
+use Rattle.proxy_engine.specs.Due.{IsFirst, Lost, Stood, Wanted}
+use Rattle.proxy_engine.specs.State.{Both, ConnStands, LinkStands, NoneLost, FoundLinks, FoundConnections, finish_at, wish_at, gone_at}
+use Rattle.proxy_engine.specs.Wiring.{at, link_of, links_of}
+use Rattle.proxy_engine.specs.Places.{listed, AllBelow}
+use Rattle.proxy_engine.specs.Marked.{may_be_lost, may_want, may_stand, NoneBelow, NoneAtAll, lost_at, StandsThere, WantsThere}
+use Rattle.proxy_engine.specs.declared.ends.Connection.{Connection}
+use Rattle.proxy_engine.specs.declared.ends.Link.{Link}
+use Rattle.proxy_engine.proofs.Keeping.{listed_length, listed_at, seen_at, inside}
+use Rattle.proxy_engine.proofs.Shown.{lost, lost_link}
+use Rattle.proxy_engine.proofs.Searching.{found_first, none_first, some_from}
+use Rattle.proxy_engine.proofs.Marking.{unlost, unlost_over, unwanted, unwanted_over, unstood, unstood_over}
+
+-- what a search for a gone connection with an open exchange found
+abbrev pub LostThere : BTreeMap ℕ Connection → List ℕ → ℕ × ℕ → Type 0
+LostThere m places p = (lost_at (get nat_cmp m p.0) ≡ Some p.1) × NoneBelow may_be_lost m p.0 × Contains places p.0
+
+module _ (m : BTreeMap ℕ Connection) (n : ℕ) (places : List ℕ) (below : AllBelow n places) (xs : List (Option Connection)) (view : listed m n ≡ xs) where
+  pub lost_first : (r : Option (ℕ × ℕ)) → IfNone r (NoneAtAll may_be_lost m) → IfSome r (LostThere m places) → (ss : List ConnStory) → Both ConnStands xs ss → IsFirst Lost no_connection ss r
+  lost_first None none some ss both = none_first ConnStands Lost may_be_lost no_connection m n unlost unlost_over none ss (subst (λ ys. Both ConnStands ys ss) (sym view) both)
+  lost_first (Some p) none some ss both =
+      found_first ConnStands Lost may_be_lost no_connection m n unlost unlost_over p.0 p.1 (below p.0 some.2) (λ s h. lost (get nat_cmp m p.0) s p.1 h some.0) some.1 ss (subst (λ ys. Both ConnStands ys ss) (sym view) both)
+
+  none_by : NoneAtAll may_be_lost m → NoneLost xs
+  none_by h i c e =
+      let there : is_some (get_or xs i None) ≡ true = ap is_some e in
+      let seen = seen_at m n i xs view (inside xs i there) in
+      h i c (seen.1 ∙ e)
+
+  pub none_lost : (r : Option (ℕ × ℕ)) → IfNone r (NoneAtAll may_be_lost m) → IfNone r (NoneLost xs)
+  none_lost None none = none_by none
+  none_lost (Some p) none = tt
+
+  at_place : (i : ℕ) → i < n → get_or xs i None ≡ get nat_cmp m i
+  at_place i l = ap (λ (ys : List (Option Connection)). get_or ys i None) (sym view) ∙ listed_at m n i None l
+
+  pub lost_linked : (r : Option (ℕ × ℕ)) → IfSome r (LostThere m places) → IfSome r (λ p. at (links_of xs) p.0 ≡ Some p.1)
+  lost_linked None some = tt
+  lost_linked (Some p) some =
+      let within : p.0 < n = below p.0 some.2 in
+      get_or-map link_of xs p.0 None None (subst (λ k. p.0 < k) (sym (listed_length m n) ∙ ap length view) within)
+      ∙ (ap link_of (at_place p.0 within) ∙ (lost_link (get nat_cmp m p.0) p.1 some.0).1)
+
+  pub lost_gone : (r : Option (ℕ × ℕ)) → IfSome r (LostThere m places) → IfSome r (λ p. gone_at (get_or xs p.0 None) ≡ Some true)
+  lost_gone None some = tt
+  lost_gone (Some p) some = ap gone_at (at_place p.0 (below p.0 some.2)) ∙ (lost_link (get nat_cmp m p.0) p.1 some.0).0
+
+pub due_found : (m : BTreeMap ℕ Connection) (n : ℕ) (places : List ℕ) (r : Option ℕ) → AllBelow n places
+    → MatchOption r (NoneAtAll may_want m) (λ i. WantsThere (get nat_cmp m i) × NoneBelow may_want m i × Contains places i) → FoundConnections (listed m n) r
+due_found m n places None below h = λ ss both. none_first ConnStands Wanted may_want no_connection m n unwanted unwanted_over h ss both
+due_found m n places (Some i) below h =
+    let within : i < n = below i h.2 in
+    let some = some_from (wish_at (get nat_cmp m i)) (sym h.0.0) in
+    record {
+      wish = some.0;
+      shown = ap wish_at (listed_at m n i None within) ∙ some.1;
+      first = λ ss both. found_first ConnStands Wanted may_want no_connection m n unwanted unwanted_over i some.0 within (λ s k. subst (λ o. Wanted s o) some.1 (h.0.1 s k)) h.1 ss both;
+    }
+
+pub finished_found : (m : BTreeMap ℕ Link) (n : ℕ) (places : List ℕ) (r : Option ℕ) → AllBelow n places
+    → MatchOption r (NoneAtAll may_stand m) (λ j. StandsThere (get nat_cmp m j) × NoneBelow may_stand m j × Contains places j) → FoundLinks (listed m n) r
+finished_found m n places None below h = λ ss both. none_first LinkStands Stood may_stand no_link m n unstood unstood_over h ss both
+finished_found m n places (Some j) below h =
+    let within : j < n = below j h.2 in
+    let some = some_from (finish_at (get nat_cmp m j)) (sym h.0.0) in
+    record {
+      finish = some.0;
+      shown = ap finish_at (listed_at m n j None within) ∙ some.1;
+      first = λ ss both. found_first LinkStands Stood may_stand no_link m n unstood unstood_over j some.0 within (λ s k. subst (λ o. Stood s o) some.1 (h.0.1 s k)) h.1 ss both;
+    }

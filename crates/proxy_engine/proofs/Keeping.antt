@@ -1,0 +1,149 @@
+-- What a map has at each place below a count.
+use Rattle.std.proofs.Common.{◌≡◌, ◌≢◌, inl, inr, ℕ, zero, suc, ◌+◌, ◌<◌, ◌≤◌, List, [], ◌∷◌, ◌++◌, length, get_or, set, refl, sym, ap, ◌∙◌, arith, Bool, true, false, cond, Option, None, Some, is_some, MutBor, Contains, Result, Ok, Err, IfOk, OnOk, OnErr, ◌&&◌}
+use Rattle.std.proofs.Math.Path.{fun_ext}
+use Rattle.std.specs.Option.{ghost_name_of}
+use Rattle.std.specs.Ordering.{nat_cmp, is_eq}
+use Rattle.std.specs.declared.cmp.Ordering.TheVariants.{Less, Equal, Greater}
+use Rattle.std.specs.Map.{lookup, remove_entry}
+use Rattle.std.specs.BTreeMap.{BTreeMap, get, is_at}
+use Rattle.std.specs.Cmp.{nat_cmp_is}
+use Rattle.std.proofs.lemmas.Bool.{cases_eq, cases_order}
+use Rattle.std.proofs.lemmas.List.{ext_get_or, get_or-set_same, get_or-set_other}
+use Rattle.std.proofs.lemmas.List.FromFn.{length-map-range_with_len, get_or-map-range_with_len, map-range_with_len_more}
+use Rattle.std.proofs.Math.ListN.{length-set}
+use borrow.Follows.Closed.{read_of}
+use Rattle.proxy_engine.specs.Places.{listed}
+
+-- a query finds its place and no other
+pub here_at : (p k : ℕ) → k ≡ p → is_at (nat_cmp p) k ≡ true
+here_at p k e = ap is_eq (sym (nat_cmp_is p k Equal (sym e)))
+
+pub elsewhere : (p k : ℕ) → k ≢ p → is_at (nat_cmp p) k ≡ false
+elsewhere p k other = elim (cases_order p k) [
+  | inl same ↦ absurd (other (sym same))
+  | inr (inl less) ↦ ap is_eq (sym (nat_cmp_is p k Less less))
+  | inr (inr more) ↦ ap is_eq (sym (nat_cmp_is p k Greater more))
+]
+
+module _ {A : Type 0} where
+  pub listed_length : (m : BTreeMap ℕ A) (n : ℕ) → length (listed m n) ≡ n
+  listed_length m n = length-map-range_with_len (get nat_cmp m) 0 n
+
+  pub listed_at : (m : BTreeMap ℕ A) (n i : ℕ) (d : Option A) → i < n → get_or (listed m n) i d ≡ get nat_cmp m i
+  listed_at m n i d l = get_or-map-range_with_len (get nat_cmp m) 0 n i i d l (omega arith)
+
+  -- the same is at each of these places
+  pub listed_same : (m k : BTreeMap ℕ A) (n : ℕ) → ((q : ℕ) → q < n → get nat_cmp k q ≡ get nat_cmp m q) → listed k n ≡ listed m n
+  listed_same m k n same =
+      ext_get_or None (listed k n) (listed m n) (listed_length k n ∙ sym (listed_length m n)) (λ q l.
+      let within : q < n = omega (arith, l, listed_length k n) in
+      listed_at k n q None within ∙ (same q within ∙ sym (listed_at m n q None within)))
+
+  -- a map that has o at i
+  pub listed_set : (m k : BTreeMap ℕ A) (n i : ℕ) (o : Option A) → get nat_cmp k i ≡ o → ((q : ℕ) → q ≢ i → get nat_cmp k q ≡ get nat_cmp m q) → listed k n ≡ set (listed m n) i o
+  listed_set m k n i o here others =
+      ext_get_or None (listed k n) (set (listed m n) i o) (listed_length k n ∙ (sym (listed_length m n) ∙ sym (length-set (listed m n) i o))) (λ q l.
+      let within : q < n = omega (arith, l, listed_length k n) in
+      listed_at k n q None within ∙ elim (cases_eq q i) [
+        | inl is ↦ ap (get nat_cmp k) is ∙ (here ∙ (sym (get_or-set_same (listed m n) i o None (omega (arith, listed_length m n, within, is))) ∙ sym (ap (λ (j : ℕ). get_or (set (listed m n) i o) j None) is)))
+        | inr other ↦ others q other ∙ (sym (listed_at m n q None within) ∙ sym (get_or-set_other (listed m n) i q o None other))
+      ])
+
+  -- one place more
+  pub listed_more : (m : BTreeMap ℕ A) (n : ℕ) → listed m (n + 1) ≡ listed m n ++ get nat_cmp m n ∷ []
+  listed_more m n = map-range_with_len_more (get nat_cmp m) 0 n n (omega arith)
+
+  -- where nothing is, nothing is taken away
+  pub set_none : (xs : List (Option A)) (i : ℕ) → get_or xs i None ≡ None → set xs i None ≡ xs
+  set_none [] i e = refl
+  set_none (x ∷ xs) zero e = ap (λ (o : Option A). o ∷ xs) (sym e)
+  set_none (x ∷ xs) (suc i) e = ap (λ (ys : List (Option A)). x ∷ ys) (set_none xs i e)
+
+  -- what is there, is within
+  pub inside : (xs : List (Option A)) (i : ℕ) → is_some (get_or xs i None) ≡ true → i < length xs
+  inside [] i e = absurd (cc)
+  inside (x ∷ xs) zero e = omega arith
+  inside (x ∷ xs) (suc i) e = let rest = inside xs i e in omega (arith, rest)
+
+  -- what is seen at a place is what the map has there
+  pub seen_at : (m : BTreeMap ℕ A) (n i : ℕ) (xs : List (Option A)) → listed m n ≡ xs → i < length xs → (i < n) × (get nat_cmp m i ≡ get_or xs i None)
+  seen_at m n i xs e l =
+      let within : i < n = omega (arith, l, ap length e, listed_length m n) in
+      (within, sym (listed_at m n i None within) ∙ ap (λ (ys : List (Option A)). get_or ys i None) e)
+
+  -- ---- no more places are told apart than a map has
+
+  removed_by : (b : Bool) (x : ℕ × A) (es less : List (ℕ × A)) (o : Option A) → is_some (cond b (Some x.1) o) ≡ true → (is_some o ≡ true → length es ≡ length less + 1) → suc (length es) ≡ length (cond b es (x ∷ less)) + 1
+  removed_by true x es less o e rest = omega arith
+  removed_by false x es less o e rest = let behind = rest e in omega (arith, behind)
+
+  removed_length : (test : ℕ → Bool) (es : List (ℕ × A)) → is_some (lookup test es) ≡ true → length es ≡ length (remove_entry test es) + 1
+  removed_length test [] e = absurd (cc)
+  removed_length test (x ∷ es) e = removed_by (test x.0) x es (remove_entry test es) (lookup test es) e (λ there. removed_length test es there)
+
+  lookup_left : (p q : ℕ) → q ≢ p → (es : List (ℕ × A)) → lookup (is_at (nat_cmp q)) (remove_entry (is_at (nat_cmp p)) es) ≡ lookup (is_at (nat_cmp q)) es
+  lookup_left p q other [] = refl
+  lookup_left p q other (x ∷ es) = elim (cases_eq x.0 p) [
+    | inl is ↦
+        ap (λ (b : Bool). lookup (is_at (nat_cmp q)) (cond b es (x ∷ remove_entry (is_at (nat_cmp p)) es))) (here_at p x.0 is)
+        ∙ sym (ap (λ (b : Bool). cond b (Some x.1) (lookup (is_at (nat_cmp q)) es)) (elsewhere q x.0 (λ e. other (sym e ∙ is))))
+    | inr apart ↦
+        ap (λ (b : Bool). lookup (is_at (nat_cmp q)) (cond b es (x ∷ remove_entry (is_at (nat_cmp p)) es))) (elsewhere p x.0 apart)
+        ∙ ap (λ (o : Option A). cond (is_at (nat_cmp q) x.0) (Some x.1) o) (lookup_left p q other es)
+  ]
+
+  -- each is there, and none twice
+  pub fits : (ps : List ℕ) (es : List (ℕ × A)) → ((i j : ℕ) → i < j → j < length ps → get_or ps j 0 ≢ get_or ps i 0) → ((p : ℕ) → Contains ps p → is_some (lookup (is_at (nat_cmp p)) es) ≡ true)
+      → length ps ≤ length es
+  fits [] es apart there = omega arith
+  fits (p ∷ ps) es apart there =
+      let one = removed_length (is_at (nat_cmp p)) es (there p (0, omega arith, refl)) in
+      let rest : length ps ≤ length (remove_entry (is_at (nat_cmp p)) es) =
+      fits ps (remove_entry (is_at (nat_cmp p)) es) (λ i j l m. apart (suc i) (suc j) (omega (arith, l)) (omega (arith, m)))
+      (λ q c. ap is_some (lookup_left p q (not_first q c) es) ∙ there q (suc c.0, omega (arith, c.1), c.2)) in
+      omega (arith, one, rest)
+    where
+      get_or_zero : (xs : List ℕ) (i d : ℕ) → i < length xs → get_or xs i 0 ≡ get_or xs i d
+      get_or_zero [] i d l = absurd (omega (arith, l))
+      get_or_zero (x ∷ xs) zero d l = refl
+      get_or_zero (x ∷ xs) (suc i) d l = get_or_zero xs i d (omega (arith, l))
+
+      not_first : (q : ℕ) → Contains ps q → q ≢ p
+      not_first q c e = apart 0 (suc c.0) (omega arith) (omega (arith, c.1)) (get_or_zero ps c.0 q c.1 ∙ (c.2 ∙ e))
+
+-- ---- what a map answers
+
+-- at most one more is there
+pub one_more : {A : Type 0} (o : Option A) (n m : ℕ) → n ≡ m + cond (is_some o) 0 1 → n ≤ m + 1
+one_more None n m e = omega (arith, e)
+one_more (Some x) n m e = omega (arith, e)
+
+pub one_less : {A : Type 0} (o : Option A) (n m : ℕ) → n + cond (is_some o) 1 0 ≡ m → n ≤ m
+one_less None n m e = omega (arith, e)
+one_less (Some x) n m e = omega (arith, e)
+
+none_some : {A : Type 0} (o : Option A) → o ≡ None → is_some o ≡ true → ⊥
+none_some None e h = absurd (cc)
+none_some (Some x) e h = absurd (cc)
+
+-- where the key is there already, no memory is taken
+pub surely : {A B E : Type 0} (r : Result B E) (o : Option A) (P : Type 0) → OnOk r P → OnErr r (o ≡ None) → is_some o ≡ true → P
+surely (Ok b) o P p none there = p
+surely (Err e) o P p none there = absurd (none_some o none there)
+
+pub surely_size : {A E : Type 0} (r : Result (Option A) E) (o : Option A) (n m : ℕ) → IfOk r (λ p. p ≡ o) → IfOk r (λ p. n ≡ m + cond (is_some p) 0 1) → OnErr r (o ≡ None) → is_some o ≡ true → n ≡ m
+surely_size (Ok (Some x)) o n m same size none there = omega (arith, size)
+surely_size (Ok None) o n m same size none there = absurd (none_some o (sym same) there)
+surely_size (Err e) o n m same size none there = absurd (none_some o none there)
+
+pub both_true : (a b : Bool) → a && b ≡ true → (a ≡ true) × (b ≡ true)
+both_true true true e = (refl, refl)
+both_true true false e = absurd (cc)
+both_true false b e = absurd (cc)
+
+-- ---- what is lent
+
+-- what a lender ends as, by what is lent
+pub lent_if : {D E : Type 0} (r : Option (MutBor E)) (F G : E → D) (v u : D) → (is_some r ≡ true → (w : E) → F w ≡ G w) → v ≡ u → read_of (ghost_name_of r) F v ≡ read_of (ghost_name_of r) G u
+lent_if None F G v u there none = ap inr none
+lent_if (Some x) F G v u there none = ap (λ f. inl (x.ghost_name, f)) (fun_ext (there refl))

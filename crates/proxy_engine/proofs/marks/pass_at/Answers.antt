@@ -1,0 +1,18 @@
+use Rattle.std.proofs.Common.{Option, Some, None, is_some, sym, ap, subst, ◌∙◌}
+use Rattle.proxy_engine.specs.Acts.{passing}
+use Rattle.proxy_engine.specs.State.{ConnStands, wish_at}
+use Rattle.proxy_engine.specs.Wiring.{link_of}
+use Rattle.proxy_engine.specs.declared.ends.Connection.{Connection}
+use Rattle.proxy_engine.proofs.Keeping.{inside}
+use Rattle.proxy_engine.proofs.Searching.{map_kept}
+use Rattle.proxy_engine.proofs.Changes.{changed_connection, due_at}
+use Rattle.proxy_engine.proofs.marks.pass_at.Goals as goal
+
+pub returns-clause-stands : goal.returns-clause-stands
+returns-clause-stands c = λ s a links core first due h.
+    let look = due_at c.in-Some.connection.now a (ap wish_at c.in-Some.ensures.value ∙ due) in
+    changed_connection (passing a) c.args.connections.now.items links core first s c.args.i (Some c.pass.new.connection) (inside c.args.connections.now.items c.args.i (ap is_some (sym c.in-Some.ensures.value)))
+    (λ k q. c.pass.ensures.stands k a look (subst (λ (o : Option Connection). ConnStands o k) (sym c.in-Some.ensures.value) q)) h
+
+pub returns-clause-links : goal.returns-clause-links
+returns-clause-links c = map_kept link_of c.args.connections.now.items c.args.i None (Some c.pass.new.connection) (c.pass.ensures.link ∙ ap link_of c.in-Some.ensures.value)
