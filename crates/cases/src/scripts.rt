@@ -1,38 +1,34 @@
 //! Scripts: the item at the front of a text, and whole replays.
 
 use crate::words::push_shown_in_brackets;
-use proxy_script::{Failure, Front, Item, read_item};
+use case_text::failure_word;
+use proxy_script::{Front, Item, read_item};
 use proxy_server::{ReplayFault, replay};
 use std::alloc::AllocError;
 
-fn failure_word(failure: Failure) -> &'static str {
-    match failure {
-        Failure::Refused => "refused",
-        Failure::TimedOut => "timed-out",
-        Failure::Closed => "closed",
-    }
-}
-
-fn write_item(text: &mut String, item: Item<'_>) -> Result<(), AllocError> {
+/// Writes the words of an item, without its bytes.
+fn write_words(text: &mut String, item: Item<'_>) -> Result<(), AllocError> {
     match item {
-        Item::Config(table) => {
-            text.push_str("config ")?;
-            push_shown_in_brackets(text, table)
-        }
+        Item::Config(_) => text.push_str("config"),
         Item::At(moment) => write!(text, "at {moment}"),
         Item::Accept(client) => write!(text, "accept {client}"),
-        Item::Client(client, bytes) => {
-            write!(text, "client {client} ")?;
-            push_shown_in_brackets(text, bytes)
-        }
-        Item::Link(link, bytes) => {
-            write!(text, "link {link} ")?;
-            push_shown_in_brackets(text, bytes)
-        }
+        Item::Client(client, _) => write!(text, "client {client}"),
+        Item::Link(link, _) => write!(text, "link {link}"),
         Item::End(client) => write!(text, "end {client}"),
         Item::Gone(client) => write!(text, "gone {client}"),
         Item::Shut(link) => write!(text, "shut {link}"),
         Item::Fail(link, failure) => write!(text, "fail {link} {}", failure_word(failure)),
+    }
+}
+
+fn write_item(text: &mut String, item: Item<'_>) -> Result<(), AllocError> {
+    write_words(text, item)?;
+    match item {
+        Item::Config(bytes) | Item::Client(_, bytes) | Item::Link(_, bytes) => {
+            text.push(' ')?;
+            push_shown_in_brackets(text, bytes)
+        }
+        _ => Ok(()),
     }
 }
 

@@ -3,7 +3,8 @@
 use proxy_script::{Failure, Item};
 use std::alloc::{AllocError, Global};
 
-fn word(failure: Failure) -> &'static str {
+/// The word of a failure in a script.
+pub fn failure_word(failure: Failure) -> &'static str {
     match failure {
         Failure::Refused => "refused",
         Failure::TimedOut => "timed-out",
@@ -22,7 +23,7 @@ fn line_of(alloc: Global, item: Item<'_>) -> Result<String, AllocError> {
         Item::End(n) => format!(in alloc; "end {n}"),
         Item::Gone(n) => format!(in alloc; "gone {n}"),
         Item::Shut(l) => format!(in alloc; "shut {l}"),
-        Item::Fail(l, failure) => format!(in alloc; "fail {l} {}", word(failure)),
+        Item::Fail(l, failure) => format!(in alloc; "fail {l} {}", failure_word(failure)),
     }
 }
 
