@@ -3,9 +3,10 @@ ghost use Rattle.std.specs.Prelude.{◌<◌};
 
 use crate::answers::{Question, push_answer};
 use crate::dice::Dice;
-use crate::items::{happening, push_item};
+use crate::items::happening;
 use crate::log::{Log, Step, Told};
 use crate::requests::{Asked, push_request};
+use case_text::push_item;
 use hx_allow::Config;
 use hx_store::ListShelf;
 use proxy_engine::{Engine, EngineFault, Work};
@@ -103,6 +104,18 @@ impl Drop for Caller {
     }
 }
 
+impl Caller {
+    /// Begins a request, which is sent behind the rest.
+    fn begin(&mut self, alloc: Global, dice: &mut Dice) -> Result<Asked, AllocError> {
+        self.begun = self.begun.saturating_add(1);
+        let asked = Asked::random(dice, self.number, self.begun);
+        let mut text = String::new(alloc);
+        push_request(&mut text, dice, &asked)?;
+        self.rest.extend_from_slice(text.as_bytes())?;
+        Ok(asked)
+    }
+}
+
 /// An open link to an origin.
 struct Link {
     number: u64,
@@ -120,6 +133,16 @@ impl Drop for Link {
             has_begun: _,
             rest: _,
         } = self;
+    }
+}
+
+impl Link {
+    /// Begins the answer.
+    fn begin(&mut self, alloc: Global, dice: &mut Dice) -> Result<(), AllocError> {
+        self.has_begun = true;
+        let mut text = String::new(alloc);
+        push_answer(&mut text, dice, &self.question)?;
+        self.rest.extend_from_slice(text.as_bytes())
     }
 }
 
@@ -161,6 +184,25 @@ fn cut_piece(dice: &mut Dice, rest: &mut Vec<u8>) -> Result<Vec<u8>, AllocError>
     };
     let tail = rest.split_off(length.min(whole))?;
     Ok(mem::replace(rest, tail))
+}
+
+/// What happens at a connection or a link that is over, where they are.
+fn late(
+    roll: usize,
+    n: u64,
+    l: u64,
+    is_open: bool,
+    is_linked: bool,
+) -> Option<(Item<'static>, Told)> {
+    match roll {
+        0 if !is_open => Some((Item::Client(n, b"GET /late HTTP/1.1\r\n"), Told::Other)),
+        1 if !is_open => Some((Item::End(n), Told::Other)),
+        2 if !is_open => Some((Item::Gone(n), Told::Gone(n))),
+        _ if is_linked => None,
+        3 => Some((Item::Fail(l, Failure::Closed), Told::Other)),
+        4 => Some((Item::Shut(l), Told::Other)),
+        _ => Some((Item::Link(l, b"late"), Told::Other)),
+    }
 }
 
 impl World {
@@ -259,11 +301,7 @@ impl World {
             return self.accept();
         };
         if caller.rest.is_empty() || self.dice.once_in(8) {
-            caller.begun = caller.begun.saturating_add(1);
-            let asked = Asked::random(&mut self.dice, caller.number, caller.begun);
-            let mut text = String::new(self.alloc);
-            push_request(&mut text, &mut self.dice, &asked)?;
-            caller.rest.extend_from_slice(text.as_bytes())?;
+            let asked = caller.begin(self.alloc, &mut self.dice)?;
             self.log.asked.push(asked).map_err(AllocError::from)?;
         }
         let number = caller.number;
@@ -279,10 +317,7 @@ impl World {
         };
         let number = link.number;
         if !link.has_begun {
-            link.has_begun = true;
-            let mut text = String::new(self.alloc);
-            push_answer(&mut text, &mut self.dice, &link.question)?;
-            link.rest.extend_from_slice(text.as_bytes())?;
+            link.begin(self.alloc, &mut self.dice)?;
         } else if link.rest.is_empty() {
             return self.happen(Item::Shut(number), Told::Other);
         }
@@ -326,14 +361,9 @@ impl World {
         let l = (self.dice.below(self.forwarded as usize) as u64).saturating_add(1);
         let is_open = self.callers.iter().any(|caller| caller.number == n);
         let is_linked = self.forwarded == 0 || self.links.iter().any(|link| link.number == l);
-        match self.dice.below(6) {
-            0 if !is_open => self.happen(Item::Client(n, b"GET /late HTTP/1.1\r\n"), Told::Other),
-            1 if !is_open => self.happen(Item::End(n), Told::Other),
-            2 if !is_open => self.happen(Item::Gone(n), Told::Gone(n)),
-            3 if !is_linked => self.happen(Item::Fail(l, Failure::Closed), Told::Other),
-            4 if !is_linked => self.happen(Item::Shut(l), Told::Other),
-            _ if !is_linked => self.happen(Item::Link(l, b"late"), Told::Other),
-            _ => self.client_sends(),
+        match late(self.dice.below(6), n, l, is_open, is_linked) {
+            Some((item, told)) => self.happen(item, told),
+            None => self.client_sends(),
         }
     }
 
@@ -370,22 +400,31 @@ impl World {
         let text = effects_text(self.alloc, effects)?;
         self.log.effects.extend_from_slice(text.as_slice())?;
         for effect in effects {
-            match effect {
-                Effect::Client(_, _) => {}
-                Effect::Forward(number, _, bytes) => {
-                    self.forwarded = *number;
-                    let link = Link {
-                        number: *number,
-                        question: Question::read(self.alloc, bytes.as_slice())?,
-                        has_begun: false,
-                        rest: Vec::new(self.alloc),
-                    };
-                    self.links.push(link).map_err(AllocError::from)?;
-                }
-                Effect::Close(number) => self.callers.retain(|caller| caller.number != *number),
-                Effect::Drop(number) => self.links.retain(|link| link.number != *number),
-            }
+            self.learn(effect)?;
         }
+        Ok(())
+    }
+
+    fn learn(&mut self, effect: &Effect) -> Result<(), Stopped> {
+        match effect {
+            Effect::Client(_, _) => {}
+            Effect::Forward(number, _, bytes) => self.open(*number, bytes.as_slice())?,
+            Effect::Close(number) => self.callers.retain(|caller| caller.number != *number),
+            Effect::Drop(number) => self.links.retain(|link| link.number != *number),
+        }
+        Ok(())
+    }
+
+    /// There is a new link, with this request.
+    fn open(&mut self, number: u64, request: &[u8]) -> Result<(), Stopped> {
+        self.forwarded = number;
+        let link = Link {
+            number,
+            question: Question::read(self.alloc, request)?,
+            has_begun: false,
+            rest: Vec::new(self.alloc),
+        };
+        self.links.push(link).map_err(AllocError::from)?;
         Ok(())
     }
 }
