@@ -1,11 +1,17 @@
-//! The texts of cases: bytes as people write them, with escapes for what a line of text can't hold.
+//! What the programs that test have in common: the texts of cases and of scripts' items, and the files of a folder.
+//!
+//! The text of a case is bytes as people write them, with escapes for what a line of text can't hold.
 //!
 //! `↵` is CR LF, `\r`, `\n`, `\t` and `\\` are as in Rust, `\xHH` is a byte, `\{TEXT*N}` is TEXT so many times, and `\.`
 //! nothing at all. Every other character stands for its bytes in UTF-8.
 #![tactic(auto)]
 
+mod folder;
+mod items;
 mod reading;
 mod showing;
 
+pub use folder::stems_ending;
+pub use items::{failure_word, push_item};
 pub use reading::{TextFault, push_bytes};
 pub use showing::push_shown;

@@ -61,72 +61,54 @@ pub enum Driver {
     Lines(OnLines),
 }
 
-impl OnBytes {
-    fn named(name: &str) -> Option<OnBytes> {
-        match name {
-            "requests" => Some(OnBytes::Requests),
-            "parts of requests" => Some(OnBytes::RequestParts),
-            "responses to GET" => Some(OnBytes::ResponsesToGet),
-            "responses to HEAD" => Some(OnBytes::ResponsesToHead),
-            "first items of scripts" => Some(OnBytes::FirstItems),
-            "later items of scripts" => Some(OnBytes::LaterItems),
-            "replays" => Some(OnBytes::Replays),
-            _ => None,
-        }
-    }
-}
-
-impl OnParts {
-    fn named(name: &str) -> Option<OnParts> {
-        match name {
-            "ages" => Some(OnParts::Ages),
-            "storing" => Some(OnParts::Storing),
-            "reuse" => Some(OnParts::Reuse),
-            "reuse on error" => Some(OnParts::OnError),
-            "answers to validation" => Some(OnParts::Validating),
-            "freshening" => Some(OnParts::Freshening),
-            "client conditions" => Some(OnParts::ClientConditions),
-            "304s to clients" => Some(OnParts::NotModified),
-            "responses passed on" => Some(OnParts::PassedResponses),
-            "requests passed on" => Some(OnParts::Forwarding),
-            _ => None,
-        }
-    }
-}
-
-impl OnLines {
-    fn named(name: &str) -> Option<OnLines> {
-        match name {
-            "steps" => Some(OnLines::Steps),
-            "targets" => Some(OnLines::Targets),
-            "faults of targets" => Some(OnLines::TargetFaults),
-            "paths" => Some(OnLines::Paths),
-            "values" => Some(OnLines::Values),
-            "tables" => Some(OnLines::Tables),
-            "changed tables" => Some(OnLines::ChangedTables),
-            "verdicts" => Some(OnLines::Verdicts),
-            "directives" => Some(OnLines::Directives),
-            "fields of a connection" => Some(OnLines::Stripping),
-            "members of Cache-Status" => Some(OnLines::Members),
-            "refusals" => Some(OnLines::Refusals),
-            _ => None,
-        }
-    }
-}
+/// The words for what is played.
+static DRIVERS: [(&str, Driver); 29] = [
+    ("requests", Driver::Bytes(OnBytes::Requests)),
+    ("parts of requests", Driver::Bytes(OnBytes::RequestParts)),
+    ("responses to GET", Driver::Bytes(OnBytes::ResponsesToGet)),
+    ("responses to HEAD", Driver::Bytes(OnBytes::ResponsesToHead)),
+    ("first items of scripts", Driver::Bytes(OnBytes::FirstItems)),
+    ("later items of scripts", Driver::Bytes(OnBytes::LaterItems)),
+    ("replays", Driver::Bytes(OnBytes::Replays)),
+    ("ages", Driver::Parts(OnParts::Ages)),
+    ("storing", Driver::Parts(OnParts::Storing)),
+    ("reuse", Driver::Parts(OnParts::Reuse)),
+    ("reuse on error", Driver::Parts(OnParts::OnError)),
+    ("answers to validation", Driver::Parts(OnParts::Validating)),
+    ("freshening", Driver::Parts(OnParts::Freshening)),
+    (
+        "client conditions",
+        Driver::Parts(OnParts::ClientConditions),
+    ),
+    ("304s to clients", Driver::Parts(OnParts::NotModified)),
+    (
+        "responses passed on",
+        Driver::Parts(OnParts::PassedResponses),
+    ),
+    ("requests passed on", Driver::Parts(OnParts::Forwarding)),
+    ("steps", Driver::Lines(OnLines::Steps)),
+    ("targets", Driver::Lines(OnLines::Targets)),
+    ("faults of targets", Driver::Lines(OnLines::TargetFaults)),
+    ("paths", Driver::Lines(OnLines::Paths)),
+    ("values", Driver::Lines(OnLines::Values)),
+    ("tables", Driver::Lines(OnLines::Tables)),
+    ("changed tables", Driver::Lines(OnLines::ChangedTables)),
+    ("verdicts", Driver::Lines(OnLines::Verdicts)),
+    ("directives", Driver::Lines(OnLines::Directives)),
+    ("fields of a connection", Driver::Lines(OnLines::Stripping)),
+    ("members of Cache-Status", Driver::Lines(OnLines::Members)),
+    ("refusals", Driver::Lines(OnLines::Refusals)),
+];
 
 impl Driver {
     /// The driver of a name.
     pub fn named(name: &str) -> Option<Driver> {
-        if let Some(play) = OnBytes::named(name) {
-            return Some(Driver::Bytes(play));
+        for (known, driver) in &DRIVERS {
+            if *known == name {
+                return Some(*driver);
+            }
         }
-        if let Some(play) = OnParts::named(name) {
-            return Some(Driver::Parts(play));
-        }
-        match OnLines::named(name) {
-            Some(play) => Some(Driver::Lines(play)),
-            None => None,
-        }
+        None
     }
 }
 

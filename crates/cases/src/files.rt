@@ -2,32 +2,26 @@
 
 use crate::case_file::{Tally, play_text};
 use crate::lines::Fault;
+use case_text::stems_ending;
 use std::rt::{Env, Files};
 use std::{env, fs, io};
 
-/// The names of the arguments behind the program's own.
-fn named<R: Env + AllocGlobal>(rt: &R) -> io::Result<Vec<String>> {
-    let mut names = Vec::new(rt.alloc());
-    let mut arguments = env::args(rt)?;
-    let _program = arguments.next();
-    for name in arguments {
-        names.push(name)?;
+fn tell_tally<R: Print>(rt: &R, name: &str, tally: Tally) -> io::Result<bool> {
+    let (hold, differ) = (tally.hold, tally.differ);
+    if differ > 0 {
+        println!(rt; "{name}: {hold} cases hold, {differ} do not")?;
+    } else {
+        println!(rt; "{name}: {hold} cases hold")?;
     }
-    Ok(names)
+    Ok(differ == 0)
 }
 
-/// The names of the case files in this folder.
-fn found<R: Files + AllocGlobal + Clone + Drop>(rt: &R) -> io::Result<Vec<String>> {
-    let mut names = Vec::new(rt.alloc());
-    for entry in fs::read_dir(rt, ".")? {
-        let entry = entry?;
-        let name = entry.file_name();
-        if name.ends_with(".cases") {
-            names.push(String::from_str(rt.alloc(), name)?)?;
-        }
+fn tell_fault<R: Print>(rt: &R, name: &str, fault: Fault) -> io::Result<bool> {
+    match fault {
+        Fault::At(line, why) => println!(rt; "{name}:{line}: {why}")?,
+        Fault::OutOfMemory => println!(rt; "{name}: no memory")?,
     }
-    names.sort()?;
-    Ok(names)
+    Ok(false)
 }
 
 /// Prints what became of a file, and tells whether all is well.
@@ -39,23 +33,8 @@ fn tell<R: Print>(
 ) -> io::Result<bool> {
     print!(rt; "{report}")?;
     match played {
-        Ok(tally) => {
-            let (hold, differ) = (tally.hold, tally.differ);
-            if differ > 0 {
-                println!(rt; "{name}: {hold} cases hold, {differ} do not")?;
-            } else {
-                println!(rt; "{name}: {hold} cases hold")?;
-            }
-            Ok(differ == 0)
-        }
-        Err(Fault::At(line, why)) => {
-            println!(rt; "{name}:{line}: {why}")?;
-            Ok(false)
-        }
-        Err(Fault::OutOfMemory) => {
-            println!(rt; "{name}: no memory")?;
-            Ok(false)
-        }
+        Ok(tally) => tell_tally(rt, name, tally),
+        Err(fault) => tell_fault(rt, name, fault),
     }
 }
 
@@ -72,18 +51,27 @@ fn play<R: Files + Print + AllocGlobal>(rt: &R, name: &str) -> io::Result<bool> 
     tell(rt, name, report.as_str(), played)
 }
 
-/// Plays each file, prints what became of it, and tells whether all cases hold. No file at all is a failure.
-pub fn play_all<R: Files + Env + Print + AllocGlobal + Clone + Drop>(rt: &R) -> io::Result<bool> {
-    let mut names = named(rt)?;
-    if names.is_empty() {
-        names = found(rt)?;
-    }
-    let mut all = !names.is_empty();
-    if !all {
+/// Plays all case files of this folder. None at all is a failure.
+fn play_here<R: Files + Print + AllocGlobal + Clone + Drop>(rt: &R) -> io::Result<bool> {
+    let stems = stems_ending(rt, ".cases")?;
+    if stems.is_empty() {
         println!(rt; "no case file: name some, as in `rt try -- data/*.cases`")?;
     }
-    for name in &names {
-        all = play(rt, name.as_str())? && all;
+    let mut all = !stems.is_empty();
+    for stem in &stems {
+        let name = format!(in rt.alloc(); "{stem}.cases")?;
+        all &= play(rt, name.as_str())?;
     }
     Ok(all)
+}
+
+/// Plays each file that the arguments name, or all that lie here, prints what became of it, and tells whether all cases hold.
+pub fn play_all<R: Files + Env + Print + AllocGlobal + Clone + Drop>(rt: &R) -> io::Result<bool> {
+    let mut all = true;
+    let mut is_named = false;
+    for name in env::args(rt)?.skip(1) {
+        is_named = true;
+        all &= play(rt, name.as_str())?;
+    }
+    if is_named { Ok(all) } else { play_here(rt) }
 }

@@ -1,31 +1,17 @@
 //! Scripts: the item at the front of a text, and whole replays.
 
 use crate::words::push_shown_in_brackets;
-use hx_status::FailKind;
+use case_text::failure_word;
 use proxy_script::{Front, Happening, Item, read_item};
 use proxy_server::{ReplayFault, replay};
 use std::alloc::AllocError;
 
-/// The word of a link's failure.
-fn failure_word(kind: FailKind) -> &'static str {
-    match kind {
-        FailKind::Refused => "refused",
-        FailKind::TimedOut => "timed-out",
-        _ => "closed",
-    }
-}
-
+/// Writes the words of what happens, without its bytes.
 fn write_happening(text: &mut String, happening: Happening<'_>) -> Result<(), AllocError> {
     match happening {
         Happening::Accept(client) => write!(text, "accept {client}"),
-        Happening::Client(client, bytes) => {
-            write!(text, "client {client} ")?;
-            push_shown_in_brackets(text, bytes)
-        }
-        Happening::Link(link, bytes) => {
-            write!(text, "link {link} ")?;
-            push_shown_in_brackets(text, bytes)
-        }
+        Happening::Client(client, _) => write!(text, "client {client}"),
+        Happening::Link(link, _) => write!(text, "link {link}"),
         Happening::End(client) => write!(text, "end {client}"),
         Happening::Gone(client) => write!(text, "gone {client}"),
         Happening::Shut(link) => write!(text, "shut {link}"),
@@ -33,14 +19,33 @@ fn write_happening(text: &mut String, happening: Happening<'_>) -> Result<(), Al
     }
 }
 
-fn write_item(text: &mut String, item: Item<'_>) -> Result<(), AllocError> {
+/// Writes the words of an item, without its bytes.
+fn write_words(text: &mut String, item: Item<'_>) -> Result<(), AllocError> {
     match item {
-        Item::Config(table) => {
-            text.push_str("config ")?;
-            push_shown_in_brackets(text, table)
-        }
+        Item::Config(_) => text.push_str("config"),
         Item::At(moment) => write!(text, "at {moment}"),
         Item::Happens(happening) => write_happening(text, happening),
+    }
+}
+
+/// The bytes of an item, where it has some.
+fn bytes_of(item: Item<'_>) -> Option<&[u8]> {
+    match item {
+        Item::Config(bytes) => Some(bytes),
+        Item::Happens(Happening::Client(_, bytes)) => Some(bytes),
+        Item::Happens(Happening::Link(_, bytes)) => Some(bytes),
+        _ => None,
+    }
+}
+
+fn write_item(text: &mut String, item: Item<'_>) -> Result<(), AllocError> {
+    write_words(text, item)?;
+    match bytes_of(item) {
+        Some(bytes) => {
+            text.push(' ')?;
+            push_shown_in_brackets(text, bytes)
+        }
+        None => Ok(()),
     }
 }
 

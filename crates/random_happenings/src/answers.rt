@@ -143,20 +143,17 @@ fn push_content(text: &mut String, dice: &mut Dice, has_none: bool) -> Result<()
     let content = requests::letters(*text.allocator(), dice)?;
     let length = content.len();
     if has_none {
-        return write!(text, "Content-Length: {length}\r\n\r\n");
+        return requests::push_sized(text, length, "");
     }
     match dice.below(20) {
-        0..=13 => write!(text, "Content-Length: {length}\r\n\r\n{content}"),
+        0..=13 => requests::push_sized(text, length, content.as_str()),
         14..=16 => requests::push_chunks(text, dice),
         17 => write!(text, "\r\n{content}"),
-        18 => write!(
-            text,
-            "Content-Length: {length}\r\n\r\n{content}{content}behind"
-        ),
-        _ => {
-            let length = length.saturating_add(2);
-            write!(text, "Content-Length: {length}\r\n\r\n{content}")
+        18 => {
+            requests::push_sized(text, length, content.as_str())?;
+            write!(text, "{content}behind")
         }
+        _ => requests::push_sized(text, length.saturating_add(2), content.as_str()),
     }
 }
 
@@ -165,6 +162,15 @@ fn status(dice: &mut Dice, question: &Question) -> &'static str {
         return "304 Not Modified";
     }
     dice.pick(STATUSES)
+}
+
+fn push_fields(text: &mut String, dice: &mut Dice) -> Result<(), AllocError> {
+    for (lines, rarity) in FIELDS {
+        if !dice.once_in(8) && dice.once_in(*rarity) {
+            text.push_str(dice.pick(lines))?;
+        }
+    }
+    Ok(())
 }
 
 /// The whole of an answer; some are faulty, too long or too short.
@@ -177,13 +183,9 @@ pub fn push_answer(
         text.push_str("HTTP/1.1 103 Early Hints\r\nLink: </x>\r\n\r\n")?;
     }
     let status = status(dice, question);
-    let echo = question.echo.as_str();
-    write!(text, "HTTP/1.1 {status}\r\n{echo}")?;
-    for (lines, rarity) in FIELDS {
-        if !dice.once_in(8) && dice.once_in(*rarity) {
-            text.push_str(dice.pick(lines))?;
-        }
-    }
+    write!(text, "HTTP/1.1 {status}\r\n")?;
+    text.push_str(question.echo.as_str())?;
+    push_fields(text, dice)?;
     let has_none = question.is_head || matches!(status, "204 No Content" | "304 Not Modified");
     push_content(text, dice, has_none)
 }

@@ -113,14 +113,6 @@ fn one_more(count: &mut u64) {
     *count = count.saturating_add(1);
 }
 
-fn holds(is_so: bool, rule: &'static str, number: u64) -> Result<(), Wrong> {
-    if is_so {
-        Ok(())
-    } else {
-        Err(Wrong::Rule(rule, number))
-    }
-}
-
 /// Where the end of this number, counted from 1, stands in a list.
 fn place(number: u64) -> usize {
     match number.checked_sub(1) {
@@ -135,6 +127,18 @@ fn id_of(head: &[u8]) -> Option<(u64, u64)> {
     Some((number_of(connection)?, number_of(ordinal)?))
 }
 
+/// The same of a request that goes forward.
+fn id_of_request(request: &[u8]) -> Option<(u64, u64)> {
+    match parts(request) {
+        Some((head, _)) => id_of(head),
+        None => None,
+    }
+}
+
+fn is_address(address: &[u8]) -> bool {
+    address == b"127.0.0.1:8081".as_slice() || address == b"127.0.0.1:8082".as_slice()
+}
+
 /// Whether a content has the length that its head states; to a HEAD there is none.
 fn fits(head: &[u8], content: &[u8]) -> bool {
     match last_value(head, b"Content-Length") {
@@ -143,8 +147,12 @@ fn fits(head: &[u8], content: &[u8]) -> bool {
     }
 }
 
-/// Whether a status line has a status of three digits and no reason.
-fn is_status_line(line: &[u8]) -> bool {
+/// Whether the first line of a head has a status of three digits and no reason.
+fn has_status_line(head: &[u8]) -> bool {
+    let line = match head.split_once_str(b"\r\n") {
+        Some((line, _)) => line,
+        None => head,
+    };
     match line.strip_prefix(b"HTTP/1.1 ") {
         Some([a, b, c, b' ']) => a.is_ascii_digit() && b.is_ascii_digit() && c.is_ascii_digit(),
         _ => false,
@@ -165,27 +173,33 @@ enum Source {
     Store,
 }
 
+/// Where the member of Cache-Status says that an answer comes from.
+fn source_by(member: &[u8]) -> Source {
+    if member.starts_with(b"hit") {
+        return Source::Hit;
+    }
+    if member.contains_str(b";stored") {
+        return Source::Stored;
+    }
+    if !member.contains_str(b";ttl=") {
+        return Source::Origin;
+    }
+    let is_instead = member.contains_str(b";detail=stale-if-error")
+        || member.contains_str(b";detail=reuse-after-");
+    if member.contains_str(b";fwd-status=304") && !is_instead {
+        Source::Validated
+    } else {
+        Source::Store
+    }
+}
+
 /// Where a reply says that it comes from.
 fn source_of(head: &[u8]) -> Option<Source> {
     if last_value(head, b"Refusal").is_some() {
         return Some(Source::Own);
     }
-    let member = last_value(head, b"Cache-Status")?.strip_prefix(b"edge;")?;
-    if member.starts_with(b"hit") {
-        return Some(Source::Hit);
-    }
-    if member.contains_str(b";stored") {
-        return Some(Source::Stored);
-    }
-    if !member.contains_str(b";ttl=") {
-        return Some(Source::Origin);
-    }
-    let is_instead = member.contains_str(b";detail=stale-if-error")
-        || member.contains_str(b";detail=reuse-after-");
-    if member.contains_str(b";fwd-status=304") && !is_instead {
-        return Some(Source::Validated);
-    }
-    Some(Source::Store)
+    let status = last_value(head, b"Cache-Status")?;
+    Some(source_by(status.strip_prefix(b"edge;")?))
 }
 
 /// Whether a head has the target of this request in its field X-Target.
@@ -195,39 +209,43 @@ fn has_target(alloc: Global, head: &[u8], asked: &Asked) -> Result<bool, AllocEr
 
 /// The head of a reply, which is to be a whole message, and where it says that it comes from.
 fn read_reply(number: u64, bytes: &[u8]) -> Result<(&[u8], Source), Wrong> {
-    let (head, content) = parts(bytes).ok_or(Wrong::Rule("a reply is no message", number))?;
-    let line = match head.split_once_str(b"\r\n") {
-        Some((line, _)) => line,
-        None => head,
+    let Some((head, content)) = parts(bytes) else {
+        return Err(Wrong::Rule("a reply is no message", number));
     };
-    holds(is_status_line(line), "a reply has no status line", number)?;
-    holds(
-        fits(head, content),
-        "a reply has another length than it says",
-        number,
-    )?;
+    if !has_status_line(head) {
+        return Err(Wrong::Rule("a reply has no status line", number));
+    }
+    if !fits(head, content) {
+        return Err(Wrong::Rule("a reply has another length than it says", number));
+    }
     match source_of(head) {
         Some(source) => Ok((head, source)),
         None => Err(Wrong::Rule("a reply doesn't say whence it is", number)),
     }
 }
 
+/// The clients of a log, which have sent nothing yet.
+fn clients_of<'a>(alloc: Global, log: &Log) -> Result<Vec<Client<'a>>, Wrong> {
+    let mut clients = Vec::new(alloc);
+    for step in &log.steps {
+        if let Told::Accepted(_) = step.told {
+            let client = Client {
+                asked: Vec::new(alloc),
+                replies: 0,
+                link: None,
+                is_accepted: false,
+                is_over: false,
+            };
+            clients.push(client).map_err(AllocError::from)?;
+        }
+    }
+    Ok(clients)
+}
+
 impl<'a> Check<'a> {
     /// Nothing has happened yet; the requests that the clients of a log will send are known.
     fn new(alloc: Global, log: &'a Log) -> Result<Self, Wrong> {
-        let mut clients = Vec::new(alloc);
-        for step in &log.steps {
-            if let Told::Accepted(_) = step.told {
-                let client = Client {
-                    asked: Vec::new(alloc),
-                    replies: 0,
-                    link: None,
-                    is_accepted: false,
-                    is_over: false,
-                };
-                clients.push(client).map_err(AllocError::from)?;
-            }
-        }
+        let mut clients = clients_of(alloc, log)?;
         for asked in &log.asked {
             if let Some(client) = clients.get_mut(place(asked.connection)) {
                 client.asked.push(asked).map_err(AllocError::from)?;
@@ -271,50 +289,47 @@ impl<'a> Check<'a> {
     fn ask(&self, told: Told) -> Result<(), Wrong> {
         if let Told::Gone(number) = told {
             if let Some(client) = self.clients.get(place(number)) {
-                return holds(
-                    client.link.is_none(),
-                    "a client that is gone keeps its link",
-                    number,
-                );
+                if client.link.is_some() {
+                    return Err(Wrong::Rule("a client that is gone keeps its link", number));
+                }
             }
         }
         Ok(())
     }
 
-    fn forward(&mut self, number: u64, address: &[u8], request: &[u8]) -> Result<(), Wrong> {
-        let is_next = place(number) == self.links.len();
-        holds(
-            is_next,
-            "a forward is on a link that isn't the next",
-            number,
-        )?;
-        let is_known = matches!(address, b"127.0.0.1:8081" | b"127.0.0.1:8082");
-        holds(is_known, "no line has the address of a forward", number)?;
-        let (connection, ordinal) = match parts(request) {
-            Some((head, _)) => id_of(head),
-            None => None,
-        }
-        .ok_or(Wrong::Rule("a forward is of no request", number))?;
+    /// A request of a connection goes forward on a link.
+    fn begin(&mut self, connection: u64, ordinal: u64, number: u64) -> Result<(), Wrong> {
         let client = self.client(connection)?;
-        holds(
-            client.link.is_none(),
-            "two requests of a connection are at origins",
-            connection,
-        )?;
-        let is_first = place(ordinal) == client.replies;
-        holds(
-            is_first,
-            "a forward isn't of the first request without reply",
-            connection,
-        )?;
+        if client.link.is_some() {
+            return Err(Wrong::Rule("two requests of a connection are at origins", connection));
+        }
+        if place(ordinal) != client.replies {
+            return Err(Wrong::Rule(
+                "a forward isn't of the first request without reply",
+                connection,
+            ));
+        }
         client.link = Some(number);
+        Ok(())
+    }
+
+    fn forward(&mut self, number: u64, address: &[u8], request: &[u8]) -> Result<(), Wrong> {
+        if place(number) != self.links.len() {
+            return Err(Wrong::Rule("a forward is on a link that isn't the next", number));
+        }
+        if !is_address(address) {
+            return Err(Wrong::Rule("no line has the address of a forward", number));
+        }
+        let Some((connection, ordinal)) = id_of_request(request) else {
+            return Err(Wrong::Rule("a forward is of no request", number));
+        };
+        self.begin(connection, ordinal, number)?;
         one_more(&mut self.counts.forwards);
         let link = Link {
             connection,
             is_dropped: false,
         };
-        self.links.push(link).map_err(AllocError::from)?;
-        Ok(())
+        Ok(self.links.push(link).map_err(AllocError::from)?)
     }
 
     fn drop_link(&mut self, number: u64) -> Result<(), Wrong> {
@@ -329,6 +344,15 @@ impl<'a> Check<'a> {
             client.link = None;
         }
         one_more(&mut self.counts.drops);
+        Ok(())
+    }
+
+    fn close(&mut self, number: u64) -> Result<(), Wrong> {
+        let client = self.client(number)?;
+        if client.link.is_some() {
+            return Err(Wrong::Rule("a close leaves a link", number));
+        }
+        client.is_over = true;
         Ok(())
     }
 
@@ -360,30 +384,30 @@ impl<'a> Check<'a> {
         }
     }
 
-    /// Bytes to a client: a continue, or the reply to its first request that has none.
-    fn reply(&mut self, number: u64, bytes: &[u8]) -> Result<(), Wrong> {
-        let alloc = self.alloc;
+    /// The client of a connection to which bytes may go.
+    fn listener(&mut self, number: u64) -> Result<&mut Client<'a>, Wrong> {
         let client = self.client(number)?;
-        holds(
-            client.link.is_none(),
-            "a client gets something while its link is open",
-            number,
-        )?;
-        if bytes == CONTINUE {
-            return Ok(());
+        if client.link.is_some() {
+            Err(Wrong::Rule("a client gets something while its link is open", number))
+        } else {
+            Ok(client)
         }
-        let asked = match client.asked.get(client.replies) {
-            Some(asked) => *asked,
-            None => return Err(Wrong::Rule("a reply is to no request", number)),
-        };
-        client.replies = client.replies.saturating_add(1);
-        let (head, source) = read_reply(number, bytes)?;
-        holds(
-            self.answers(head, source, asked)?,
-            "a reply is to another request",
-            number,
-        )?;
-        self.count(source);
+    }
+
+    /// The request of a connection that is replied to now.
+    fn next_asked(&mut self, number: u64) -> Result<Asked, Wrong> {
+        let client = self.listener(number)?;
+        match client.asked.get(client.replies) {
+            Some(asked) => {
+                client.replies = client.replies.saturating_add(1);
+                Ok(**asked)
+            }
+            None => Err(Wrong::Rule("a reply is to no request", number)),
+        }
+    }
+
+    /// The answer to this request may have been kept, where it comes from there.
+    fn keep(&mut self, source: Source, asked: Asked) -> Result<(), Wrong> {
         if matches!(source, Source::Stored | Source::Validated | Source::Store) {
             let own = (asked.connection, asked.ordinal);
             self.kept.push(own).map_err(AllocError::from)?;
@@ -391,54 +415,82 @@ impl<'a> Check<'a> {
         Ok(())
     }
 
+    /// A reply to the first request of a client that has none.
+    fn reply(&mut self, number: u64, bytes: &[u8]) -> Result<(), Wrong> {
+        let asked = self.next_asked(number)?;
+        let (head, source) = read_reply(number, bytes)?;
+        if !self.answers(head, source, &asked)? {
+            return Err(Wrong::Rule("a reply is to another request", number));
+        }
+        self.count(source);
+        self.keep(source, asked)
+    }
+
+    /// Bytes to a client: a continue or a reply.
+    fn send(&mut self, number: u64, bytes: &[u8]) -> Result<(), Wrong> {
+        if bytes == CONTINUE {
+            self.listener(number)?;
+            return Ok(());
+        }
+        self.reply(number, bytes)
+    }
+
+    fn take(&mut self, effect: Effect<'_>) -> Result<(), Wrong> {
+        one_more(&mut self.counts.effects);
+        match effect {
+            Effect::Client(number, bytes) => self.send(number, bytes),
+            Effect::Forward(number, address, request) => self.forward(number, address, request),
+            Effect::Close(number) => self.close(number),
+            Effect::Drop(number) => self.drop_link(number),
+        }
+    }
+
     /// The effects of one happening.
     fn see(&mut self, text: &[u8]) -> Result<(), Wrong> {
         let mut rest = text;
+        // Each effect has a byte at least.
         for _ in 0..text.len() {
             if rest.is_empty() {
-                return Ok(());
+                break;
             }
-            let (effect, more) = read_effect(rest).ok_or(Wrong::Rule("a text is no effect", 0))?;
-            one_more(&mut self.counts.effects);
-            match effect {
-                Effect::Client(number, bytes) => self.reply(number, bytes)?,
-                Effect::Forward(number, address, request) => {
-                    self.forward(number, address, request)?;
-                }
-                Effect::Close(number) => {
-                    let client = self.client(number)?;
-                    holds(client.link.is_none(), "a close leaves a link", number)?;
-                    client.is_over = true;
-                }
-                Effect::Drop(number) => self.drop_link(number)?,
-            }
+            let Some((effect, more)) = read_effect(rest) else {
+                return Err(Wrong::Rule("a text is no effect", 0));
+            };
+            self.take(effect)?;
             rest = more;
         }
-        holds(rest.is_empty(), "a text is no effect", 0)
+        if rest.is_empty() {
+            Ok(())
+        } else {
+            Err(Wrong::Rule("a text is no effect", 0))
+        }
+    }
+
+    /// A happening with its effects, which stand at the front of a text. Gives what is behind them.
+    fn step<'t>(&mut self, step: Step, text: &'t [u8]) -> Result<&'t [u8], Wrong> {
+        let Step { told, length } = step;
+        let (Some(own), Some(rest)) = (text.get(..length), text.get(length..)) else {
+            return Err(Wrong::Rule("effects are missing", 0));
+        };
+        self.tell(told);
+        self.see(own)?;
+        self.ask(told)?;
+        Ok(rest)
     }
 }
 
 /// Checks the text of a replay, happening by happening.
 pub fn check_run(alloc: Global, log: &Log, text: &[u8]) -> Result<Counts, Wrong> {
-    holds(
-        log.effects.as_slice() == text,
-        "the replay did something else than the engine",
-        0,
-    )?;
+    if log.effects.as_slice() != text {
+        return Err(Wrong::Rule("the replay did something else than the engine", 0));
+    }
     let mut check = Check::new(alloc, log)?;
     let mut rest = text;
     for step in &log.steps {
-        let Step { told, length } = *step;
-        let own = rest
-            .get(..length)
-            .ok_or(Wrong::Rule("effects are missing", 0))?;
-        check.tell(told);
-        check.see(own)?;
-        check.ask(told)?;
-        rest = rest
-            .get(length..)
-            .ok_or(Wrong::Rule("effects are missing", 0))?;
+        rest = check.step(*step, rest)?;
     }
-    holds(rest.is_empty(), "there are effects of no happening", 0)?;
+    if !rest.is_empty() {
+        return Err(Wrong::Rule("there are effects of no happening", 0));
+    }
     Ok(check.counts)
 }

@@ -11,7 +11,6 @@ mod check;
 mod dice;
 mod effects;
 mod fields;
-mod items;
 mod log;
 mod requests;
 mod trial;

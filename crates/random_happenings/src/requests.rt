@@ -115,15 +115,19 @@ pub fn letters(alloc: Global, dice: &mut Dice) -> Result<String, AllocError> {
     Ok(content)
 }
 
+fn push_chunk(text: &mut String, dice: &mut Dice) -> Result<(), AllocError> {
+    let mut data = String::new(*text.allocator());
+    let count = 1 + dice.below(20);
+    push_letters(&mut data, dice, count)?;
+    let size = data.len();
+    write!(text, "{size:x}\r\n{data}\r\n")
+}
+
 /// The content in chunks, and its coding in front.
 pub fn push_chunks(text: &mut String, dice: &mut Dice) -> Result<(), AllocError> {
     text.push_str("Transfer-Encoding: chunked\r\n\r\n")?;
     for _ in 0..dice.below(4) {
-        let mut data = String::new(*text.allocator());
-        let count = 1 + dice.below(20);
-        push_letters(&mut data, dice, count)?;
-        let size = data.len();
-        write!(text, "{size:x}\r\n{data}\r\n")?;
+        push_chunk(text, dice)?;
     }
     text.push_str(dice.pick(&["0\r\n\r\n", "0\r\n\r\n", "0;x=1\r\nX-Trailer: t\r\n\r\n"]))?;
     if dice.once_in(20) {
@@ -132,11 +136,15 @@ pub fn push_chunks(text: &mut String, dice: &mut Dice) -> Result<(), AllocError>
     Ok(())
 }
 
+/// A content behind a length.
+pub fn push_sized(text: &mut String, length: usize, content: &str) -> Result<(), AllocError> {
+    write!(text, "Content-Length: {length}\r\n\r\n{content}")
+}
+
 /// The content with its length in front.
 fn push_counted(text: &mut String, dice: &mut Dice) -> Result<(), AllocError> {
     let content = letters(*text.allocator(), dice)?;
-    let length = content.len();
-    write!(text, "Content-Length: {length}\r\n\r\n{content}")
+    push_sized(text, content.len(), content.as_str())
 }
 
 fn push_content(text: &mut String, dice: &mut Dice, is_usual: bool) -> Result<(), AllocError> {
@@ -169,23 +177,34 @@ fn push_front(
     )
 }
 
-/// The whole of a request, with fields that its answer is known by.
-pub fn push_request(text: &mut String, dice: &mut Dice, asked: &Asked) -> Result<(), AllocError> {
-    let method = if dice.once_in(5) {
-        dice.pick(UNUSUAL_METHODS)
-    } else {
-        "GET"
-    };
-    let version = if dice.once_in(30) {
-        dice.pick(OTHER_VERSIONS)
-    } else {
-        "HTTP/1.1"
-    };
-    push_front(text, method, version, asked)?;
+fn push_fields(text: &mut String, dice: &mut Dice) -> Result<(), AllocError> {
     for (lines, rarity) in FIELDS {
         if dice.once_in(*rarity) {
             text.push_str(dice.pick(lines))?;
         }
     }
+    Ok(())
+}
+
+/// The usual text, and once in so many requests one of the others.
+fn one_of(
+    dice: &mut Dice,
+    usual: &'static str,
+    rarity: usize,
+    others: &[&'static str],
+) -> &'static str {
+    if dice.once_in(rarity) {
+        dice.pick(others)
+    } else {
+        usual
+    }
+}
+
+/// The whole of a request, with fields that its answer is known by.
+pub fn push_request(text: &mut String, dice: &mut Dice, asked: &Asked) -> Result<(), AllocError> {
+    let method = one_of(dice, "GET", 5, UNUSUAL_METHODS);
+    let version = one_of(dice, "HTTP/1.1", 30, OTHER_VERSIONS);
+    push_front(text, method, version, asked)?;
+    push_fields(text, dice)?;
     push_content(text, dice, matches!(method, "POST" | "PUT" | "FOO"))
 }

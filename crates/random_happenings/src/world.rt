@@ -3,9 +3,9 @@ ghost use Rattle.std.specs.Prelude.{◌<◌};
 
 use crate::answers::{Question, push_answer};
 use crate::dice::Dice;
-use crate::items::push_item;
 use crate::log::{Log, Step, Told};
 use crate::requests::{Asked, push_request};
+use case_text::push_item;
 use hx_allow::Config;
 use hx_status::FailKind;
 use hx_store::ListShelf;
@@ -104,6 +104,18 @@ impl Drop for Caller {
     }
 }
 
+impl Caller {
+    /// Begins a request, which is sent behind the rest.
+    fn begin(&mut self, alloc: Global, dice: &mut Dice) -> Result<Asked, AllocError> {
+        self.begun = self.begun.saturating_add(1);
+        let asked = Asked::random(dice, self.number, self.begun);
+        let mut text = String::new(alloc);
+        push_request(&mut text, dice, &asked)?;
+        self.rest.extend_from_slice(text.as_bytes())?;
+        Ok(asked)
+    }
+}
+
 /// An open link to an origin.
 struct Link {
     number: u64,
@@ -121,6 +133,16 @@ impl Drop for Link {
             has_begun: _,
             rest: _,
         } = self;
+    }
+}
+
+impl Link {
+    /// Begins the answer.
+    fn begin(&mut self, alloc: Global, dice: &mut Dice) -> Result<(), AllocError> {
+        self.has_begun = true;
+        let mut text = String::new(alloc);
+        push_answer(&mut text, dice, &self.question)?;
+        self.rest.extend_from_slice(text.as_bytes())
     }
 }
 
@@ -162,6 +184,25 @@ fn cut_piece(dice: &mut Dice, rest: &mut Vec<u8>) -> Result<Vec<u8>, AllocError>
     };
     let tail = rest.split_off(length.min(whole))?;
     Ok(mem::replace(rest, tail))
+}
+
+/// What happens at a connection or a link that is over, where they are.
+fn late(
+    roll: usize,
+    n: u64,
+    l: u64,
+    is_open: bool,
+    is_linked: bool,
+) -> Option<(Happening<'static>, Told)> {
+    match roll {
+        0 if !is_open => Some((Happening::Client(n, b"GET /late HTTP/1.1\r\n"), Told::Other)),
+        1 if !is_open => Some((Happening::End(n), Told::Other)),
+        2 if !is_open => Some((Happening::Gone(n), Told::Gone(n))),
+        _ if is_linked => None,
+        3 => Some((Happening::Fail(l, FailKind::Closed), Told::Other)),
+        4 => Some((Happening::Shut(l), Told::Other)),
+        _ => Some((Happening::Link(l, b"late"), Told::Other)),
+    }
 }
 
 impl World {
@@ -260,11 +301,7 @@ impl World {
             return self.accept();
         };
         if caller.rest.is_empty() || self.dice.once_in(8) {
-            caller.begun = caller.begun.saturating_add(1);
-            let asked = Asked::random(&mut self.dice, caller.number, caller.begun);
-            let mut text = String::new(self.alloc);
-            push_request(&mut text, &mut self.dice, &asked)?;
-            caller.rest.extend_from_slice(text.as_bytes())?;
+            let asked = caller.begin(self.alloc, &mut self.dice)?;
             self.log.asked.push(asked).map_err(AllocError::from)?;
         }
         let number = caller.number;
@@ -280,10 +317,7 @@ impl World {
         };
         let number = link.number;
         if !link.has_begun {
-            link.has_begun = true;
-            let mut text = String::new(self.alloc);
-            push_answer(&mut text, &mut self.dice, &link.question)?;
-            link.rest.extend_from_slice(text.as_bytes())?;
+            link.begin(self.alloc, &mut self.dice)?;
         } else if link.rest.is_empty() {
             return self.happen(Happening::Shut(number), Told::Other);
         }
@@ -327,17 +361,9 @@ impl World {
         let l = (self.dice.below(self.forwarded as usize) as u64).saturating_add(1);
         let is_open = self.callers.iter().any(|caller| caller.number == n);
         let is_linked = self.forwarded == 0 || self.links.iter().any(|link| link.number == l);
-        match self.dice.below(6) {
-            0 if !is_open => self.happen(
-                Happening::Client(n, b"GET /late HTTP/1.1\r\n"),
-                Told::Other,
-            ),
-            1 if !is_open => self.happen(Happening::End(n), Told::Other),
-            2 if !is_open => self.happen(Happening::Gone(n), Told::Gone(n)),
-            3 if !is_linked => self.happen(Happening::Fail(l, FailKind::Closed), Told::Other),
-            4 if !is_linked => self.happen(Happening::Shut(l), Told::Other),
-            _ if !is_linked => self.happen(Happening::Link(l, b"late"), Told::Other),
-            _ => self.client_sends(),
+        match late(self.dice.below(6), n, l, is_open, is_linked) {
+            Some((happening, told)) => self.happen(happening, told),
+            None => self.client_sends(),
         }
     }
 
@@ -372,22 +398,31 @@ impl World {
         let text = effects_text(self.alloc, effects)?;
         self.log.effects.extend_from_slice(text.as_slice())?;
         for effect in effects {
-            match effect {
-                Effect::Client(_, _) => {}
-                Effect::Forward(number, _, bytes) => {
-                    self.forwarded = *number;
-                    let link = Link {
-                        number: *number,
-                        question: Question::read(self.alloc, bytes.as_slice())?,
-                        has_begun: false,
-                        rest: Vec::new(self.alloc),
-                    };
-                    self.links.push(link).map_err(AllocError::from)?;
-                }
-                Effect::Close(number) => self.callers.retain(|caller| caller.number != *number),
-                Effect::Drop(number) => self.links.retain(|link| link.number != *number),
-            }
+            self.learn(effect)?;
         }
+        Ok(())
+    }
+
+    fn learn(&mut self, effect: &Effect) -> Result<(), Stopped> {
+        match effect {
+            Effect::Client(_, _) => {}
+            Effect::Forward(number, _, bytes) => self.open(*number, bytes.as_slice())?,
+            Effect::Close(number) => self.callers.retain(|caller| caller.number != *number),
+            Effect::Drop(number) => self.links.retain(|link| link.number != *number),
+        }
+        Ok(())
+    }
+
+    /// There is a new link, with this request.
+    fn open(&mut self, number: u64, request: &[u8]) -> Result<(), Stopped> {
+        self.forwarded = number;
+        let link = Link {
+            number,
+            question: Question::read(self.alloc, request)?,
+            has_begun: false,
+            rest: Vec::new(self.alloc),
+        };
+        self.links.push(link).map_err(AllocError::from)?;
         Ok(())
     }
 }

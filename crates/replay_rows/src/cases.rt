@@ -7,11 +7,11 @@
 use crate::case_lines::entries;
 use crate::effects::{Effect, first_shown};
 use crate::form::{CaseFault, FormFault};
-use crate::items::push_item;
 use crate::pieces::byte_by_byte;
 use crate::played::Played;
 use crate::scenario::{Said, scenario};
 use crate::statements::Statement;
+use case_text::push_item;
 use proxy_script::Item;
 use std::alloc::{AllocError, Global};
 use std::str;
@@ -39,6 +39,18 @@ impl Drop for Spelled {
             script: _,
             effects: _,
         } = self;
+    }
+}
+
+impl Spelled {
+    /// Whether it is the row of these bytes, but for the line where the replay stops.
+    pub fn is_row(&self, script: &[u8], effects: &[u8]) -> bool {
+        match self.effects.as_slice().strip_prefix(effects) {
+            Some(stop) if stop.is_empty() || stop.starts_with(b"stops ") => {
+                self.script.as_slice() == script
+            }
+            _ => false,
+        }
     }
 }
 
@@ -130,7 +142,8 @@ impl Play {
         effect.push_text(&mut text)?;
         let rest = self.rest()?;
         if !rest.starts_with(text.as_slice()) {
-            let expected = effect.shown(self.alloc)?;
+            let mut expected = String::new(self.alloc);
+            effect.push_shown(&mut expected)?;
             return Err(self.differs(line, expected, rest));
         }
         self.expected.extend_from_slice(text.as_slice())?;

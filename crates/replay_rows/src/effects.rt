@@ -46,22 +46,29 @@ fn forward_at<'a>(line: &'a [u8], rest: &'a [u8]) -> Option<(Effect<'a>, &'a [u8
     Some((Effect::Forward(number_of(number)?, address, bytes), rest))
 }
 
+/// The effect of a line with this word, and what follows it.
+fn effect_of<'a>(word: &[u8], line: &'a [u8], rest: &'a [u8]) -> Option<(Effect<'a>, &'a [u8])> {
+    if word == b"client".as_slice() {
+        client_at(line, rest)
+    } else if word == b"forward".as_slice() {
+        forward_at(line, rest)
+    } else if word == b"close".as_slice() {
+        Some((Effect::Close(number_of(line)?), rest))
+    } else if word == b"drop".as_slice() {
+        Some((Effect::Drop(number_of(line)?), rest))
+    } else {
+        None
+    }
+}
+
 /// The first effect of a text, and what follows it.
 fn effect_at(text: &[u8]) -> Option<(Effect<'_>, &[u8])> {
     let (line, rest) = text.split_once_str(b"\n")?;
-    let (word, numbers) = line.split_once_str(b" ")?;
-    if word == b"client".as_slice() {
-        client_at(numbers, rest)
-    } else if word == b"forward".as_slice() {
-        forward_at(numbers, rest)
-    } else if word == b"close".as_slice() {
-        Some((Effect::Close(number_of(numbers)?), rest))
-    } else if word == b"drop".as_slice() {
-        Some((Effect::Drop(number_of(numbers)?), rest))
-    } else if word == b"stops".as_slice() {
+    let (word, behind) = line.split_once_str(b" ")?;
+    if word == b"stops".as_slice() {
         Some((Effect::Stop(line), rest))
     } else {
-        None
+        effect_of(word, behind, rest)
     }
 }
 
@@ -72,71 +79,68 @@ fn push_block(text: &mut Vec<u8>, line: &str, bytes: &[u8]) -> Result<(), AllocE
     Ok(())
 }
 
+fn push_forward(
+    text: &mut Vec<u8>,
+    l: u64,
+    address: &[u8],
+    bytes: &[u8],
+) -> Result<(), AllocError> {
+    let line = format!(in *text.allocator(); "forward {l} ")?;
+    text.extend_from_slice(line.as_bytes())?;
+    text.extend_from_slice(address)?;
+    let line = format!(in *text.allocator(); " {}\n", bytes.len())?;
+    push_block(text, line.as_str(), bytes)
+}
+
 impl Effect<'_> {
     /// Appends the text that a replay writes of it.
     pub fn push_text(self, text: &mut Vec<u8>) -> Result<(), AllocError> {
-        let alloc = *text.allocator();
-        match self {
+        let (line, bytes) = match self {
             Effect::Client(n, bytes) => {
-                let line = format!(in alloc; "client {n} {}\n", bytes.len())?;
-                push_block(text, line.as_str(), bytes)
+                let length = bytes.len();
+                (
+                    format!(in *text.allocator(); "client {n} {length}\n")?,
+                    bytes,
+                )
             }
-            Effect::Forward(l, address, bytes) => {
-                let line = format!(in alloc; "forward {l} ")?;
-                text.extend_from_slice(line.as_bytes())?;
-                text.extend_from_slice(address)?;
-                let line = format!(in alloc; " {}\n", bytes.len())?;
-                push_block(text, line.as_str(), bytes)
-            }
-            Effect::Close(n) => {
-                let line = format!(in alloc; "close {n}")?;
-                push_block(text, line.as_str(), &[])
-            }
-            Effect::Drop(l) => {
-                let line = format!(in alloc; "drop {l}")?;
-                push_block(text, line.as_str(), &[])
-            }
-            Effect::Stop(line) => push_block(text, "", line),
-        }
+            Effect::Forward(l, address, bytes) => return push_forward(text, l, address, bytes),
+            Effect::Close(n) => (format!(in *text.allocator(); "close {n}")?, b"".as_slice()),
+            Effect::Drop(l) => (format!(in *text.allocator(); "drop {l}")?, b"".as_slice()),
+            Effect::Stop(line) => (String::new(*text.allocator()), line),
+        };
+        push_block(text, line.as_str(), bytes)
     }
 
-    /// What a case says of it, in one line.
-    pub fn shown(self, alloc: Global) -> Result<String, AllocError> {
+    /// Appends what a case says of it, in one line.
+    pub fn push_shown(self, line: &mut String) -> Result<(), AllocError> {
         match self {
             Effect::Client(n, bytes) => {
-                let mut line = format!(in alloc; "client {n} gets ")?;
-                push_shown(&mut line, bytes)?;
-                Ok(line)
+                write!(line, "client {n} gets ")?;
+                push_shown(line, bytes)
             }
             Effect::Forward(l, address, bytes) => {
-                let mut line = format!(in alloc; "link {l} is opened to ")?;
-                push_shown(&mut line, address)?;
+                write!(line, "link {l} is opened to ")?;
+                push_shown(line, address)?;
                 line.push(' ')?;
-                push_shown(&mut line, bytes)?;
-                Ok(line)
+                push_shown(line, bytes)
             }
-            Effect::Close(n) => format!(in alloc; "client {n} is closed"),
-            Effect::Drop(l) => format!(in alloc; "link {l} is dropped"),
-            Effect::Stop(text) => {
-                let mut line = String::new(alloc);
-                push_shown(&mut line, text)?;
-                Ok(line)
-            }
+            Effect::Close(n) => write!(line, "client {n} is closed"),
+            Effect::Drop(l) => write!(line, "link {l} is dropped"),
+            Effect::Stop(text) => push_shown(line, text),
         }
     }
 }
 
 /// What a case would say of the first effect of a text, and of a text that has none.
 pub fn first_shown(alloc: Global, text: &[u8]) -> Result<String, AllocError> {
+    let mut line = String::new(alloc);
     if text.is_empty() {
-        return String::from_str(alloc, "nothing");
+        line.push_str("nothing")?;
+    } else if let Some((effect, _)) = effect_at(text) {
+        effect.push_shown(&mut line)?;
+    } else {
+        line.push_str("a text that is no effect: ")?;
+        push_shown(&mut line, text)?;
     }
-    match effect_at(text) {
-        Some((effect, _)) => effect.shown(alloc),
-        None => {
-            let mut line = String::from_str(alloc, "a text that is no effect: ")?;
-            push_shown(&mut line, text)?;
-            Ok(line)
-        }
-    }
+    Ok(line)
 }

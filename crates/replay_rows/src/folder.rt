@@ -2,97 +2,100 @@
 
 use crate::cases::{Spelled, judge};
 use crate::rows::{self, Row};
+use case_text::stems_ending;
+use std::io;
 use std::rt::Files;
-use std::{fs, io};
-
-/// The names of the files in this folder with this ending, without it and in order.
-fn names<R: Files + AllocGlobal + Clone + Drop>(rt: &R, ending: &str) -> io::Result<Vec<String>> {
-    let mut names = Vec::new(rt.alloc());
-    for entry in fs::read_dir(rt, ".")? {
-        let entry = entry?;
-        if let Some(name) = entry.file_name().strip_suffix(ending) {
-            names.push(String::from_str(rt.alloc(), name)?)?;
-        }
-    }
-    names.sort()?;
-    Ok(names)
-}
 
 /// Plays a row, and prints whether it holds.
 fn play_row<R: Files + Print + AllocGlobal>(rt: &R, name: &str) -> io::Result<bool> {
     let row = Row::read(rt, name)?;
     let holds = row.holds(rt.alloc())?;
-    if holds {
-        println!(rt; "{name} ok")?;
-    } else {
-        println!(rt; "{name} differs")?;
-    }
+    println!(rt; "{name} {}", if holds { "ok" } else { "differs" })?;
     Ok(holds)
 }
 
 /// Whether a case spells the row that stands beside it under its name; without one there is nothing to compare.
 fn is_as_row<R: Files + AllocGlobal>(rt: &R, name: &str, spelled: &Spelled) -> io::Result<bool> {
-    let Some(row) = Row::read_if_any(rt, name)? else {
-        return Ok(true);
+    match Row::read_if_any(rt, name)? {
+        Some(row) => Ok(spelled.is_row(row.script.as_slice(), row.effects.as_slice())),
+        None => Ok(true),
+    }
+}
+
+fn told_of_row<R: Files + AllocGlobal>(
+    rt: &R,
+    name: &str,
+    spelled: &Spelled,
+) -> io::Result<String> {
+    let told = if is_as_row(rt, name, spelled)? {
+        ""
+    } else {
+        "1: the row of this name has other bytes\n"
     };
-    let stop = spelled
-        .effects
-        .as_slice()
-        .strip_prefix(row.effects.as_slice());
-    let has_its_effects = match stop {
-        Some(stop) => stop.is_empty() || stop.starts_with(b"stops "),
-        None => false,
-    };
-    Ok(has_its_effects && spelled.script.as_slice() == row.script.as_slice())
+    Ok(String::from_str(rt.alloc(), told)?)
 }
 
 /// What there is to tell of a case that doesn't hold, each line without the file's name; nothing of one that does.
 fn told<R: Files + AllocGlobal>(rt: &R, name: &str) -> io::Result<String> {
-    let path = format!(in rt.alloc(); "{name}.case")?;
-    let case = fs::read(rt, path.as_str())?;
+    let case = rows::file(rt, name, "case")?;
     match judge(rt.alloc(), case.as_slice()) {
         Err(fault) => Ok(fault.told(rt.alloc())?),
-        Ok(spelled) => {
-            if is_as_row(rt, name, &spelled)? {
-                Ok(String::new(rt.alloc()))
-            } else {
-                Ok(String::from_str(rt.alloc(), "1: the row of this name has other bytes\n")?)
-            }
-        }
+        Ok(spelled) => told_of_row(rt, name, &spelled),
     }
+}
+
+/// Whether there is nothing to tell, or what is written down of a case that is to be refused.
+fn is_as_wanted<R: Files + AllocGlobal>(rt: &R, name: &str, told: &str) -> io::Result<bool> {
+    match rows::file_if_any(rt, name, "refusal")? {
+        Some(wanted) => Ok(told.as_bytes() == wanted.as_slice()),
+        None => Ok(told.is_empty()),
+    }
+}
+
+/// Prints what is told of a case.
+fn tell<R: Print>(rt: &R, name: &str, told: &str) -> io::Result<()> {
+    if told.is_empty() {
+        println!(rt; "{name}.case holds, and is to be refused")?;
+    }
+    for line in told.lines() {
+        println!(rt; "{name}.case:{line}")?;
+    }
+    Ok(())
 }
 
 /// Plays a case, and prints whether it holds, or is refused as it is to be.
 fn play_case<R: Files + Print + AllocGlobal>(rt: &R, name: &str) -> io::Result<bool> {
     let told = told(rt, name)?;
-    let wanted = rows::file_if_any(rt, name, "refusal")?;
-    let holds = match wanted {
-        Some(wanted) => told.as_bytes() == wanted.as_slice(),
-        None => told.is_empty(),
-    };
+    let holds = is_as_wanted(rt, name, told.as_str())?;
     if holds {
         println!(rt; "{name}.case ok")?;
-        return Ok(true);
+    } else {
+        tell(rt, name, told.as_str())?;
     }
-    for line in told.as_str().lines() {
-        println!(rt; "{name}.case:{line}")?;
+    Ok(holds)
+}
+
+fn play_rows<R: Files + Print + AllocGlobal + Clone + Drop>(rt: &R) -> io::Result<bool> {
+    let mut all = true;
+    for name in &stems_ending(rt, ".script")? {
+        all &= play_row(rt, name.as_str())?;
     }
-    if told.is_empty() {
-        println!(rt; "{name}.case holds, and is to be refused")?;
+    Ok(all)
+}
+
+fn play_cases<R: Files + Print + AllocGlobal + Clone + Drop>(rt: &R) -> io::Result<bool> {
+    let mut all = true;
+    for name in &stems_ending(rt, ".case")? {
+        all &= play_case(rt, name.as_str())?;
     }
-    Ok(false)
+    Ok(all)
 }
 
 /// Plays each row and each case of this folder, and tells whether all hold.
 pub fn play_all<R: Files + Print + AllocGlobal + Clone + Drop>(rt: &R) -> io::Result<bool> {
-    let mut all = true;
-    for name in &names(rt, ".script")? {
-        all &= play_row(rt, name.as_str())?;
-    }
-    for name in &names(rt, ".case")? {
-        all &= play_case(rt, name.as_str())?;
-    }
-    Ok(all)
+    let rows = play_rows(rt)?;
+    let cases = play_cases(rt)?;
+    Ok(rows && cases)
 }
 
 /// Whether a file belongs to a row or a case beside it. `rt try` hands a program only the files that its arguments name.

@@ -11,7 +11,6 @@ mod cases;
 mod effects;
 mod folder;
 mod form;
-mod items;
 mod pieces;
 mod played;
 mod rows;

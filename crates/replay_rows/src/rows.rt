@@ -7,8 +7,8 @@ use std::io::ErrorKind;
 use std::rt::Files;
 use std::{fs, io};
 
-/// What is written down for a row under this ending.
-fn file<R: Files + AllocGlobal>(rt: &R, name: &str, ending: &str) -> io::Result<Vec<u8>> {
+/// What is written down under this name and ending.
+pub fn file<R: Files + AllocGlobal>(rt: &R, name: &str, ending: &str) -> io::Result<Vec<u8>> {
     let path = format!(in rt.alloc(); "{name}.{ending}")?;
     fs::read(rt, path.as_str())
 }
@@ -83,15 +83,20 @@ impl Row {
         )
     }
 
+    /// Whether it is the same where all bytes come one at a time.
+    fn holds_cut(&self, alloc: Global, status: u8) -> Result<bool, AllocError> {
+        let pieces = byte_by_byte(alloc, self.script.as_slice())?;
+        let cut = Played::of(alloc, pieces.as_slice())?;
+        Ok(cut.text.as_slice() == self.effects.as_slice() && cut.status == status)
+    }
+
     /// Whether the replay gives what is written down, and writes the same and ends alike where all bytes come one at a time.
     pub fn holds(&self, alloc: Global) -> Result<bool, AllocError> {
         let whole = Played::of(alloc, self.script.as_slice())?;
-        let pieces = byte_by_byte(alloc, self.script.as_slice())?;
-        let cut = Played::of(alloc, pieces.as_slice())?;
-        Ok(
-            self.is_played(&whole, alloc)?
-                && cut.text.as_slice() == self.effects.as_slice()
-                && cut.status == whole.status,
-        )
+        if self.is_played(&whole, alloc)? {
+            self.holds_cut(alloc, whole.status)
+        } else {
+            Ok(false)
+        }
     }
 }

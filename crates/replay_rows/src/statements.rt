@@ -85,26 +85,33 @@ fn link<'a>(entry: &'a Entry<'_>, l: u64, verb: &'a str) -> Result<Statement<'a>
     }
 }
 
+/// What a line says of the client or the link of a number.
+fn of_end<'a>(entry: &'a Entry<'_>, word: &str, rest: &'a str) -> Result<Statement<'a>, FormFault> {
+    let Some((number, verb)) = rest.split_once(' ') else {
+        return Err(FormFault::Unknown);
+    };
+    let number = number_of(number)?;
+    match word {
+        "client" => client(entry, number, verb),
+        "link" => link(entry, number, verb),
+        _ => Err(FormFault::Unknown),
+    }
+}
+
 /// What a line says.
 pub fn read_statement<'a>(entry: &'a Entry<'_>) -> Result<Statement<'a>, FormFault> {
     if entry.words == "table" {
         return Ok(Statement::Plays(Item::Config(bytes_of(entry)?)));
     }
-    let (word, rest) = entry.words.split_once(' ').ok_or(FormFault::Unknown)?;
+    let Some((word, rest)) = entry.words.split_once(' ') else {
+        return Err(FormFault::Unknown);
+    };
     match word {
         "at" => moment(entry, rest),
-        "stops" => bare(
-            entry,
-            Statement::Expects(Effect::Stop(entry.words.as_bytes())),
-        ),
-        "client" => {
-            let (number, verb) = rest.split_once(' ').ok_or(FormFault::Unknown)?;
-            client(entry, number_of(number)?, verb)
+        "stops" => {
+            let stop = Effect::Stop(entry.words.as_bytes());
+            bare(entry, Statement::Expects(stop))
         }
-        "link" => {
-            let (number, verb) = rest.split_once(' ').ok_or(FormFault::Unknown)?;
-            link(entry, number_of(number)?, verb)
-        }
-        _ => Err(FormFault::Unknown),
+        _ => of_end(entry, word, rest),
     }
 }

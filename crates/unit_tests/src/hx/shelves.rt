@@ -2,7 +2,6 @@
 
 use super::entries::{entry, key};
 use hx_store::{ListShelf, Shelf};
-use hx_target::Key;
 use std::alloc::{AllocError, Global};
 use std::process::Abort;
 use std::test::Fail;
@@ -69,28 +68,35 @@ fn freshen(alloc: Global, shelf: &mut ListShelf, serial: u64, path: &str) -> Res
     Ok(shelf.freshen(entry).serial)
 }
 
-/// The serials of a key's entries.
+/// The serials of a path's entries.
 fn are_found(
     rt: &impl Abort,
     alloc: Global,
     shelf: &ListShelf,
-    key: &Key,
+    path: &str,
     serials: &[u64],
 ) -> Result<(), AllocError> {
-    let found = shelf.find(alloc, key)?;
+    let key = key(alloc, path)?;
+    let found = shelf.find(alloc, &key)?;
     assert!(rt; found.as_slice() == serials);
     Ok(())
 }
 
+/// How many entries of a path are removed.
+fn removed(alloc: Global, shelf: &mut ListShelf, path: &str) -> Result<usize, AllocError> {
+    let key = key(alloc, path)?;
+    Ok(shelf.invalidate(&key))
+}
+
 #[test]
 fn entries_are_found_by_key(rt: HostRuntime) -> Result<(), Fail> {
-    let mut shelf = ListShelf::new(rt.alloc(), 3);
+    let alloc = rt.alloc();
+    let mut shelf = ListShelf::new(alloc, 3);
     let puts = [(1, "/a", 0), (2, "/b", 0), (3, "/a", 0)];
-    hands_back(&rt, rt.alloc(), &mut shelf, &puts, None)?;
-    let a = key(rt.alloc(), "/a")?;
-    are_found(&rt, rt.alloc(), &shelf, &a, &[1, 3])?;
-    assert_eq!(rt; freshen(rt.alloc(), &mut shelf, 1, "/a")?, 1);
-    assert_eq!(rt; shelf.invalidate(&a), 2);
-    assert_eq!(rt; (shelf.len(), shelf.capacity()), (1, 3));
+    hands_back(&rt, alloc, &mut shelf, &puts, None)?;
+    are_found(&rt, alloc, &shelf, "/a", &[1, 3])?;
+    assert!(rt; freshen(alloc, &mut shelf, 1, "/a")? == 1);
+    assert!(rt; removed(alloc, &mut shelf, "/a")? == 2);
+    assert!(rt; shelf.len() == 1 && shelf.capacity() == 3);
     Ok(())
 }

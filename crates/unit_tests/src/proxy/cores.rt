@@ -6,7 +6,7 @@ use hx_fields::{Bytes, Fields};
 use hx_framing::{Request, Response};
 use hx_hop::{Asked, ask};
 use hx_store::ListShelf;
-use proxy_core::{Core, CoreFault, Outcome, Reply};
+use proxy_core::{Core, CoreFault, Outcome};
 use std::alloc::Global;
 use std::test::Fail;
 
@@ -77,11 +77,4 @@ pub(super) fn answer(
     response: &Response,
 ) -> Result<Outcome, CoreFault> {
     core.answer(alloc, 101, id, response)
-}
-
-pub(super) fn reply(step: Result<Outcome, CoreFault>) -> Result<Reply, Fail> {
-    match step {
-        Ok(Outcome::Reply(reply)) => Ok(reply),
-        _ => Err("a reply".into()),
-    }
 }

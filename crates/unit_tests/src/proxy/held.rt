@@ -1,10 +1,11 @@
 //! What a core holds over random events, against a direct count over what its steps did.
 
-use super::cores::{answer, arrive, core, reply, request, response};
+use super::cores::{answer, arrive, core, request, response};
 use http::Method;
 use hx_store::ListShelf;
-use proxy_core::{Core, Outcome};
+use proxy_core::{Core, CoreFault, Outcome};
 use std::alloc::Global;
+use std::process::Abort;
 use std::test::Fail;
 
 /// As many as the table's capacity.
@@ -84,39 +85,48 @@ fn held_for(history: &[Done], path: u64) -> Option<u64> {
     None
 }
 
+/// What a reply did to the store.
+fn done_by(path: u64, step: &Result<Outcome, CoreFault>) -> Result<Done, Fail> {
+    match step {
+        Ok(Outcome::Reply(reply)) => Ok(Done {
+            path,
+            stored: reply.stored,
+            used: reply.used,
+            removed: reply.removed.last(),
+        }),
+        _ => Err("a reply".into()),
+    }
+}
+
+/// The origin answers what is out.
+fn answered(
+    alloc: Global,
+    core: &mut Core<ListShelf>,
+    path: u64,
+    status: u16,
+    control: &str,
+) -> Result<Done, Fail> {
+    let response = response(alloc, status, control.as_bytes(), b"")?;
+    done_by(path, &answer(alloc, core, 1, &response))
+}
+
 /// A POST that succeeds.
 fn post(alloc: Global, core: &mut Core<ListShelf>, path: u64) -> Result<Done, Fail> {
     let asked = request(alloc, Method::POST, path_text(path))?;
-    if !matches!(arrive(alloc, core, 1, &asked), Ok(Outcome::Forward(_, _))) {
-        return Err("a forward".into());
+    match &arrive(alloc, core, 1, &asked) {
+        Ok(Outcome::Forward(_, _)) => answered(alloc, core, path, 204, "max-age=60"),
+        _ => Err("a forward".into()),
     }
-    let response = response(alloc, 204, b"max-age=60", b"")?;
-    let reply = reply(answer(alloc, core, 1, &response))?;
-    Ok(Done {
-        path,
-        stored: reply.stored,
-        used: reply.used,
-        removed: reply.removed.last(),
-    })
 }
 
 /// A GET, whose answer may be stored or not.
 fn get(alloc: Global, core: &mut Core<ListShelf>, path: u64, may: bool) -> Result<Done, Fail> {
     let asked = request(alloc, Method::GET, path_text(path))?;
     let control = if may { "max-age=60" } else { "no-store" };
-    let reply = match arrive(alloc, core, 1, &asked) {
-        Ok(Outcome::Forward(_, _)) => {
-            let response = response(alloc, 200, control.as_bytes(), b"hi")?;
-            reply(answer(alloc, core, 1, &response))?
-        }
-        step => reply(step)?,
-    };
-    Ok(Done {
-        path,
-        stored: reply.stored,
-        used: reply.used,
-        removed: reply.removed.last(),
-    })
+    match &arrive(alloc, core, 1, &asked) {
+        Ok(Outcome::Forward(_, _)) => answered(alloc, core, path, 200, control),
+        step => done_by(path, step),
+    }
 }
 
 /// The next of a row of numbers that looks random (xorshift).
@@ -126,27 +136,37 @@ fn next_number(choice: u64) -> u64 {
     b ^ (b << 17)
 }
 
+/// One exchange, which uses or removes what is held for its path.
+fn exchange(
+    rt: &impl Abort,
+    alloc: Global,
+    core: &mut Core<ListShelf>,
+    choice: u64,
+    held: Option<u64>,
+) -> Result<Done, Fail> {
+    let path = choice % 4;
+    if (choice >> 8).is_multiple_of(6) {
+        let done = post(alloc, core, path)?;
+        assert!(rt; done.removed == held);
+        return Ok(done);
+    }
+    let done = get(alloc, core, path, !(choice >> 16).is_multiple_of(5))?;
+    assert!(rt; done.used == held);
+    Ok(done)
+}
+
 #[test]
 fn what_is_held_is_counted(rt: HostRuntime) -> Result<(), Fail> {
-    let alloc = rt.alloc();
-    let mut core = core(alloc, 1)?;
-    let mut history: Vec<Done> = Vec::new(alloc);
+    let mut core = core(rt.alloc(), 1)?;
+    let mut history: Vec<Done> = Vec::new(rt.alloc());
     let mut choice = 88_172_645_463_325_252;
     let mut hits = 0u64;
     for _ in 0..60 {
         choice = next_number(choice);
-        let path = choice % 4;
-        let held = held_for(history.as_slice(), path);
-        if (choice >> 8).is_multiple_of(6) {
-            let done = post(alloc, &mut core, path)?;
-            assert!(rt; done.removed == held);
-            history.push(done)?;
-        } else {
-            let done = get(alloc, &mut core, path, !(choice >> 16).is_multiple_of(5))?;
-            assert!(rt; done.used == held);
-            hits = hits.wrapping_add(u64::from(held.is_some()));
-            history.push(done)?;
-        }
+        let held = held_for(history.as_slice(), choice % 4);
+        let done = exchange(&rt, rt.alloc(), &mut core, choice, held)?;
+        hits = hits.wrapping_add(u64::from(done.used.is_some()));
+        history.push(done)?;
     }
     assert!(rt; hits > 5);
     Ok(())

@@ -6,6 +6,7 @@ use proxy_server::{ReplayFault, replay};
 use std::alloc::Global;
 use std::io;
 use std::io::{ErrorKind, Read, Write};
+use std::process::Abort;
 use std::test::Fail;
 
 /// Gives at most `most` bytes at a time, and fails once `calls` calls were made.
@@ -99,67 +100,70 @@ fn written_to(alloc: Global, most: usize, calls: u64, kind: ErrorKind) -> (&'sta
     (told(&result), sink.text)
 }
 
+/// A replay ended well, and wrote all effects.
+fn is_whole(rt: &impl Abort, (word, text): &(&'static str, Vec<u8>), at: u64) {
+    assert!(rt;
+        *word == "done" && text.as_slice() == FIRST_EFFECTS.as_bytes(),
+        "at {at}"
+    );
+}
+
+/// A replay ended so, and wrote the front of the effects.
+fn is_front(rt: &impl Abort, wanted: &str, (word, text): &(&'static str, Vec<u8>), at: u64) {
+    let holds = *word == wanted && FIRST_EFFECTS.as_bytes().starts_with(text);
+    assert!(rt; holds, "at {at}");
+}
+
 #[test]
 fn a_reader_may_give_few_bytes_at_a_time(rt: HostRuntime) {
     for most in 1..9usize {
-        let (word, text) = read_from(rt.alloc(), most, u64::MAX, ErrorKind::Other);
-        assert!(rt; word == "done", "at {most}");
-        assert!(rt; text.as_slice() == FIRST_EFFECTS.as_bytes(), "at {most}");
+        let ended = read_from(rt.alloc(), most, u64::MAX, ErrorKind::Other);
+        is_whole(&rt, &ended, most as u64);
     }
 }
 
 #[test]
-fn a_reader_that_fails_ends_the_replay(rt: HostRuntime) -> Result<(), Fail> {
-    let mut longest = 0usize;
-    for calls in 0..100u64 {
-        let (word, text) = read_from(rt.alloc(), 7, calls, ErrorKind::Other);
-        if word == "done" {
-            assert!(rt; text.as_slice() == FIRST_EFFECTS.as_bytes());
-            assert!(rt; calls == 62);
-            assert!(rt; longest == FIRST_EFFECTS.len());
-            return Ok(());
-        }
-        assert!(rt; word == "read", "at {calls}");
-        assert!(rt; FIRST_EFFECTS.as_bytes().starts_with(&text), "at {calls}");
+fn a_reader_that_fails_ends_the_replay(rt: HostRuntime) {
+    // Seven bytes at a time: the script has been read, and its end been told, with the 62nd call.
+    for calls in 0..62u64 {
+        let ended = read_from(rt.alloc(), 7, calls, ErrorKind::Other);
+        is_front(&rt, "read", &ended, calls);
         // The forward, then the drop with the reply, then the second reply: whole happenings alone.
-        assert!(rt; matches!(text.len(), 0 | 91 | 273 | 441), "at {calls}");
-        longest = text.len();
+        let length = ended.1.len();
+        let is_so_far = matches!(length, 0 | 91 | 273 | 441);
+        assert!(rt; is_so_far && (calls < 61 || length == 441), "at {calls}");
     }
-    Err(Fail::from("never ended"))
+    is_whole(&rt, &read_from(rt.alloc(), 7, 62, ErrorKind::Other), 62);
 }
 
 #[test]
 fn an_interrupted_call_is_made_again(rt: HostRuntime) {
     for calls in 0..20u64 {
-        let (word, text) = read_from(rt.alloc(), 30, calls, ErrorKind::Interrupted);
-        assert!(rt; word == "done", "at {calls}");
-        assert!(rt; text.as_slice() == FIRST_EFFECTS.as_bytes(), "at {calls}");
-        let (word, text) = written_to(rt.alloc(), 30, calls, ErrorKind::Interrupted);
-        assert!(rt; word == "done", "at {calls}");
-        assert!(rt; text.as_slice() == FIRST_EFFECTS.as_bytes(), "at {calls}");
+        let ended = read_from(rt.alloc(), 30, calls, ErrorKind::Interrupted);
+        is_whole(&rt, &ended, calls);
+        let ended = written_to(rt.alloc(), 30, calls, ErrorKind::Interrupted);
+        is_whole(&rt, &ended, calls);
     }
 }
 
 #[test]
 fn a_writer_may_take_few_bytes_at_a_time(rt: HostRuntime) {
     for most in 1..9usize {
-        let (word, text) = written_to(rt.alloc(), most, u64::MAX, ErrorKind::Other);
-        assert!(rt; word == "done", "at {most}");
-        assert!(rt; text.as_slice() == FIRST_EFFECTS.as_bytes(), "at {most}");
+        let ended = written_to(rt.alloc(), most, u64::MAX, ErrorKind::Other);
+        is_whole(&rt, &ended, most as u64);
     }
 }
 
 #[test]
 fn a_writer_that_fails_ends_the_replay(rt: HostRuntime) -> Result<(), Fail> {
     for calls in 0..100u64 {
-        let (word, text) = written_to(rt.alloc(), 7, calls, ErrorKind::Other);
-        if word == "done" {
-            assert!(rt; text.as_slice() == FIRST_EFFECTS.as_bytes());
+        let ended = written_to(rt.alloc(), 7, calls, ErrorKind::Other);
+        if ended.0 == "done" {
+            is_whole(&rt, &ended, calls);
             return Ok(());
         }
-        assert!(rt; word == "write", "at {calls}");
-        assert!(rt; FIRST_EFFECTS.as_bytes().starts_with(&text), "at {calls}");
-        assert!(rt; text.len() as u64 <= 7 * calls, "at {calls}");
+        is_front(&rt, "write", &ended, calls);
+        assert!(rt; ended.1.len() as u64 <= 7 * calls, "at {calls}");
     }
     Err(Fail::from("never ended"))
 }
@@ -167,8 +171,7 @@ fn a_writer_that_fails_ends_the_replay(rt: HostRuntime) -> Result<(), Fail> {
 #[test]
 fn a_write_that_takes_nothing_is_a_failure(rt: HostRuntime) {
     let (word, text) = written_to(rt.alloc(), 0, u64::MAX, ErrorKind::Other);
-    assert!(rt; word == "write");
-    assert!(rt; text.is_empty());
+    assert!(rt; word == "write" && text.is_empty());
 }
 
 /// Gives the line of a table that is longer than any script, and never ends.
@@ -193,6 +196,5 @@ impl Read for Endless {
 fn a_script_past_the_limit_is_no_longer_read(rt: HostRuntime) {
     let mut text = Vec::new(rt.alloc());
     let result = replay(rt.alloc(), &mut Endless { line: false }, &mut text);
-    assert!(rt; told(&result) == "read");
-    assert!(rt; text.is_empty());
+    assert!(rt; told(&result) == "read" && text.is_empty());
 }

@@ -4,8 +4,8 @@ use hx_status::FailKind;
 use proxy_script::{Happening, Item};
 use std::alloc::{AllocError, Global};
 
-/// The word of a link's failure.
-fn word(kind: FailKind) -> &'static str {
+/// The word of a link's failure in a script.
+pub fn failure_word(kind: FailKind) -> &'static str {
     match kind {
         FailKind::Refused => "refused",
         FailKind::TimedOut => "timed-out",
@@ -22,7 +22,7 @@ fn happening_line(alloc: Global, happening: Happening<'_>) -> Result<String, All
         Happening::End(n) => format!(in alloc; "end {n}"),
         Happening::Gone(n) => format!(in alloc; "gone {n}"),
         Happening::Shut(l) => format!(in alloc; "shut {l}"),
-        Happening::Fail(l, kind) => format!(in alloc; "fail {l} {}", word(kind)),
+        Happening::Fail(l, kind) => format!(in alloc; "fail {l} {}", failure_word(kind)),
     }
 }
 
