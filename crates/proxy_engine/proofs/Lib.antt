@@ -19,3 +19,4 @@ pub mod Living
 pub mod Doing
 pub mod Staying
 pub mod Dropping
+pub mod Readable

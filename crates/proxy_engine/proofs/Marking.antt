@@ -5,6 +5,8 @@ use Rattle.std.specs.Ordering.{nat_cmp}
 use Rattle.std.specs.Map.{lookup}
 use Rattle.std.specs.BTreeMap.{BTreeMap, get, is_at}
 use Rattle.std.proofs.lemmas.Bool.{cases_eq, cases_Bool}
+use Rattle.hx_framing.specs.declared.requests.Request.{Request}
+use Rattle.hx_framing.specs.declared.responses.Response.{Response}
 use Rattle.hx_framing.specs.declared.answer.Next.{Next}
 use Rattle.hx_framing.specs.declared.answer.Next.TheVariants as next
 use Rattle.hx_status.specs.declared.cause.FailKind.{FailKind}
@@ -13,7 +15,8 @@ use Rattle.proxy_engine.specs.Story.{ConnStory, LinkStory}
 use Rattle.proxy_engine.specs.Due.{Breaks, Lost, Stood, Wanted, WishBy, FinishBy, is_busy}
 use Rattle.proxy_engine.specs.State.{ConnStands, LinkStands, wish_seen}
 use Rattle.proxy_engine.specs.Places.{Kept, Falls, AllBelow, IsLeast, IsMarked}
-use Rattle.proxy_engine.specs.Marked.{LinkList, may_be_lost, may_want, may_stand, LooksLikeConnection, LooksLikeLink, Alike, AtEach, NoneBelow, NoneAtAll, lost_at}
+use Rattle.proxy_engine.specs.Held.{GrowsConnection, GrowsLink}
+use Rattle.proxy_engine.specs.Marked.{ConnectionList, LinkList, may_be_lost, may_want, may_stand, LooksLikeConnection, LooksLikeLink, Alike, AtEach, NoneBelow, NoneAtAll, lost_at}
 use Rattle.proxy_engine.specs.declared.ends.Connection.{Connection}
 use Rattle.proxy_engine.specs.declared.ends.Link.{Link}
 use Rattle.proxy_engine.proofs.Keeping.{fits}
@@ -203,6 +206,21 @@ below_same n old new h same = subst (AllBelow n) (sym same) h
 
 pub same_list : (xs ys : List (Option Link)) (a b : Bool) → xs ≡ ys → a ≡ b → ◌≡◌ {A = LinkList} (record { items = xs; has_room = a }) (record { items = ys; has_room = b })
 same_list xs ys a b e f = ap {B = LinkList} (λ (zs : List (Option Link)). record { items = zs; has_room = a }) e ∙ ap {B = LinkList} (λ (c : Bool). record { items = ys; has_room = c }) f
+
+pub same_connections : (xs ys : List (Option Connection)) (a b : Bool) → xs ≡ ys → a ≡ b → ◌≡◌ {A = ConnectionList} (record { items = xs; has_room = a }) (record { items = ys; has_room = b })
+same_connections xs ys a b e f = ap {B = ConnectionList} (λ (zs : List (Option Connection)). record { items = zs; has_room = a }) e ∙ ap {B = ConnectionList} (λ (c : Bool). record { items = ys; has_room = c }) f
+
+-- room is made for bytes: what may be due is what might before
+pub grown_lost : (x y : Connection) → GrowsConnection x y → may_be_lost y ≡ true → may_be_lost x ≡ true
+grown_lost x y r f = sym (ap (λ (b : Bool). b && is_some y.link) r.alike.gone ∙ ap (λ (o : Option ℕ). x.gone && is_some o) r.alike.link) ∙ f
+
+pub grown_want : (x y : Connection) → GrowsConnection x y → may_want y ≡ true → may_want x ≡ true
+grown_want x y r f =
+    sym (ap (λ (b : Bool). not (is_busy b false y.link) && may_show y.watch.look) r.alike.gone ∙ (ap (λ (o : Option ℕ). not (is_busy x.gone false o) && may_show y.watch.look) r.alike.link
+    ∙ ap (λ (l : Look Request). not (is_busy x.gone false x.link) && may_show l) r.look)) ∙ f
+
+pub grown_stand : (x y : Link) → GrowsLink x y → may_stand y ≡ true → may_stand x ≡ true
+grown_stand x y r f = sym (ap (λ (l : Look Response). may_show l || is_some y.failed) r.look ∙ ap (λ (o : Option FailKind). may_show x.watch.look || is_some o) r.failed) ∙ f
 
 -- one look after another
 pub alike_trans : {A : Type 0} (R : A → A → Type 0) → ((x y z : A) → R x y → R y z → R x z) → (m k l : BTreeMap ℕ A) → AtEach R m k → AtEach R k l → AtEach R m l

@@ -4,7 +4,9 @@ use Rattle.hx_framing.specs.declared.requests.Request.{Request}
 use Rattle.hx_framing.specs.declared.answer.Next.{Next}
 use Rattle.hx_framing.specs.declared.answer.Next.TheVariants as next
 use Rattle.hx_framing.specs.Progress.{Progress, fed, finished, moved}
-use Rattle.hx_framing.specs.RequestState.{State, StandsFor}
+use Rattle.hx_framing.specs.declared.request_phase.RequestPhase.{RequestPhase}
+use Rattle.hx_framing.specs.declared.request_phase.RequestPhase.TheVariants as phase
+use Rattle.hx_framing.specs.RequestState.{State, StandsFor, Keeps}
 use Rattle.hx_framing.specs.RequestStream.{Answers}
 use Rattle.hx_framing.proofs.RequestStreams.{due_fed, due_finished}
 use Rattle.proxy_engine.specs.Look.{Look, Unknown, Quiet, Due, Shows, look_by}
@@ -66,3 +68,24 @@ finished_due r s l a p u e v step h =
     let kept : StandsBy r l p = subst (λ (u : Watched). StandsBy u.reader u.look p) (sym v) h.by in
     let k = subst (λ (l : Look Request). StandsBy r l p) e kept in
     record { by = subst (λ (l : Look Request). StandsBy s l (finished p)) (sym e) (subst (λ (q : Progress Request). StandsFor s q) (moved_finished p a) (step (moved p a) k.0), due_finished p a k.2 k.1, k.2) }
+
+-- ---- room for what comes
+
+spare_keeps : (r : State) (k : ℕ) (p : Progress Request) (rest : List ℕ) (ph : RequestPhase) → Keeps r p rest ph → Keeps (record r { spare = k }) p rest ph
+spare_keeps r k p rest phase.BeforeHead h = h
+spare_keeps r k p rest (phase.InContent head content) h = h
+spare_keeps r k p rest (phase.Faulty f) h = h
+
+spare_stands : (r s : State) (p : Progress Request) → s ≡ record r { spare = s.spare } → StandsFor r p → StandsFor s p
+spare_stands r s p same h =
+    subst (λ (t : State). StandsFor t p) (sym same)
+    (record { max_body = h.max_body; ended = h.ended; rest = h.rest; spells = h.spells; keeps = spare_keeps r s.spare p h.rest r.phase h.keeps })
+
+spare_by : (r s : State) (l : Look Request) (p : Progress Request) → s ≡ record r { spare = s.spare } → StandsBy r l p → StandsBy s l p
+spare_by r s Unknown p same h = spare_stands r s p same h
+spare_by r s Quiet p same h = (spare_stands r s p same h.0, h.1)
+spare_by r s (Due a) p same h = (spare_stands r s (moved p a) same h.0, h.1, h.2)
+
+-- a reader with more room stands for the same streams
+pub stands_reserved : (r s : State) (l : Look Request) (u : Watched) (p : Progress Request) → s ≡ record r { spare = s.spare } → record { reader = r; look = l } ≡ u → Stands u p → Stands record { reader = s; look = l } p
+stands_reserved r s l u p same view h = record { by = spare_by r s l p same (subst (λ (v : Watched). StandsBy v.reader v.look p) (sym view) h.by) }

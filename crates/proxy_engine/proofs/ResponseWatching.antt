@@ -1,11 +1,13 @@
 -- A reader of an origin's answer that is asked ahead: what is known of the next answer.
-use Rattle.std.proofs.Common.{◌≡◌, ℕ, Bool, false, List, [], refl, sym, subst, ◌∙◌}
+use Rattle.std.proofs.Common.{◌≡◌, ℕ, Bool, false, List, [], ◌∷◌, refl, sym, subst, ◌∙◌}
 use Rattle.hx_framing.specs.declared.responses.Response.{Response}
 use Rattle.hx_framing.specs.declared.answer.Next.{Next}
 use Rattle.hx_framing.specs.declared.answer.Next.TheVariants as next
 use Rattle.hx_framing.specs.Progress.{Progress, start, fed, finished, moved}
 use Rattle.hx_framing.specs.Reading.{Incomplete}
-use Rattle.hx_framing.specs.ResponseState.{State, StandsFor}
+use Rattle.hx_framing.specs.declared.response_phase.ResponsePhase.{ResponsePhase}
+use Rattle.hx_framing.specs.declared.response_phase.ResponsePhase.TheVariants as phase
+use Rattle.hx_framing.specs.ResponseState.{State, StandsFor, KeepsBy}
 use Rattle.hx_framing.specs.ResponseStream.{Answers}
 use Rattle.hx_framing.proofs.ResponseStreams.{due_fed, due_finished}
 use Rattle.proxy_engine.specs.Look.{Look, Unknown, Quiet, Due, Shows, look_by}
@@ -71,3 +73,29 @@ finished_due r s l a p u e v step h =
     let kept : StandsBy r l p = subst (λ (u : Watched). StandsBy u.reader u.look p) (sym v) h.by in
     let k = subst (λ (l : Look Response). StandsBy r l p) e kept in
     record { by = subst (λ (l : Look Response). StandsBy s l (finished p)) (sym e) (subst (λ (q : Progress Response). StandsFor s q) (moved_finished p a) (step (moved p a) k.0), due_finished p a k.2 k.1, k.2) }
+
+-- ---- room for what comes
+
+spare_keeps : (r : State) (k : ℕ) (p : Progress Response) (ph : ResponsePhase) (given : List Response) → KeepsBy r p ph given → KeepsBy (record r { spare = k }) p ph given
+spare_keeps r k p phase.BeforeHead [] h = h
+spare_keeps r k p phase.BeforeHead (message ∷ more) h = h
+spare_keeps r k p (phase.InContent head content) [] h = h
+spare_keeps r k p (phase.InContent head content) (message ∷ more) h = h
+spare_keeps r k p phase.Given [] h = h
+spare_keeps r k p phase.Given (message ∷ more) h = h
+spare_keeps r k p (phase.Faulty f) [] h = h
+spare_keeps r k p (phase.Faulty f) (message ∷ more) h = h
+
+spare_stands : (r s : State) (p : Progress Response) → s ≡ record r { spare = s.spare } → StandsFor r p → StandsFor s p
+spare_stands r s p same h =
+    subst (λ (t : State). StandsFor t p) (sym same)
+    (record { max_body = h.max_body; to_head = h.to_head; ended = h.ended; spells = h.spells; keeps = spare_keeps r s.spare p r.phase p.given h.keeps })
+
+spare_by : (r s : State) (l : Look Response) (p : Progress Response) → s ≡ record r { spare = s.spare } → StandsBy r l p → StandsBy s l p
+spare_by r s Unknown p same h = spare_stands r s p same h
+spare_by r s Quiet p same h = (spare_stands r s p same h.0, h.1)
+spare_by r s (Due a) p same h = (spare_stands r s (moved p a) same h.0, h.1, h.2)
+
+-- a reader with more room stands for the same streams
+pub stands_reserved : (r s : State) (l : Look Response) (u : Watched) (p : Progress Response) → s ≡ record r { spare = s.spare } → record { reader = r; look = l } ≡ u → Stands u p → Stands record { reader = s; look = l } p
+stands_reserved r s l u p same view h = record { by = spare_by r s l p same (subst (λ (v : Watched). StandsBy v.reader v.look p) (sym view) h.by) }

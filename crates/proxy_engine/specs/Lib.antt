@@ -7,8 +7,11 @@ pub mod Admitted
 pub mod Due
 pub mod Acts
 pub mod State
+pub mod Room
+pub mod Reading
 pub mod Places
 pub mod Marked
+pub mod Held
 pub mod Wishes
 pub mod Wiring
 pub mod Orderly

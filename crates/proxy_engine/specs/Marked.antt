@@ -14,9 +14,11 @@ use Rattle.proxy_engine.specs.State.{ConnStands, LinkStands, finish_at, wish_at,
 use Rattle.proxy_engine.specs.declared.ends.Connection.{Connection}
 use Rattle.proxy_engine.specs.declared.ends.Link.{Link}
 
--- what is kept of each connection in the order of their numbers: nothing of one that is over
+-- what is kept of each connection in the order of their numbers: nothing of one that is over; and whether there is room for
+-- one more
 pub record ConnectionList : Type 0 where
   pub items : List (Option Connection)
+  pub has_room : Bool
 
 -- what is kept of each link, and whether there is room for one more
 pub record LinkList : Type 0 where

@@ -27,12 +27,14 @@ use Rattle.proxy_engine.specs.declared.happening.Work.{Work}
 use Rattle.proxy_engine.specs.declared.happening.Work.TheVariants as work
 use Rattle.proxy_engine.specs.Acts.{Does, MayForward, next_number}
 
--- at the place of each connection and link what is kept of it: nothing of one that is over
+-- at the place of each connection and link what is kept of it: nothing of one that is over; and whether there is room for one
+-- more connection
 pub record State : Type 0 where
   pub connections : List (Option Connection)
   pub links : List (Option Link)
   pub core : CoreState
   pub first : ℕ
+  pub room : Bool
 
 -- part by part
 abbrev pub Both : {A B : Type 0} → (A → B → Type 0) → List A → List B → Type 0
@@ -67,20 +69,28 @@ abbrev pub LinkStands : Option Link → LinkStory → Type 0
 LinkStands None s = s.dropped ≡ true
 LinkStands (Some k) s = LinkHolds k s
 
-pub record Stands (e : State) (s : Story) : Type 0 where
-  pub connections : Both ConnStands e.connections s.connections
-  pub links : Both LinkStands e.links s.links
-  pub core : e.core ≡ s.core
-  pub first : e.first ≡ s.first
+-- connections, links, a core and the number of the first link stand for a story
+pub record Tallies (cs : List (Option Connection)) (ks : List (Option Link)) (kept : CoreState) (number : ℕ) (s : Story) : Type 0 where
+  pub connections : Both ConnStands cs s.connections
+  pub links : Both LinkStands ks s.links
+  pub core : kept ≡ s.core
+  pub first : number ≡ s.first
   pub numbers : s.first + length s.links ≤ 2 ^ 64
 
+abbrev pub Stands : State → Story → Type 0
+Stands e s = Tallies e.connections e.links e.core e.first s
+
+-- without room
 abbrev pub state : List (Option Connection) → List (Option Link) → CoreState → ℕ → State
-state connections links core first = record { connections = connections; links = links; core = core; first = first }
+state connections links core first = record { connections = connections; links = links; core = core; first = first; room = false }
 
 -- the happening was taken
-pub record Takes (s : Story) (h : Said) (new : State) : Type 0 where
+pub record TakesTo (s : Story) (h : Said) (cs : List (Option Connection)) (ks : List (Option Link)) (kept : CoreState) (number : ℕ) : Type 0 where
   pub free : fault_of s h ≡ None
-  pub stands : Stands new (heard s h)
+  pub stands : Tallies cs ks kept number (heard s h)
+
+abbrev pub Takes : Story → Said → State → Type 0
+Takes s h new = TakesTo s h new.connections new.links new.core new.first
 
 -- the refusal that stands, or want of memory where none does
 abbrev pub IsRefusal : Option EngineFault → EngineFault → Type 0
@@ -183,10 +193,13 @@ abbrev pub begun : CoreState → ℕ → Story
 begun core first = record { connections = []; links = []; core = core; first = first }
 
 -- an act was done at this moment, with these effects
-pub record Done (s : Story) (now : ℕ) (act : Act) (effects : List Effect) (new : State) : Type 0 where
+pub record DoneTo (s : Story) (now : ℕ) (act : Act) (effects : List Effect) (cs : List (Option Connection)) (ks : List (Option Link)) (kept : CoreState) (number : ℕ) : Type 0 where
   pub after : Story
   pub does : Does s now act effects after
-  pub stands : Stands new after
+  pub stands : Tallies cs ks kept number after
+
+abbrev pub Done : Story → ℕ → Act → List Effect → State → Type 0
+Done s now act effects new = DoneTo s now act effects new.connections new.links new.core new.first
 
 -- the first act that was due was done at this moment, or none was due
 abbrev pub Did : Story → ℕ → Work → State → Type 0

@@ -1,21 +1,27 @@
 //! The connections of clients by their places, and at which of them something may be due.
-ghost use Rattle.std.specs.Prelude.{◌≡◌, ◌+◌, ◌<◌, ◌≤◌, ◌^◌, ◌++◌, ◌∷◌, [], List, length, sum_by, true, is_some, IfOk, IfSome, IfNone, OnOk, OnErr, Some, None, slice_index_or, slice_set};
+ghost use Rattle.std.specs.Prelude.{◌≡◌, ◌+◌, ◌<◌, ◌≤◌, ◌^◌, ◌++◌, ◌∷◌, [], List, length, map, nat_lt, if◌then◌else◌, sum_by, true, is_some, IsOk, IfOk, IfSome, IfNone, OnOk, OnErr, Some, None, slice_index_or, slice_set};
 ghost use Rattle.std.specs.Option.{option_copied_mut};
 ghost use Rattle.std.specs.Borrow.{LendsIf, sem};
 ghost use Rattle.proxy_engine.specs.Story.{ConnStory, no_connection};
 ghost use Rattle.proxy_engine.specs.Due.{IsFirst, Lost};
+ghost use Rattle.proxy_engine.specs.Reading.{places_with, is_open, is_read, client_end};
+ghost use Rattle.proxy_engine.specs.Room.{IsRoomy, piece};
 ghost use Rattle.proxy_engine.specs.Wiring.{at, link_of, links_of};
 ghost use Rattle.proxy_engine.specs.State.{Both, ConnStands, gone_at, NoneLost, FoundConnections, connection_load};
 
 use crate::ends::Connection;
 use crate::finds::{first_due, first_lost};
+use crate::happening::End;
 use crate::places::Places;
+use crate::reading;
+use crate::request_watch::RequestWatch;
 use std::alloc::{AllocError, Global};
 use std::collections::BTreeMap;
 use std::marker::Model;
 
 /// The connections that aren't over, and how many were ever accepted. Where one may be gone with an open exchange, or its
 /// stream may ask for something, its place is marked; whatever changes one marks it. So a search looks at marked places alone.
+/// Behind the last stands an empty one where there is room for one more.
 #[derive(Drop)]
 pub(crate) struct Connections {
     ends: BTreeMap<u64, Connection>,
@@ -25,12 +31,15 @@ pub(crate) struct Connections {
 }
 
 impl Model for Connections {
+    ghost use Rattle.std.specs.Prelude.{◌&&◌, ◌+◌, ◌^◌, nat_lt, is_some};
+    ghost use Rattle.std.specs.Ordering.{nat_cmp};
+    ghost use Rattle.std.specs.BTreeMap.{get};
     ghost use Rattle.proxy_engine.specs.Places.{listed, AllBelow, IsMarked};
     ghost use Rattle.proxy_engine.specs.Marked.{ConnectionList, may_be_lost, may_want};
 
     ghost Value = { ConnectionList };
 
-    ghost view = { λ c. record { items = listed c.ends c.count } };
+    ghost view = { λ c. record { items = listed c.ends c.count; has_room = nat_lt (c.count + 1) (2 ^ 64) && is_some (get nat_cmp c.ends c.count) } };
 
     ghost invariant = { λ c. IsMarked may_be_lost c.ends c.lost × AllBelow c.count c.lost.places × IsMarked may_want c.ends c.waiting × AllBelow c.count c.waiting.places };
 }
@@ -79,7 +88,7 @@ impl Connections {
     /// The connection at a place, to be changed, if it isn't over. Something may be due there afterwards.
     pub(crate) fn at_mut(&mut self, i: u64) -> Option<&mut Connection>
         requires { i < length self.old.items }
-        ensures* writes_back { sem 𝓛 (LendsIf the_row connection_row self.entry result (λ w. record { items = slice_set self.old.items i (Some w) }) self.old) }
+        ensures* writes_back { sem 𝓛 (LendsIf the_row connection_row self.entry result (λ w. record { items = slice_set self.old.items i (Some w); has_room = self.old.has_room }) self.old) }
         ensures value { option_copied_mut result ≡ slice_index_or self.old.items i None }
     {
         if !self.ends.contains_key(&i) {
@@ -90,21 +99,87 @@ impl Connections {
         self.ends.get_mut(&i)
     }
 
-    /// Puts a connection at the place behind the last, and marks it.
-    pub(crate) fn accept(&mut self, connection: Connection) -> Result<(), AllocError>
+    /// Makes room for one more, and for the marks at its place. An empty connection stands there until then.
+    pub(crate) fn reserve_one(&mut self, alloc: Global) -> Result<(), AllocError>
         requires { length self.old.items + 1 < 2 ^ 64 }
-        ensures ok { OnOk result (self.new.items ≡ self.old.items ++ Some connection ∷ []) }
-        ensures err { OnErr result (self.new.items ≡ self.old.items) }
+        ensures items { self.new.items ≡ self.old.items }
+        ensures ok { OnOk result (self.new.has_room ≡ true) }
+        ensures reserved { self.old.has_room ≡ true → IsOk result }
+        ensures err { OnErr result (self.new ≡ self.old) }
     {
+        let place = self.count;
+        if self.ends.contains_key(&place) {
+            return Ok(());
+        }
         let open = self.ends.len() + 1;
         self.lost.reserve_for(open)?;
         self.waiting.reserve_for(open)?;
+        let empty = Connection {
+            watch: RequestWatch::new(alloc, 0),
+            ended: false,
+            gone: true,
+            link: None,
+        };
+        self.ends.insert(place, empty)?;
+        Ok(())
+    }
+
+    /// Puts a connection at the place behind the last, and marks it. There is room, so no memory is taken.
+    pub(crate) fn put(&mut self, connection: Connection)
+        requires { self.old.has_room ≡ true }
+        ensures { self.new.items ≡ self.old.items ++ Some connection ∷ [] }
+    {
         let place = self.count;
-        self.ends.insert(place, connection)?;
         self.lost.put(place);
         self.waiting.put(place);
+        let _ = self.ends.insert(place, connection);
         self.count = place + 1;
+    }
+
+    /// Puts a connection at the place behind the last. Where there is room for it, memory isn't wanted.
+    pub(crate) fn accept(&mut self, alloc: Global, connection: Connection) -> Result<(), AllocError>
+        requires { length self.old.items + 1 < 2 ^ 64 }
+        ensures ok { OnOk result (self.new.items ≡ self.old.items ++ Some connection ∷ []) }
+        ensures reserved { self.old.has_room ≡ true → IsOk result }
+        ensures err { OnErr result (self.new ≡ self.old) }
+    {
+        self.reserve_one(alloc)?;
+        self.put(connection);
         Ok(())
+    }
+
+    /// The number of the next connection, if one is left.
+    pub(crate) fn next_number(&self) -> Option<u64>
+        ensures { result ≡ (if nat_lt (length self.now.items + 1) (2 ^ 64) then Some (length self.now.items + 1) else None) }
+    {
+        self.count.checked_add(1)
+    }
+
+    /// How many are open: neither closed nor gone.
+    pub(crate) fn open_count(&self) -> usize
+        ensures { (ss : List ConnStory) → Both ConnStands self.now.items ss → result ≡ length (places_with is_open 0 ss) }
+    {
+        reading::open_count(&self.ends, self.count)
+    }
+
+    /// Adds the clients from which bytes may come.
+    pub(crate) fn push_readable(&self, ends: &mut Vec<End>) -> Result<(), AllocError>
+        ensures { OnOk result ((ss : List ConnStory) → Both ConnStands self.now.items ss → ends.new.items ≡ ends.old.items ++ map client_end (places_with is_read 0 ss)) }
+    {
+        reading::push_clients(&self.ends, self.count, ends)
+    }
+
+    /// Makes room for one piece of the client's bytes at a place, if the connection isn't over.
+    pub(crate) fn reserve_piece(&mut self, i: u64) -> Result<(), AllocError>
+        ensures ok { OnOk result (IsRoomy (slice_index_or self.new.items i None) piece) }
+        ensures stands { (ss : List ConnStory) → Both ConnStands self.old.items ss → Both ConnStands self.new.items ss }
+        ensures links { links_of self.new.items ≡ links_of self.old.items }
+        ensures err { OnErr result (self.new ≡ self.old) }
+    {
+        if i >= self.count {
+            return Ok(());
+        }
+        reading::reserve_client_at(&mut self.ends, i)
     }
 
     /// Lets go of the connection at a place, which is over.

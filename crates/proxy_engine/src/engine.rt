@@ -1,18 +1,20 @@
 //! The engine: connections of clients, links to origins, and the core between them.
-ghost use Rattle.std.specs.Prelude.{◌≡◌, ◌<◌, ◌≤◌, [], IfOk, IfErr, OnOk, OnErr, Some, Err, true};
+ghost use Rattle.std.specs.Prelude.{◌≡◌, ◌≢◌, ◌<◌, ◌≤◌, [], IfOk, IfErr, OnOk, OnErr, Some, Err, true};
 ghost use Rattle.proxy_engine.specs.Story.{Story, keeps};
 ghost use Rattle.proxy_engine.specs.Happenings.{said, takes_memory};
+ghost use Rattle.proxy_engine.specs.Reading.{ends_read, failed_links, open_count, next_connection};
+ghost use Rattle.proxy_engine.specs.Room.{Finds, HasRoom};
 ghost use Rattle.proxy_engine.specs.State.{State, Stands, Takes, TakeFault, Did, Failed, Lessens, begun, load_at};
 
 use crate::connections::Connections;
-use crate::happening::{EngineFault, Work};
+use crate::happening::{End, EngineFault, Work};
 use crate::links::Links;
 use crate::{acts, takes};
 use hx_allow::Config;
 use hx_store::Shelf;
 use proxy_core::Core;
 use proxy_script::Happening;
-use std::alloc::Global;
+use std::alloc::{AllocError, Global};
 use std::marker::Model;
 
 /// The proxy without sockets. It is told what happens, and asked for what is to be done.
@@ -39,14 +41,14 @@ impl<S: Shelf + Drop> Drop for Engine<S> {
 }
 
 impl<S: Shelf> Model for Engine<S> {
-    ghost use Rattle.proxy_engine.specs.State.{State};
+    ghost use Rattle.proxy_engine.specs.State.{State, state};
     ghost use Rattle.proxy_engine.specs.Wiring.{IsWired};
 
     ghost Value = { State };
 
-    ghost view = { λ e. record { connections = e.connections.items; links = e.links.items; core = e.core; first = e.first_link } };
+    ghost view = { λ e. record { connections = e.connections.items; links = e.links.items; core = e.core; first = e.first_link; room = e.connections.has_room } };
 
-    ghost invariant = { λ e. IsWired (record { connections = e.connections.items; links = e.links.items; core = e.core; first = e.first_link }) };
+    ghost invariant = { λ e. IsWired (state e.connections.items e.links.items e.core e.first_link) };
 }
 
 impl<S: Shelf> Engine<S> {
@@ -71,6 +73,7 @@ impl<S: Shelf> Engine<S> {
         // Only connections and bytes take memory, and bytes only of an end that is still read.
         ensures memory { result ≡ Err EngineFault.OutOfMemory → takes_memory (said happening.entry) ≡ true }
         ensures kept { result ≡ Err EngineFault.OutOfMemory → (s : Story) → Stands self.old s → keeps s (said happening.entry) ≡ true }
+        ensures reserved { Finds self.old (said happening.entry) → result ≢ Err EngineFault.OutOfMemory }
         ensures unchanged { OnErr result (self.new ≡ self.old) }
     {
         match happening {
@@ -90,6 +93,59 @@ impl<S: Shelf> Engine<S> {
                 kind,
             ),
         }
+    }
+
+    /// Makes room, so that the next `take` of that end finds its memory: of an accept for the listener, of at most 4,096
+    /// bytes for another end. An `Err` changes nothing.
+    pub fn reserve(&mut self, alloc: Global, end: End) -> Result<(), AllocError>
+        ensures ok { OnOk result (HasRoom self.new end) }
+        ensures stands { (s : Story) → Stands self.old s → Stands self.new s }
+        ensures err { OnErr result (self.new ≡ self.old) }
+    {
+        match end {
+            End::Listener => {
+                if self.connections.next_number().is_none() {
+                    return Ok(());
+                }
+                self.connections.reserve_one(alloc)
+            }
+            End::Client(n) => self.connections.reserve_piece(n.saturating_sub(1)),
+            End::Link(l) => self.links.reserve_piece(l.saturating_sub(self.first_link)),
+        }
+    }
+
+    /// The number of the next connection, if one is left.
+    pub fn next_connection(&self) -> Option<u64>
+        ensures { (s : Story) → Stands self.now s → result ≡ next_connection s }
+    {
+        self.connections.next_number()
+    }
+
+    /// How many connections are open: neither closed nor gone.
+    pub fn open_connections(&self) -> usize
+        ensures { (s : Story) → Stands self.now s → result ≡ open_count s }
+    {
+        self.connections.open_count()
+    }
+
+    /// The ends from which bytes may come: each link that isn't dropped, failed or shut, then each open client without
+    /// an exchange whose input hasn't ended. Its only error is want of memory.
+    pub fn readable_ends(&self, alloc: Global) -> Result<Vec<End>, AllocError>
+        ensures { IfOk result (λ ends. (s : Story) → Stands self.now s → ends.items ≡ ends_read s) }
+    {
+        let mut ends = Vec::new(alloc);
+        self.links.push_readable(self.first_link, &mut ends)?;
+        self.connections.push_readable(&mut ends)?;
+        Ok(ends)
+    }
+
+    /// The links that have failed and aren't dropped. Its only error is want of memory.
+    pub fn failed_links(&self, alloc: Global) -> Result<Vec<End>, AllocError>
+        ensures { IfOk result (λ ends. (s : Story) → Stands self.now s → ends.items ≡ failed_links s) }
+    {
+        let mut ends = Vec::new(alloc);
+        self.links.push_failed(self.first_link, &mut ends)?;
+        Ok(ends)
     }
 
     /// Does the first act that is due, and at most one step of the core. `now` is in Unix seconds, up to the end of

@@ -1,6 +1,14 @@
-//! What taking a happening, or working, comes to.
+//! The ends of a proxy, and what taking a happening, or working, comes to.
 
 use proxy_script::Effect;
+
+/// An end of a proxy: where connections come from, a client by its connection's number, or an origin by its link's.
+#[derive(Clone, Copy, Debug, PartialEq, Eq)]
+pub enum End {
+    Listener,
+    Client(u64),
+    Link(u64),
+}
 
 /// Why a happening isn't taken, or an act isn't done. Each changes nothing.
 #[derive(Clone, Copy, Debug, PartialEq, Eq)]

@@ -18,6 +18,7 @@ mod links;
 mod marks;
 mod outcomes;
 mod places;
+mod reading;
 mod request_watch;
 mod response_watch;
 mod serving;
@@ -25,7 +26,7 @@ mod takes;
 mod wishes;
 
 pub use crate::engine::Engine;
-pub use crate::happening::{EngineFault, Work};
+pub use crate::happening::{End, EngineFault, Work};
 pub use crate::laws::{
     a_life_has_one_trace, an_act_has_three_effects_at_most, an_act_is_done_in_one_way, due_once,
     each_drop_is_told, effects_name_open_ends, lives_are_runs, what_ends_stays_ended,

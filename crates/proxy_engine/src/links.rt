@@ -1,14 +1,18 @@
 //! The links to origins by their places, and on which of them something may stand.
-ghost use Rattle.std.specs.Prelude.{◌≡◌, ◌<◌, ◌≤◌, ◌++◌, ◌∷◌, [], List, length, sum_by, true, is_some, IfOk, OnOk, Some, None, slice_index_or, slice_set};
+ghost use Rattle.std.specs.Prelude.{◌≡◌, ◌+◌, ◌<◌, ◌≤◌, ◌^◌, ◌++◌, ◌∷◌, [], List, length, map, sum_by, true, is_some, IfOk, OnOk, OnErr, Some, None, slice_index_or, slice_set};
 ghost use Rattle.std.specs.Option.{option_copied_mut};
 ghost use Rattle.std.specs.Borrow.{LendsIf, sem};
-ghost use Rattle.proxy_engine.specs.Story.{LinkStory};
+ghost use Rattle.proxy_engine.specs.Story.{LinkStory, keeps_answer};
+ghost use Rattle.proxy_engine.specs.Reading.{places_with, has_failed, link_end};
+ghost use Rattle.proxy_engine.specs.Room.{IsRoomyLink, piece};
 ghost use Rattle.proxy_engine.specs.Wiring.{owners_of};
 ghost use Rattle.proxy_engine.specs.State.{Both, LinkStands, FoundLinks, link_load};
 
 use crate::ends::Link;
 use crate::finds::first_finished;
+use crate::happening::End;
 use crate::places::Places;
+use crate::reading;
 use crate::response_watch::ResponseWatch;
 use std::alloc::{AllocError, Global};
 use std::collections::BTreeMap;
@@ -111,6 +115,33 @@ impl Links {
         self.stirred.put(place);
         let _ = self.ends.insert(place, link);
         self.count = place + 1;
+    }
+
+    /// Adds the links from which bytes may come. The first link has this number.
+    pub(crate) fn push_readable(&self, first: u64, ends: &mut Vec<End>) -> Result<(), AllocError>
+        ensures { OnOk result ((ss : List LinkStory) → Both LinkStands self.now.items ss → first + length ss ≤ 2 ^ 64 → ends.new.items ≡ ends.old.items ++ map (link_end first) (places_with keeps_answer 0 ss)) }
+    {
+        reading::push_links(&self.ends, self.count, first, ends)
+    }
+
+    /// Adds the links that have failed. The first link has this number.
+    pub(crate) fn push_failed(&self, first: u64, ends: &mut Vec<End>) -> Result<(), AllocError>
+        ensures { OnOk result ((ss : List LinkStory) → Both LinkStands self.now.items ss → first + length ss ≤ 2 ^ 64 → ends.new.items ≡ ends.old.items ++ map (link_end first) (places_with has_failed 0 ss)) }
+    {
+        reading::push_failed(&self.ends, self.count, first, ends)
+    }
+
+    /// Makes room for one piece of the origin's bytes at a place, if the link isn't dropped.
+    pub(crate) fn reserve_piece(&mut self, j: u64) -> Result<(), AllocError>
+        ensures ok { OnOk result (IsRoomyLink (slice_index_or self.new.items j None) piece) }
+        ensures stands { (ss : List LinkStory) → Both LinkStands self.old.items ss → Both LinkStands self.new.items ss }
+        ensures owners { owners_of self.new.items ≡ owners_of self.old.items }
+        ensures err { OnErr result (self.new ≡ self.old) }
+    {
+        if j >= self.count {
+            return Ok(());
+        }
+        reading::reserve_link_at(&mut self.ends, j)
     }
 
     /// Lets go of the link at a place, which is dropped.

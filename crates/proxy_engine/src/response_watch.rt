@@ -1,6 +1,6 @@
 //! A reader of an origin's answer that is asked ahead: what it answers is kept until it is used, so that no act
 //! reads bytes twice, and an answer that finds no memory on its way isn't lost.
-ghost use Rattle.std.specs.Prelude.{◌≡◌, ◌≤◌, false, OnOk, OnErr, IfSome, is_some};
+ghost use Rattle.std.specs.Prelude.{◌≡◌, ◌≤◌, length, false, IsOk, OnOk, OnErr, IfSome, is_some};
 ghost use Rattle.hx_framing.specs.Progress.{Progress, start, fed, finished};
 ghost use Rattle.hx_framing.specs.declared.responses.Response.{Response};
 ghost use Rattle.hx_framing.specs.declared.answer.Next.{Next};
@@ -70,9 +70,20 @@ impl ResponseWatch {
         }
     }
 
+    /// Makes room, so that one `feed` of at most n bytes finds its memory. An `Err` changes nothing.
+    pub fn reserve(&mut self, n: usize) -> Result<(), AllocError>
+        ensures ok { OnOk result (n ≤ self.new.reader.spare) }
+        ensures stands { (p : Progress Response) → Stands self.old p → Stands self.new p }
+        ensures look { self.new.look ≡ self.old.look }
+        ensures err { OnErr result (self.new ≡ self.old) }
+    {
+        self.reader.reserve(n)
+    }
+
     /// Takes the next piece of the stream, before `finish`. An `Err` changes nothing.
     pub fn feed(&mut self, piece: &[u8]) -> Result<(), AllocError>
         ensures stands { OnOk result ((p : Progress Response) → Stands self.old p → p.ended ≡ false → Stands self.new (fed p piece.now)) }
+        ensures reserved { length piece.now ≤ self.old.reader.spare → IsOk result }
         ensures err { OnErr result (self.new ≡ self.old) }
     {
         self.reader.feed(piece)?;

@@ -1,9 +1,10 @@
 //! Taking what happened. Each refusal changes nothing.
-ghost use Rattle.std.specs.Prelude.{◌≡◌, ℕ, ◌+◌, ◌-◌, ◌<◌, ◌≤◌, ◌&&◌, ◌||◌, nat_lt, nat_le, ◌==◌, ◌++◌, ◌∷◌, [], vec_len, vec_capacity, List, length, true, false, is_some, IfOk, IfErr, OnOk, OnErr, Option, Some, None, Err, MatchOption, slice_index_or};
+ghost use Rattle.std.specs.Prelude.{◌≡◌, ◌≢◌, ℕ, ◌+◌, ◌-◌, ◌<◌, ◌≤◌, ◌&&◌, ◌||◌, nat_lt, nat_le, ◌==◌, ◌++◌, ◌∷◌, [], vec_len, vec_capacity, List, length, true, false, is_some, IsOk, IfOk, IfErr, OnOk, OnErr, Option, Some, None, Err, MatchOption, slice_index_or};
 ghost use Rattle.proxy_core.specs.State.{State as CoreState};
 ghost use Rattle.proxy_engine.specs.Happenings.{Accepts, Sends, Hears, Ends, Leaves, Shuts, Fails};
 ghost use Rattle.proxy_engine.specs.Story.{Story, ConnStory, LinkStory, sent, ended, left, heard_by, shut, failed_by, keeps};
 ghost use Rattle.proxy_engine.specs.Wiring.{owner_of, links_of, owners_of};
+ghost use Rattle.proxy_engine.specs.Room.{IsRoomy, IsRoomyLink};
 ghost use Rattle.proxy_engine.specs.State.{Stands, ConnStands, LinkStands, state, Takes, TakeFault};
 
 use crate::connections::Connections;
@@ -42,6 +43,7 @@ fn send(connection: &mut Connection, bytes: &[u8]) -> Result<(), AllocError>
     ensures stands { OnOk result ((s : ConnStory) → ConnStands (Some connection.old) s → ConnStands (Some connection.new) (sent bytes.now s)) }
     ensures err { OnErr result (connection.new ≡ connection.old) }
     ensures kept { OnErr result (connection.old.gone || connection.old.ended ≡ false) }
+    ensures reserved { length bytes.now ≤ connection.old.watch.reader.spare → IsOk result }
     ensures link { connection.new.link ≡ connection.old.link }
 {
     if connection.gone || connection.ended {
@@ -54,6 +56,7 @@ fn hear(link: &mut Link, bytes: &[u8]) -> Result<(), AllocError>
     ensures stands { OnOk result ((s : LinkStory) → LinkStands (Some link.old) s → LinkStands (Some link.new) (heard_by bytes.now s)) }
     ensures err { OnErr result (link.new ≡ link.old) }
     ensures kept { OnErr result (is_some link.old.failed || link.old.ended ≡ false) }
+    ensures reserved { length bytes.now ≤ link.old.watch.reader.spare → IsOk result }
     ensures connection { link.new.connection ≡ link.old.connection }
 {
     if link.failed.is_some() || link.ended {
@@ -116,18 +119,20 @@ pub(crate) fn accept(
         → Takes s (Accepts n) (state connections.new.items links core first)) }
     ensures fault { IfErr result (λ e. (s : Story) → (links : List (Option Link)) → (core : CoreState) → (first : ℕ) → Stands (state connections.old.items links core first) s → TakeFault s (Accepts n) e) }
     ensures links { OnOk result (links_of connections.new.items ≡ links_of connections.old.items ++ None ∷ []) }
-    ensures err { OnErr result (connections.new.items ≡ connections.old.items) }
+    ensures reserved { connections.old.has_room ≡ true → result ≢ Err EngineFault.OutOfMemory }
+    ensures err { OnErr result (connections.new ≡ connections.old) }
 {
     if !is_next(connections, n) {
         return Err(EngineFault::WrongNumber);
     }
     let watch = RequestWatch::new(alloc, max_body);
-    match connections.accept(Connection {
+    let connection = Connection {
         watch,
         ended: false,
         gone: false,
         link: None,
-    }) {
+    };
+    match connections.accept(alloc, connection) {
         Ok(()) => Ok(()),
         Err(_) => Err(EngineFault::OutOfMemory),
     }
@@ -138,8 +143,9 @@ pub(crate) fn client(connections: &mut Connections, n: u64, bytes: &[u8]) -> Res
         → Takes s (Sends n bytes.now) (state connections.new.items links core first)) }
     ensures fault { IfErr result (λ e. (s : Story) → (links : List (Option Link)) → (core : CoreState) → (first : ℕ) → Stands (state connections.old.items links core first) s → TakeFault s (Sends n bytes.now) e) }
     ensures kept { result ≡ Err EngineFault.OutOfMemory → (s : Story) → (links : List (Option Link)) → (core : CoreState) → (first : ℕ) → Stands (state connections.old.items links core first) s → keeps s (Sends n bytes.now) ≡ true }
+    ensures reserved { IsRoomy (slice_index_or connections.old.items (n - 1) None) (length bytes.now) → result ≢ Err EngineFault.OutOfMemory }
     ensures links { links_of connections.new.items ≡ links_of connections.old.items }
-    ensures err { OnErr result (connections.new.items ≡ connections.old.items) }
+    ensures err { OnErr result (connections.new ≡ connections.old) }
 {
     let Some(i) = connection_place(connections, n) else {
         return Err(EngineFault::NotAccepted);
@@ -159,7 +165,7 @@ pub(crate) fn finish_client(connections: &mut Connections, n: u64) -> Result<(),
     ensures fault { IfErr result (λ e. (s : Story) → (links : List (Option Link)) → (core : CoreState) → (first : ℕ) → Stands (state connections.old.items links core first) s → TakeFault s (Ends n) e) }
     ensures memory { IfErr result (λ e. e ≡ EngineFault.NotAccepted) }
     ensures links { links_of connections.new.items ≡ links_of connections.old.items }
-    ensures err { OnErr result (connections.new.items ≡ connections.old.items) }
+    ensures err { OnErr result (connections.new ≡ connections.old) }
 {
     let Some(i) = connection_place(connections, n) else {
         return Err(EngineFault::NotAccepted);
@@ -176,7 +182,7 @@ pub(crate) fn lose_client(connections: &mut Connections, n: u64) -> Result<(), E
     ensures fault { IfErr result (λ e. (s : Story) → (links : List (Option Link)) → (core : CoreState) → (first : ℕ) → Stands (state connections.old.items links core first) s → TakeFault s (Leaves n) e) }
     ensures memory { IfErr result (λ e. e ≡ EngineFault.NotAccepted) }
     ensures links { links_of connections.new.items ≡ links_of connections.old.items }
-    ensures err { OnErr result (connections.new.items ≡ connections.old.items) }
+    ensures err { OnErr result (connections.new ≡ connections.old) }
 {
     let Some(i) = connection_place(connections, n) else {
         return Err(EngineFault::NotAccepted);
@@ -194,6 +200,7 @@ pub(crate) fn answer(links: &mut Links, first: u64, l: u64, bytes: &[u8]) -> Res
         → Takes s (Hears l bytes.now) (state connections links.new.items core first)) }
     ensures fault { IfErr result (λ e. (s : Story) → (connections : List (Option Connection)) → (core : CoreState) → Stands (state connections links.old.items core first) s → TakeFault s (Hears l bytes.now) e) }
     ensures kept { result ≡ Err EngineFault.OutOfMemory → (s : Story) → (connections : List (Option Connection)) → (core : CoreState) → Stands (state connections links.old.items core first) s → keeps s (Hears l bytes.now) ≡ true }
+    ensures reserved { IsRoomyLink (slice_index_or links.old.items (l - first) None) (length bytes.now) → result ≢ Err EngineFault.OutOfMemory }
     ensures owners { owners_of links.new.items ≡ owners_of links.old.items }
     ensures err { OnErr result (links.new.items ≡ links.old.items) }
 {

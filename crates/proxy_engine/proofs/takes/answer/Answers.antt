@@ -1,5 +1,6 @@
-use Rattle.std.proofs.Common.{true, Option, Some, None, sym, ap, subst, ◌∙◌}
+use Rattle.std.proofs.Common.{◌≡◌, true, false, ℕ, length, get_or, Option, Some, None, sym, ap, subst, ◌∙◌}
 use Rattle.proxy_engine.specs.Wiring.{owner_of}
+use Rattle.proxy_engine.specs.Room.{IsRoomyLink}
 use Rattle.proxy_engine.specs.Story.{heard_by}
 use Rattle.proxy_engine.specs.State.{LinkStands}
 use Rattle.proxy_engine.specs.declared.ends.Link.{Link}
@@ -31,3 +32,9 @@ returns-in-Ok-clause-owners c = map_kept owner_of c.args.links.now.items c.in-So
 
 pub returns-in-Err-clause-kept : goal.returns-in-Err-clause-kept
 returns-in-Err-clause-kept c = λ e s connections core h. link_keeps connections c.args.links.now.items core c.args.first s c.args.l c.in-Some.j c.in-Some-at_mut.link.now c.in-Some.ensures.1 c.in-Some.ensures.2 c.in-Some-at_mut.ensures.value c.in-Err.ensures.kept h
+
+pub returns-in-Err-clause-reserved : goal.returns-in-Err-clause-reserved
+returns-in-Err-clause-reserved c = λ roomy.
+    let here = subst (λ (o : Option Link). IsRoomyLink o (length c.args.bytes.now)) (ap (λ (j : ℕ). get_or c.args.links.now.items j None) (sym c.in-Some.ensures.1) ∙ sym c.in-Some-at_mut.ensures.value) roomy in
+    let none : false ≡ true = c.in-Err.ensures.reserved here in
+    absurd cc

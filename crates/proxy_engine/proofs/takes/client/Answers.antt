@@ -1,5 +1,6 @@
-use Rattle.std.proofs.Common.{true, Option, Some, None, sym, ap, subst, ◌∙◌}
+use Rattle.std.proofs.Common.{◌≡◌, true, false, ℕ, length, get_or, Option, Some, None, sym, ap, subst, ◌∙◌}
 use Rattle.proxy_engine.specs.Wiring.{link_of}
+use Rattle.proxy_engine.specs.Room.{IsRoomy}
 use Rattle.proxy_engine.specs.Story.{sent}
 use Rattle.proxy_engine.specs.State.{ConnStands}
 use Rattle.proxy_engine.specs.declared.ends.Connection.{Connection}
@@ -31,3 +32,9 @@ returns-in-Ok-clause-links c = map_kept link_of c.args.connections.now.items c.i
 
 pub returns-in-Err-clause-kept : goal.returns-in-Err-clause-kept
 returns-in-Err-clause-kept c = λ e s links core first h. connection_keeps c.args.connections.now.items links core first s c.args.n c.in-Some.i c.in-Some-at_mut.connection.now c.in-Some.ensures.1 c.in-Some.ensures.2 c.in-Some-at_mut.ensures.value c.in-Err.ensures.kept h
+
+pub returns-in-Err-clause-reserved : goal.returns-in-Err-clause-reserved
+returns-in-Err-clause-reserved c = λ roomy.
+    let here = subst (λ (o : Option Connection). IsRoomy o (length c.args.bytes.now)) (ap (λ (i : ℕ). get_or c.args.connections.now.items i None) (sym c.in-Some.ensures.1) ∙ sym c.in-Some-at_mut.ensures.value) roomy in
+    let none : false ≡ true = c.in-Err.ensures.reserved here in
+    absurd cc

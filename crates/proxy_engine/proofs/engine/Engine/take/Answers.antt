@@ -7,7 +7,9 @@ use Rattle.proxy_script.specs.declared.happening.Happening.{Happening}
 use Rattle.proxy_engine.specs.Wiring.{owners_of}
 use Rattle.proxy_engine.proofs.Wires.{wired_accepted}
 use Rattle.proxy_engine.proofs.Taking.{on_ok}
-use Rattle.proxy_engine.proofs.Wishing.{on_err}
+use Rattle.proxy_engine.specs.Marked.{ConnectionList}
+use Rattle.proxy_engine.proofs.Wishing.{on_err, stays_err}
+use Rattle.proxy_engine.proofs.Readable.{found_in}
 use Rattle.proxy_engine.proofs.engine.Engine.take.Goals as goal
 
 pub returns-in-Accept-clause-ok : goal.returns-in-Accept-clause-ok
@@ -52,7 +54,7 @@ pub returns-in-Link-clause-kept : goal.returns-in-Link-clause-kept
 returns-in-Link-clause-kept g c = λ e s h. subst (λ (x : Happening). keeps s (said x) ≡ true) (sym c.in-Link.is) (c.answer.ensures.kept e s c.self.inside.connections.items c.self.inside.core (subst (λ (e : State). Stands e s) (sym c.self.view_is) h))
 
 pub invariant_of-self : goal.invariant_of-self
-invariant_of-self g c = wired_accepted c.accept.result c.self.inside.connections.items c.accept.new.connections.items (owners_of c.self.inside.links.items) c.self.inside.core.exchanges c.accept.ensures.links c.accept.ensures.err c.self.invariant
+invariant_of-self g c = wired_accepted c.accept.result c.self.inside.connections.items c.accept.new.connections.items (owners_of c.self.inside.links.items) c.self.inside.core.exchanges c.accept.ensures.links (stays_err c.accept.result _ _ (λ same. ap (λ (v : ConnectionList). v.items) same) c.accept.ensures.err) c.self.invariant
 
 pub returns-in-Client-clause-fault : goal.returns-in-Client-clause-fault
 returns-in-Client-clause-fault g c = on_err c.client.result _ _
@@ -63,3 +65,12 @@ pub returns-in-Link-clause-fault : goal.returns-in-Link-clause-fault
 returns-in-Link-clause-fault g c = on_err c.answer.result _ _
     (λ e k s h. subst (λ (x : Happening). TakeFault s (said x) e) (sym c.in-Link.is) (k s c.self.inside.connections.items c.self.inside.core (subst (λ (e : State). Stands e s) (sym c.self.view_is) h)))
     c.answer.ensures.fault
+
+pub returns-in-Accept-clause-reserved : goal.returns-in-Accept-clause-reserved
+returns-in-Accept-clause-reserved g c = λ found. c.accept.ensures.reserved (found_in _ _ _ _ c.in-Accept.is c.self.view_is found)
+
+pub returns-in-Client-clause-reserved : goal.returns-in-Client-clause-reserved
+returns-in-Client-clause-reserved g c = λ found. c.client.ensures.reserved (found_in _ _ _ _ c.in-Client.is c.self.view_is found)
+
+pub returns-in-Link-clause-reserved : goal.returns-in-Link-clause-reserved
+returns-in-Link-clause-reserved g c = λ found. c.answer.ensures.reserved (found_in _ _ _ _ c.in-Link.is c.self.view_is found)

@@ -1,0 +1,9 @@
+use Rattle.std.proofs.Common.{ℕ, map, sym, ap, ◌∙◌, subst}
+use Rattle.proxy_engine.specs.State.{State, Stands}
+use Rattle.proxy_engine.specs.Reading.{places_with, has_failed, link_end}
+use Rattle.proxy_engine.proofs.Readable.{links_told}
+use Rattle.proxy_engine.proofs.engine.Engine.failed_links.Goals as goal
+
+pub returns : goal.returns
+returns g c = λ s h.
+    links_told has_failed c.self.inside.connections.items c.self.inside.links.items c.self.inside.core c.self.inside.first_link s (subst (λ (e : State). Stands e s) (sym c.self.view_is) h) c.new-ends.result.items c.push_failed.new.ends.items c.new-ends.ensures.items c.in_ok-push_failed.ensures

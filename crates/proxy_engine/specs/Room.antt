@@ -1,0 +1,39 @@
+-- Which happenings find their memory.
+--
+-- IsRoomy, IsRoomyLink: so many bytes of an end do     Finds: a happening does     HasRoom: the next one of an end does
+use Rattle.std.specs.Prelude.{◌≡◌, ℕ, ◌-◌, ◌+◌, ◌≤◌, ◌^◌, ◌⊎◌, length, true, Option, None, Some, slice_index_or}
+use Rattle.proxy_engine.specs.Happenings.{Said, Accepts, Sends, Hears, Ends, Leaves, Shuts, Fails}
+use Rattle.proxy_engine.specs.State.{State}
+use Rattle.proxy_engine.specs.declared.ends.Connection.{Connection}
+use Rattle.proxy_engine.specs.declared.ends.Link.{Link}
+use Rattle.proxy_engine.specs.declared.happening.End.{End}
+use Rattle.proxy_engine.specs.declared.happening.End.TheVariants as ends
+
+-- nothing is kept of a connection that is over
+abbrev pub IsRoomy : Option Connection → ℕ → Type 0
+IsRoomy None n = Unit {0}
+IsRoomy (Some c) n = n ≤ c.watch.reader.spare
+
+abbrev pub IsRoomyLink : Option Link → ℕ → Type 0
+IsRoomyLink None n = Unit {0}
+IsRoomyLink (Some k) n = n ≤ k.watch.reader.spare
+
+-- a connection or bytes find their memory; marks take none
+abbrev pub Finds : State → Said → Type 0
+Finds e (Accepts n) = e.room ≡ true
+Finds e (Sends n bytes) = IsRoomy (slice_index_or e.connections (n - 1) None) (length bytes)
+Finds e (Hears l bytes) = IsRoomyLink (slice_index_or e.links (l - e.first) None) (length bytes)
+Finds e (Ends n) = Unit {0}
+Finds e (Leaves n) = Unit {0}
+Finds e (Shuts l) = Unit {0}
+Finds e (Fails l kind) = Unit {0}
+
+-- the most bytes of one read
+abbrev pub piece : ℕ
+piece = 4096
+
+-- the next connection, if a number is left for it, and one piece of another end find their memory
+abbrev pub HasRoom : State → End → Type 0
+HasRoom e ends.Listener = (e.room ≡ true) ⊎ (2 ^ 64 ≤ length e.connections + 1)
+HasRoom e (ends.Client n) = IsRoomy (slice_index_or e.connections (n - 1) None) piece
+HasRoom e (ends.Link l) = IsRoomyLink (slice_index_or e.links (l - e.first) None) piece
