@@ -11,6 +11,7 @@ pub mod Places
 pub mod Marked
 pub mod Wishes
 pub mod Wiring
+pub mod OpenEnds
 pub mod Orderly
 pub mod Drops
 pub mod Lives

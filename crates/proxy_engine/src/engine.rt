@@ -7,7 +7,8 @@ ghost use Rattle.proxy_engine.specs.State.{State, Stands, Takes, TakeFault, Did,
 use crate::connections::Connections;
 use crate::happening::{EngineFault, Work};
 use crate::links::Links;
-use crate::{acts, takes};
+use crate::open_ends::Ends;
+use crate::takes;
 use hx_allow::Config;
 use hx_store::Shelf;
 use proxy_core::Core;
@@ -20,21 +21,14 @@ use std::marker::Model;
 /// Contracts see its `State`, and speak of the stories that it stands for: the streams as they came, the messages
 /// that were used of them, and what was done.
 pub struct Engine<S: Shelf> {
-    connections: Connections,
-    links: Links,
+    ends: Ends,
     core: Core<S>,
-    first_link: u64,
 }
 
 /// One call drops it, wherever that is.
 impl<S: Shelf + Drop> Drop for Engine<S> {
     fn drop(self) {
-        let Engine {
-            connections: _,
-            links: _,
-            core: _,
-            first_link: _,
-        } = self;
+        let Engine { ends: _, core: _ } = self;
     }
 }
 
@@ -44,9 +38,9 @@ impl<S: Shelf> Model for Engine<S> {
 
     ghost Value = { State };
 
-    ghost view = { λ e. record { connections = e.connections.items; links = e.links.items; core = e.core; first = e.first_link } };
+    ghost view = { λ e. record { connections = e.ends.connections.items; links = e.ends.links.items; core = e.core; first = e.ends.first_link } };
 
-    ghost invariant = { λ e. IsWired (record { connections = e.connections.items; links = e.links.items; core = e.core; first = e.first_link }) };
+    ghost invariant = { λ e. IsWired (record { connections = e.ends.connections.items; links = e.ends.links.items; core = e.core; first = e.ends.first_link }) };
 }
 
 impl<S: Shelf> Engine<S> {
@@ -57,10 +51,12 @@ impl<S: Shelf> Engine<S> {
         ensures { Stands result (begun (record { table = config; limit = S.limit shelf; entries = []; exchanges = []; next = Some first_serial }) first_link) }
     {
         Engine {
-            connections: Connections::new(alloc),
-            links: Links::new(alloc),
+            ends: Ends {
+                connections: Connections::new(alloc),
+                links: Links::new(alloc),
+                first_link,
+            },
             core: Core::new(alloc, config, shelf, first_serial),
-            first_link,
         }
     }
 
@@ -76,16 +72,21 @@ impl<S: Shelf> Engine<S> {
         match happening {
             Happening::Accept(n) => {
                 let max_body = self.core.config().max_body();
-                takes::accept(&mut self.connections, alloc, max_body, n)
+                takes::accept(&mut self.ends.connections, alloc, max_body, n)
             }
-            Happening::Client(n, bytes) => takes::client(&mut self.connections, n, bytes),
-            Happening::Link(l, bytes) => takes::answer(&mut self.links, self.first_link, l, bytes),
-            Happening::End(n) => takes::finish_client(&mut self.connections, n),
-            Happening::Gone(n) => takes::lose_client(&mut self.connections, n),
-            Happening::Shut(l) => takes::shut_link(&mut self.links, self.first_link, l),
+            Happening::Client(n, bytes) => takes::client(&mut self.ends.connections, n, bytes),
+            Happening::Link(l, bytes) => takes::answer(
+                &mut self.ends.links,
+                self.ends.first_link,
+                l,
+                bytes,
+            ),
+            Happening::End(n) => takes::finish_client(&mut self.ends.connections, n),
+            Happening::Gone(n) => takes::lose_client(&mut self.ends.connections, n),
+            Happening::Shut(l) => takes::shut_link(&mut self.ends.links, self.ends.first_link, l),
             Happening::Fail(l, kind) => takes::break_link(
-                &mut self.links,
-                self.first_link,
+                &mut self.ends.links,
+                self.ends.first_link,
                 l,
                 kind,
             ),
@@ -102,13 +103,6 @@ impl<S: Shelf> Engine<S> {
         ensures unchanged { OnErr result ((s : Story) → Stands self.old s → Stands self.new s) }
         ensures no_more { OnErr result (load_at self.new ≤ load_at self.old) }
     {
-        acts::work(
-            &mut self.connections,
-            &mut self.links,
-            &mut self.core,
-            alloc,
-            self.first_link,
-            now,
-        )
+        self.ends.work(&mut self.core, alloc, now)
     }
 }

@@ -3,7 +3,7 @@ use Rattle.proxy_script.specs.declared.effect_list.Effect.{Effect}
 use Rattle.proxy_script.specs.declared.effect_list.Effect.TheVariants.{Drop}
 use Rattle.proxy_engine.specs.Story.{no_link}
 use Rattle.proxy_engine.specs.Due.{Finish, Finishes}
-use Rattle.proxy_engine.specs.Acts.{came_at, effects_on}
+use Rattle.proxy_engine.specs.Acts.{came_at, effects_on, after_on}
 use Rattle.proxy_engine.specs.State.{LinkStands, Stands, state, Done, finish_at, link_load}
 use Rattle.proxy_engine.specs.Wiring.{owners_of}
 use Rattle.proxy_engine.specs.declared.ends.Link.{Link}
@@ -14,7 +14,7 @@ use Rattle.proxy_engine.proofs.Wishing.{one_finish, told_one}
 use Rattle.proxy_engine.proofs.Ending.{goes_given, remains}
 use Rattle.proxy_engine.proofs.Wires.{within_connections, owned_link, is_open, still_here, wired_finished}
 use Rattle.proxy_engine.proofs.Stepping.{finished_done, link_counts}
-use Rattle.proxy_engine.proofs.finishing.complete.Goals as goal
+use Rattle.proxy_engine.proofs.open_ends.Ends.complete.Goals as goal
 
 pub at-requires : goal.at-requires
 at-requires g c = ap (λ (ls : List (Option Link)). is_some (get_or ls c.args.j None)) c.reserve_one.ensures.items ∙ finish_there _ c.requires.due
@@ -23,14 +23,14 @@ pub prove-unreachable-requires : goal.prove-unreachable-requires
 prove-unreachable-requires g c =
     let x = c.at.result.now in
     let there = subst (λ (ls : List (Option Link)). get_or ls c.args.j None ≡ Some x) c.reserve_one.ensures.items c.at.ensures in
-    let link = owned_link c.args.connections.now.items c.args.links.now.items c.args.core.now.exchanges c.args.j x there c.requires.wired in
-    let within = within_connections c.args.connections.now.items x.connection c.args.j link in
+    let link = owned_link c.args.self.now.connections.items c.args.self.now.links.items c.args.core.now.exchanges c.args.j x there c.requires.wired in
+    let within = within_connections c.args.self.now.connections.items x.connection c.args.j link in
     absurd (omega (arith, within, c.if-prove.true, c.len-count.ensures))
 
 pub way_again-requires : goal.way_again-requires
 way_again-requires g c =
-    let cs = c.args.connections.now.items in
-    let ks = c.args.links.now.items in
+    let cs = c.args.self.now.connections.items in
+    let ks = c.args.self.now.links.items in
     let xs = c.args.core.now.exchanges in
     let x = c.at.result.now in
     let there = subst (λ (ls : List (Option Link)). get_or ls c.args.j None ≡ Some x) c.reserve_one.ensures.items c.at.ensures in
@@ -46,8 +46,8 @@ end-requires-clause-due g c =
 
 pub end-requires-clause-open : goal.end-requires-clause-open
 end-requires-clause-open g c =
-    let cs = c.args.connections.now.items in
-    let ks = c.args.links.now.items in
+    let cs = c.args.self.now.connections.items in
+    let ks = c.args.self.now.links.items in
     let xs = c.args.core.now.exchanges in
     let x = c.at.result.now in
     let there = subst (λ (ls : List (Option Link)). get_or ls c.args.j None ≡ Some x) c.reserve_one.ensures.items c.at.ensures in
@@ -58,8 +58,8 @@ free-requires-clause-link g c = ap (λ (ls : List (Option Link)). is_some (get_o
 
 pub free-requires-clause-connection : goal.free-requires-clause-connection
 free-requires-clause-connection g c =
-    let cs = c.args.connections.now.items in
-    let ks = c.args.links.now.items in
+    let cs = c.args.self.now.connections.items in
+    let ks = c.args.self.now.links.items in
     let x = c.at.result.now in
     let there = subst (λ (ls : List (Option Link)). get_or ls c.args.j None ≡ Some x) c.reserve_one.ensures.items c.at.ensures in
     still_here cs x.connection c.args.j c.requires.here (owned_link cs ks c.args.core.now.exchanges c.args.j x there c.requires.wired)
@@ -69,8 +69,8 @@ carry_out-requires-clause-room_for_link g c = c.free.ensures.room ∙ c.in_ok-re
 
 pub carry_out-requires-clause-left : goal.carry_out-requires-clause-left
 carry_out-requires-clause-left g c = λ goes.
-    let cs = c.args.connections.now.items in
-    let ks = c.args.links.now.items in
+    let cs = c.args.self.now.connections.items in
+    let ks = c.args.self.now.links.items in
     let j = c.args.j in
     let core = c.args.core.now in
     let x = c.at.result.now in
@@ -85,8 +85,8 @@ carry_out-requires-clause-left g c = λ goes.
 
 pub returns-clause-wired : goal.returns-clause-wired
 returns-clause-wired g c =
-    let cs = c.args.connections.now.items in
-    let ks = c.args.links.now.items in
+    let cs = c.args.self.now.connections.items in
+    let ks = c.args.self.now.links.items in
     let core = c.args.core.now in
     let x = c.at.result.now in
     let same = c.reserve_one.ensures.items in
@@ -94,7 +94,7 @@ returns-clause-wired g c =
     let link = owned_link cs ks core.exchanges c.args.j x there c.requires.wired in
     let is_there = is_open cs ks core.exchanges x.connection c.args.j link c.requires.wired in
     let owners : owners_of c.free.new.links.items ≡ set (owners_of ks) c.args.j None = c.free.ensures.owners ∙ ap (λ (ls : List (Option Link)). set (owners_of ls) c.args.j None) same in
-    wired_finished cs c.free.new.connections.items c.carry_out.new.connections.items ks c.free.new.links.items c.carry_out.new.links.items core.exchanges c.end.new.core.exchanges x.connection c.args.j c.in_ok-outcome.outcome link c.free.ensures.wires owners
+    wired_finished cs c.free.new.connections.items c.carry_out.new.self.connections.items ks c.free.new.links.items c.carry_out.new.self.links.items core.exchanges c.end.new.core.exchanges x.connection c.args.j c.in_ok-outcome.outcome link c.free.ensures.wires owners
     c.carry_out.ensures.links c.carry_out.ensures.owners is_there (remains core c.end.new.core c.args.now (x.connection + 1) c.in_ok-outcome.ensures.ok.0 c.in_ok-outcome.outcome is_there c.in_ok-outcome.ensures.ok.2) c.requires.wired
 
 pub returns-clause-less : goal.returns-clause-less
@@ -106,8 +106,8 @@ returns-clause-less g c =
 
 pub returns-clause-ok : goal.returns-clause-ok
 returns-clause-ok g c = λ s f shown h.
-    let cs = c.args.connections.now.items in
-    let ks = c.args.links.now.items in
+    let cs = c.args.self.now.connections.items in
+    let ks = c.args.self.now.links.items in
     let core = c.args.core.now in
     let j = c.args.j in
     let x = c.at.result.now in
@@ -120,20 +120,21 @@ returns-clause-ok g c = λ s f shown h.
     let same : f ≡ ended.0 = one_finish (get_or ks j None) ended.0 f due shown in
     let within = inside ks j (finish_there (get_or ks j None) c.requires.due) in
     let links = both_length LinkStands ks s.links h.links in
-    let first_is : c.args.first ≡ s.first = h.first in
+    let first_is : c.args.self.now.first_link ≡ s.first = h.first in
     let numbers : s.first + length s.links ≤ 2 ^ 64 = h.numbers in
     let sizes = ap length items in
-    let number : c.number_at.result ≡ c.args.first + j = c.number_at.ensures (omega (arith, links, within)) in
+    let number : c.number_at.result ≡ c.args.self.now.first_link + j = c.number_at.ensures (omega (arith, links, within)) in
     let owner = subst (λ (o : Option Link). LinkStands o (get_or s.links j no_link)) there (both_at LinkStands ks s.links j None no_link h.links within) in
     let link = owned_link cs ks core.exchanges j x there c.requires.wired in
     let is_there = is_open cs ks core.exchanges i j link c.requires.wired in
-    let told : c.put.new.effects.items ≡ Drop (c.args.first + j) ∷ [] = told_one c.in_ok-effects.effects.items c.put.new.effects.items _ c.put.ensures.items c.in_ok-effects.ensures.items ∙ ap (λ (n : ℕ). Drop n ∷ []) number in
+    let told : c.put.new.effects.items ≡ Drop (c.args.self.now.first_link + j) ∷ [] = told_one c.in_ok-effects.effects.items c.put.new.effects.items _ c.put.ensures.items c.in_ok-effects.ensures.items ∙ ap (λ (n : ℕ). Drop n ∷ []) number in
     let way = c.in_ok-way.way in
-    let free = c.free.ensures.stands s core c.args.first (subst (λ (ls : List (Option Link)). Stands (state cs ls core c.args.first) s) (sym items) h) in
+    let free = c.free.ensures.stands s core c.args.self.now.first_link (subst (λ (ls : List (Option Link)). Stands (state cs ls core c.args.self.now.first_link) s) (sym items) h) in
     let fresh = c.free.ensures.links in
-    subst (λ (x : Finish). Done s c.args.now (Finishes j x) c.carry_out.new.effects.items (state c.carry_out.new.connections.items c.carry_out.new.links.items c.end.new.core c.args.first)) (sym same)
-    (finished_done s c.free.new.connections.items c.carry_out.new.connections.items c.free.new.links.items c.carry_out.new.links.items core c.end.new.core c.args.first c.args.now i j way.max_body ended.0 c.in_ok-outcome.outcome
+    subst (λ (n : ℕ). Done s c.args.now (Finishes j f) c.carry_out.new.effects.items (state c.carry_out.new.self.connections.items c.carry_out.new.self.links.items c.end.new.core n)) (sym c.carry_out.ensures.first)
+    (subst (λ (x : Finish). Done s c.args.now (Finishes j x) c.carry_out.new.effects.items (state c.carry_out.new.self.connections.items c.carry_out.new.self.links.items c.end.new.core c.args.self.now.first_link)) (sym same)
+    (finished_done s c.free.new.connections.items c.carry_out.new.self.connections.items c.free.new.links.items c.carry_out.new.self.links.items core c.end.new.core c.args.self.now.first_link c.args.now i j way.max_body ended.0 c.in_ok-outcome.outcome
     way.address way.to_head c.carry_out.new.effects.items is_there (λ t. let few = c.requires.left ended.0 due t in omega (arith, few, links)) ended.2 c.in_ok-way.ensures.address c.in_ok-way.ensures.max_body
     c.in_ok-way.ensures.to_head (omega (arith, fresh, sizes, links, first_is))
-    (c.carry_out.ensures.effects ∙ ap (λ (b : List Effect). b ++ effects_on i (c.args.first + length c.free.new.links.items) (came_at way.address c.in_ok-outcome.outcome)) told)
-    first_is h.core owner.connection free (λ t k. c.carry_out.ensures.stands t k))
+    (c.carry_out.ensures.effects ∙ ap (λ (b : List Effect). b ++ effects_on i (c.args.self.now.first_link + length c.free.new.links.items) (came_at way.address c.in_ok-outcome.outcome)) told)
+    first_is h.core owner.connection free (λ t k most stands. subst (λ (n : ℕ). Stands (state c.carry_out.new.self.connections.items c.carry_out.new.self.links.items k n) (after_on i way.to_head (came_at way.address c.in_ok-outcome.outcome) t)) c.carry_out.ensures.first (c.carry_out.ensures.stands t k most stands))))

@@ -2,7 +2,7 @@ use Rattle.std.proofs.Common.{Option, ℕ, subst, is_some, ap}
 use Rattle.proxy_engine.specs.Due.{Serves}
 use Rattle.proxy_engine.specs.State.{FoundConnections}
 use Rattle.proxy_engine.proofs.Changes.{looked_connections}
-use Rattle.proxy_engine.proofs.acts.serve_first.Goals as goal
+use Rattle.proxy_engine.proofs.open_ends.Ends.serve_first.Goals as goal
 
 pub serve-requires-clause-due : goal.serve-requires-clause-due
 serve-requires-clause-due g c = ap is_some (subst (λ (o : Option ℕ). FoundConnections c.find_due.new.self.items o) c.in-Ok-Some.field-0-is c.in-Ok-Some.ensures.found).shown
@@ -12,7 +12,7 @@ returns-in-Ok-clause-ok g c = λ s lost stood h.
     let cs = c.find_due.new.self.items in
     let found = subst (λ (o : Option ℕ). FoundConnections cs o) c.in-Ok-Some.field-0-is c.in-Ok-Some.ensures.found in
     let looked = c.in-Ok-Some.ensures.stands s.connections h.connections in
-    let here = looked_connections c.args.connections.now.items cs c.args.links.now.items c.args.core.now c.args.first s looked h in
+    let here = looked_connections c.args.self.now.connections.items cs c.args.self.now.links.items c.args.core.now c.args.self.now.first_link s looked h in
     (Serves c.in-Ok-Some.i found.wish, (lost, stood, found.first s.connections looked), c.in-Ok.ensures.ok s found.wish found.shown here)
 
 pub returns-in-Err-serve-clause-fault : goal.returns-in-Err-serve-clause-fault
@@ -20,5 +20,5 @@ returns-in-Err-serve-clause-fault g c = λ s lost stood h.
     let cs = c.find_due.new.self.items in
     let found = subst (λ (o : Option ℕ). FoundConnections cs o) c.in-Ok-Some.field-0-is c.in-Ok-Some.ensures.found in
     let looked = c.in-Ok-Some.ensures.stands s.connections h.connections in
-    let here = looked_connections c.args.connections.now.items cs c.args.links.now.items c.args.core.now c.args.first s looked h in
+    let here = looked_connections c.args.self.now.connections.items cs c.args.self.now.links.items c.args.core.now c.args.self.now.first_link s looked h in
     c.in-Err-serve.ensures.fault s found.wish found.shown (lost, stood, found.first s.connections looked) here

@@ -4,8 +4,8 @@ use Rattle.proxy_engine.specs.State.{LinkStands, finish_at}
 use Rattle.proxy_engine.proofs.Parts.{both_length}
 use Rattle.proxy_engine.proofs.Changes.{finish_there}
 use Rattle.proxy_engine.proofs.Stepping.{spent_failed, spent_told, memory_told}
-use Rattle.proxy_engine.proofs.finishing.finish.Goals.{else-is_spent-via-then-is_spent+else-is_answered, else-is_spent-via-else-is_spent}
-use Rattle.proxy_engine.proofs.finishing.finish.Goals as goal
+use Rattle.proxy_engine.proofs.open_ends.Ends.finish.Goals.{else-is_spent-via-then-is_spent+else-is_answered, else-is_spent-via-else-is_spent}
+use Rattle.proxy_engine.proofs.open_ends.Ends.finish.Goals as goal
 
 pub at-requires : goal.at-requires
 at-requires g c = finish_there _ c.requires.due
@@ -13,14 +13,14 @@ at-requires g c = finish_there _ c.requires.due
 pub returns-then-is_answered-clause-spent : goal.returns-then-is_answered-clause-spent
 returns-then-is_answered-clause-spent g c = λ f shown.
     let here = ap finish_at (sym c.at.ensures) ∙ shown in
-    spent_told _ f (sym (c.is_spent.ensures ∙ ap (λ n. nat_le (2 ^ 64) (c.args.first + n)) c.len.ensures) ∙ c.if-is_spent.true) (sym (c.is_answered.ensures f here) ∙ c.if-is_answered.true)
+    spent_told _ f (sym (c.is_spent.ensures ∙ ap (λ n. nat_le (2 ^ 64) (c.args.self.now.first_link + n)) c.len.ensures) ∙ c.if-is_spent.true) (sym (c.is_answered.ensures f here) ∙ c.if-is_answered.true)
 
 pub returns-then-is_answered-clause-fault : goal.returns-then-is_answered-clause-fault
 returns-then-is_answered-clause-fault g c = λ s f shown due h.
     let here = ap finish_at (sym c.at.ensures) ∙ shown in
-    let links = both_length LinkStands c.args.links.now.items s.links h.links in
-    let first_is : c.args.first ≡ s.first = h.first in
-    let many = leb-true (2 ^ 64) (c.args.first + c.len.result) (sym c.is_spent.ensures ∙ c.if-is_spent.true) in
+    let links = both_length LinkStands c.args.self.now.links.items s.links h.links in
+    let first_is : c.args.self.now.first_link ≡ s.first = h.first in
+    let many = leb-true (2 ^ 64) (c.args.self.now.first_link + c.len.result) (sym c.is_spent.ensures ∙ c.if-is_spent.true) in
     spent_failed s c.args.j f (sym (c.is_answered.ensures f here) ∙ c.if-is_answered.true) (omega (arith, many, c.len.ensures, links)) due
 
 pub returns-in-Err-clause-spent : goal.returns-in-Err-clause-spent
@@ -30,5 +30,5 @@ returns-in-Err-clause-spent g c = λ f shown.
           let here = ap finish_at (sym w.at.ensures) ∙ shown in
           let yes : false ≡ true = sym w.if-is_answered.false ∙ (w.is_answered.ensures f here ∙ may) in
           absurd (cc)
-      | else-is_spent-via-else-is_spent w ↦ sym (c.is_spent.ensures ∙ ap (λ n. nat_le (2 ^ 64) (c.args.first + n)) c.len.ensures) ∙ w.if-is_spent.false
+      | else-is_spent-via-else-is_spent w ↦ sym (c.is_spent.ensures ∙ ap (λ n. nat_le (2 ^ 64) (c.args.self.now.first_link + n)) c.len.ensures) ∙ w.if-is_spent.false
     ])

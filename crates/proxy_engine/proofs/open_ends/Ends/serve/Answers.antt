@@ -2,10 +2,11 @@ use Rattle.std.proofs.Common.{◌≡◌, Some, is_some, sym, subst, ap, ◌∙�
 use Rattle.hx_framing.specs.declared.requests.Request.{Request}
 use Rattle.hx_framing.specs.declared.answer.Next.{Next}
 use Rattle.proxy_engine.specs.Due.{Serves}
-use Rattle.proxy_engine.specs.State.{state, Done, wish_at}
+use Rattle.proxy_engine.specs.State.{Done, wish_at}
+use Rattle.proxy_engine.specs.OpenEnds.{state_of}
 use Rattle.proxy_engine.proofs.Changes.{free_there, wish_free}
 use Rattle.proxy_engine.proofs.Wishing.{arrival_wish, one_wish, on_ok, does_ok}
-use Rattle.proxy_engine.proofs.serving.serve.Goals as goal
+use Rattle.proxy_engine.proofs.open_ends.Ends.serve.Goals as goal
 
 pub at-requires : goal.at-requires
 at-requires g c = free_there _ (wish_free _ c.requires.due)
@@ -26,7 +27,7 @@ returns-in-Arrive-clause-ok g c =
     let due = ap wish_at c.at.ensures ∙ known.1 in
     on_ok c.arrive.result _ _ (λ told does s a shown h.
     let same : a ≡ known.0 = one_wish _ known.0 a due shown in
-    subst (λ (b : Next Request). Done s c.args.now (Serves c.args.i b) told.items (state c.arrive.new.connections.items c.arrive.new.links.items c.arrive.new.core c.args.first)) (sym (same ∙ read.1))
+    subst (λ (b : Next Request). Done s c.args.now (Serves c.args.i b) told.items (state_of c.arrive.new.self c.arrive.new.core)) (sym (same ∙ read.1))
     (does s read.0 read.2 (due ∙ ap (λ (b : Next Request). Some b) read.1) h)) c.arrive.ensures.ok
 
 pub returns-in-Arrive-clause-less : goal.returns-in-Arrive-clause-less
