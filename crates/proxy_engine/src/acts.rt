@@ -2,37 +2,27 @@
 ghost use Rattle.std.specs.Prelude.{◌≡◌, ◌<◌, ◌≤◌, None, Some, IfOk, IfErr, OnErr};
 ghost use Rattle.proxy_engine.specs.Story.{Story, no_connection, no_link};
 ghost use Rattle.proxy_engine.specs.Due.{IsFirst, Lost, Stood};
-ghost use Rattle.proxy_engine.specs.Wiring.{IsWired};
-ghost use Rattle.proxy_engine.specs.State.{Stands, NoneLost, Did, Failed, Lessens};
-ghost use Rattle.proxy_engine.specs.OpenEnds.{state_of, load_on};
+ghost use Rattle.proxy_engine.specs.State.{Stands, NoneLost, load_at, Did, Failed, Lessens};
 
+use crate::engine::Engine;
 use crate::happening::{EngineFault, Work};
-use crate::open_ends::Ends;
 use hx_store::Shelf;
-use proxy_core::Core;
 use std::alloc::Global;
 
-impl Ends {
+impl<S: Shelf> Engine<S> {
     /// Serves the first connection on which something is due, where nothing else is.
-    fn serve_first<S: Shelf>(
-        &mut self,
-        core: &mut Core<S>,
-        alloc: Global,
-        now: u64,
-    ) -> Result<Work, EngineFault>
+    fn serve_first(&mut self, alloc: Global, now: u64) -> Result<Work, EngineFault>
         requires early { now < 253402300800 }
-        requires wired { IsWired (state_of self.old core.old) }
-        ensures wired { IsWired (state_of self.new core.new) }
         ensures ok { IfOk result (λ work. (s : Story) → IsFirst Lost no_connection s.connections None → IsFirst Stood no_link s.links None
-            → Stands (state_of self.old core.old) s → Did s now work (state_of self.new core.new)) }
-        ensures less { IfOk result (λ work. Lessens (state_of self.old core.old) work (state_of self.new core.new)) }
+            → Stands self.old s → Did s now work self.new) }
+        ensures less { IfOk result (λ work. Lessens self.old work self.new) }
         ensures fault { IfErr result (λ fault. (s : Story) → IsFirst Lost no_connection s.connections None → IsFirst Stood no_link s.links None
-            → Stands (state_of self.old core.old) s → Failed s fault) }
-        ensures unchanged { OnErr result ((s : Story) → Stands (state_of self.old core.old) s → Stands (state_of self.new core.new) s) }
-        ensures no_more { OnErr result (load_on self.new ≤ load_on self.old) }
+            → Stands self.old s → Failed s fault) }
+        ensures unchanged { OnErr result ((s : Story) → Stands self.old s → Stands self.new s) }
+        ensures no_more { OnErr result (load_at self.new ≤ load_at self.old) }
     {
-        match self.connections.find_due(alloc) {
-            Ok(Some(i)) => match self.serve(core, alloc, now, i) {
+        match self.ends.connections.find_due(alloc) {
+            Ok(Some(i)) => match self.serve(alloc, now, i) {
                 Ok(effects) => Ok(Work::Did(effects)),
                 Err(fault) => Err(fault),
             },
@@ -42,56 +32,43 @@ impl Ends {
     }
 
     /// Finishes the first exchange whose link has an answer or a failure, where no client with an exchange is gone.
-    fn finish_first<S: Shelf>(
-        &mut self,
-        core: &mut Core<S>,
-        alloc: Global,
-        now: u64,
-    ) -> Result<Work, EngineFault>
+    fn finish_first(&mut self, alloc: Global, now: u64) -> Result<Work, EngineFault>
         requires early { now < 253402300800 }
-        requires here { NoneLost self.old.connections.items }
-        requires wired { IsWired (state_of self.old core.old) }
-        ensures wired { IsWired (state_of self.new core.new) }
+        requires here { NoneLost self.old.connections }
         ensures ok { IfOk result (λ work. (s : Story) → IsFirst Lost no_connection s.connections None
-            → Stands (state_of self.old core.old) s → Did s now work (state_of self.new core.new)) }
-        ensures less { IfOk result (λ work. Lessens (state_of self.old core.old) work (state_of self.new core.new)) }
+            → Stands self.old s → Did s now work self.new) }
+        ensures less { IfOk result (λ work. Lessens self.old work self.new) }
         ensures fault { IfErr result (λ fault. (s : Story) → IsFirst Lost no_connection s.connections None
-            → Stands (state_of self.old core.old) s → Failed s fault) }
-        ensures unchanged { OnErr result ((s : Story) → Stands (state_of self.old core.old) s → Stands (state_of self.new core.new) s) }
-        ensures no_more { OnErr result (load_on self.new ≤ load_on self.old) }
+            → Stands self.old s → Failed s fault) }
+        ensures unchanged { OnErr result ((s : Story) → Stands self.old s → Stands self.new s) }
+        ensures no_more { OnErr result (load_at self.new ≤ load_at self.old) }
     {
-        match self.links.find_finished(alloc) {
-            Ok(Some(j)) => match self.finish(core, alloc, now, j) {
+        match self.ends.links.find_finished(alloc) {
+            Ok(Some(j)) => match self.finish(alloc, now, j) {
                 Ok(effects) => Ok(Work::Did(effects)),
                 Err(fault) => Err(fault),
             },
-            Ok(None) => self.serve_first(core, alloc, now),
+            Ok(None) => self.serve_first(alloc, now),
             Err(_) => Err(EngineFault::OutOfMemory),
         }
     }
 
-    /// Does the first act that is due, if one is.
-    pub(crate) fn work<S: Shelf>(
-        &mut self,
-        core: &mut Core<S>,
-        alloc: Global,
-        now: u64,
-    ) -> Result<Work, EngineFault>
-        requires early { now < 253402300800 }
-        requires wired { IsWired (state_of self.old core.old) }
-        ensures wired { IsWired (state_of self.new core.new) }
-        ensures ok { IfOk result (λ work. (s : Story) → Stands (state_of self.old core.old) s → Did s now work (state_of self.new core.new)) }
-        ensures less { IfOk result (λ work. Lessens (state_of self.old core.old) work (state_of self.new core.new)) }
-        ensures fault { IfErr result (λ fault. (s : Story) → Stands (state_of self.old core.old) s → Failed s fault) }
-        ensures unchanged { OnErr result ((s : Story) → Stands (state_of self.old core.old) s → Stands (state_of self.new core.new) s) }
-        ensures no_more { OnErr result (load_on self.new ≤ load_on self.old) }
+    /// Does the first act that is due, and at most one step of the core. `now` is in Unix seconds, up to the end of
+    /// the year 9999. After an `Err` the engine stands for the stories that it stood for.
+    pub fn work(&mut self, alloc: Global, now: u64) -> Result<Work, EngineFault>
+        requires { now < 253402300800 }
+        ensures ok { IfOk result (λ work. (s : Story) → Stands self.old s → Did s now work self.new) }
+        ensures less { IfOk result (λ work. Lessens self.old work self.new) }
+        ensures fault { IfErr result (λ fault. (s : Story) → Stands self.old s → Failed s fault) }
+        ensures unchanged { OnErr result ((s : Story) → Stands self.old s → Stands self.new s) }
+        ensures no_more { OnErr result (load_at self.new ≤ load_at self.old) }
     {
-        match self.connections.find_lost() {
-            Some((i, l)) => match self.abandon(core, alloc, i, l) {
+        match self.ends.connections.find_lost() {
+            Some((i, l)) => match self.abandon(alloc, i, l) {
                 Ok(effects) => Ok(Work::Did(effects)),
                 Err(_) => Err(EngineFault::OutOfMemory),
             },
-            None => self.finish_first(core, alloc, now),
+            None => self.finish_first(alloc, now),
         }
     }
 }

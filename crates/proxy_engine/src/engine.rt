@@ -2,10 +2,10 @@
 ghost use Rattle.std.specs.Prelude.{◌≡◌, ◌<◌, ◌≤◌, [], IfOk, IfErr, OnOk, OnErr, Some, Err, true};
 ghost use Rattle.proxy_engine.specs.Story.{Story, keeps};
 ghost use Rattle.proxy_engine.specs.Happenings.{said, takes_memory};
-ghost use Rattle.proxy_engine.specs.State.{State, Stands, Takes, TakeFault, Did, Failed, Lessens, begun, load_at};
+ghost use Rattle.proxy_engine.specs.State.{State, Stands, Takes, TakeFault, begun};
 
 use crate::connections::Connections;
-use crate::happening::{EngineFault, Work};
+use crate::happening::EngineFault;
 use crate::links::Links;
 use crate::open_ends::Ends;
 use crate::takes;
@@ -21,8 +21,8 @@ use std::marker::Model;
 /// Contracts see its `State`, and speak of the stories that it stands for: the streams as they came, the messages
 /// that were used of them, and what was done.
 pub struct Engine<S: Shelf> {
-    ends: Ends,
-    core: Core<S>,
+    pub(crate) ends: Ends,
+    pub(crate) core: Core<S>,
 }
 
 /// One call drops it, wherever that is.
@@ -91,18 +91,5 @@ impl<S: Shelf> Engine<S> {
                 kind,
             ),
         }
-    }
-
-    /// Does the first act that is due, and at most one step of the core. `now` is in Unix seconds, up to the end of
-    /// the year 9999. After an `Err` the engine stands for the stories that it stood for.
-    pub fn work(&mut self, alloc: Global, now: u64) -> Result<Work, EngineFault>
-        requires { now < 253402300800 }
-        ensures ok { IfOk result (λ work. (s : Story) → Stands self.old s → Did s now work self.new) }
-        ensures less { IfOk result (λ work. Lessens self.old work self.new) }
-        ensures fault { IfErr result (λ fault. (s : Story) → Stands self.old s → Failed s fault) }
-        ensures unchanged { OnErr result ((s : Story) → Stands self.old s → Stands self.new s) }
-        ensures no_more { OnErr result (load_at self.new ≤ load_at self.old) }
-    {
-        self.ends.work(&mut self.core, alloc, now)
     }
 }

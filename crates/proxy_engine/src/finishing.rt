@@ -6,17 +6,16 @@ ghost use Rattle.proxy_core.specs.declared.event.Event.TheVariants.{Fail};
 ghost use Rattle.proxy_core.specs.State.{State as CoreState, Steps};
 ghost use Rattle.proxy_engine.specs.Story.{Story};
 ghost use Rattle.proxy_engine.specs.Due.{Abandons, Finish, Finishes, kind_of, IsDueFirst};
-ghost use Rattle.proxy_engine.specs.State.{Stands, finish_at, gone_at, NoneLost, Done, Failed};
-ghost use Rattle.proxy_engine.specs.OpenEnds.{state_of, load_on, IsAsBefore};
+ghost use Rattle.proxy_engine.specs.State.{Stands, finish_at, gone_at, NoneLost, load_at, Done, Failed};
 ghost use Rattle.proxy_core.specs.Outcomes.{find_exchange};
-ghost use Rattle.proxy_engine.specs.Wiring.{IsWired, at, links_of};
+ghost use Rattle.proxy_engine.specs.Wiring.{at, links_of};
 ghost use Rattle.proxy_engine.specs.Acts.{asks_head};
 ghost use Rattle.proxy_engine.specs.Wishes.{IsFinishedBy, gives, EndFault, again_address};
 ghost use Rattle.proxy_engine.specs.declared.ends.Connection.{Connection};
 
 use crate::ends::Link;
+use crate::engine::Engine;
 use crate::happening::EngineFault;
-use crate::open_ends::Ends;
 use crate::outcomes::{Way, free, free_lost, is_spent, lacks_memory, number_at, put, room, way_to};
 use hx_allow::Config;
 use hx_framing::{FrameFault, Next};
@@ -135,95 +134,89 @@ fn is_answered(link: &Link) -> bool
     }
 }
 
-impl Ends {
+impl<S: Shelf> Engine<S> {
     /// The exchange of a connection that is gone is abandoned, and its link is dropped.
-    pub(crate) fn abandon<S: Shelf>(
+    pub(crate) fn abandon(
         &mut self,
-        core: &mut Core<S>,
         alloc: Global,
         i: u64,
         l: u64,
     ) -> Result<Vec<Effect>, AllocError>
-        requires linked { at (links_of self.old.connections.items) i ≡ Some l }
-        requires gone { gone_at (slice_index_or self.old.connections.items i None) ≡ Some true }
-        requires wired { IsWired (state_of self.old core.old) }
-        ensures wired { IsWired (state_of self.new core.new) }
-        ensures ok { IfOk result (λ effects. (s : Story) → (now : ℕ) → Stands (state_of self.old core.old) s
-            → Done s now (Abandons i l) effects.items (state_of self.new core.new)) }
-        ensures less { OnOk result (load_on self.new < load_on self.old) }
-        ensures err { OnErr result (IsAsBefore self.old core.old self.new core.new) }
+        requires linked { at (links_of self.old.connections) i ≡ Some l }
+        requires gone { gone_at (slice_index_or self.old.connections i None) ≡ Some true }
+        ensures ok { IfOk result (λ effects. (s : Story) → (now : ℕ) → Stands self.old s
+            → Done s now (Abandons i l) effects.items self.new) }
+        ensures less { OnOk result (load_at self.new < load_at self.old) }
+        ensures err { OnErr result (self.new ≡ self.old) }
     {
         let mut effects = room(alloc)?;
-        let count = self.connections.len();
+        let count = self.ends.connections.len();
         prove!(i < count);
-        match core.abandon(i + 1) {
+        match self.core.abandon(i + 1) {
             Ok(_) => {}
             Err(_) => unreachable!(),
         }
-        free_lost(&mut self.connections, &mut self.links, l, i);
-        put(&mut effects, Effect::Drop(number_at(self.first_link, l)));
+        free_lost(&mut self.ends.connections, &mut self.ends.links, l, i);
+        put(
+            &mut effects,
+            Effect::Drop(number_at(self.ends.first_link, l)),
+        );
         Ok(effects)
     }
 
     /// The exchange of a link is finished by what stands on it, or goes forward once more on a new one; the link is dropped.
     /// There is a number for it.
-    fn complete<S: Shelf>(
-        &mut self,
-        core: &mut Core<S>,
-        alloc: Global,
-        now: u64,
-        j: u64,
-    ) -> Result<Vec<Effect>, AllocError>
-        requires due { is_some (finish_at (slice_index_or self.old.links.items j None)) ≡ true }
-        requires here { NoneLost self.old.connections.items }
-        requires left { (f : Finish) → finish_at (slice_index_or self.old.links.items j None) ≡ Some f → gives f ≡ true → self.old.first_link + length self.old.links.items < 2 ^ 64 }
-        requires wired { IsWired (state_of self.old core.old) }
+    fn complete(&mut self, alloc: Global, now: u64, j: u64) -> Result<Vec<Effect>, AllocError>
+        requires due { is_some (finish_at (slice_index_or self.old.links j None)) ≡ true }
+        requires here { NoneLost self.old.connections }
+        requires left { (f : Finish) → finish_at (slice_index_or self.old.links j None) ≡ Some f → gives f ≡ true → self.old.first + length self.old.links < 2 ^ 64 }
         requires early { now < 253402300800 }
-        ensures wired { IsWired (state_of self.new core.new) }
-        ensures ok { IfOk result (λ effects. (s : Story) → (f : Finish) → finish_at (slice_index_or self.old.links.items j None) ≡ Some f
-            → Stands (state_of self.old core.old) s → Done s now (Finishes j f) effects.items (state_of self.new core.new)) }
-        ensures less { OnOk result (load_on self.new < load_on self.old) }
-        ensures err { OnErr result (IsAsBefore self.old core.old self.new core.new) }
+        ensures ok { IfOk result (λ effects. (s : Story) → (f : Finish) → finish_at (slice_index_or self.old.links j None) ≡ Some f
+            → Stands self.old s → Done s now (Finishes j f) effects.items self.new) }
+        ensures less { OnOk result (load_at self.new < load_at self.old) }
+        ensures err { OnErr result (self.new ≡ self.old) }
     {
         let mut effects = room(alloc)?;
-        self.links.reserve_one(alloc)?;
-        let i = self.links.at(j).connection;
-        let count = self.connections.len();
+        self.ends.links.reserve_one(alloc)?;
+        let i = self.ends.links.at(j).connection;
+        let count = self.ends.connections.len();
         prove!(i < count);
-        let way = way_again(core, alloc, i + 1)?;
-        let outcome = end(self.links.at(j), core, alloc, now, i + 1)?;
-        free(&mut self.connections, &mut self.links, j, i);
-        put(&mut effects, Effect::Drop(number_at(self.first_link, j)));
-        self.carry_out(&mut effects, alloc, i, way, outcome);
+        let way = way_again(&self.core, alloc, i + 1)?;
+        let outcome = end(self.ends.links.at(j), &mut self.core, alloc, now, i + 1)?;
+        free(&mut self.ends.connections, &mut self.ends.links, j, i);
+        put(
+            &mut effects,
+            Effect::Drop(number_at(self.ends.first_link, j)),
+        );
+        self.ends.carry_out(&mut effects, alloc, i, way, outcome);
         Ok(effects)
     }
 
     /// The exchange of a link is finished, unless it may go forward once more and no link number is left. That is told before
     /// any memory is asked for.
-    pub(crate) fn finish<S: Shelf>(
+    pub(crate) fn finish(
         &mut self,
-        core: &mut Core<S>,
         alloc: Global,
         now: u64,
         j: u64,
     ) -> Result<Vec<Effect>, EngineFault>
-        requires due { is_some (finish_at (slice_index_or self.old.links.items j None)) ≡ true }
-        requires here { NoneLost self.old.connections.items }
-        requires wired { IsWired (state_of self.old core.old) }
+        requires due { is_some (finish_at (slice_index_or self.old.links j None)) ≡ true }
+        requires here { NoneLost self.old.connections }
         requires early { now < 253402300800 }
-        ensures wired { IsWired (state_of self.new core.new) }
-        ensures ok { IfOk result (λ effects. (s : Story) → (f : Finish) → finish_at (slice_index_or self.old.links.items j None) ≡ Some f
-            → Stands (state_of self.old core.old) s → Done s now (Finishes j f) effects.items (state_of self.new core.new)) }
-        ensures less { OnOk result (load_on self.new < load_on self.old) }
-        ensures spent { IfErr result (λ fault. (f : Finish) → finish_at (slice_index_or self.old.links.items j None) ≡ Some f → EndFault (nat_le (2 ^ 64) (self.old.first_link + length self.old.links.items)) f fault) }
-        ensures fault { IfErr result (λ fault. (s : Story) → (f : Finish) → finish_at (slice_index_or self.old.links.items j None) ≡ Some f → IsDueFirst s (Some (Finishes j f))
-            → Stands (state_of self.old core.old) s → Failed s fault) }
-        ensures err { OnErr result (IsAsBefore self.old core.old self.new core.new) }
+        ensures ok { IfOk result (λ effects. (s : Story) → (f : Finish) → finish_at (slice_index_or self.old.links j None) ≡ Some f
+            → Stands self.old s → Done s now (Finishes j f) effects.items self.new) }
+        ensures less { OnOk result (load_at self.new < load_at self.old) }
+        ensures spent { IfErr result (λ fault. (f : Finish) → finish_at (slice_index_or self.old.links j None) ≡ Some f → EndFault (nat_le (2 ^ 64) (self.old.first + length self.old.links)) f fault) }
+        ensures fault { IfErr result (λ fault. (s : Story) → (f : Finish) → finish_at (slice_index_or self.old.links j None) ≡ Some f → IsDueFirst s (Some (Finishes j f))
+            → Stands self.old s → Failed s fault) }
+        ensures err { OnErr result (self.new ≡ self.old) }
     {
-        if is_spent(self.first_link, self.links.len()) && is_answered(self.links.at(j)) {
+        if is_spent(self.ends.first_link, self.ends.links.len())
+            && is_answered(self.ends.links.at(j))
+        {
             return Err(EngineFault::Spent);
         }
-        match self.complete(core, alloc, now, j) {
+        match self.complete(alloc, now, j) {
             Ok(effects) => Ok(effects),
             Err(_) => Err(EngineFault::OutOfMemory),
         }

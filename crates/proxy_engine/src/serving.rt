@@ -11,17 +11,16 @@ ghost use Rattle.proxy_core.specs.State.{State as CoreState};
 ghost use Rattle.proxy_engine.specs.Look.{Due};
 ghost use Rattle.proxy_engine.specs.Story.{Story};
 ghost use Rattle.proxy_engine.specs.Due.{Serves, IsDueFirst};
-ghost use Rattle.proxy_engine.specs.State.{Stands, state, wish_at, is_free, connection_load, Done, Failed};
-ghost use Rattle.proxy_engine.specs.OpenEnds.{state_of, load_on, IsAsBefore};
-ghost use Rattle.proxy_engine.specs.Wiring.{IsWired, links_of};
+ghost use Rattle.proxy_engine.specs.State.{Stands, state, wish_at, is_free, connection_load, load_at, Done, Failed};
+ghost use Rattle.proxy_engine.specs.Wiring.{links_of};
 ghost use Rattle.proxy_engine.specs.Wishes.{verdict_address, IsWish};
 ghost use Rattle.proxy_engine.specs.declared.ends.Connection.{Connection};
 ghost use Rattle.proxy_engine.specs.declared.ends.Link.{Link};
 
 use crate::connections::Connections;
+use crate::engine::Engine;
 use crate::happening::EngineFault;
 use crate::marks;
-use crate::open_ends::Ends;
 use crate::outcomes::{Way, is_spent, lacks_memory, put, room, send_reply, way_to};
 use crate::wishes::{Wish, wish_of};
 use hx_allow::{Config, Verdict};
@@ -29,7 +28,7 @@ use hx_fields::Bytes;
 use hx_hop::Asked;
 use hx_status::Cause;
 use hx_store::Shelf;
-use proxy_core::{Core, refused};
+use proxy_core::refused;
 use proxy_script::Effect;
 use std::alloc::{AllocError, Global};
 
@@ -123,104 +122,95 @@ fn way_for(alloc: Global, config: &Config, asked: &Asked) -> Result<Way, AllocEr
     way_to(alloc, address_for(config, asked), config, asked)
 }
 
-impl Ends {
+impl<S: Shelf> Engine<S> {
     /// A request arrives at the core, where a link number is left for it. All that can fail comes before the core's step, or is
     /// that step.
-    fn admit<S: Shelf>(
+    fn admit(
         &mut self,
-        core: &mut Core<S>,
         alloc: Global,
         now: u64,
         i: u64,
         asked: &Asked,
     ) -> Result<Vec<Effect>, AllocError>
-        requires due { is_some (wish_at (slice_index_or self.old.connections.items i None)) ≡ true }
-        requires left { self.old.first_link + length self.old.links.items < 2 ^ 64 }
-        requires wired { IsWired (state_of self.old core.old) }
+        requires due { is_some (wish_at (slice_index_or self.old.connections i None)) ≡ true }
+        requires left { self.old.first + length self.old.links < 2 ^ 64 }
         requires early { now < 253402300800 }
-        ensures wired { IsWired (state_of self.new core.new) }
-        ensures ok { IfOk result (λ effects. (s : Story) → (r : Request) → IsAdmitted r (Ok asked.now) → wish_at (slice_index_or self.old.connections.items i None) ≡ Some (next.Message r)
-            → Stands (state_of self.old core.old) s → Done s now (Serves i (next.Message r)) effects.items (state_of self.new core.new)) }
-        ensures less { OnOk result ((r : Request) → wish_at (slice_index_or self.old.connections.items i None) ≡ Some (next.Message r)
-            → load_on self.new < load_on self.old) }
-        ensures err { OnErr result (IsAsBefore self.old core.old self.new core.new) }
+        ensures ok { IfOk result (λ effects. (s : Story) → (r : Request) → IsAdmitted r (Ok asked.now) → wish_at (slice_index_or self.old.connections i None) ≡ Some (next.Message r)
+            → Stands self.old s → Done s now (Serves i (next.Message r)) effects.items self.new) }
+        ensures less { OnOk result ((r : Request) → wish_at (slice_index_or self.old.connections i None) ≡ Some (next.Message r)
+            → load_at self.new < load_at self.old) }
+        ensures err { OnErr result (self.new ≡ self.old) }
     {
         let mut effects = room(alloc)?;
-        self.links.reserve_one(alloc)?;
-        let way = way_for(alloc, core.config(), asked)?;
-        let count = self.connections.len();
+        self.ends.links.reserve_one(alloc)?;
+        let way = way_for(alloc, self.core.config(), asked)?;
+        let count = self.ends.connections.len();
         prove!(i < count);
-        let outcome = match core.arrive(alloc, now, i + 1, asked) {
+        let outcome = match self.core.arrive(alloc, now, i + 1, asked) {
             Ok(outcome) => outcome,
             Err(fault) => return Err(lacks_memory(fault)),
         };
-        marks::pass_at(&mut self.connections, i);
-        self.carry_out(&mut effects, alloc, i, way, outcome);
+        marks::pass_at(&mut self.ends.connections, i);
+        self.ends.carry_out(&mut effects, alloc, i, way, outcome);
         Ok(effects)
     }
 
     /// A request arrives at the core, unless no link number is left for it. That is told before any memory is asked for.
-    fn arrive<S: Shelf>(
+    fn arrive(
         &mut self,
-        core: &mut Core<S>,
         alloc: Global,
         now: u64,
         i: u64,
         asked: &Asked,
     ) -> Result<Vec<Effect>, EngineFault>
-        requires due { is_some (wish_at (slice_index_or self.old.connections.items i None)) ≡ true }
-        requires wired { IsWired (state_of self.old core.old) }
+        requires due { is_some (wish_at (slice_index_or self.old.connections i None)) ≡ true }
         requires early { now < 253402300800 }
-        ensures wired { IsWired (state_of self.new core.new) }
-        ensures ok { IfOk result (λ effects. (s : Story) → (r : Request) → IsAdmitted r (Ok asked.now) → wish_at (slice_index_or self.old.connections.items i None) ≡ Some (next.Message r)
-            → Stands (state_of self.old core.old) s → Done s now (Serves i (next.Message r)) effects.items (state_of self.new core.new)) }
-        ensures less { OnOk result ((r : Request) → wish_at (slice_index_or self.old.connections.items i None) ≡ Some (next.Message r)
-            → load_on self.new < load_on self.old) }
-        ensures spent { result ≡ Err EngineFault.OutOfMemory → self.old.first_link + length self.old.links.items < 2 ^ 64 }
+        ensures ok { IfOk result (λ effects. (s : Story) → (r : Request) → IsAdmitted r (Ok asked.now) → wish_at (slice_index_or self.old.connections i None) ≡ Some (next.Message r)
+            → Stands self.old s → Done s now (Serves i (next.Message r)) effects.items self.new) }
+        ensures less { OnOk result ((r : Request) → wish_at (slice_index_or self.old.connections i None) ≡ Some (next.Message r)
+            → load_at self.new < load_at self.old) }
+        ensures spent { result ≡ Err EngineFault.OutOfMemory → self.old.first + length self.old.links < 2 ^ 64 }
         ensures fault { IfErr result (λ fault. (s : Story) → (r : Request) → IsAdmitted r (Ok asked.now) → IsDueFirst s (Some (Serves i (next.Message r)))
-            → Stands (state_of self.old core.old) s → Failed s fault) }
-        ensures err { OnErr result (IsAsBefore self.old core.old self.new core.new) }
+            → Stands self.old s → Failed s fault) }
+        ensures err { OnErr result (self.new ≡ self.old) }
     {
-        if is_spent(self.first_link, self.links.len()) {
+        if is_spent(self.ends.first_link, self.ends.links.len()) {
             return Err(EngineFault::Spent);
         }
-        match self.admit(core, alloc, now, i, asked) {
+        match self.admit(alloc, now, i, asked) {
             Ok(effects) => Ok(effects),
             Err(_) => Err(EngineFault::OutOfMemory),
         }
     }
 
     /// Does what is due on the connection at a place.
-    pub(crate) fn serve<S: Shelf>(
+    pub(crate) fn serve(
         &mut self,
-        core: &mut Core<S>,
         alloc: Global,
         now: u64,
         i: u64,
     ) -> Result<Vec<Effect>, EngineFault>
-        requires due { is_some (wish_at (slice_index_or self.old.connections.items i None)) ≡ true }
-        requires wired { IsWired (state_of self.old core.old) }
+        requires due { is_some (wish_at (slice_index_or self.old.connections i None)) ≡ true }
         requires early { now < 253402300800 }
-        ensures wired { IsWired (state_of self.new core.new) }
-        ensures ok { IfOk result (λ effects. (s : Story) → (a : Next Request) → wish_at (slice_index_or self.old.connections.items i None) ≡ Some a
-            → Stands (state_of self.old core.old) s → Done s now (Serves i a) effects.items (state_of self.new core.new)) }
-        ensures less { OnOk result (load_on self.new < load_on self.old) }
-        ensures fault { IfErr result (λ fault. (s : Story) → (a : Next Request) → wish_at (slice_index_or self.old.connections.items i None) ≡ Some a → IsDueFirst s (Some (Serves i a))
-            → Stands (state_of self.old core.old) s → Failed s fault) }
-        ensures err { OnErr result (IsAsBefore self.old core.old self.new core.new) }
+        ensures ok { IfOk result (λ effects. (s : Story) → (a : Next Request) → wish_at (slice_index_or self.old.connections i None) ≡ Some a
+            → Stands self.old s → Done s now (Serves i a) effects.items self.new) }
+        ensures less { OnOk result (load_at self.new < load_at self.old) }
+        ensures fault { IfErr result (λ fault. (s : Story) → (a : Next Request) → wish_at (slice_index_or self.old.connections i None) ≡ Some a → IsDueFirst s (Some (Serves i a))
+            → Stands self.old s → Failed s fault) }
+        ensures err { OnErr result (self.new ≡ self.old) }
     {
-        let wish = match wish_of(self.connections.at(i), alloc) {
+        let wish = match wish_of(self.ends.connections.at(i), alloc) {
             Ok(wish) => wish,
             Err(_) => return Err(EngineFault::OutOfMemory),
         };
         match wish {
-            Wish::Continue => match send_continue(&mut self.connections, alloc, i) {
+            Wish::Continue => match send_continue(&mut self.ends.connections, alloc, i) {
                 Ok(effects) => Ok(effects),
                 Err(_) => Err(EngineFault::OutOfMemory),
             },
-            Wish::Arrive(asked) => self.arrive(core, alloc, now, i, &asked),
+            Wish::Arrive(asked) => self.arrive(alloc, now, i, &asked),
             Wish::Refuse(why, head) => match refuse(
-                &mut self.connections,
+                &mut self.ends.connections,
                 alloc,
                 now,
                 i,
@@ -230,7 +220,7 @@ impl Ends {
                 Ok(effects) => Ok(effects),
                 Err(_) => Err(EngineFault::OutOfMemory),
             },
-            Wish::Close => match shut(&mut self.connections, alloc, i) {
+            Wish::Close => match shut(&mut self.ends.connections, alloc, i) {
                 Ok(effects) => Ok(effects),
                 Err(_) => Err(EngineFault::OutOfMemory),
             },
