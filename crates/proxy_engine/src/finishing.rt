@@ -16,7 +16,7 @@ ghost use Rattle.proxy_engine.specs.declared.ends.Connection.{Connection};
 use crate::ends::Link;
 use crate::engine::Engine;
 use crate::happening::EngineFault;
-use crate::outcomes::{Way, free, free_lost, is_spent, lacks_memory, number_at, put, room, way_to};
+use crate::outcomes::{Way, free, free_lost, lacks_memory, put, room, way_to};
 use hx_allow::Config;
 use hx_framing::{FrameFault, Next};
 use hx_status::FailKind;
@@ -157,10 +157,7 @@ impl<S: Shelf> Engine<S> {
             Err(_) => unreachable!(),
         }
         free_lost(&mut self.ends.connections, &mut self.ends.links, l, i);
-        put(
-            &mut effects,
-            Effect::Drop(number_at(self.ends.first_link, l)),
-        );
+        put(&mut effects, Effect::Drop(self.ends.number_at(l)));
         Ok(effects)
     }
 
@@ -184,10 +181,7 @@ impl<S: Shelf> Engine<S> {
         let way = way_again(&self.core, alloc, i + 1)?;
         let outcome = end(self.ends.links.at(j), &mut self.core, alloc, now, i + 1)?;
         free(&mut self.ends.connections, &mut self.ends.links, j, i);
-        put(
-            &mut effects,
-            Effect::Drop(number_at(self.ends.first_link, j)),
-        );
+        put(&mut effects, Effect::Drop(self.ends.number_at(j)));
         self.ends.carry_out(&mut effects, alloc, i, way, outcome);
         Ok(effects)
     }
@@ -211,9 +205,7 @@ impl<S: Shelf> Engine<S> {
             → Stands self.old s → Failed s fault) }
         ensures err { OnErr result (self.new ≡ self.old) }
     {
-        if is_spent(self.ends.first_link, self.ends.links.len())
-            && is_answered(self.ends.links.at(j))
-        {
+        if self.ends.is_spent() && is_answered(self.ends.links.at(j)) {
             return Err(EngineFault::Spent);
         }
         match self.complete(alloc, now, j) {

@@ -34,20 +34,6 @@ pub(crate) fn put(effects: &mut Vec<Effect>, effect: Effect)
     let _ = effects.push(effect);
 }
 
-/// The number of the link at a place.
-pub(crate) fn number_at(first: u64, place: u64) -> u64
-    ensures { first + place < 2 ^ 64 → result ≡ first + place }
-{
-    first.wrapping_add(place)
-}
-
-/// Whether no link number is left behind so many links.
-pub(crate) fn is_spent(first: u64, count: u64) -> bool
-    ensures { result ≡ nat_le (2 ^ 64) (first + count) }
-{
-    count > u64::MAX - first
-}
-
 /// Room for the effects of one act.
 pub(crate) fn room(alloc: Global) -> Result<Vec<Effect>, AllocError>
     ensures items { IfOk result (λ v. v.items ≡ []) }
@@ -185,6 +171,20 @@ pub(crate) fn free_lost(connections: &mut Connections, links: &mut Links, j: u64
 }
 
 impl Ends {
+    /// The number of the link at a place.
+    pub(crate) fn number_at(&self, place: u64) -> u64
+        ensures { self.now.first_link + place < 2 ^ 64 → result ≡ self.now.first_link + place }
+    {
+        self.first_link.wrapping_add(place)
+    }
+
+    /// Whether no link number is left.
+    pub(crate) fn is_spent(&self) -> bool
+        ensures { result ≡ nat_le (2 ^ 64) (self.now.first_link + length self.now.links.items) }
+    {
+        self.links.len() > u64::MAX - self.first_link
+    }
+
     /// Does what an outcome says, for the connection at a place.
     pub(crate) fn carry_out(
         &mut self,
@@ -215,7 +215,7 @@ impl Ends {
                 reply.close,
             ),
             Outcome::Forward(_, bytes) => {
-                let number = number_at(self.first_link, self.links.len());
+                let number = self.number_at(self.links.len());
                 open_link(
                     &mut self.connections,
                     &mut self.links,

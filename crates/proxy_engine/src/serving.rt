@@ -21,7 +21,7 @@ use crate::connections::Connections;
 use crate::engine::Engine;
 use crate::happening::EngineFault;
 use crate::marks;
-use crate::outcomes::{Way, is_spent, lacks_memory, put, room, send_reply, way_to};
+use crate::outcomes::{Way, lacks_memory, put, room, send_reply, way_to};
 use crate::wishes::{Wish, wish_of};
 use hx_allow::{Config, Verdict};
 use hx_fields::Bytes;
@@ -174,7 +174,7 @@ impl<S: Shelf> Engine<S> {
             → Stands self.old s → Failed s fault) }
         ensures err { OnErr result (self.new ≡ self.old) }
     {
-        if is_spent(self.ends.first_link, self.ends.links.len()) {
+        if self.ends.is_spent() {
             return Err(EngineFault::Spent);
         }
         match self.admit(alloc, now, i, asked) {

@@ -16,7 +16,7 @@ pub returns-then-is_answered-clause-spent : goal.returns-then-is_answered-clause
 returns-then-is_answered-clause-spent g c = λ f shown.
     let here = ap finish_at (sym c.at.ensures) ∙ (rw (← c.self.view_is) at shown) in
     subst (λ (e : State). EndFault (nat_le (2 ^ 64) (e.first + length e.links)) f Spent) c.self.view_is
-    (spent_told _ f (sym (c.is_spent.ensures ∙ ap (λ n. nat_le (2 ^ 64) (c.self.inside.ends.first_link + n)) c.len.ensures) ∙ c.if-is_spent.true) (sym (c.is_answered.ensures f here) ∙ c.if-is_answered.true))
+    (spent_told _ f (sym c.is_spent.ensures ∙ c.if-is_spent.true) (sym (c.is_answered.ensures f here) ∙ c.if-is_answered.true))
 
 pub returns-then-is_answered-clause-fault : goal.returns-then-is_answered-clause-fault
 returns-then-is_answered-clause-fault g c = rw (← c.self.view_is) (
@@ -24,8 +24,8 @@ returns-then-is_answered-clause-fault g c = rw (← c.self.view_is) (
     let here = ap finish_at (sym c.at.ensures) ∙ shown in
     let links = both_length LinkStands c.self.inside.ends.links.items s.links h.links in
     let first_is : c.self.inside.ends.first_link ≡ s.first = h.first in
-    let many = leb-true (2 ^ 64) (c.self.inside.ends.first_link + c.len.result) (sym c.is_spent.ensures ∙ c.if-is_spent.true) in
-    spent_failed s c.args.j f (sym (c.is_answered.ensures f here) ∙ c.if-is_answered.true) (omega (arith, many, c.len.ensures, links)) due
+    let many = leb-true (2 ^ 64) (c.self.inside.ends.first_link + length c.self.inside.ends.links.items) (sym c.is_spent.ensures ∙ c.if-is_spent.true) in
+    spent_failed s c.args.j f (sym (c.is_answered.ensures f here) ∙ c.if-is_answered.true) (omega (arith, many, links)) due
     )
 
 pub returns-in-Err-clause-spent : goal.returns-in-Err-clause-spent
@@ -37,5 +37,5 @@ returns-in-Err-clause-spent g c = λ f shown.
           let here = ap finish_at (sym w.at.ensures) ∙ there in
           let yes : false ≡ true = sym w.if-is_answered.false ∙ (w.is_answered.ensures f here ∙ may) in
           absurd (cc)
-      | else-is_spent-via-else-is_spent w ↦ sym (c.is_spent.ensures ∙ ap (λ n. nat_le (2 ^ 64) (c.self.inside.ends.first_link + n)) c.len.ensures) ∙ w.if-is_spent.false
+      | else-is_spent-via-else-is_spent w ↦ sym c.is_spent.ensures ∙ w.if-is_spent.false
     ]))
