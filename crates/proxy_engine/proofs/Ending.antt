@@ -24,7 +24,7 @@ use Rattle.proxy_engine.specs.Look.{Due}
 use Rattle.proxy_engine.specs.Due.{Finish, Gives, Breaks}
 use Rattle.proxy_engine.specs.Acts.{address_of}
 use Rattle.proxy_engine.specs.State.{finish_seen, finish_at}
-use Rattle.proxy_engine.specs.Wishes.{Ends, gives, goes_forward, again_address}
+use Rattle.proxy_engine.specs.Wishes.{IsFinishedBy, gives, goes_forward, again_address}
 use Rattle.proxy_engine.specs.declared.ends.Link.{Link}
 
 -- a link that shows a response
@@ -99,7 +99,7 @@ again_of table es xs (Some x) o now id r line bytes h = again_by table x line (i
 again_of table es xs None o now id r line bytes h = absurd (cc)
 
 -- the address to which the exchange of an id goes forward once more
-pub again_way : (core core1 : CoreState) (now id : ℕ) (f : Finish) (o : Outcome) (line : ℕ) (bytes : List ℕ) → is_some (find_exchange id core.exchanges) ≡ true → Ends core now id f o core1 → o ≡ outcomes.Forward line bytes
+pub again_way : (core core1 : CoreState) (now id : ℕ) (f : Finish) (o : Outcome) (line : ℕ) (bytes : List ℕ) → is_some (find_exchange id core.exchanges) ≡ true → IsFinishedBy core now id f o core1 → o ≡ outcomes.Forward line bytes
     → again_address core.table (find_exchange id core.exchanges) ≡ address_of core.table line
 again_way core core1 now id (Gives r) o line bytes there h e =
     again_of core.table core.entries core.exchanges (find_exchange id core.exchanges) core.next now id r line bytes (sym h.outcome_is ∙ e)
@@ -112,7 +112,7 @@ goes_by (outcomes.Forward line bytes) e = absurd (cc)
 goes_by outcomes.Ended e = refl
 
 -- what goes forward once more was answered
-pub goes_given : (core core1 : CoreState) (now id : ℕ) (f : Finish) (o : Outcome) → is_some (find_exchange id core.exchanges) ≡ true → Ends core now id f o core1 → goes_forward o ≡ true → gives f ≡ true
+pub goes_given : (core core1 : CoreState) (now id : ℕ) (f : Finish) (o : Outcome) → is_some (find_exchange id core.exchanges) ≡ true → IsFinishedBy core now id f o core1 → goes_forward o ≡ true → gives f ≡ true
 goes_given core core1 now id (Gives r) o there h goes = refl
 goes_given core core1 now id (Breaks kind) o there h goes =
     let stays = goes_by o (ap is_reply h.outcome_is ∙ failure_replies core.table core.entries core.exchanges (find_exchange id core.exchanges) core.next now id kind there) in
@@ -140,7 +140,7 @@ pub failure_remains : (table : Table) (es : List Stored) (xs : List Exchange) (n
     → Remains o id xs (closed id xs)
 failure_remains table es xs next now id kind o there e = reply_remains o id xs (ap is_reply e ∙ failure_replies table es xs (find_exchange id xs) next now id kind there)
 
-pub remains : (core core1 : CoreState) (now id : ℕ) (f : Finish) (o : Outcome) → is_some (find_exchange id core.exchanges) ≡ true → Ends core now id f o core1 → Remains o id core.exchanges core1.exchanges
+pub remains : (core core1 : CoreState) (now id : ℕ) (f : Finish) (o : Outcome) → is_some (find_exchange id core.exchanges) ≡ true → IsFinishedBy core now id f o core1 → Remains o id core.exchanges core1.exchanges
 remains core core1 now id (Gives r) o there h =
     subst (λ (ys : List Exchange). Remains o id core.exchanges ys) (sym (ap (λ (k : CoreState). k.exchanges) h.leaves)) (answer_remains core.entries core.exchanges now id r o)
 remains core core1 now id (Breaks kind) o there h =

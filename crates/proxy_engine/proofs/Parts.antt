@@ -1,5 +1,5 @@
 -- Two lists that agree part by part.
-use Rattle.std.proofs.Common.{◌≡◌, ℕ, zero, suc, ◌<◌, List, [], ◌∷◌, ◌++◌, length, get_or, set, refl, sym, ap, subst, arith}
+use Rattle.std.proofs.Common.{◌≡◌, ℕ, zero, suc, ◌<◌, List, [], ◌∷◌, ◌++◌, length, get_or, set, refl, ap, arith}
 use Rattle.proxy_engine.specs.State.{Both}
 
 pub both_length : {A B : Type 0} (R : A → B → Type 0) (xs : List A) (ys : List B) → Both R xs ys → length xs ≡ length ys
@@ -27,14 +27,3 @@ both_push R [] [] x y b r = (r, tt)
 both_push R [] (z ∷ ys) x y b r = absurd b
 both_push R (w ∷ xs) [] x y b r = absurd b
 both_push R (w ∷ xs) (z ∷ ys) x y b r = (b.0, both_push R xs ys x y b.1 r)
-
--- what agrees at a place, where x is known to stand there
-pub both_here : {A B : Type 0} (R : A → B → Type 0) (xs : List A) (ys : List B) (i : ℕ) (x : A) (y : B) → i < length xs → x ≡ get_or xs i x → Both R xs ys → R x (get_or ys i y)
-both_here R xs ys i x y l e b = subst (λ z. R z (get_or ys i y)) (sym e) (both_at R xs ys i x y b l)
-
--- a part that changes, and agrees with all that it agreed with
-pub both_kept : {A B : Type 0} (R : A → B → Type 0) (xs : List A) (ys : List B) (i : ℕ) (x z : A) → i < length xs → x ≡ get_or xs i x → ((y : B) → R x y → R z y) → Both R xs ys → Both R (set xs i z) ys
-both_kept R [] ys i x z l e keep b = absurd (omega arith)
-both_kept R (w ∷ xs) [] i x z l e keep b = absurd b
-both_kept R (w ∷ xs) (y ∷ ys) zero x z l e keep b = (keep y (subst (λ a. R a y) (sym e) b.0), b.1)
-both_kept R (w ∷ xs) (y ∷ ys) (suc i) x z l e keep b = (b.0, both_kept R xs ys i x z (omega arith) e keep b.1)

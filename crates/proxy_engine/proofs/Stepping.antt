@@ -32,7 +32,7 @@ use Rattle.proxy_engine.specs.Story.{Story, link_at, with_connection, with_core}
 use Rattle.proxy_engine.specs.Due.{Abandons, Finish, Gives, Breaks, Finishes, Serves, IsDueFirst}
 use Rattle.proxy_engine.specs.Acts.{Came, Forwards, StepsOn, Finished, address_of, asks_head, came, came_at, passing, freed, effects_on, after_on, next_number}
 use Rattle.proxy_engine.specs.State.{LinkStands, Stands, state, finish_seen, finish_at, finish_load, link_load, Done, Failed}
-use Rattle.proxy_engine.specs.Wishes.{verdict_address, again_address, gives, Ends, EndFault}
+use Rattle.proxy_engine.specs.Wishes.{verdict_address, again_address, gives, IsFinishedBy, EndFault}
 use Rattle.proxy_engine.specs.declared.happening.EngineFault.TheVariants.{OutOfMemory, Spent}
 use Rattle.proxy_engine.specs.declared.ends.Connection.{Connection}
 use Rattle.proxy_engine.specs.declared.ends.Link.{Link}
@@ -133,7 +133,7 @@ finished_steps s core core1 first now i j event o to_head told steps is first_is
 }
 
 finished_by : (s : Story) (core core1 : CoreState) (first now i j : ℕ) (f : Finish) (o : Outcome) (told : List Effect) → (gives f ≡ true → next_number s < 2 ^ 64)
-    → Ends core now (i + 1) f o core1 → told ≡ effects.Drop (first + j) ∷ effects_on i (next_number s) (came core.table o) → first ≡ s.first → core ≡ s.core
+    → IsFinishedBy core now (i + 1) f o core1 → told ≡ effects.Drop (first + j) ∷ effects_on i (next_number s) (came core.table o) → first ≡ s.first → core ≡ s.core
     → Finished s now j i f told (after_on i (asks_head (find_exchange (i + 1) s.core.exchanges)) (came s.core.table o) (with_core (freed s j i) core1))
 finished_by s core core1 first now i j (Gives r) o told left steps is first_is core_is =
     (left refl, finished_steps s core core1 first now i j (events.Answer now (i + 1) r) o (asks_head (find_exchange (i + 1) s.core.exchanges)) told steps is first_is core_is)
@@ -141,16 +141,16 @@ finished_by s core core1 first now i j (Breaks kind) o told left steps is first_
     finished_steps s core core1 first now i j (events.Fail now (i + 1) kind) o (asks_head (find_exchange (i + 1) s.core.exchanges)) told steps is first_is core_is
 
 -- the way of an exchange that goes forward once more
-finish_way : (core core1 : CoreState) (now id : ℕ) (f : Finish) (o : Outcome) (address : List ℕ) → is_some (find_exchange id core.exchanges) ≡ true → Ends core now id f o core1 → address ≡ again_address core.table (find_exchange id core.exchanges) → came_at address o ≡ came core.table o
+finish_way : (core core1 : CoreState) (now id : ℕ) (f : Finish) (o : Outcome) (address : List ℕ) → is_some (find_exchange id core.exchanges) ≡ true → IsFinishedBy core now id f o core1 → address ≡ again_address core.table (find_exchange id core.exchanges) → came_at address o ≡ came core.table o
 finish_way core core1 now id f o address there steps e = same_way address core.table o (λ line bytes is. e ∙ again_way core core1 now id f o line bytes there steps is)
 
-ends_table : (core core1 : CoreState) (now id : ℕ) (f : Finish) (o : Outcome) → Ends core now id f o core1 → core1.table ≡ core.table
+ends_table : (core core1 : CoreState) (now id : ℕ) (f : Finish) (o : Outcome) → IsFinishedBy core now id f o core1 → core1.table ≡ core.table
 ends_table core core1 now id (Gives r) o h = ap (λ (k : CoreState). k.table) h.leaves
 ends_table core core1 now id (Breaks kind) o h = ap (λ (k : CoreState). k.table) h.leaves
 
 -- an exchange was finished, or goes forward once more
 pub finished_done : (s : Story) (cs1 cs2 : List (Option Connection)) (ks1 ks2 : List (Option Link)) (core core1 : CoreState) (first now i j max_body : ℕ) (f : Finish) (o : Outcome) (address : List ℕ) (to_head : Bool) (told : List Effect)
-    → is_some (find_exchange (i + 1) core.exchanges) ≡ true → (gives f ≡ true → next_number s < 2 ^ 64) → Ends core now (i + 1) f o core1 → address ≡ again_address core.table (find_exchange (i + 1) core.exchanges) → max_body ≡ core.table.max_body
+    → is_some (find_exchange (i + 1) core.exchanges) ≡ true → (gives f ≡ true → next_number s < 2 ^ 64) → IsFinishedBy core now (i + 1) f o core1 → address ≡ again_address core.table (find_exchange (i + 1) core.exchanges) → max_body ≡ core.table.max_body
     → to_head ≡ asks_head (find_exchange (i + 1) core.exchanges) → first + length ks1 ≡ next_number s → told ≡ effects.Drop (first + j) ∷ effects_on i (first + length ks1) (came_at address o) → first ≡ s.first → core ≡ s.core → i ≡ (link_at s j).connection
     → Stands (state cs1 ks1 core first) (freed s j i) → ((t : Story) (k : CoreState) → k.table.max_body ≡ max_body → Stands (state cs1 ks1 k first) t → Stands (state cs2 ks2 k first) (after_on i to_head (came_at address o) t))
     → Done s now (Finishes j f) told (state cs2 ks2 core1 first)

@@ -14,6 +14,7 @@ pub mod Marked
 pub mod Held
 pub mod Wishes
 pub mod Wiring
+pub mod OpenEnds
 pub mod Orderly
 pub mod Drops
 pub mod Lives

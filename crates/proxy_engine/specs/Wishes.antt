@@ -2,7 +2,7 @@
 --
 -- IsWish: what a client's stream asks for, read as a request or refused
 -- verdict_address, again_address: the address that a verdict leads to, and that of an open exchange
--- Ends: the core's step that finishes an exchange     gives: it may go forward once more     EndFault: why it isn't done
+-- IsFinishedBy: the core's step that finishes an exchange     gives: it may go forward once more     EndFault: why it isn't done
 use Rattle.std.specs.Prelude.{◌≡◌, ℕ, List, [], Bool, true, false, Option, None, Some, is_some, if◌then◌else◌, Ok, Err}
 use Rattle.hx_framing.specs.declared.requests.Request.{Request}
 use Rattle.hx_framing.specs.declared.fault.FrameFault.{FrameFault}
@@ -65,9 +65,9 @@ again_address table None = []
 again_address table (Some x) = if is_some x.condition then address_of table x.line else []
 
 -- the core's step that finishes the exchange of an id
-abbrev pub Ends : CoreState → ℕ → ℕ → Finish → Outcome → CoreState → Type 0
-Ends s now id (Gives r) outcome t = Steps s (events.Answer now id r) outcome t
-Ends s now id (Breaks kind) outcome t = Steps s (events.Fail now id kind) outcome t
+abbrev pub IsFinishedBy : CoreState → ℕ → ℕ → Finish → Outcome → CoreState → Type 0
+IsFinishedBy s now id (Gives r) outcome t = Steps s (events.Answer now id r) outcome t
+IsFinishedBy s now id (Breaks kind) outcome t = Steps s (events.Fail now id kind) outcome t
 
 -- an answer may go forward once more, and then needs a link
 abbrev pub gives : Finish → Bool

@@ -4,12 +4,13 @@ ghost use Rattle.proxy_engine.specs.Story.{Story, keeps};
 ghost use Rattle.proxy_engine.specs.Happenings.{said, takes_memory};
 ghost use Rattle.proxy_engine.specs.Reading.{ends_read, failed_links, open_count, next_connection};
 ghost use Rattle.proxy_engine.specs.Room.{Finds, HasRoom};
-ghost use Rattle.proxy_engine.specs.State.{State, Stands, Takes, TakeFault, Did, Failed, Lessens, begun, load_at};
+ghost use Rattle.proxy_engine.specs.State.{State, Stands, Takes, TakeFault, begun};
 
 use crate::connections::Connections;
-use crate::happening::{End, EngineFault, Work};
+use crate::happening::{End, EngineFault};
 use crate::links::Links;
-use crate::{acts, takes};
+use crate::open_ends::Ends;
+use crate::takes;
 use hx_allow::Config;
 use hx_store::Shelf;
 use proxy_core::Core;
@@ -22,21 +23,14 @@ use std::marker::Model;
 /// Contracts see its `State`, and speak of the stories that it stands for: the streams as they came, the messages
 /// that were used of them, and what was done.
 pub struct Engine<S: Shelf> {
-    connections: Connections,
-    links: Links,
-    core: Core<S>,
-    first_link: u64,
+    pub(crate) ends: Ends,
+    pub(crate) core: Core<S>,
 }
 
 /// One call drops it, wherever that is.
 impl<S: Shelf + Drop> Drop for Engine<S> {
     fn drop(self) {
-        let Engine {
-            connections: _,
-            links: _,
-            core: _,
-            first_link: _,
-        } = self;
+        let Engine { ends: _, core: _ } = self;
     }
 }
 
@@ -46,9 +40,9 @@ impl<S: Shelf> Model for Engine<S> {
 
     ghost Value = { State };
 
-    ghost view = { λ e. record { connections = e.connections.items; links = e.links.items; core = e.core; first = e.first_link; room = e.connections.has_room } };
+    ghost view = { λ e. record { connections = e.ends.connections.items; links = e.ends.links.items; core = e.core; first = e.ends.first_link; room = e.ends.connections.has_room } };
 
-    ghost invariant = { λ e. IsWired (state e.connections.items e.links.items e.core e.first_link) };
+    ghost invariant = { λ e. IsWired (state e.ends.connections.items e.ends.links.items e.core e.ends.first_link) };
 }
 
 impl<S: Shelf> Engine<S> {
@@ -59,10 +53,12 @@ impl<S: Shelf> Engine<S> {
         ensures { Stands result (begun (record { table = config; limit = S.limit shelf; entries = []; exchanges = []; next = Some first_serial }) first_link) }
     {
         Engine {
-            connections: Connections::new(alloc),
-            links: Links::new(alloc),
+            ends: Ends {
+                connections: Connections::new(alloc),
+                links: Links::new(alloc),
+                first_link,
+            },
             core: Core::new(alloc, config, shelf, first_serial),
-            first_link,
         }
     }
 
@@ -79,16 +75,21 @@ impl<S: Shelf> Engine<S> {
         match happening {
             Happening::Accept(n) => {
                 let max_body = self.core.config().max_body();
-                takes::accept(&mut self.connections, alloc, max_body, n)
+                takes::accept(&mut self.ends.connections, alloc, max_body, n)
             }
-            Happening::Client(n, bytes) => takes::client(&mut self.connections, n, bytes),
-            Happening::Link(l, bytes) => takes::answer(&mut self.links, self.first_link, l, bytes),
-            Happening::End(n) => takes::finish_client(&mut self.connections, n),
-            Happening::Gone(n) => takes::lose_client(&mut self.connections, n),
-            Happening::Shut(l) => takes::shut_link(&mut self.links, self.first_link, l),
+            Happening::Client(n, bytes) => takes::client(&mut self.ends.connections, n, bytes),
+            Happening::Link(l, bytes) => takes::answer(
+                &mut self.ends.links,
+                self.ends.first_link,
+                l,
+                bytes,
+            ),
+            Happening::End(n) => takes::finish_client(&mut self.ends.connections, n),
+            Happening::Gone(n) => takes::lose_client(&mut self.ends.connections, n),
+            Happening::Shut(l) => takes::shut_link(&mut self.ends.links, self.ends.first_link, l),
             Happening::Fail(l, kind) => takes::break_link(
-                &mut self.links,
-                self.first_link,
+                &mut self.ends.links,
+                self.ends.first_link,
                 l,
                 kind,
             ),
@@ -104,13 +105,16 @@ impl<S: Shelf> Engine<S> {
     {
         match end {
             End::Listener => {
-                if self.connections.next_number().is_none() {
+                if self.ends.connections.next_number().is_none() {
                     return Ok(());
                 }
-                self.connections.reserve_one(alloc)
+                self.ends.connections.reserve_one(alloc)
             }
-            End::Client(n) => self.connections.reserve_piece(n.saturating_sub(1)),
-            End::Link(l) => self.links.reserve_piece(l.saturating_sub(self.first_link)),
+            End::Client(n) => self.ends.connections.reserve_piece(n.saturating_sub(1)),
+            End::Link(l) => self
+                .ends
+                .links
+                .reserve_piece(l.saturating_sub(self.ends.first_link)),
         }
     }
 
@@ -118,14 +122,14 @@ impl<S: Shelf> Engine<S> {
     pub fn next_connection(&self) -> Option<u64>
         ensures { (s : Story) → Stands self.now s → result ≡ next_connection s }
     {
-        self.connections.next_number()
+        self.ends.connections.next_number()
     }
 
     /// How many connections are open: neither closed nor gone.
     pub fn open_connections(&self) -> usize
         ensures { (s : Story) → Stands self.now s → result ≡ open_count s }
     {
-        self.connections.open_count()
+        self.ends.connections.open_count()
     }
 
     /// The ends from which bytes may come: each link that isn't dropped, failed or shut, then each open client without
@@ -134,8 +138,10 @@ impl<S: Shelf> Engine<S> {
         ensures { IfOk result (λ ends. (s : Story) → Stands self.now s → ends.items ≡ ends_read s) }
     {
         let mut ends = Vec::new(alloc);
-        self.links.push_readable(self.first_link, &mut ends)?;
-        self.connections.push_readable(&mut ends)?;
+        self.ends
+            .links
+            .push_readable(self.ends.first_link, &mut ends)?;
+        self.ends.connections.push_readable(&mut ends)?;
         Ok(ends)
     }
 
@@ -144,27 +150,9 @@ impl<S: Shelf> Engine<S> {
         ensures { IfOk result (λ ends. (s : Story) → Stands self.now s → ends.items ≡ failed_links s) }
     {
         let mut ends = Vec::new(alloc);
-        self.links.push_failed(self.first_link, &mut ends)?;
+        self.ends
+            .links
+            .push_failed(self.ends.first_link, &mut ends)?;
         Ok(ends)
-    }
-
-    /// Does the first act that is due, and at most one step of the core. `now` is in Unix seconds, up to the end of
-    /// the year 9999. After an `Err` the engine stands for the stories that it stood for.
-    pub fn work(&mut self, alloc: Global, now: u64) -> Result<Work, EngineFault>
-        requires { now < 253402300800 }
-        ensures ok { IfOk result (λ work. (s : Story) → Stands self.old s → Did s now work self.new) }
-        ensures less { IfOk result (λ work. Lessens self.old work self.new) }
-        ensures fault { IfErr result (λ fault. (s : Story) → Stands self.old s → Failed s fault) }
-        ensures unchanged { OnErr result ((s : Story) → Stands self.old s → Stands self.new s) }
-        ensures no_more { OnErr result (load_at self.new ≤ load_at self.old) }
-    {
-        acts::work(
-            &mut self.connections,
-            &mut self.links,
-            &mut self.core,
-            alloc,
-            self.first_link,
-            now,
-        )
     }
 }

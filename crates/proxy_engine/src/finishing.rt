@@ -6,20 +6,17 @@ ghost use Rattle.proxy_core.specs.declared.event.Event.TheVariants.{Fail};
 ghost use Rattle.proxy_core.specs.State.{State as CoreState, Steps};
 ghost use Rattle.proxy_engine.specs.Story.{Story};
 ghost use Rattle.proxy_engine.specs.Due.{Abandons, Finish, Finishes, kind_of, IsDueFirst};
-ghost use Rattle.proxy_engine.specs.State.{Stands, state, finish_at, gone_at, NoneLost, load_of, Done, Failed};
+ghost use Rattle.proxy_engine.specs.State.{Stands, finish_at, gone_at, NoneLost, load_at, Done, Failed};
 ghost use Rattle.proxy_core.specs.Outcomes.{find_exchange};
-ghost use Rattle.proxy_engine.specs.Wiring.{IsWired, at, links_of};
+ghost use Rattle.proxy_engine.specs.Wiring.{at, links_of};
 ghost use Rattle.proxy_engine.specs.Acts.{asks_head};
-ghost use Rattle.proxy_engine.specs.Wishes.{Ends, gives, EndFault, again_address};
+ghost use Rattle.proxy_engine.specs.Wishes.{IsFinishedBy, gives, EndFault, again_address};
 ghost use Rattle.proxy_engine.specs.declared.ends.Connection.{Connection};
 
-use crate::connections::Connections;
 use crate::ends::Link;
+use crate::engine::Engine;
 use crate::happening::EngineFault;
-use crate::links::Links;
-use crate::outcomes::{
-    Way, carry_out, free, free_lost, is_spent, lacks_memory, number_at, put, room, way_to,
-};
+use crate::outcomes::{Way, free, free_lost, lacks_memory, put, room, way_to};
 use hx_allow::Config;
 use hx_framing::{FrameFault, Next};
 use hx_status::FailKind;
@@ -99,7 +96,7 @@ fn end<S: Shelf>(
     requires due { is_some (finish_at (Some link.now)) ≡ true }
     requires open { is_some (find_exchange id core.old.exchanges) ≡ true }
     requires early { now < 253402300800 }
-    ensures ok { IfOk result (λ outcome. (f : Finish) × (finish_at (Some link.now) ≡ Some f) × Ends core.old now id f outcome core.new) }
+    ensures ok { IfOk result (λ outcome. (f : Finish) × (finish_at (Some link.now) ≡ Some f) × IsFinishedBy core.old now id f outcome core.new) }
     ensures err { OnErr result (core.new ≡ core.old) }
 {
     match link.watch.due() {
@@ -120,37 +117,6 @@ fn end<S: Shelf>(
     }
 }
 
-/// The exchange of a connection that is gone is abandoned, and its link is dropped.
-pub(crate) fn abandon<S: Shelf>(
-    connections: &mut Connections,
-    links: &mut Links,
-    core: &mut Core<S>,
-    alloc: Global,
-    first: u64,
-    i: u64,
-    l: u64,
-) -> Result<Vec<Effect>, AllocError>
-    requires linked { at (links_of connections.old.items) i ≡ Some l }
-    requires gone { gone_at (slice_index_or connections.old.items i None) ≡ Some true }
-    requires wired { IsWired (state connections.old.items links.old.items core.old first) }
-    ensures wired { IsWired (state connections.new.items links.new.items core.new first) }
-    ensures ok { IfOk result (λ effects. (s : Story) → (now : ℕ) → Stands (state connections.old.items links.old.items core.old first) s
-        → Done s now (Abandons i l) effects.items (state connections.new.items links.new.items core.new first)) }
-    ensures less { OnOk result (load_of connections.new.items links.new.items < load_of connections.old.items links.old.items) }
-    ensures err { OnErr result ((connections.new.items ≡ connections.old.items) × (links.new.items ≡ links.old.items) × (core.new ≡ core.old)) }
-{
-    let mut effects = room(alloc)?;
-    let count = connections.len();
-    prove!(i < count);
-    match core.abandon(i + 1) {
-        Ok(_) => {}
-        Err(_) => unreachable!(),
-    }
-    free_lost(connections, links, l, i);
-    put(&mut effects, Effect::Drop(number_at(first, l)));
-    Ok(effects)
-}
-
 /// Whether a whole answer stands on a link. Its exchange may go forward once more, and then needs a link.
 fn is_answered(link: &Link) -> bool
     requires { is_some (finish_at (Some link.now)) ≡ true }
@@ -168,79 +134,83 @@ fn is_answered(link: &Link) -> bool
     }
 }
 
-/// The exchange of a link is finished by what stands on it, or goes forward once more on a new one; the link is dropped.
-/// There is a number for it.
-fn complete<S: Shelf>(
-    connections: &mut Connections,
-    links: &mut Links,
-    core: &mut Core<S>,
-    alloc: Global,
-    first: u64,
-    now: u64,
-    j: u64,
-) -> Result<Vec<Effect>, AllocError>
-    requires due { is_some (finish_at (slice_index_or links.old.items j None)) ≡ true }
-    requires here { NoneLost connections.old.items }
-    requires left { (f : Finish) → finish_at (slice_index_or links.old.items j None) ≡ Some f → gives f ≡ true → first + length links.old.items < 2 ^ 64 }
-    requires wired { IsWired (state connections.old.items links.old.items core.old first) }
-    requires early { now < 253402300800 }
-    ensures wired { IsWired (state connections.new.items links.new.items core.new first) }
-    ensures ok { IfOk result (λ effects. (s : Story) → (f : Finish) → finish_at (slice_index_or links.old.items j None) ≡ Some f
-        → Stands (state connections.old.items links.old.items core.old first) s → Done s now (Finishes j f) effects.items (state connections.new.items links.new.items core.new first)) }
-    ensures less { OnOk result (load_of connections.new.items links.new.items < load_of connections.old.items links.old.items) }
-    ensures err { OnErr result ((connections.new.items ≡ connections.old.items) × (links.new.items ≡ links.old.items) × (core.new ≡ core.old)) }
-{
-    let mut effects = room(alloc)?;
-    links.reserve_one(alloc)?;
-    let i = links.at(j).connection;
-    let count = connections.len();
-    prove!(i < count);
-    let way = way_again(core, alloc, i + 1)?;
-    let outcome = end(links.at(j), core, alloc, now, i + 1)?;
-    free(connections, links, j, i);
-    put(&mut effects, Effect::Drop(number_at(first, j)));
-    carry_out(
-        connections,
-        links,
-        &mut effects,
-        alloc,
-        first,
-        i,
-        way,
-        outcome,
-    );
-    Ok(effects)
-}
-
-/// The exchange of a link is finished, unless it may go forward once more and no link number is left. That is told before
-/// any memory is asked for.
-pub(crate) fn finish<S: Shelf>(
-    connections: &mut Connections,
-    links: &mut Links,
-    core: &mut Core<S>,
-    alloc: Global,
-    first: u64,
-    now: u64,
-    j: u64,
-) -> Result<Vec<Effect>, EngineFault>
-    requires due { is_some (finish_at (slice_index_or links.old.items j None)) ≡ true }
-    requires here { NoneLost connections.old.items }
-    requires wired { IsWired (state connections.old.items links.old.items core.old first) }
-    requires early { now < 253402300800 }
-    ensures wired { IsWired (state connections.new.items links.new.items core.new first) }
-    ensures ok { IfOk result (λ effects. (s : Story) → (f : Finish) → finish_at (slice_index_or links.old.items j None) ≡ Some f
-        → Stands (state connections.old.items links.old.items core.old first) s → Done s now (Finishes j f) effects.items (state connections.new.items links.new.items core.new first)) }
-    ensures less { OnOk result (load_of connections.new.items links.new.items < load_of connections.old.items links.old.items) }
-    ensures spent { IfErr result (λ fault. (f : Finish) → finish_at (slice_index_or links.old.items j None) ≡ Some f → EndFault (nat_le (2 ^ 64) (first + length links.old.items)) f fault) }
-    ensures fault { IfErr result (λ fault. (s : Story) → (f : Finish) → finish_at (slice_index_or links.old.items j None) ≡ Some f → IsDueFirst s (Some (Finishes j f))
-        → Stands (state connections.old.items links.old.items core.old first) s → Failed s fault) }
-    ensures err { OnErr result ((connections.new.items ≡ connections.old.items) × (links.new.items ≡ links.old.items) × (core.new ≡ core.old)) }
-{
-    if is_spent(first, links.len()) && is_answered(links.at(j)) {
-        return Err(EngineFault::Spent);
+impl<S: Shelf> Engine<S> {
+    /// The exchange of a connection that is gone is abandoned, and its link is dropped.
+    pub(crate) fn abandon(
+        &mut self,
+        alloc: Global,
+        i: u64,
+        l: u64,
+    ) -> Result<Vec<Effect>, AllocError>
+        requires linked { at (links_of self.old.connections) i ≡ Some l }
+        requires gone { gone_at (slice_index_or self.old.connections i None) ≡ Some true }
+        ensures ok { IfOk result (λ effects. (s : Story) → (now : ℕ) → Stands self.old s
+            → Done s now (Abandons i l) effects.items self.new) }
+        ensures less { OnOk result (load_at self.new < load_at self.old) }
+        ensures err { OnErr result (self.new ≡ self.old) }
+    {
+        let mut effects = room(alloc)?;
+        let count = self.ends.connections.len();
+        prove!(i < count);
+        match self.core.abandon(i + 1) {
+            Ok(_) => {}
+            Err(_) => unreachable!(),
+        }
+        free_lost(&mut self.ends.connections, &mut self.ends.links, l, i);
+        put(&mut effects, Effect::Drop(self.ends.number_at(l)));
+        Ok(effects)
     }
-    match complete(connections, links, core, alloc, first, now, j) {
-        Ok(effects) => Ok(effects),
-        Err(_) => Err(EngineFault::OutOfMemory),
+
+    /// The exchange of a link is finished by what stands on it, or goes forward once more on a new one; the link is dropped.
+    /// There is a number for it.
+    fn complete(&mut self, alloc: Global, now: u64, j: u64) -> Result<Vec<Effect>, AllocError>
+        requires due { is_some (finish_at (slice_index_or self.old.links j None)) ≡ true }
+        requires here { NoneLost self.old.connections }
+        requires left { (f : Finish) → finish_at (slice_index_or self.old.links j None) ≡ Some f → gives f ≡ true → self.old.first + length self.old.links < 2 ^ 64 }
+        requires early { now < 253402300800 }
+        ensures ok { IfOk result (λ effects. (s : Story) → (f : Finish) → finish_at (slice_index_or self.old.links j None) ≡ Some f
+            → Stands self.old s → Done s now (Finishes j f) effects.items self.new) }
+        ensures less { OnOk result (load_at self.new < load_at self.old) }
+        ensures err { OnErr result (self.new ≡ self.old) }
+    {
+        let mut effects = room(alloc)?;
+        self.ends.links.reserve_one(alloc)?;
+        let i = self.ends.links.at(j).connection;
+        let count = self.ends.connections.len();
+        prove!(i < count);
+        let way = way_again(&self.core, alloc, i + 1)?;
+        let outcome = end(self.ends.links.at(j), &mut self.core, alloc, now, i + 1)?;
+        free(&mut self.ends.connections, &mut self.ends.links, j, i);
+        put(&mut effects, Effect::Drop(self.ends.number_at(j)));
+        self.ends.carry_out(&mut effects, alloc, i, way, outcome);
+        Ok(effects)
+    }
+
+    /// The exchange of a link is finished, unless it may go forward once more and no link number is left. That is told before
+    /// any memory is asked for.
+    pub(crate) fn finish(
+        &mut self,
+        alloc: Global,
+        now: u64,
+        j: u64,
+    ) -> Result<Vec<Effect>, EngineFault>
+        requires due { is_some (finish_at (slice_index_or self.old.links j None)) ≡ true }
+        requires here { NoneLost self.old.connections }
+        requires early { now < 253402300800 }
+        ensures ok { IfOk result (λ effects. (s : Story) → (f : Finish) → finish_at (slice_index_or self.old.links j None) ≡ Some f
+            → Stands self.old s → Done s now (Finishes j f) effects.items self.new) }
+        ensures less { OnOk result (load_at self.new < load_at self.old) }
+        ensures spent { IfErr result (λ fault. (f : Finish) → finish_at (slice_index_or self.old.links j None) ≡ Some f → EndFault (nat_le (2 ^ 64) (self.old.first + length self.old.links)) f fault) }
+        ensures fault { IfErr result (λ fault. (s : Story) → (f : Finish) → finish_at (slice_index_or self.old.links j None) ≡ Some f → IsDueFirst s (Some (Finishes j f))
+            → Stands self.old s → Failed s fault) }
+        ensures err { OnErr result (self.new ≡ self.old) }
+    {
+        if self.ends.is_spent() && is_answered(self.ends.links.at(j)) {
+            return Err(EngineFault::Spent);
+        }
+        match self.complete(alloc, now, j) {
+            Ok(effects) => Ok(effects),
+            Err(_) => Err(EngineFault::OutOfMemory),
+        }
     }
 }

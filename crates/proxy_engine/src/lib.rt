@@ -16,6 +16,7 @@ mod happening;
 mod laws;
 mod links;
 mod marks;
+mod open_ends;
 mod outcomes;
 mod places;
 mod reading;

@@ -8,12 +8,14 @@ ghost use Rattle.proxy_engine.specs.Acts.Came.{Replies};
 ghost use Rattle.proxy_engine.specs.Wiring.{links_of, owners_of, wires_after, owners_after};
 ghost use Rattle.proxy_engine.specs.Wishes.{goes_forward};
 ghost use Rattle.proxy_engine.specs.State.{Stands, ConnStands, state, is_free, gone_at, connection_load, link_load, load_of};
+ghost use Rattle.proxy_engine.specs.OpenEnds.{state_of, load_on};
 ghost use Rattle.proxy_engine.specs.declared.ends.Connection.{Connection};
 
 use crate::connections::Connections;
 use crate::ends::Link;
 use crate::links::Links;
 use crate::marks;
+use crate::open_ends::Ends;
 use crate::response_watch::ResponseWatch;
 use hx_allow::Config;
 use hx_fields::Bytes;
@@ -30,20 +32,6 @@ pub(crate) fn put(effects: &mut Vec<Effect>, effect: Effect)
     ensures capacity { vec_capacity effects.old ≤ vec_capacity effects.new }
 {
     let _ = effects.push(effect);
-}
-
-/// The number of the link at a place.
-pub(crate) fn number_at(first: u64, place: u64) -> u64
-    ensures { first + place < 2 ^ 64 → result ≡ first + place }
-{
-    first.wrapping_add(place)
-}
-
-/// Whether no link number is left behind so many links.
-pub(crate) fn is_spent(first: u64, count: u64) -> bool
-    ensures { result ≡ nat_le (2 ^ 64) (first + count) }
-{
-    count > u64::MAX - first
 }
 
 /// Room for the effects of one act.
@@ -151,39 +139,6 @@ pub(crate) fn way_to(
     })
 }
 
-/// Does what an outcome says, for the connection at a place.
-pub(crate) fn carry_out(
-    connections: &mut Connections,
-    links: &mut Links,
-    effects: &mut Vec<Effect>,
-    alloc: Global,
-    first: u64,
-    i: u64,
-    way: Way,
-    outcome: Outcome,
-)
-    requires free { is_free (slice_index_or connections.old.items i None) ≡ true }
-    requires room_for_link { links.old.has_room ≡ true }
-    requires room { vec_len effects.old + 2 ≤ vec_capacity effects.old }
-    requires left { goes_forward outcome ≡ true → first + length links.old.items < 2 ^ 64 }
-    ensures effects { effects.new.items ≡ effects.old.items ++ effects_on i (first + length links.old.items) (came_at way.address outcome) }
-    ensures stands { (s : Story) → (core : CoreState) → core.table.max_body ≡ way.max_body → Stands (state connections.old.items links.old.items core first) s
-        → Stands (state connections.new.items links.new.items core first) (after_on i way.to_head (came_at way.address outcome) s) }
-    ensures links { links_of connections.new.items ≡ wires_after i (length links.old.items) outcome (links_of connections.old.items) }
-    ensures owners { owners_of links.new.items ≡ owners_after i outcome (owners_of links.old.items) }
-    ensures load { load_of connections.new.items links.new.items ≤ load_of connections.old.items links.old.items + 1 }
-{
-    match outcome {
-        Outcome::Reply(reply) => send_reply(connections, effects, i, reply.bytes, reply.close),
-        Outcome::Forward(_, bytes) => {
-            let number = number_at(first, links.len());
-            open_link(connections, links, alloc, way.max_body, way.to_head, i);
-            put(effects, Effect::Forward(number, way.address, bytes));
-        }
-        Outcome::Ended => {}
-    }
-}
-
 /// The exchange of a link is over, and its connection goes on.
 pub(crate) fn free(connections: &mut Connections, links: &mut Links, j: u64, i: u64)
     requires link { is_some (slice_index_or links.old.items j None) ≡ true }
@@ -213,4 +168,65 @@ pub(crate) fn free_lost(connections: &mut Connections, links: &mut Links, j: u64
 {
     links.let_go(j);
     connections.let_go(i);
+}
+
+impl Ends {
+    /// The number of the link at a place.
+    pub(crate) fn number_at(&self, place: u64) -> u64
+        ensures { self.now.first_link + place < 2 ^ 64 → result ≡ self.now.first_link + place }
+    {
+        self.first_link.wrapping_add(place)
+    }
+
+    /// Whether no link number is left.
+    pub(crate) fn is_spent(&self) -> bool
+        ensures { result ≡ nat_le (2 ^ 64) (self.now.first_link + length self.now.links.items) }
+    {
+        self.links.len() > u64::MAX - self.first_link
+    }
+
+    /// Does what an outcome says, for the connection at a place.
+    pub(crate) fn carry_out(
+        &mut self,
+        effects: &mut Vec<Effect>,
+        alloc: Global,
+        i: u64,
+        way: Way,
+        outcome: Outcome,
+    )
+        requires free { is_free (slice_index_or self.old.connections.items i None) ≡ true }
+        requires room_for_link { self.old.links.has_room ≡ true }
+        requires room { vec_len effects.old + 2 ≤ vec_capacity effects.old }
+        requires left { goes_forward outcome ≡ true → self.old.first_link + length self.old.links.items < 2 ^ 64 }
+        ensures effects { effects.new.items ≡ effects.old.items ++ effects_on i (self.old.first_link + length self.old.links.items) (came_at way.address outcome) }
+        ensures stands { (s : Story) → (core : CoreState) → core.table.max_body ≡ way.max_body → Stands (state_of self.old core) s
+            → Stands (state_of self.new core) (after_on i way.to_head (came_at way.address outcome) s) }
+        ensures first { self.new.first_link ≡ self.old.first_link }
+        ensures links { links_of self.new.connections.items ≡ wires_after i (length self.old.links.items) outcome (links_of self.old.connections.items) }
+        ensures owners { owners_of self.new.links.items ≡ owners_after i outcome (owners_of self.old.links.items) }
+        ensures load { load_on self.new ≤ load_on self.old + 1 }
+    {
+        match outcome {
+            Outcome::Reply(reply) => send_reply(
+                &mut self.connections,
+                effects,
+                i,
+                reply.bytes,
+                reply.close,
+            ),
+            Outcome::Forward(_, bytes) => {
+                let number = self.number_at(self.links.len());
+                open_link(
+                    &mut self.connections,
+                    &mut self.links,
+                    alloc,
+                    way.max_body,
+                    way.to_head,
+                    i,
+                );
+                put(effects, Effect::Forward(number, way.address, bytes));
+            }
+            Outcome::Ended => {}
+        }
+    }
 }

@@ -11,24 +11,24 @@ ghost use Rattle.proxy_core.specs.State.{State as CoreState};
 ghost use Rattle.proxy_engine.specs.Look.{Due};
 ghost use Rattle.proxy_engine.specs.Story.{Story};
 ghost use Rattle.proxy_engine.specs.Due.{Serves, IsDueFirst};
-ghost use Rattle.proxy_engine.specs.State.{Stands, state, wish_at, is_free, connection_load, load_of, Done, Failed};
-ghost use Rattle.proxy_engine.specs.Wiring.{IsWired, links_of};
+ghost use Rattle.proxy_engine.specs.State.{Stands, state, wish_at, is_free, connection_load, load_at, Done, Failed};
+ghost use Rattle.proxy_engine.specs.Wiring.{links_of};
 ghost use Rattle.proxy_engine.specs.Wishes.{verdict_address, IsWish};
 ghost use Rattle.proxy_engine.specs.declared.ends.Connection.{Connection};
 ghost use Rattle.proxy_engine.specs.declared.ends.Link.{Link};
 
 use crate::connections::Connections;
+use crate::engine::Engine;
 use crate::happening::EngineFault;
-use crate::links::Links;
 use crate::marks;
-use crate::outcomes::{Way, carry_out, is_spent, lacks_memory, put, room, send_reply, way_to};
+use crate::outcomes::{Way, lacks_memory, put, room, send_reply, way_to};
 use crate::wishes::{Wish, wish_of};
 use hx_allow::{Config, Verdict};
 use hx_fields::Bytes;
 use hx_hop::Asked;
 use hx_status::Cause;
 use hx_store::Shelf;
-use proxy_core::{Core, refused};
+use proxy_core::refused;
 use proxy_script::Effect;
 use std::alloc::{AllocError, Global};
 
@@ -43,7 +43,7 @@ fn send_continue(
         → Stands (state connections.old.items links core first) s → Done s now (Serves i next.NeedsContinue) effects.items (state connections.new.items links core first)) }
     ensures less { OnOk result (wish_at (slice_index_or connections.old.items i None) ≡ Some next.NeedsContinue → sum_by connection_load connections.new.items < sum_by connection_load connections.old.items) }
     ensures links { links_of connections.new.items ≡ links_of connections.old.items }
-    ensures err { OnErr result (connections.new.items ≡ connections.old.items) }
+    ensures err { OnErr result (connections.new ≡ connections.old) }
 {
     let mut effects = room(alloc)?;
     let count = connections.len();
@@ -77,7 +77,7 @@ fn refuse(
         → Stands (state connections.old.items links core first) s → Done s now (Serves i a) effects.items (state connections.new.items links core first)) }
     ensures less { OnOk result (sum_by connection_load connections.new.items < sum_by connection_load connections.old.items) }
     ensures links { links_of connections.new.items ≡ links_of connections.old.items }
-    ensures err { OnErr result (connections.new.items ≡ connections.old.items) }
+    ensures err { OnErr result (connections.new ≡ connections.old) }
 {
     let mut effects = room(alloc)?;
     let bytes = own_answer(alloc, now, why, head)?;
@@ -92,7 +92,7 @@ fn shut(connections: &mut Connections, alloc: Global, i: u64) -> Result<Vec<Effe
         → Stands (state connections.old.items links core first) s → Done s now (Serves i a) effects.items (state connections.new.items links core first)) }
     ensures less { OnOk result (sum_by connection_load connections.new.items < sum_by connection_load connections.old.items) }
     ensures links { links_of connections.new.items ≡ links_of connections.old.items }
-    ensures err { OnErr result (connections.new.items ≡ connections.old.items) }
+    ensures err { OnErr result (connections.new ≡ connections.old) }
 {
     let mut effects = room(alloc)?;
     let count = connections.len();
@@ -122,123 +122,108 @@ fn way_for(alloc: Global, config: &Config, asked: &Asked) -> Result<Way, AllocEr
     way_to(alloc, address_for(config, asked), config, asked)
 }
 
-/// A request arrives at the core, where a link number is left for it. All that can fail comes before the core's step, or is
-/// that step.
-fn admit<S: Shelf>(
-    connections: &mut Connections,
-    links: &mut Links,
-    core: &mut Core<S>,
-    alloc: Global,
-    first: u64,
-    now: u64,
-    i: u64,
-    asked: &Asked,
-) -> Result<Vec<Effect>, AllocError>
-    requires due { is_some (wish_at (slice_index_or connections.old.items i None)) ≡ true }
-    requires left { first + length links.old.items < 2 ^ 64 }
-    requires wired { IsWired (state connections.old.items links.old.items core.old first) }
-    requires early { now < 253402300800 }
-    ensures wired { IsWired (state connections.new.items links.new.items core.new first) }
-    ensures ok { IfOk result (λ effects. (s : Story) → (r : Request) → IsAdmitted r (Ok asked.now) → wish_at (slice_index_or connections.old.items i None) ≡ Some (next.Message r)
-        → Stands (state connections.old.items links.old.items core.old first) s → Done s now (Serves i (next.Message r)) effects.items (state connections.new.items links.new.items core.new first)) }
-    ensures less { OnOk result ((r : Request) → wish_at (slice_index_or connections.old.items i None) ≡ Some (next.Message r)
-        → load_of connections.new.items links.new.items < load_of connections.old.items links.old.items) }
-    ensures err { OnErr result ((connections.new.items ≡ connections.old.items) × (links.new.items ≡ links.old.items) × (core.new ≡ core.old)) }
-{
-    let mut effects = room(alloc)?;
-    links.reserve_one(alloc)?;
-    let way = way_for(alloc, core.config(), asked)?;
-    let count = connections.len();
-    prove!(i < count);
-    let outcome = match core.arrive(alloc, now, i + 1, asked) {
-        Ok(outcome) => outcome,
-        Err(fault) => return Err(lacks_memory(fault)),
-    };
-    marks::pass_at(connections, i);
-    carry_out(
-        connections,
-        links,
-        &mut effects,
-        alloc,
-        first,
-        i,
-        way,
-        outcome,
-    );
-    Ok(effects)
-}
-
-/// A request arrives at the core, unless no link number is left for it. That is told before any memory is asked for.
-fn arrive<S: Shelf>(
-    connections: &mut Connections,
-    links: &mut Links,
-    core: &mut Core<S>,
-    alloc: Global,
-    first: u64,
-    now: u64,
-    i: u64,
-    asked: &Asked,
-) -> Result<Vec<Effect>, EngineFault>
-    requires due { is_some (wish_at (slice_index_or connections.old.items i None)) ≡ true }
-    requires wired { IsWired (state connections.old.items links.old.items core.old first) }
-    requires early { now < 253402300800 }
-    ensures wired { IsWired (state connections.new.items links.new.items core.new first) }
-    ensures ok { IfOk result (λ effects. (s : Story) → (r : Request) → IsAdmitted r (Ok asked.now) → wish_at (slice_index_or connections.old.items i None) ≡ Some (next.Message r)
-        → Stands (state connections.old.items links.old.items core.old first) s → Done s now (Serves i (next.Message r)) effects.items (state connections.new.items links.new.items core.new first)) }
-    ensures less { OnOk result ((r : Request) → wish_at (slice_index_or connections.old.items i None) ≡ Some (next.Message r)
-        → load_of connections.new.items links.new.items < load_of connections.old.items links.old.items) }
-    ensures spent { result ≡ Err EngineFault.OutOfMemory → first + length links.old.items < 2 ^ 64 }
-    ensures fault { IfErr result (λ fault. (s : Story) → (r : Request) → IsAdmitted r (Ok asked.now) → IsDueFirst s (Some (Serves i (next.Message r)))
-        → Stands (state connections.old.items links.old.items core.old first) s → Failed s fault) }
-    ensures err { OnErr result ((connections.new.items ≡ connections.old.items) × (links.new.items ≡ links.old.items) × (core.new ≡ core.old)) }
-{
-    if is_spent(first, links.len()) {
-        return Err(EngineFault::Spent);
+impl<S: Shelf> Engine<S> {
+    /// A request arrives at the core, where a link number is left for it. All that can fail comes before the core's step, or is
+    /// that step.
+    fn admit(
+        &mut self,
+        alloc: Global,
+        now: u64,
+        i: u64,
+        asked: &Asked,
+    ) -> Result<Vec<Effect>, AllocError>
+        requires due { is_some (wish_at (slice_index_or self.old.connections i None)) ≡ true }
+        requires left { self.old.first + length self.old.links < 2 ^ 64 }
+        requires early { now < 253402300800 }
+        ensures ok { IfOk result (λ effects. (s : Story) → (r : Request) → IsAdmitted r (Ok asked.now) → wish_at (slice_index_or self.old.connections i None) ≡ Some (next.Message r)
+            → Stands self.old s → Done s now (Serves i (next.Message r)) effects.items self.new) }
+        ensures less { OnOk result ((r : Request) → wish_at (slice_index_or self.old.connections i None) ≡ Some (next.Message r)
+            → load_at self.new < load_at self.old) }
+        ensures err { OnErr result (self.new ≡ self.old) }
+    {
+        let mut effects = room(alloc)?;
+        self.ends.links.reserve_one(alloc)?;
+        let way = way_for(alloc, self.core.config(), asked)?;
+        let count = self.ends.connections.len();
+        prove!(i < count);
+        let outcome = match self.core.arrive(alloc, now, i + 1, asked) {
+            Ok(outcome) => outcome,
+            Err(fault) => return Err(lacks_memory(fault)),
+        };
+        marks::pass_at(&mut self.ends.connections, i);
+        self.ends.carry_out(&mut effects, alloc, i, way, outcome);
+        Ok(effects)
     }
-    match admit(connections, links, core, alloc, first, now, i, asked) {
-        Ok(effects) => Ok(effects),
-        Err(_) => Err(EngineFault::OutOfMemory),
-    }
-}
 
-/// Does what is due on the connection at a place.
-pub(crate) fn serve<S: Shelf>(
-    connections: &mut Connections,
-    links: &mut Links,
-    core: &mut Core<S>,
-    alloc: Global,
-    first: u64,
-    now: u64,
-    i: u64,
-) -> Result<Vec<Effect>, EngineFault>
-    requires due { is_some (wish_at (slice_index_or connections.old.items i None)) ≡ true }
-    requires wired { IsWired (state connections.old.items links.old.items core.old first) }
-    requires early { now < 253402300800 }
-    ensures wired { IsWired (state connections.new.items links.new.items core.new first) }
-    ensures ok { IfOk result (λ effects. (s : Story) → (a : Next Request) → wish_at (slice_index_or connections.old.items i None) ≡ Some a
-        → Stands (state connections.old.items links.old.items core.old first) s → Done s now (Serves i a) effects.items (state connections.new.items links.new.items core.new first)) }
-    ensures less { OnOk result (load_of connections.new.items links.new.items < load_of connections.old.items links.old.items) }
-    ensures fault { IfErr result (λ fault. (s : Story) → (a : Next Request) → wish_at (slice_index_or connections.old.items i None) ≡ Some a → IsDueFirst s (Some (Serves i a))
-        → Stands (state connections.old.items links.old.items core.old first) s → Failed s fault) }
-    ensures err { OnErr result ((connections.new.items ≡ connections.old.items) × (links.new.items ≡ links.old.items) × (core.new ≡ core.old)) }
-{
-    let wish = match wish_of(connections.at(i), alloc) {
-        Ok(wish) => wish,
-        Err(_) => return Err(EngineFault::OutOfMemory),
-    };
-    match wish {
-        Wish::Continue => match send_continue(connections, alloc, i) {
+    /// A request arrives at the core, unless no link number is left for it. That is told before any memory is asked for.
+    fn arrive(
+        &mut self,
+        alloc: Global,
+        now: u64,
+        i: u64,
+        asked: &Asked,
+    ) -> Result<Vec<Effect>, EngineFault>
+        requires due { is_some (wish_at (slice_index_or self.old.connections i None)) ≡ true }
+        requires early { now < 253402300800 }
+        ensures ok { IfOk result (λ effects. (s : Story) → (r : Request) → IsAdmitted r (Ok asked.now) → wish_at (slice_index_or self.old.connections i None) ≡ Some (next.Message r)
+            → Stands self.old s → Done s now (Serves i (next.Message r)) effects.items self.new) }
+        ensures less { OnOk result ((r : Request) → wish_at (slice_index_or self.old.connections i None) ≡ Some (next.Message r)
+            → load_at self.new < load_at self.old) }
+        ensures spent { result ≡ Err EngineFault.OutOfMemory → self.old.first + length self.old.links < 2 ^ 64 }
+        ensures fault { IfErr result (λ fault. (s : Story) → (r : Request) → IsAdmitted r (Ok asked.now) → IsDueFirst s (Some (Serves i (next.Message r)))
+            → Stands self.old s → Failed s fault) }
+        ensures err { OnErr result (self.new ≡ self.old) }
+    {
+        if self.ends.is_spent() {
+            return Err(EngineFault::Spent);
+        }
+        match self.admit(alloc, now, i, asked) {
             Ok(effects) => Ok(effects),
             Err(_) => Err(EngineFault::OutOfMemory),
-        },
-        Wish::Arrive(asked) => arrive(connections, links, core, alloc, first, now, i, &asked),
-        Wish::Refuse(why, head) => match refuse(connections, alloc, now, i, why, head) {
-            Ok(effects) => Ok(effects),
-            Err(_) => Err(EngineFault::OutOfMemory),
-        },
-        Wish::Close => match shut(connections, alloc, i) {
-            Ok(effects) => Ok(effects),
-            Err(_) => Err(EngineFault::OutOfMemory),
-        },
+        }
+    }
+
+    /// Does what is due on the connection at a place.
+    pub(crate) fn serve(
+        &mut self,
+        alloc: Global,
+        now: u64,
+        i: u64,
+    ) -> Result<Vec<Effect>, EngineFault>
+        requires due { is_some (wish_at (slice_index_or self.old.connections i None)) ≡ true }
+        requires early { now < 253402300800 }
+        ensures ok { IfOk result (λ effects. (s : Story) → (a : Next Request) → wish_at (slice_index_or self.old.connections i None) ≡ Some a
+            → Stands self.old s → Done s now (Serves i a) effects.items self.new) }
+        ensures less { OnOk result (load_at self.new < load_at self.old) }
+        ensures fault { IfErr result (λ fault. (s : Story) → (a : Next Request) → wish_at (slice_index_or self.old.connections i None) ≡ Some a → IsDueFirst s (Some (Serves i a))
+            → Stands self.old s → Failed s fault) }
+        ensures err { OnErr result (self.new ≡ self.old) }
+    {
+        let wish = match wish_of(self.ends.connections.at(i), alloc) {
+            Ok(wish) => wish,
+            Err(_) => return Err(EngineFault::OutOfMemory),
+        };
+        match wish {
+            Wish::Continue => match send_continue(&mut self.ends.connections, alloc, i) {
+                Ok(effects) => Ok(effects),
+                Err(_) => Err(EngineFault::OutOfMemory),
+            },
+            Wish::Arrive(asked) => self.arrive(alloc, now, i, &asked),
+            Wish::Refuse(why, head) => match refuse(
+                &mut self.ends.connections,
+                alloc,
+                now,
+                i,
+                why,
+                head,
+            ) {
+                Ok(effects) => Ok(effects),
+                Err(_) => Err(EngineFault::OutOfMemory),
+            },
+            Wish::Close => match shut(&mut self.ends.connections, alloc, i) {
+                Ok(effects) => Ok(effects),
+                Err(_) => Err(EngineFault::OutOfMemory),
+            },
+        }
     }
 }

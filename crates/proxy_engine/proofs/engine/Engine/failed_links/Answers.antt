@@ -6,4 +6,4 @@ use Rattle.proxy_engine.proofs.engine.Engine.failed_links.Goals as goal
 
 pub returns : goal.returns
 returns g c = λ s h.
-    links_told has_failed c.self.inside.connections.items c.self.inside.links.items c.self.inside.core c.self.inside.first_link s (subst (λ (e : State). Stands e s) (sym c.self.view_is) h) c.new-ends.result.items c.push_failed.new.ends.items c.new-ends.ensures.items c.in_ok-push_failed.ensures
+    links_told has_failed c.self.inside.ends.connections.items c.self.inside.ends.links.items c.self.inside.core c.self.inside.ends.first_link s (subst (λ (e : State). Stands e s) (sym c.self.view_is) h) c.new-ends.result.items c.push_failed.new.ends.items c.new-ends.ensures.items c.in_ok-push_failed.ensures

@@ -6,4 +6,4 @@ use Rattle.proxy_engine.proofs.engine.Engine.next_connection.Goals as goal
 pub returns : goal.returns
 returns g c = λ s h.
     c.next_number.ensures
-    ∙ ap (λ (n : ℕ). cond (nat_lt (n + 1) (2 ^ 64)) (Some (n + 1)) None) (both_length ConnStands c.self.inside.connections.items s.connections (subst (λ (e : State). Stands e s) (sym c.self.view_is) h).connections)
+    ∙ ap (λ (n : ℕ). cond (nat_lt (n + 1) (2 ^ 64)) (Some (n + 1)) None) (both_length ConnStands c.self.inside.ends.connections.items s.connections (subst (λ (e : State). Stands e s) (sym c.self.view_is) h).connections)

@@ -11,4 +11,4 @@ returns g c = λ s h.
     let stands = subst (λ (e : State). Stands e s) (sym c.self.view_is) h in
     c.in_ok-push_readable-2.ensures s.connections stands.connections
     ∙ ap (λ (xs : List End). xs ++ map client_end (places_with is_read 0 s.connections))
-    (links_told keeps_answer c.self.inside.connections.items c.self.inside.links.items c.self.inside.core c.self.inside.first_link s stands c.new-ends.result.items c.push_readable.new.ends.items c.new-ends.ensures.items c.in_ok-push_readable.ensures)
+    (links_told keeps_answer c.self.inside.ends.connections.items c.self.inside.ends.links.items c.self.inside.core c.self.inside.ends.first_link s stands c.new-ends.result.items c.push_readable.new.ends.items c.new-ends.ensures.items c.in_ok-push_readable.ensures)

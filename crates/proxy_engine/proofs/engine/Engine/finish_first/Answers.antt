@@ -3,45 +3,52 @@ use Rattle.proxy_engine.specs.Due.{Finishes}
 use Rattle.proxy_engine.specs.State.{FoundLinks}
 use Rattle.proxy_engine.proofs.Changes.{looked_links}
 use Rattle.proxy_engine.proofs.Wishing.{on_ok, on_err, stays_err}
-use Rattle.proxy_engine.proofs.acts.finish_first.Goals as goal
+use Rattle.proxy_engine.proofs.engine.Engine.finish_first.Goals as goal
 
 pub finish-requires-clause-due : goal.finish-requires-clause-due
 finish-requires-clause-due g c = ap is_some (subst (λ (o : Option ℕ). FoundLinks c.find_finished.new.self.items o) c.in-Ok-Some.field-0-is c.in-Ok-Some.ensures.found).shown
 
 pub returns-in-Ok-clause-ok : goal.returns-in-Ok-clause-ok
-returns-in-Ok-clause-ok g c = λ s lost h.
+returns-in-Ok-clause-ok g c = rw (← c.self.view_is) (
+    λ s lost h.
     let ks = c.find_finished.new.self.items in
     let found = subst (λ (o : Option ℕ). FoundLinks ks o) c.in-Ok-Some.field-0-is c.in-Ok-Some.ensures.found in
     let looked = c.in-Ok-Some.ensures.stands s.links h.links in
-    let here = looked_links c.args.connections.now.items c.args.links.now.items ks c.args.core.now c.args.first s looked h in
+    let here = looked_links c.self.inside.ends.connections.items c.self.inside.ends.links.items ks c.self.inside.core c.self.inside.ends.first_link s looked h in
     (Finishes c.in-Ok-Some.j found.finish, (lost, found.first s.links looked), c.in-Ok.ensures.ok s found.finish found.shown here)
+    )
 
 pub returns-in-Err-finish-clause-fault : goal.returns-in-Err-finish-clause-fault
-returns-in-Err-finish-clause-fault g c = λ s lost h.
+returns-in-Err-finish-clause-fault g c = rw (← c.self.view_is) (
+    λ s lost h.
     let ks = c.find_finished.new.self.items in
     let found = subst (λ (o : Option ℕ). FoundLinks ks o) c.in-Ok-Some.field-0-is c.in-Ok-Some.ensures.found in
     let looked = c.in-Ok-Some.ensures.stands s.links h.links in
-    let here = looked_links c.args.connections.now.items c.args.links.now.items ks c.args.core.now c.args.first s looked h in
+    let here = looked_links c.self.inside.ends.connections.items c.self.inside.ends.links.items ks c.self.inside.core c.self.inside.ends.first_link s looked h in
     c.in-Err-finish.ensures.fault s found.finish found.shown (lost, found.first s.links looked) here
+    )
 
 pub returns-in-Ok-None-clause-ok : goal.returns-in-Ok-None-clause-ok
-returns-in-Ok-None-clause-ok g c =
+returns-in-Ok-None-clause-ok g c = rw (← c.self.view_is) (
     let ks = c.find_finished.new.self.items in
     let found = subst (λ (o : Option ℕ). FoundLinks ks o) c.in-Ok-None.field-0-is c.in-Ok-None.ensures.found in
     on_ok c.serve_first.result _ _ (λ work did s lost h.
     let looked = c.in-Ok-None.ensures.stands s.links h.links in
-    did s lost (found s.links looked) (looked_links c.args.connections.now.items c.args.links.now.items ks c.args.core.now c.args.first s looked h)) c.serve_first.ensures.ok
+    did s lost (found s.links looked) (looked_links c.self.inside.ends.connections.items c.self.inside.ends.links.items ks c.self.inside.core c.self.inside.ends.first_link s looked h)) c.serve_first.ensures.ok
+    )
 
 pub returns-in-Ok-None-clause-fault : goal.returns-in-Ok-None-clause-fault
-returns-in-Ok-None-clause-fault g c =
+returns-in-Ok-None-clause-fault g c = rw (← c.self.view_is) (
     let ks = c.find_finished.new.self.items in
     let found = subst (λ (o : Option ℕ). FoundLinks ks o) c.in-Ok-None.field-0-is c.in-Ok-None.ensures.found in
     on_err c.serve_first.result _ _ (λ fault failed s lost h.
     let looked = c.in-Ok-None.ensures.stands s.links h.links in
-    failed s lost (found s.links looked) (looked_links c.args.connections.now.items c.args.links.now.items ks c.args.core.now c.args.first s looked h)) c.serve_first.ensures.fault
+    failed s lost (found s.links looked) (looked_links c.self.inside.ends.connections.items c.self.inside.ends.links.items ks c.self.inside.core c.self.inside.ends.first_link s looked h)) c.serve_first.ensures.fault
+    )
 
 pub returns-in-Ok-None-clause-unchanged : goal.returns-in-Ok-None-clause-unchanged
-returns-in-Ok-None-clause-unchanged g c =
+returns-in-Ok-None-clause-unchanged g c = rw (← c.self.view_is) (
     stays_err c.serve_first.result _ _ (λ same s h.
     let looked = c.in-Ok-None.ensures.stands s.links h.links in
-    same s (looked_links c.args.connections.now.items c.args.links.now.items c.find_finished.new.self.items c.args.core.now c.args.first s looked h)) c.serve_first.ensures.unchanged
+    same s (looked_links c.self.inside.ends.connections.items c.self.inside.ends.links.items c.find_finished.new.self.items c.self.inside.core c.self.inside.ends.first_link s looked h)) c.serve_first.ensures.unchanged
+    )

@@ -1,0 +1,137 @@
+use Rattle.std.proofs.Common.{◌≡◌, ◌+◌, ◌≤◌, ◌^◌, ◌∙◌, ◌++◌, ◌∷◌, [], ℕ, List, Option, None, Some, is_some, length, get_or, set, sym, ap, subst, arith, sum_by}
+use Rattle.proxy_script.specs.declared.effect_list.Effect.{Effect}
+use Rattle.proxy_script.specs.declared.effect_list.Effect.TheVariants.{Drop}
+use Rattle.proxy_engine.specs.Story.{no_link}
+use Rattle.proxy_engine.specs.Due.{Finish, Finishes}
+use Rattle.proxy_engine.specs.Acts.{came_at, effects_on, after_on}
+use Rattle.proxy_engine.specs.State.{LinkStands, Stands, state, Done, finish_at, link_load}
+use Rattle.proxy_engine.specs.Wiring.{owners_of}
+use Rattle.proxy_engine.specs.declared.ends.Link.{Link}
+use Rattle.proxy_engine.proofs.Parts.{both_length, both_at}
+use Rattle.proxy_engine.proofs.Keeping.{inside}
+use Rattle.proxy_engine.proofs.Changes.{finish_there}
+use Rattle.proxy_engine.proofs.Wishing.{one_finish, told_one}
+use Rattle.proxy_engine.proofs.Ending.{goes_given, remains}
+use Rattle.proxy_engine.proofs.Wires.{within_connections, owned_link, is_open, still_here, wired_finished}
+use Rattle.proxy_engine.proofs.Stepping.{finished_done, link_counts}
+use Rattle.proxy_engine.proofs.engine.Engine.complete.Goals as goal
+
+pub at-requires : goal.at-requires
+at-requires g c = ap (λ (ls : List (Option Link)). is_some (get_or ls c.args.j None)) c.reserve_one.ensures.items ∙ finish_there _ (rw (← c.self.view_is) at c.requires.due)
+
+pub prove-unreachable-requires : goal.prove-unreachable-requires
+prove-unreachable-requires g c = let x = c.at.result.now in
+    let there = subst (λ (ls : List (Option Link)). get_or ls c.args.j None ≡ Some x) c.reserve_one.ensures.items c.at.ensures in
+    let link = owned_link c.self.inside.ends.connections.items c.self.inside.ends.links.items c.self.inside.core.exchanges c.args.j x there c.self.invariant in
+    let within = within_connections c.self.inside.ends.connections.items x.connection c.args.j link in
+    absurd (omega (arith, within, c.if-prove.true, c.len-count.ensures))
+
+pub way_again-requires : goal.way_again-requires
+way_again-requires g c = let cs = c.self.inside.ends.connections.items in
+    let ks = c.self.inside.ends.links.items in
+    let xs = c.self.inside.core.exchanges in
+    let x = c.at.result.now in
+    let there = subst (λ (ls : List (Option Link)). get_or ls c.args.j None ≡ Some x) c.reserve_one.ensures.items c.at.ensures in
+    is_open cs ks xs x.connection c.args.j (owned_link cs ks xs c.args.j x there c.self.invariant) c.self.invariant
+
+pub at-requires-2 : goal.at-requires-2
+at-requires-2 g c = ap (λ (ls : List (Option Link)). is_some (get_or ls c.args.j None)) c.reserve_one.ensures.items ∙ finish_there _ (rw (← c.self.view_is) at c.requires.due)
+
+pub end-requires-clause-due : goal.end-requires-clause-due
+end-requires-clause-due g c = let here = subst (λ (ls : List (Option Link)). get_or ls c.args.j None ≡ Some c.at-2.result.now) c.reserve_one.ensures.items c.at-2.ensures in
+    ap (λ (o : Option Link). is_some (finish_at o)) (sym here) ∙ (rw (← c.self.view_is) at c.requires.due)
+
+pub end-requires-clause-open : goal.end-requires-clause-open
+end-requires-clause-open g c = let cs = c.self.inside.ends.connections.items in
+    let ks = c.self.inside.ends.links.items in
+    let xs = c.self.inside.core.exchanges in
+    let x = c.at.result.now in
+    let there = subst (λ (ls : List (Option Link)). get_or ls c.args.j None ≡ Some x) c.reserve_one.ensures.items c.at.ensures in
+    is_open cs ks xs x.connection c.args.j (owned_link cs ks xs c.args.j x there c.self.invariant) c.self.invariant
+
+pub free-requires-clause-link : goal.free-requires-clause-link
+free-requires-clause-link g c = ap (λ (ls : List (Option Link)). is_some (get_or ls c.args.j None)) c.reserve_one.ensures.items ∙ finish_there _ (rw (← c.self.view_is) at c.requires.due)
+
+pub free-requires-clause-connection : goal.free-requires-clause-connection
+free-requires-clause-connection g c = let cs = c.self.inside.ends.connections.items in
+    let ks = c.self.inside.ends.links.items in
+    let x = c.at.result.now in
+    let there = subst (λ (ls : List (Option Link)). get_or ls c.args.j None ≡ Some x) c.reserve_one.ensures.items c.at.ensures in
+    still_here cs x.connection c.args.j (rw (← c.self.view_is) at c.requires.here) (owned_link cs ks c.self.inside.core.exchanges c.args.j x there c.self.invariant)
+
+pub carry_out-requires-clause-room_for_link : goal.carry_out-requires-clause-room_for_link
+carry_out-requires-clause-room_for_link g c = c.free.ensures.room ∙ c.in_ok-reserve_one.ensures.ok
+
+pub carry_out-requires-clause-left : goal.carry_out-requires-clause-left
+carry_out-requires-clause-left g c = λ goes.
+    let cs = c.self.inside.ends.connections.items in
+    let ks = c.self.inside.ends.links.items in
+    let j = c.args.j in
+    let core = c.self.inside.core in
+    let x = c.at.result.now in
+    let same = c.reserve_one.ensures.items in
+    let there = subst (λ (ls : List (Option Link)). get_or ls j None ≡ Some x) same c.at.ensures in
+    let here = subst (λ (ls : List (Option Link)). get_or ls j None ≡ Some c.at-2.result.now) same c.at-2.ensures in
+    let link = owned_link cs ks core.exchanges j x there c.self.invariant in
+    let ended = c.in_ok-outcome.ensures.ok in
+    let may = goes_given core c.end.new.core c.args.now (x.connection + 1) ended.0 c.in_ok-outcome.outcome (is_open cs ks core.exchanges x.connection j link c.self.invariant) ended.2 goes in
+    let few = (rw (← c.self.view_is) at c.requires.left) ended.0 (ap finish_at here ∙ ended.1) may in
+    omega (arith, few, c.free.ensures.links, ap length same)
+
+pub invariant_of-self-2 : goal.invariant_of-self-2
+invariant_of-self-2 g c = let cs = c.self.inside.ends.connections.items in
+    let ks = c.self.inside.ends.links.items in
+    let core = c.self.inside.core in
+    let x = c.at.result.now in
+    let same = c.reserve_one.ensures.items in
+    let there = subst (λ (ls : List (Option Link)). get_or ls c.args.j None ≡ Some x) same c.at.ensures in
+    let link = owned_link cs ks core.exchanges c.args.j x there c.self.invariant in
+    let is_there = is_open cs ks core.exchanges x.connection c.args.j link c.self.invariant in
+    let owners : owners_of c.free.new.links.items ≡ set (owners_of ks) c.args.j None = c.free.ensures.owners ∙ ap (λ (ls : List (Option Link)). set (owners_of ls) c.args.j None) same in
+    wired_finished cs c.free.new.connections.items c.carry_out.new.self.connections.items ks c.free.new.links.items c.carry_out.new.self.links.items core.exchanges c.end.new.core.exchanges x.connection c.args.j c.in_ok-outcome.outcome link c.free.ensures.wires owners
+    c.carry_out.ensures.links c.carry_out.ensures.owners is_there (remains core c.end.new.core c.args.now (x.connection + 1) c.in_ok-outcome.ensures.ok.0 c.in_ok-outcome.outcome is_there c.in_ok-outcome.ensures.ok.2) c.self.invariant
+
+pub returns-clause-less : goal.returns-clause-less
+returns-clause-less g c = rw (← c.self.view_is) (
+    let rooms = c.reserve_one.new.self.items in
+    let ended = c.in_ok-outcome.ensures.ok in
+    let counts : link_load (get_or rooms c.args.j None) ≡ 2 = link_counts (get_or rooms c.args.j None) ended.0 (ap finish_at c.at-2.ensures ∙ ended.1) in
+    omega (arith, counts, ap (sum_by link_load) c.reserve_one.ensures.items, c.free.ensures.load, c.carry_out.ensures.load)
+    )
+
+pub returns-clause-ok : goal.returns-clause-ok
+returns-clause-ok g c = rw (← c.self.view_is) (
+    λ s f shown h.
+    let cs = c.self.inside.ends.connections.items in
+    let ks = c.self.inside.ends.links.items in
+    let core = c.self.inside.core in
+    let j = c.args.j in
+    let x = c.at.result.now in
+    let i = x.connection in
+    let items = c.reserve_one.ensures.items in
+    let there = subst (λ (ls : List (Option Link)). get_or ls j None ≡ Some x) items c.at.ensures in
+    let here = subst (λ (ls : List (Option Link)). get_or ls j None ≡ Some c.at-2.result.now) items c.at-2.ensures in
+    let ended = c.in_ok-outcome.ensures.ok in
+    let due = ap finish_at here ∙ ended.1 in
+    let same : f ≡ ended.0 = one_finish (get_or ks j None) ended.0 f due shown in
+    let within = inside ks j (finish_there (get_or ks j None) (rw (← c.self.view_is) at c.requires.due)) in
+    let links = both_length LinkStands ks s.links h.links in
+    let first_is : c.self.inside.ends.first_link ≡ s.first = h.first in
+    let numbers : s.first + length s.links ≤ 2 ^ 64 = h.numbers in
+    let sizes = ap length items in
+    let number : c.number_at.result ≡ c.self.inside.ends.first_link + j = c.number_at.ensures (omega (arith, links, within)) in
+    let owner = subst (λ (o : Option Link). LinkStands o (get_or s.links j no_link)) there (both_at LinkStands ks s.links j None no_link h.links within) in
+    let link = owned_link cs ks core.exchanges j x there c.self.invariant in
+    let is_there = is_open cs ks core.exchanges i j link c.self.invariant in
+    let told : c.put.new.effects.items ≡ Drop (c.self.inside.ends.first_link + j) ∷ [] = told_one c.in_ok-effects.effects.items c.put.new.effects.items _ c.put.ensures.items c.in_ok-effects.ensures.items ∙ ap (λ (n : ℕ). Drop n ∷ []) number in
+    let way = c.in_ok-way.way in
+    let free = c.free.ensures.stands s core c.self.inside.ends.first_link (subst (λ (ls : List (Option Link)). Stands (state cs ls core c.self.inside.ends.first_link) s) (sym items) h) in
+    let fresh = c.free.ensures.links in
+    subst (λ (n : ℕ). Done s c.args.now (Finishes j f) c.carry_out.new.effects.items (state c.carry_out.new.self.connections.items c.carry_out.new.self.links.items c.end.new.core n)) (sym c.carry_out.ensures.first)
+    (subst (λ (x : Finish). Done s c.args.now (Finishes j x) c.carry_out.new.effects.items (state c.carry_out.new.self.connections.items c.carry_out.new.self.links.items c.end.new.core c.self.inside.ends.first_link)) (sym same)
+    (finished_done s c.free.new.connections.items c.carry_out.new.self.connections.items c.free.new.links.items c.carry_out.new.self.links.items core c.end.new.core c.self.inside.ends.first_link c.args.now i j way.max_body ended.0 c.in_ok-outcome.outcome
+    way.address way.to_head c.carry_out.new.effects.items is_there (λ t. let few = (rw (← c.self.view_is) at c.requires.left) ended.0 due t in omega (arith, few, links)) ended.2 c.in_ok-way.ensures.address c.in_ok-way.ensures.max_body
+    c.in_ok-way.ensures.to_head (omega (arith, fresh, sizes, links, first_is))
+    (c.carry_out.ensures.effects ∙ ap (λ (b : List Effect). b ++ effects_on i (c.self.inside.ends.first_link + length c.free.new.links.items) (came_at way.address c.in_ok-outcome.outcome)) told)
+    first_is h.core owner.connection free (λ t k most stands. subst (λ (n : ℕ). Stands (state c.carry_out.new.self.connections.items c.carry_out.new.self.links.items k n) (after_on i way.to_head (came_at way.address c.in_ok-outcome.outcome) t)) c.carry_out.ensures.first (c.carry_out.ensures.stands t k most stands))))
+    )

@@ -1,0 +1,41 @@
+use Rattle.std.proofs.Common.{length, subst, ◌≡◌, ◌+◌, ◌^◌, nat_le, true, false, sym, ap, ◌∙◌, arith}
+use Rattle.std.proofs.lemmas.Bool.{leb-true}
+use Rattle.proxy_engine.specs.State.{State, LinkStands, finish_at}
+use Rattle.proxy_engine.specs.Wishes.{EndFault}
+use Rattle.proxy_engine.specs.declared.happening.EngineFault.TheVariants.{OutOfMemory, Spent}
+use Rattle.proxy_engine.proofs.Parts.{both_length}
+use Rattle.proxy_engine.proofs.Changes.{finish_there}
+use Rattle.proxy_engine.proofs.Stepping.{spent_failed, spent_told, memory_told}
+use Rattle.proxy_engine.proofs.engine.Engine.finish.Goals.{else-is_spent-via-then-is_spent+else-is_answered, else-is_spent-via-else-is_spent}
+use Rattle.proxy_engine.proofs.engine.Engine.finish.Goals as goal
+
+pub at-requires : goal.at-requires
+at-requires g c = finish_there _ (rw (← c.self.view_is) at c.requires.due)
+
+pub returns-then-is_answered-clause-spent : goal.returns-then-is_answered-clause-spent
+returns-then-is_answered-clause-spent g c = λ f shown.
+    let here = ap finish_at (sym c.at.ensures) ∙ (rw (← c.self.view_is) at shown) in
+    subst (λ (e : State). EndFault (nat_le (2 ^ 64) (e.first + length e.links)) f Spent) c.self.view_is
+    (spent_told _ f (sym c.is_spent.ensures ∙ c.if-is_spent.true) (sym (c.is_answered.ensures f here) ∙ c.if-is_answered.true))
+
+pub returns-then-is_answered-clause-fault : goal.returns-then-is_answered-clause-fault
+returns-then-is_answered-clause-fault g c = rw (← c.self.view_is) (
+    λ s f shown due h.
+    let here = ap finish_at (sym c.at.ensures) ∙ shown in
+    let links = both_length LinkStands c.self.inside.ends.links.items s.links h.links in
+    let first_is : c.self.inside.ends.first_link ≡ s.first = h.first in
+    let many = leb-true (2 ^ 64) (c.self.inside.ends.first_link + length c.self.inside.ends.links.items) (sym c.is_spent.ensures ∙ c.if-is_spent.true) in
+    spent_failed s c.args.j f (sym (c.is_answered.ensures f here) ∙ c.if-is_answered.true) (omega (arith, many, links)) due
+    )
+
+pub returns-in-Err-clause-spent : goal.returns-in-Err-clause-spent
+returns-in-Err-clause-spent g c = λ f shown.
+    let there = rw (← c.self.view_is) at shown in
+    subst (λ (e : State). EndFault (nat_le (2 ^ 64) (e.first + length e.links)) f OutOfMemory) c.self.view_is
+    (memory_told _ f (λ may. elim c.else-is_spent.branch [
+      | else-is_spent-via-then-is_spent+else-is_answered w ↦
+          let here = ap finish_at (sym w.at.ensures) ∙ there in
+          let yes : false ≡ true = sym w.if-is_answered.false ∙ (w.is_answered.ensures f here ∙ may) in
+          absurd (cc)
+      | else-is_spent-via-else-is_spent w ↦ sym c.is_spent.ensures ∙ w.if-is_spent.false
+    ]))
