@@ -1,9 +1,5 @@
-use Rattle.std.proofs.Common.{length, sym, ◌+◌, ◌^◌, ◌&&◌, nat_lt, ℕ, refl, ap, ◌∙◌, arith, Option, is_some}
-use Rattle.std.specs.Ordering.{nat_cmp}
-use Rattle.std.specs.BTreeMap.{get}
-use Rattle.std.specs.Map.{lookup}
+use Rattle.std.proofs.Common.{length, sym, ◌+◌, ◌^◌, refl, ap, ◌∙◌, arith, is_some}
 use Rattle.proxy_engine.specs.Marked.{ConnectionList, may_be_lost, may_want}
-use Rattle.proxy_engine.specs.declared.ends.Connection.{Connection}
 use Rattle.proxy_engine.proofs.Keeping.{elsewhere, listed_same, listed_length, one_more}
 use Rattle.proxy_engine.proofs.Marking.{marked_room, marked_spare, below_same}
 use Rattle.proxy_engine.proofs.Readable.{below, both_so}

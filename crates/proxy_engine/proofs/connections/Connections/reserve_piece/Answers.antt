@@ -1,9 +1,6 @@
-use Rattle.std.proofs.Common.{◌≡◌, ◌≢◌, ◌+◌, ◌^◌, ◌&&◌, nat_lt, ℕ, length, List, get_or, sym, ap, ◌∙◌, subst, arith, Option, None, Some, is_some}
-use Rattle.std.specs.Ordering.{nat_cmp}
-use Rattle.std.specs.BTreeMap.{get}
+use Rattle.std.proofs.Common.{◌≢◌, ◌+◌, ◌^◌, ◌&&◌, nat_lt, length, sym, ap, ◌∙◌, subst, arith, Option, None, is_some}
 use Rattle.proxy_engine.specs.Wiring.{link_of, links_of}
 use Rattle.proxy_engine.specs.State.{Both, ConnStands}
-use Rattle.proxy_engine.specs.Places.{listed}
 use Rattle.proxy_engine.specs.Room.{IsRoomy, piece}
 use Rattle.proxy_engine.specs.Held.{GrowsConnection}
 use Rattle.proxy_engine.specs.Marked.{ConnectionList, may_be_lost, may_want}

@@ -1,6 +1,6 @@
-use Rattle.std.proofs.Common.{ℕ, map, sym, ap, ◌∙◌, subst}
+use Rattle.std.proofs.Common.{sym, subst}
 use Rattle.proxy_engine.specs.State.{State, Stands}
-use Rattle.proxy_engine.specs.Reading.{places_with, has_failed, link_end}
+use Rattle.proxy_engine.specs.Reading.{has_failed}
 use Rattle.proxy_engine.proofs.Readable.{links_told}
 use Rattle.proxy_engine.proofs.engine.Engine.failed_links.Goals as goal
 

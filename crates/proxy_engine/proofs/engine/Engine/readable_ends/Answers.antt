@@ -1,4 +1,4 @@
-use Rattle.std.proofs.Common.{List, ◌++◌, ℕ, map, sym, ap, ◌∙◌, subst}
+use Rattle.std.proofs.Common.{List, ◌++◌, map, sym, ap, ◌∙◌, subst}
 use Rattle.proxy_engine.specs.State.{State, Stands}
 use Rattle.proxy_engine.specs.Story.{keeps_answer}
 use Rattle.proxy_engine.specs.Reading.{places_with, is_read, client_end}

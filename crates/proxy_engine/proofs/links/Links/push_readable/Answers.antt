@@ -1,4 +1,4 @@
-use Rattle.std.proofs.Common.{◌≡◌, ◌+◌, ◌≤◌, ◌^◌, ◌++◌, List, ℕ, length, map, sym, ap, ◌∙◌, subst, arith}
+use Rattle.std.proofs.Common.{◌+◌, ◌≤◌, ◌^◌, ◌++◌, List, ℕ, map, sym, ap, ◌∙◌, subst}
 use Rattle.proxy_engine.specs.State.{Both, LinkStands}
 use Rattle.proxy_engine.specs.Reading.{link_end}
 use Rattle.proxy_engine.specs.Places.{listed}

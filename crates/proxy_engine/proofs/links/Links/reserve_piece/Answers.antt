@@ -1,9 +1,6 @@
-use Rattle.std.proofs.Common.{◌≡◌, ◌≢◌, ◌+◌, ◌^◌, ◌&&◌, nat_lt, ℕ, length, List, get_or, sym, ap, ◌∙◌, subst, arith, Option, None, Some, is_some}
-use Rattle.std.specs.Ordering.{nat_cmp}
-use Rattle.std.specs.BTreeMap.{get}
+use Rattle.std.proofs.Common.{◌≢◌, ◌+◌, ◌^◌, ◌&&◌, nat_lt, length, sym, ap, ◌∙◌, subst, arith, Option, None, Some, is_some}
 use Rattle.proxy_engine.specs.Wiring.{owner_of, owners_of}
 use Rattle.proxy_engine.specs.State.{Both, LinkStands}
-use Rattle.proxy_engine.specs.Places.{listed}
 use Rattle.proxy_engine.specs.Room.{IsRoomyLink, piece}
 use Rattle.proxy_engine.specs.Held.{GrowsLink}
 use Rattle.proxy_engine.specs.Marked.{LinkList, may_stand}
