@@ -19,7 +19,7 @@ pub enum Effect {
     Drop(u64),
 }
 
-fn push_number(text: &mut Vec<u8>, n: u64) -> Result<(), AllocError>
+pub(crate) fn push_number(text: &mut Vec<u8>, n: u64) -> Result<(), AllocError>
     ensures { OnOk result (text.new.items ≡ text.old.items ++ decimal n) }
 {
     let mut digits = Buffer::new();

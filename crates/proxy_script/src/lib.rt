@@ -13,6 +13,7 @@ mod happening;
 mod headers;
 mod items;
 mod laws;
+mod spelling;
 mod words;
 
 pub use effect_list::{Effect, effects_text};
@@ -20,3 +21,4 @@ pub use fronts::{Front, read_item};
 pub use happening::Happening;
 pub use items::Item;
 pub use laws::items_are_found_as_they_are_spelled;
+pub use spelling::item_text;

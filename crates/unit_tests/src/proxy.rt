@@ -4,6 +4,8 @@ mod cores;
 mod engines;
 mod first_run;
 mod held;
+mod memory_sockets;
 mod replays;
 mod runs;
 mod streams;
+mod turns;

@@ -1,0 +1,15 @@
+//! Turns of a proxy over sockets: a connection is accepted, each end is read from once, and what is then due is done.
+//!
+//! `Sockets` are the calls that a turn makes, each of which may fail; contracts see how often they were made and how
+//! many failed (`specs/Counts.antt`). Nothing here opens a socket, waits or reads a clock.
+#![tactic(auto)]
+
+mod effects;
+mod report;
+mod sockets;
+mod turns;
+
+pub use crate::report::{Report, TurnFault};
+pub use crate::sockets::{Received, SocketFailed, Sockets};
+pub use crate::turns::turn;
+pub use proxy_engine::End;

@@ -1,0 +1,48 @@
+//! What a turn tells of itself.
+ghost use Rattle.std.specs.Prelude.{◌≡◌};
+ghost use Rattle.proxy_turn.specs.declared.report.TurnFault.TheVariants.{NoMemory};
+
+use proxy_engine::EngineFault;
+use std::alloc::AllocError;
+
+/// What a turn did.
+#[derive(Clone, Copy, Debug, PartialEq, Eq)]
+pub struct Report {
+    /// Connections accepted.
+    pub accepted: u64,
+    /// Calls of `read`.
+    pub reads: u64,
+    /// Acts done, at most 1,000. Where there are fewer, nothing more is due.
+    pub works: u64,
+    /// Calls that failed.
+    pub faults: u64,
+}
+
+/// Why a turn ended early. What it had taken and done until then stands.
+#[derive(Clone, Copy, Debug, PartialEq, Eq)]
+pub enum TurnFault {
+    /// No connection can be accepted.
+    Listener = 1,
+    /// Memory ran out. Nothing that was read is lost.
+    NoMemory,
+    /// The act that is due may need a link, and the last number is used.
+    Spent,
+}
+
+/// A turn names connections and links that are there, so what the engine refuses it for is memory or a spent number.
+impl From<EngineFault> for TurnFault {
+    fn from(fault: EngineFault) -> TurnFault {
+        match fault {
+            EngineFault::Spent => TurnFault::Spent,
+            _ => TurnFault::NoMemory,
+        }
+    }
+}
+
+impl From<AllocError> for TurnFault {
+    ghost from_gives = { λ _ fault. fault ≡ NoMemory };
+
+    fn from(_error: AllocError) -> TurnFault {
+        TurnFault::NoMemory
+    }
+}

@@ -1,0 +1,65 @@
+//! The ends of a proxy as calls that may fail.
+ghost use Rattle.std.specs.Prelude.{◌≡◌, ℕ, length, IfOk};
+ghost use Rattle.proxy_turn.specs.Counts.{IsRise, failed};
+ghost use Rattle.proxy_turn.specs.Received.{IsReceived};
+
+use proxy_engine::End;
+
+/// A call on a socket failed. No further call is made on its end.
+#[derive(Clone, Copy, Debug, PartialEq, Eq)]
+pub struct SocketFailed;
+
+/// What a read gave.
+#[derive(Clone, Copy, Debug, PartialEq, Eq)]
+pub enum Received {
+    /// Nothing yet.
+    Nothing,
+    /// So many bytes, at least one, at the front of the buffer.
+    Bytes(usize),
+    /// No more will come.
+    End,
+}
+
+/// A listener, the clients that it accepted and the links to origins, each client and link by its number.
+pub trait Sockets {
+    /// How often `accept` was called.
+    ghost accepts: { Self → ℕ };
+
+    /// How often `read` was called.
+    ghost reads: { Self → ℕ };
+
+    /// How many calls failed.
+    ghost failures: { Self → ℕ };
+
+    /// Accepts a connection under this number, if one waits.
+    fn accept(&mut self, n: u64) -> Result<bool, SocketFailed>
+        ensures accepts { IsRise (accepts self.old) (accepts self.new) 1 }
+        ensures reads { reads self.new ≡ reads self.old }
+        ensures failures { IsRise (failures self.old) (failures self.new) (failed result) };
+
+    /// Reads what has come from a client or on a link, at most as many bytes as there is room for.
+    fn read(&mut self, end: End, buf: &mut [u8]) -> Result<Received, SocketFailed>
+        ensures within { IfOk result (IsReceived (length buf.old)) }
+        ensures length { length buf.new ≡ length buf.old }
+        ensures accepts { accepts self.new ≡ accepts self.old }
+        ensures reads { IsRise (reads self.old) (reads self.new) 1 }
+        ensures failures { IsRise (failures self.old) (failures self.new) (failed result) };
+
+    /// Writes all of the bytes to a client or on a link, or fails.
+    fn write(&mut self, end: End, bytes: &[u8]) -> Result<(), SocketFailed>
+        ensures accepts { accepts self.new ≡ accepts self.old }
+        ensures reads { reads self.new ≡ reads self.old }
+        ensures failures { IsRise (failures self.old) (failures self.new) (failed result) };
+
+    /// Opens the link of this number to an address, four numbers and a port.
+    fn connect(&mut self, link: u64, address: &[u8]) -> Result<(), SocketFailed>
+        ensures accepts { accepts self.new ≡ accepts self.old }
+        ensures reads { reads self.new ≡ reads self.old }
+        ensures failures { IsRise (failures self.old) (failures self.new) (failed result) };
+
+    /// Closes a client's connection or a link.
+    fn shut(&mut self, end: End) -> Result<(), SocketFailed>
+        ensures accepts { accepts self.new ≡ accepts self.old }
+        ensures reads { reads self.new ≡ reads self.old }
+        ensures failures { IsRise (failures self.old) (failures self.new) (failed result) };
+}

@@ -1,0 +1,157 @@
+//! A turn, in three parts: a connection is accepted, each end from which bytes may come is read once, and what is then due
+//! is done.
+ghost use Rattle.std.specs.Prelude.{◌<◌, ◌≡◌, length};
+
+use crate::effects::{carry_out, loss, take};
+use crate::report::{Report, TurnFault};
+use crate::sockets::{Received, Sockets};
+use hx_status::FailKind;
+use hx_store::Shelf;
+use proxy_engine::{End, Engine, Happening, Work};
+use std::alloc::Global;
+
+/// The most connections that are open at a time.
+const MOST_OPEN: usize = 256;
+
+/// The most bytes of one read.
+const PIECE: usize = 4096;
+
+/// The most acts of a turn.
+const MOST_WORKS: u64 = 1000;
+
+/// The most effects of an act.
+const MOST_EFFECTS: usize = 3;
+
+/// Asks for a connection, where fewer than 256 are open and a number is left; answers how many came.
+fn accept<S: Shelf, K: Sockets>(
+    engine: &mut Engine<S>,
+    sockets: &mut K,
+    alloc: Global,
+) -> Result<u64, TurnFault> {
+    if engine.open_connections() >= MOST_OPEN {
+        return Ok(0);
+    }
+    let Some(n) = engine.next_connection() else {
+        return Ok(0);
+    };
+    engine.reserve(alloc, End::Listener)?;
+    match sockets.accept(n) {
+        Ok(false) => Ok(0),
+        Ok(true) => {
+            engine.take(alloc, Happening::Accept(n))?;
+            Ok(1)
+        }
+        Err(_) => Err(TurnFault::Listener),
+    }
+}
+
+/// Bytes that came from an end, as what happened.
+fn arrival(end: End, bytes: &[u8]) -> Option<Happening<'_>> {
+    match end {
+        End::Listener => None,
+        End::Client(n) => Some(Happening::Client(n, bytes)),
+        End::Link(l) => Some(Happening::Link(l, bytes)),
+    }
+}
+
+/// An end from which no more comes, as what happened.
+fn ending(end: End) -> Option<Happening<'static>> {
+    match end {
+        End::Listener => None,
+        End::Client(n) => Some(Happening::End(n)),
+        End::Link(l) => Some(Happening::Shut(l)),
+    }
+}
+
+/// Reads once from an end, and takes what it gave; answers how many calls failed. Its memory is found before the read, so
+/// nothing that was read is lost.
+fn read_one<S: Shelf, K: Sockets>(
+    engine: &mut Engine<S>,
+    sockets: &mut K,
+    alloc: Global,
+    end: End,
+    buf: &mut [u8],
+) -> Result<u64, TurnFault>
+    ensures length { length buf.new ≡ length buf.old }
+{
+    engine.reserve(alloc, end)?;
+    match sockets.read(end, buf) {
+        Ok(Received::Nothing) => Ok(0),
+        Ok(Received::Bytes(len)) => {
+            take(engine, alloc, arrival(end, &buf[..len]))?;
+            Ok(0)
+        }
+        Ok(Received::End) => {
+            take(engine, alloc, ending(end))?;
+            Ok(0)
+        }
+        Err(_) => {
+            take(engine, alloc, loss(end, FailKind::Closed))?;
+            Ok(1)
+        }
+    }
+}
+
+/// Reads once from each end from which bytes may come; answers how often, and how many calls failed.
+fn read_all<S: Shelf, K: Sockets>(
+    engine: &mut Engine<S>,
+    sockets: &mut K,
+    alloc: Global,
+) -> Result<(u64, u64), TurnFault> {
+    let ends = engine.readable_ends(alloc)?;
+    let mut buf = [0u8; PIECE];
+    let mut faults = 0u64;
+    for end in &ends {
+        let more = read_one(engine, sockets, alloc, *end, &mut buf)?;
+        faults = faults.saturating_add(more);
+    }
+    Ok((ends.len() as u64, faults))
+}
+
+/// Works until nothing is due, or a thousand times; answers how often, and how many calls failed.
+fn work_all<S: Shelf, K: Sockets>(
+    engine: &mut Engine<S>,
+    sockets: &mut K,
+    alloc: Global,
+    now: u64,
+) -> Result<(u64, u64), TurnFault>
+    requires { now < 253402300800 }
+{
+    let mut failed = engine.failed_links(alloc)?;
+    let mut faults = 0u64;
+    for works in 0..MOST_WORKS {
+        // Room comes first: what an act did has to be carried out whole.
+        failed.reserve(MOST_EFFECTS)?;
+        match engine.work(alloc, now)? {
+            Work::Idle => return Ok((works, faults)),
+            Work::Did(effects) => {
+                let more = carry_out(engine, sockets, alloc, &effects, &mut failed)?;
+                faults = faults.saturating_add(more);
+            }
+        }
+    }
+    Ok((MOST_WORKS, faults))
+}
+
+/// Serves one turn. `now` is in Unix seconds, up to the end of the year 9999.
+///
+/// A failed call on a client is taken as its going away, a failed `connect` as a refusal by the origin, any other on a link
+/// as its closing. After a fault the engine stands where the whole takes and works of the turn left it.
+pub fn turn<S: Shelf, K: Sockets>(
+    engine: &mut Engine<S>,
+    sockets: &mut K,
+    alloc: Global,
+    now: u64,
+) -> Result<Report, TurnFault>
+    requires { now < 253402300800 }
+{
+    let accepted = accept(engine, sockets, alloc)?;
+    let (reads, unread) = read_all(engine, sockets, alloc)?;
+    let (works, undone) = work_all(engine, sockets, alloc, now)?;
+    Ok(Report {
+        accepted,
+        reads,
+        works,
+        faults: unread.saturating_add(undone),
+    })
+}

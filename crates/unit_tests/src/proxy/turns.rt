@@ -1,0 +1,163 @@
+//! Turns over sockets in memory: which bytes go out, and what each failing call comes to.
+ghost use Rattle.std.specs.Prelude.{◌<◌};
+
+use super::memory_sockets::{Call, MemorySockets};
+use hx_allow::Config;
+use hx_store::ListShelf;
+use proxy_engine::Engine;
+use proxy_turn::{End, Sockets, TurnFault, turn};
+use std::alloc::Global;
+use std::process::Abort;
+use std::test::Fail;
+
+const TABLE: &[u8] = b"version = 1
+name = \"edge\"
+capacity = 2
+max_body = 1000
+max_stored = 1000
+
+[[line]]
+host = \"*\"
+methods = [\"GET\", \"HEAD\", \"POST\"]
+path = \"/\"
+origin = \"127.0.0.1:8081\"
+";
+
+const ASK: &[u8] = b"GET /a HTTP/1.1\r\nHost: h\r\n\r\n";
+
+const ANSWER: &[u8] = b"HTTP/1.1 200 OK\r\nDate: Thu, 01 Jan 1970 00:01:41 GMT\r\nCache-Control: max-age=60\r\nETag: \"v1\"\r\nContent-Length: 2\r\n\r\nhi";
+
+const FORWARDED: &[u8] = b"GET /a HTTP/1.1\r\nHost: h\r\nVia: 1.1 edge\r\nConnection: close\r\n\r\n";
+
+const STORED: &[u8] = b"HTTP/1.1 200 \r\nDate: Thu, 01 Jan 1970 00:01:41 GMT\r\nCache-Control: max-age=60\r\nETag: \"v1\"\r\nCache-Status: edge;fwd=uri-miss;ttl=59;stored\r\nContent-Length: 2\r\n\r\nhi";
+
+const HIT: &[u8] = b"HTTP/1.1 200 \r\nDate: Thu, 01 Jan 1970 00:01:41 GMT\r\nCache-Control: max-age=60\r\nETag: \"v1\"\r\nAge: 30\r\nCache-Status: edge;hit;ttl=30\r\nContent-Length: 2\r\n\r\nhi";
+
+/// Whatever its age is.
+const A_HIT: &[u8] = b"Cache-Status: edge;hit;ttl=";
+
+const REFUSED: &[u8] = b"Refusal: origin refused;fwd=uri-miss\r\n";
+
+const CLOSED: &[u8] = b"Refusal: origin closed;fwd=uri-miss\r\n";
+
+fn engine(alloc: Global) -> Result<Engine<ListShelf>, Fail> {
+    let config = Config::read(alloc, TABLE).ok().ok_or("a table")?;
+    let shelf = ListShelf::new(alloc, config.capacity());
+    Ok(Engine::new(alloc, config, shelf, 1, 1))
+}
+
+fn contains(text: &[u8], part: &[u8]) -> bool {
+    text.windows(part.len().max(1)).any(|w| w == part)
+}
+
+/// One turn. The failed calls that it tells of are those that were made.
+fn one_turn(
+    rt: &impl Abort,
+    alloc: Global,
+    engine: &mut Engine<ListShelf>,
+    sockets: &mut MemorySockets,
+    now: u64,
+)
+    requires { now < 253402300800 }
+{
+    let accepts = sockets.accepts;
+    let reads = sockets.reads;
+    let failures = sockets.failures;
+    match turn(engine, sockets, alloc, now) {
+        Ok(report) => {
+            assert!(rt; report.faults == sockets.failures.saturating_sub(failures));
+            assert!(rt; report.reads == sockets.reads.saturating_sub(reads));
+            assert!(rt; report.works < 1000);
+        }
+        Err(fault) => {
+            assert!(rt; fault == TurnFault::Listener);
+            assert!(rt; sockets.failures.saturating_sub(failures) == 1);
+        }
+    }
+    assert!(rt; sockets.accepts.saturating_sub(accepts) == 1);
+}
+
+/// A client asks at 100, is answered at 101, and another asks for the same at 130.
+fn converse(rt: &impl Abort, alloc: Global, sockets: &mut MemorySockets) -> Result<(), Fail> {
+    let mut engine = engine(alloc)?;
+    sockets.waiting = 1;
+    one_turn(rt, alloc, &mut engine, sockets, 100);
+    for _ in 0..4u8 {
+        one_turn(rt, alloc, &mut engine, sockets, 101);
+    }
+    sockets.waiting = sockets.waiting.saturating_add(1);
+    for _ in 0..6u8 {
+        one_turn(rt, alloc, &mut engine, sockets, 130);
+    }
+    Ok(())
+}
+
+/// Without a failure, what goes out is the first run's.
+#[test]
+fn first_run_by_turns(rt: HostRuntime) -> Result<(), Fail> {
+    let alloc = rt.alloc();
+    let mut sockets = MemorySockets::new(alloc, 0, ASK, ANSWER);
+    converse(&rt, alloc, &mut sockets)?;
+    let mut wanted = Vec::new(alloc);
+    wanted.extend_from_slice(FORWARDED)?;
+    wanted.extend_from_slice(STORED)?;
+    wanted.extend_from_slice(HIT)?;
+    assert!(rt; sockets.written.as_slice() == wanted.as_slice());
+    assert!(rt; sockets.failures == 0);
+    Ok(())
+}
+
+/// What the clients have to have got where this call failed, and what not.
+fn outcome(failed: Call) -> (&'static [u8], &'static [u8]) {
+    match failed {
+        Call::Accept => (A_HIT, REFUSED),
+        Call::Connect(_) => (REFUSED, STORED),
+        Call::Write(End::Link(_)) => (CLOSED, STORED),
+        Call::Read(End::Link(_)) => (CLOSED, STORED),
+        // The answer is stored though its first reader is gone.
+        Call::Write(End::Client(1)) => (HIT, STORED),
+        // Another client's request then goes forward.
+        Call::Read(End::Client(1)) => (b"Cache-Status: edge;fwd=uri-miss;ttl=", A_HIT),
+        Call::Write(End::Client(_)) => (STORED, A_HIT),
+        Call::Read(End::Client(_)) => (STORED, CLOSED),
+        Call::Shut(_) => (HIT, CLOSED),
+        _ => (b"", REFUSED),
+    }
+}
+
+/// Each call fails in turn, until a run has no failure; no call is made on an end on which one has failed.
+#[test]
+fn each_call_fails_once(rt: HostRuntime) -> Result<(), Fail> {
+    let alloc = rt.alloc();
+    for failing in 1..200u64 {
+        let mut sockets = MemorySockets::new(alloc, failing, ASK, ANSWER);
+        converse(&rt, alloc, &mut sockets)?;
+        assert!(rt; !sockets.calls.after_failure, "call {failing}");
+        let Some(failed) = sockets.calls.failed else {
+            assert!(rt; failing > 20 && sockets.failures == 0);
+            return Ok(());
+        };
+        let (wanted, unwanted) = outcome(failed);
+        let text = sockets.written.as_slice();
+        assert!(rt; contains(text, wanted), "call {failing}: {failed:?}");
+        assert!(rt; !contains(text, unwanted), "call {failing}: {failed:?}");
+    }
+    panic!(rt; "each run had a failure");
+}
+
+/// The write of the first reply fails: its answer is stored all the same.
+#[test]
+fn stored_though_the_write_failed(rt: HostRuntime) -> Result<(), Fail> {
+    let alloc = rt.alloc();
+    let mut found = 0u64;
+    for failing in 1..100u64 {
+        let mut sockets = MemorySockets::new(alloc, failing, ASK, ANSWER);
+        converse(&rt, alloc, &mut sockets)?;
+        if sockets.calls.failed == Some(Call::Write(End::Client(1))) {
+            found = found.saturating_add(1);
+            assert!(rt; contains(sockets.written.as_slice(), HIT));
+        }
+    }
+    assert!(rt; found == 1);
+    Ok(())
+}
