@@ -1,13 +1,19 @@
-// A library with one function.
+//! The proxy over sockets of the system: what is ready, waiting between the turns, time-outs, and a record of what happened.
+//!
+//! No call of `LiveSockets` waits: which end is ready is known from `wait`, which stands between the turns. A failure that is
+//! seen while effects are carried out is kept, and handed to the engine before the next turn, as silence is; so a turn's
+//! effects are those of what happened before it, and a record can be replayed. The handle `Net` is used here alone.
 #![tactic(auto)]
 
-ghost use Rattle.std.specs.Prelude.{◌≡◌};
-ghost use Rattle.proxy_live.specs.Echo.{echo_of};
+mod closing;
+mod live_sockets;
+mod peer;
+mod peers;
+mod recorder;
+mod recording;
+mod server;
 
-// The `ensures` clause is the contract: what `echo` returns is `echo_of` of its argument, a definition
-// in `specs/Echo.antt`, which a caller's clause can cite too.
-pub fn echo(x: usize) -> usize
-    ensures { result ≡ echo_of x }
-{
-    x
-}
+pub use crate::live_sockets::{LiveSockets, Silence};
+pub use crate::recorder::{RecordFault, Recorder};
+pub use crate::recording::Recording;
+pub use crate::server::{ServeFault, Server};

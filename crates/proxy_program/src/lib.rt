@@ -1,13 +1,12 @@
-// A library with one function.
+//! The program's logic: its command line, and what each of its three forms does.
+//!
+//! One line on standard error names a fault, and the exit status tells its kind.
 #![tactic(auto)]
 
-ghost use Rattle.std.specs.Prelude.{◌≡◌};
-ghost use Rattle.proxy_program.specs.Echo.{echo_of};
+mod command_line;
+mod fault;
+mod files;
+mod program;
+mod serving;
 
-// The `ensures` clause is the contract: what `echo` returns is `echo_of` of its argument, a definition
-// in `specs/Echo.antt`, which a caller's clause can cite too.
-pub fn echo(x: usize) -> usize
-    ensures { result ≡ echo_of x }
-{
-    x
-}
+pub use crate::program::run;

@@ -1,5 +1,6 @@
 //! The socket calls of an act's effects. No call is made on an end on which one has failed.
 
+use crate::happenings::loss;
 use crate::report::TurnFault;
 use crate::sockets::Sockets;
 use hx_status::FailKind;
@@ -7,15 +8,6 @@ use hx_store::Shelf;
 use proxy_engine::{End, Engine, Happening};
 use proxy_script::Effect;
 use std::alloc::Global;
-
-/// What a failed call on an end comes to. Nothing happens at the listener.
-pub(crate) fn loss(end: End, kind: FailKind) -> Option<Happening<'static>> {
-    match end {
-        End::Listener => None,
-        End::Client(n) => Some(Happening::Gone(n)),
-        End::Link(l) => Some(Happening::Fail(l, kind)),
-    }
-}
 
 /// Takes what happened, if anything did.
 pub(crate) fn take<S: Shelf>(

@@ -5,10 +5,12 @@
 #![tactic(auto)]
 
 mod effects;
+mod happenings;
 mod report;
 mod sockets;
 mod turns;
 
+pub use crate::happenings::{arrival, ending, loss};
 pub use crate::report::{Report, TurnFault};
 pub use crate::sockets::{Received, SocketFailed, Sockets};
 pub use crate::turns::turn;

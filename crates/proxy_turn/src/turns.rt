@@ -2,7 +2,8 @@
 //! is done.
 ghost use Rattle.std.specs.Prelude.{◌<◌, ◌≡◌, length};
 
-use crate::effects::{carry_out, loss, take};
+use crate::effects::{carry_out, take};
+use crate::happenings::{arrival, ending, loss};
 use crate::report::{Report, TurnFault};
 use crate::sockets::{Received, Sockets};
 use hx_status::FailKind;
@@ -42,24 +43,6 @@ fn accept<S: Shelf, K: Sockets>(
             Ok(1)
         }
         Err(_) => Err(TurnFault::Listener),
-    }
-}
-
-/// Bytes that came from an end, as what happened.
-fn arrival(end: End, bytes: &[u8]) -> Option<Happening<'_>> {
-    match end {
-        End::Listener => None,
-        End::Client(n) => Some(Happening::Client(n, bytes)),
-        End::Link(l) => Some(Happening::Link(l, bytes)),
-    }
-}
-
-/// An end from which no more comes, as what happened.
-fn ending(end: End) -> Option<Happening<'static>> {
-    match end {
-        End::Listener => None,
-        End::Client(n) => Some(Happening::End(n)),
-        End::Link(l) => Some(Happening::Shut(l)),
     }
 }
 

@@ -1,0 +1,225 @@
+//! Sockets whose calls are recorded.
+//!
+//! A script has all that is due done behind each happening, a turn behind all that it took. So while a record is written, at
+//! most one end gives something in a turn, and none before all is done that was due; then a replay does the same acts in the
+//! same order. Which end comes next goes round.
+ghost use Rattle.std.specs.Prelude.{◌≡◌, ◌≤◌, length, IfOk};
+ghost use Rattle.proxy_turn.specs.Counts.{IsRise, failed};
+ghost use Rattle.proxy_turn.specs.Received.{IsReceived};
+
+use crate::recorder::{RecordFault, Recorder};
+use hx_status::FailKind;
+use proxy_script::Happening;
+use proxy_turn::{End, Received, SocketFailed, Sockets, arrival, ending, loss};
+use std::io::Write;
+
+/// Sockets, and the record of what they give, where one is written.
+#[derive(Drop)]
+pub struct Recording<K: Sockets + Drop, W: Write + Drop> {
+    pub(crate) sockets: K,
+    record: Option<Recorder<W>>,
+    fault: Option<RecordFault>,
+    /// The moment of the turn.
+    now: u64,
+    /// Something has happened in this turn, or something is due from the last one.
+    taken: bool,
+    /// The end that gave something last.
+    last: Option<End>,
+    /// An end was passed over in this turn.
+    passed: bool,
+    accepts: u64,
+    reads: u64,
+    failures: u64,
+}
+
+/// Where an end stands among those that a turn reads: links before clients, and both by their numbers.
+fn place(end: End) -> (u8, u64) {
+    match end {
+        End::Listener => (0, 0),
+        End::Link(l) => (1, l),
+        End::Client(n) => (2, n),
+    }
+}
+
+/// What a read comes to.
+fn happening<'a>(
+    end: End,
+    received: &Result<Received, SocketFailed>,
+    buf: &'a [u8],
+) -> Option<Happening<'a>> {
+    match received {
+        Ok(Received::Nothing) => None,
+        Ok(Received::Bytes(n)) => match buf.get(..*n) {
+            Some(bytes) => arrival(end, bytes),
+            None => None,
+        },
+        Ok(Received::End) => ending(end),
+        Err(_) => loss(end, FailKind::Closed),
+    }
+}
+
+impl<K: Sockets + Drop, W: Write + Drop> Recording<K, W> {
+    pub fn new(sockets: K, record: Option<Recorder<W>>) -> Recording<K, W> {
+        Recording {
+            sockets,
+            record,
+            fault: None,
+            now: 0,
+            taken: false,
+            last: None,
+            passed: false,
+            accepts: 0,
+            reads: 0,
+            failures: 0,
+        }
+    }
+
+    /// Begins a turn at a moment. `settled` says that nothing is due from the one before. Gives the moment of the turn, which
+    /// is that of the one before until what was due then is done.
+    pub fn begin(&mut self, now: u64, settled: bool) -> u64 {
+        if settled || !self.is_recording() {
+            self.now = now;
+        }
+        if !self.taken {
+            self.last = None;
+        }
+        self.taken = !settled;
+        self.passed = false;
+        self.now
+    }
+
+    /// Whether a record is being written.
+    pub fn is_recording(&self) -> bool {
+        match &self.record {
+            Some(record) => !record.is_over(),
+            None => false,
+        }
+    }
+
+    /// Whether a record has ended before the limit of a script.
+    pub fn has_ended(&self) -> bool {
+        match &self.record {
+            Some(record) => record.is_over(),
+            None => false,
+        }
+    }
+
+    /// Why recording failed. From then on nothing is given.
+    pub fn fault(&self) -> Option<RecordFault> {
+        self.fault
+    }
+
+    /// Whether an end was passed over in this turn that may have something.
+    pub fn has_passed(&self) -> bool {
+        self.passed
+    }
+
+    /// Whether something may still happen in this turn.
+    pub fn may_happen(&self) -> bool {
+        self.fault.is_none() && (!self.taken || !self.is_recording())
+    }
+
+    /// Records what happens. Whether it may be taken: not where it couldn't be recorded.
+    pub fn note(&mut self, happening: Happening<'_>) -> bool {
+        if let Some(record) = &mut self.record {
+            if let Err(fault) = record.happens(self.now, happening) {
+                self.fault = Some(fault);
+                return false;
+            }
+        }
+        true
+    }
+
+    /// Records what happens between two turns, as the one thing that happens.
+    pub fn note_between(&mut self, happening: Happening<'_>) -> bool {
+        self.taken = true;
+        self.note(happening)
+    }
+
+    /// Whether an end has to wait for another turn.
+    fn has_to_wait(&self, end: End) -> bool {
+        if !self.may_happen() {
+            return true;
+        }
+        match self.last {
+            Some(last) if self.is_recording() => place(end) <= place(last),
+            _ => false,
+        }
+    }
+
+    /// Records a failed call behind which nothing else is to be told.
+    fn note_loss(&mut self, end: End, kind: FailKind) {
+        self.failures = self.failures.saturating_add(1);
+        if let Some(happening) = loss(end, kind) {
+            let _ = self.note(happening);
+        }
+    }
+}
+
+impl<K: Sockets + Drop, W: Write + Drop> Sockets for Recording<K, W> {
+    ghost accepts = { λ s. s.accepts };
+
+    ghost reads = { λ s. s.reads };
+
+    ghost failures = { λ s. s.failures };
+
+    fn accept(&mut self, n: u64) -> Result<bool, SocketFailed> {
+        self.accepts = self.accepts.saturating_add(1);
+        if !self.may_happen() {
+            self.passed = true;
+            return Ok(false);
+        }
+        match self.sockets.accept(n) {
+            Ok(true) => Ok(self.note(Happening::Accept(n))),
+            Ok(false) => Ok(false),
+            Err(failed) => {
+                self.failures = self.failures.saturating_add(1);
+                Err(failed)
+            }
+        }
+    }
+
+    fn read(&mut self, end: End, buf: &mut [u8]) -> Result<Received, SocketFailed> {
+        self.reads = self.reads.saturating_add(1);
+        if self.has_to_wait(end) {
+            self.passed = true;
+            return Ok(Received::Nothing);
+        }
+        let received = self.sockets.read(end, buf);
+        if let Some(happening) = happening(end, &received, buf) {
+            self.taken = true;
+            self.last = Some(end);
+            if !self.note(happening) {
+                return Ok(Received::Nothing);
+            }
+        }
+        if received.is_err() {
+            self.failures = self.failures.saturating_add(1);
+        }
+        received
+    }
+
+    fn write(&mut self, end: End, bytes: &[u8]) -> Result<(), SocketFailed> {
+        let written = self.sockets.write(end, bytes);
+        if written.is_err() {
+            self.note_loss(end, FailKind::Closed);
+        }
+        written
+    }
+
+    fn connect(&mut self, link: u64, address: &[u8]) -> Result<(), SocketFailed> {
+        let connected = self.sockets.connect(link, address);
+        if connected.is_err() {
+            self.note_loss(End::Link(link), FailKind::Refused);
+        }
+        connected
+    }
+
+    fn shut(&mut self, end: End) -> Result<(), SocketFailed> {
+        let shut = self.sockets.shut(end);
+        if shut.is_err() {
+            self.note_loss(end, FailKind::Closed);
+        }
+        shut
+    }
+}

@@ -1,0 +1,183 @@
+//! A server: a wait, what failed or was silent since the last turn, and a turn, again and again.
+ghost use Rattle.std.specs.Prelude.{◌<◌, IfOk};
+
+use crate::live_sockets::LiveSockets;
+use crate::recorder::{RecordFault, Recorder};
+use crate::recording::Recording;
+use hx_status::FailKind;
+use hx_store::Shelf;
+use proxy_engine::Engine;
+use proxy_turn::{End, Report, TurnFault, loss, turn};
+use std::alloc::Global;
+use std::io::{ErrorKind, Write};
+use std::net::Net;
+use std::time::Clock;
+
+/// The last moment.
+const LATEST: u64 = 253_402_300_799;
+
+/// The most acts of a turn. After as many, more may be due.
+const MOST_WORKS: u64 = 1000;
+
+/// Why a server ends.
+#[derive(Clone, Copy, Debug, PartialEq, Eq)]
+pub enum ServeFault {
+    /// The system can't tell what is ready.
+    Socket,
+    /// A clock can't be read.
+    Clock,
+    /// What happens can't be recorded.
+    Record(RecordFault),
+    /// The last number of a link is used.
+    Spent,
+}
+
+/// An engine over sockets of the system.
+#[derive(Drop)]
+pub struct Server<'a, S: Shelf + Drop, R: Net, W: Write + Drop> {
+    alloc: Global,
+    engine: Engine<S>,
+    ends: Recording<LiveSockets<'a, R>, W>,
+    /// There may be something to do that no event will tell of.
+    busy: bool,
+    /// Nothing is due from the last turn.
+    settled: bool,
+    /// Silent ends are to be looked for.
+    sweeping: bool,
+}
+
+/// The moment of a clock, in Unix seconds; 0 before 1970.
+fn moment<C: Clock>(clock: &C) -> Result<u64, ServeFault>
+    ensures { IfOk result (λ now. now < 253402300800) }
+{
+    match clock.since_1970() {
+        Ok(now) => Ok(now.as_secs().min(LATEST)),
+        Err(e) if e.kind() == ErrorKind::InvalidData => Ok(0),
+        Err(_) => Err(ServeFault::Clock),
+    }
+}
+
+/// Seconds of the clock that never goes back.
+fn seconds<C: Clock>(clock: &C) -> Result<u64, ServeFault> {
+    match clock.monotonic() {
+        Ok(now) => Ok(now.as_secs()),
+        Err(_) => Err(ServeFault::Clock),
+    }
+}
+
+impl<'a, S: Shelf + Drop, R: Net, W: Write + Drop> Server<'a, S, R, W> {
+    /// A server to which nothing has happened. The first turn doesn't wait.
+    pub fn new(
+        alloc: Global,
+        engine: Engine<S>,
+        sockets: LiveSockets<'a, R>,
+        record: Option<Recorder<W>>,
+    ) -> Server<'a, S, R, W> {
+        Server {
+            alloc,
+            engine,
+            ends: Recording::new(sockets, record),
+            busy: true,
+            settled: true,
+            sweeping: false,
+        }
+    }
+
+    /// Whether a record has ended before the limit of a script.
+    pub fn record_has_ended(&self) -> bool {
+        self.ends.has_ended()
+    }
+
+    /// Waits until something is ready, for a second at most, and serves a turn.
+    pub fn serve_turn<C: Clock>(&mut self, clock: &C) -> Result<(), ServeFault> {
+        if self.ends.sockets.wait(self.busy).is_err() {
+            return Err(ServeFault::Socket);
+        }
+        let second = seconds(clock)?;
+        let now = moment(clock)?;
+        self.serve_at(second, now)
+    }
+
+    /// Serves a turn at a second of the clock that never goes back, and a moment.
+    fn serve_at(&mut self, second: u64, now: u64) -> Result<(), ServeFault>
+        requires { now < 253402300800 }
+    {
+        if self.ends.sockets.refresh(second) {
+            self.sweeping = true;
+        }
+        let now = self.ends.begin(now, self.settled).min(LATEST);
+        self.hand_in_lost();
+        if self.sweeping {
+            self.hand_in_silent();
+        }
+        let told = turn(&mut self.engine, &mut self.ends, self.alloc, now);
+        if let Some(fault) = self.ends.fault() {
+            return Err(ServeFault::Record(fault));
+        }
+        self.look_ahead(told)
+    }
+
+    /// Whether the next turn has to wait, by what this one told.
+    fn look_ahead(&mut self, told: Result<Report, TurnFault>) -> Result<(), ServeFault> {
+        match told {
+            Ok(report) => {
+                let freed = report.works > 0 || report.faults > 0;
+                self.settled = report.works < MOST_WORKS;
+                self.busy = !self.settled || freed && self.ends.sockets.has_unread();
+            }
+            Err(TurnFault::Listener) => {
+                self.settled = false;
+                self.busy = true;
+            }
+            // Memory may be there a little later.
+            Err(TurnFault::NoMemory) => {
+                self.settled = false;
+                self.busy = false;
+                return Ok(());
+            }
+            Err(TurnFault::Spent) => return Err(ServeFault::Spent),
+        }
+        self.busy = self.busy || self.sweeping || self.ends.has_passed();
+        Ok(())
+    }
+
+    /// The engine takes that an end is lost.
+    fn lose(&mut self, end: End, kind: FailKind) {
+        if let Some(happening) = loss(end, kind) {
+            if self.ends.note_between(happening) {
+                // It takes no memory, and the end was there.
+                let _ = self.engine.take(self.alloc, happening);
+            }
+        }
+    }
+
+    /// Hands in the ends that failed since the last turn.
+    fn hand_in_lost(&mut self) {
+        for _ in 0..self.ends.sockets.lost_count() {
+            if !self.ends.may_happen() {
+                return;
+            }
+            if let Some((end, kind)) = self.ends.sockets.next_lost() {
+                self.lose(end, kind);
+            }
+        }
+    }
+
+    /// Hands in the ends that were silent for too long: links as timed out, clients without an exchange as gone.
+    fn hand_in_silent(&mut self) {
+        // Where there is no memory for the list, they are looked for again.
+        let Ok(ends) = self.engine.readable_ends(self.alloc) else {
+            return;
+        };
+        for end in &ends {
+            if self.ends.sockets.is_silent(*end) {
+                if !self.ends.may_happen() {
+                    return;
+                }
+                self.ends.sockets.forget(*end);
+                self.lose(*end, FailKind::TimedOut);
+            }
+        }
+        self.sweeping = false;
+    }
+}

@@ -1,0 +1,69 @@
+//! Serving: the table, the listener and the record, and then turn after turn.
+
+use crate::command_line::Service;
+use crate::fault::Fault;
+use crate::files::read_table;
+use hx_allow::Config;
+use hx_store::ListShelf;
+use proxy_engine::Engine;
+use proxy_live::{LiveSockets, Recorder, Server};
+use std::alloc::Global;
+use std::net::Net;
+use std::rt::{Clock, Files};
+use std::fs;
+
+fn engine_of(alloc: Global, config: Config) -> Engine<ListShelf> {
+    let shelf = ListShelf::new(alloc, config.capacity());
+    Engine::new(alloc, config, shelf, 1, 1)
+}
+
+/// A record in a new file, if one is asked for.
+fn record_of<R: Files + AllocGlobal>(
+    rt: &R,
+    path: Option<&str>,
+    table: &[u8],
+) -> Result<Option<Recorder<R::File>>, Fault> {
+    let Some(path) = path else {
+        return Ok(None);
+    };
+    match fs::create(rt, path) {
+        Ok(file) => Ok(Some(Recorder::begin(rt.alloc(), file, table)?)),
+        Err(_) => Err(Fault::Write),
+    }
+}
+
+/// Tells on which address it listens.
+fn announce<R: Net + Eprint>(rt: &R, sockets: &LiveSockets<'_, R>) -> Result<(), Fault> {
+    match sockets.address() {
+        Ok(address) => {
+            // Where standard error fails there is nobody left to tell.
+            let _ = eprintln!(rt; "listening on {address}");
+            Ok(())
+        }
+        Err(_) => Err(Fault::Socket),
+    }
+}
+
+/// Serves as many turns as are asked for.
+pub(crate) fn serve<R: Net + Clock + Files + Eprint + AllocGlobal>(
+    rt: &R,
+    service: &Service<'_>,
+) -> Result<(), Fault> {
+    let table = read_table(rt, service.table)?;
+    let config = Config::read(rt.alloc(), table.as_slice())?;
+    let Ok(sockets) = LiveSockets::bind(rt, rt.alloc(), service.listen, service.silence) else {
+        return Err(Fault::Socket);
+    };
+    let record = record_of(rt, service.record, table.as_slice())?;
+    announce(rt, &sockets)?;
+    let mut server = Server::new(rt.alloc(), engine_of(rt.alloc(), config), sockets, record);
+    let mut told = false;
+    for _ in 0..service.turns {
+        server.serve_turn(rt)?;
+        if !told && server.record_has_ended() {
+            told = true;
+            let _ = eprintln!(rt; "record ended");
+        }
+    }
+    Ok(())
+}
