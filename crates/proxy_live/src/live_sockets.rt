@@ -264,8 +264,8 @@ impl<'a, R: Net> LiveSockets<'a, R> {
     pub fn is_silent(&self, end: End) -> bool {
         match end {
             End::Listener => false,
-            End::Client(n) => self.clients.silence(n, self.now) > self.silence.client,
-            End::Link(l) => self.links.silence(l, self.now) > self.silence.origin,
+            End::Client(n) => self.clients.is_silent(n, self.now, self.silence.client),
+            End::Link(l) => self.links.is_silent(l, self.now, self.silence.origin),
         }
     }
 

@@ -94,6 +94,12 @@ impl Peer {
         !self.unsent.is_empty()
     }
 
+    /// Whether no byte came or went for more than so many seconds. One that wasn't read yet has come.
+    pub(crate) fn is_silent(&self, now: u64, seconds: u64) -> bool {
+        let waits = self.readable && !self.has_unsent();
+        !waits && now.saturating_sub(self.heard) > seconds
+    }
+
     /// Marks what an event told of reading.
     pub(crate) fn stir(&mut self, event: &Event) {
         if event.is_readable() || event.is_read_closed() || event.is_error() {

@@ -85,11 +85,12 @@ impl Peers {
             .map(|peer| peer.number)
     }
 
-    /// For how many seconds no byte came or went; without end where the number isn't there.
-    pub(crate) fn silence(&self, number: u64, now: u64) -> u64 {
+    /// Whether no byte came or went for more than so many seconds, and none waits to be read. A number that isn't there is
+    /// silent.
+    pub(crate) fn is_silent(&self, number: u64, now: u64, seconds: u64) -> bool {
         match self.get(number) {
-            Some(peer) => now.saturating_sub(peer.heard),
-            None => u64::MAX,
+            Some(peer) => peer.is_silent(now, seconds),
+            None => true,
         }
     }
 
