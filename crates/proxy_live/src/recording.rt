@@ -74,6 +74,11 @@ impl<K: Sockets + Drop, W: Write + Drop> Recording<K, W> {
         }
     }
 
+    /// The sockets, and the end of the record.
+    pub fn into_sockets(self) -> K {
+        self.sockets
+    }
+
     /// Begins a turn at a moment. `settled` says that nothing is due from the one before. Gives the moment of the turn, which
     /// is that of the one before until what was due then is done.
     pub fn begin(&mut self, now: u64, settled: bool) -> u64 {

@@ -1,0 +1,79 @@
+//! A client, the proxy and an origin over loopback, in one thread.
+
+use hx_allow::Config;
+use hx_store::ListShelf;
+use proxy_engine::Engine;
+use proxy_live::{LiveSockets, Server, Silence};
+use std::alloc::Global;
+use std::io::{ErrorKind, Read, Write};
+use std::net::{SocketAddr, TcpListener, TcpStream};
+use std::test::Fail;
+use std::time::Duration;
+
+const ANSWER: &[u8] = b"HTTP/1.1 200 OK\r\nCache-Control: max-age=600\r\nContent-Length: 2\r\n\r\nhi";
+
+fn engine_for(alloc: Global, origin: SocketAddr) -> Result<Engine<ListShelf>, Fail> {
+    let text = format!(in alloc; "version = 1\nname = \"edge\"\ncapacity = 2\nmax_body = 1000\nmax_stored = 1000\n[[line]]\nhost = \"*\"\nmethods = [\"GET\"]\npath = \"/\"\norigin = \"{origin}\"\n")?;
+    let config = Config::read(alloc, text.as_bytes()).ok().ok_or("a table")?;
+    let shelf = ListShelf::new(alloc, config.capacity());
+    Ok(Engine::new(alloc, config, shelf, 1, 1))
+}
+
+fn contains(text: &[u8], part: &[u8]) -> bool {
+    text.windows(part.len().max(1)).any(|w| w == part)
+}
+
+/// Reads a request and answers it.
+fn answer(stream: TcpStream) -> Result<(), Fail> {
+    let mut stream = stream;
+    let mut buf = [0u8; 4096];
+    stream.set_read_timeout(Some(Duration::from_secs(5)))?;
+    let n = stream.read(&mut buf)?;
+    if n == 0 {
+        return Err(Fail::from("no request"));
+    }
+    stream.write_all(ANSWER)?;
+    Ok(())
+}
+
+/// The second client's request is answered by what the first one's brought, and the origin is asked once.
+#[test]
+fn loopback_hit(rt: HostRuntime) -> Result<(), Fail> {
+    let alloc = rt.alloc();
+    let origin = TcpListener::bind(&rt, "127.0.0.1:0")?;
+    origin.set_nonblocking(true)?;
+    let any = "127.0.0.1:0".parse::<SocketAddr>().ok().ok_or("an address")?;
+    let silence = Silence {
+        origin: 60,
+        client: 60,
+    };
+    let sockets = LiveSockets::bind(&rt, alloc, any, silence)?;
+    let address = sockets.address()?;
+    let engine = engine_for(alloc, origin.local_addr()?)?;
+    let mut server: Server<'_, ListShelf, HostRuntime, Vec<u8>> = Server::new(alloc, engine, sockets, None);
+    let mut asked = 0u64;
+    for wanted in [b"fwd=uri-miss;ttl=600;stored".as_slice(), b"edge;hit;ttl=".as_slice()] {
+        let mut client = TcpStream::connect(&rt, address)?;
+        client.write_all(b"GET /a HTTP/1.1\r\nHost: h\r\n\r\n")?;
+        client.set_nonblocking(true)?;
+        let mut buf = [0u8; 4096];
+        let mut got = 0usize;
+        for _ in 0..1000u32 {
+            assert!(rt; server.serve_turn(&rt).is_ok());
+            if let Ok((stream, _)) = origin.accept() {
+                asked = asked.saturating_add(1);
+                answer(stream)?;
+            }
+            match client.read(&mut buf) {
+                Ok(n) => {
+                    got = n;
+                    break;
+                }
+                Err(e) => assert!(rt; e.kind() == ErrorKind::WouldBlock),
+            }
+        }
+        assert!(rt; got <= 4096 && contains(&buf[..got], wanted));
+    }
+    assert!(rt; asked == 1);
+    Ok(())
+}

@@ -1,0 +1,212 @@
+//! A record of turns over sockets in memory: its replay does what the turns did.
+ghost use Rattle.std.specs.Prelude.{◌≡◌, ◌<◌, length, IfOk};
+ghost use Rattle.proxy_turn.specs.Received.{IsReceived};
+
+use hx_allow::Config;
+use hx_fields::Bytes;
+use hx_store::ListShelf;
+use proxy_engine::Engine;
+use proxy_live::{Recorder, Recording};
+use proxy_script::{Effect, effects_text};
+use proxy_server::replayed;
+use proxy_turn::{End, Received, SocketFailed, Sockets, turn};
+use std::alloc::{AllocError, Global};
+use std::test::Fail;
+
+const TABLE: &[u8] = b"version = 1
+name = \"edge\"
+capacity = 2
+max_body = 1000
+max_stored = 1000
+
+[[line]]
+host = \"*\"
+methods = [\"GET\", \"HEAD\", \"POST\"]
+path = \"/\"
+origin = \"127.0.0.1:8081\"
+";
+
+/// What each client sends, a piece a read.
+const PIECES: [&[u8]; 4] = [
+    b"GET /a HTTP/1.1\r\nHost: h\r\n\r\nGET /b HT",
+    b"TP/1.1\r\nHost: h\r\n\r\nPOST /c HTTP/1.1\r\nHost: h\r\nContent-Length: 2\r\n\r\n",
+    b"hi",
+    b"GET /a HTTP/1.1\r\nHost: h\r\n\r\n",
+];
+
+/// What an origin answers, a piece a read.
+const ANSWER: [&[u8]; 2] = [b"HTTP/1.1 200 OK\r\nCache-Control: max-age=60\r\nContent-Le", b"ngth: 2\r\n\r\nhi"];
+
+/// How many clients come.
+const CLIENTS: u64 = 3;
+
+/// The next piece for an end.
+#[derive(Clone, Copy)]
+struct Next {
+    end: End,
+    piece: usize,
+}
+
+/// Clients that all send at once, and an origin; what goes out is kept as effects.
+#[derive(Drop)]
+struct Crowd {
+    alloc: Global,
+    accepted: u64,
+    next: Vec<Next>,
+    address: Vec<u8>,
+    done: Vec<Effect>,
+    lost: bool,
+    accepts: u64,
+    reads: u64,
+    failures: u64,
+}
+
+fn bytes_of(alloc: Global, bytes: &[u8]) -> Result<Bytes, AllocError> {
+    Bytes::copy_of(alloc, bytes)
+}
+
+/// Fills the front of a buffer, if there is room for all.
+fn give(buf: &mut [u8], bytes: &[u8]) -> Received
+    ensures within { IsReceived (length buf.old) result }
+    ensures length { length buf.new ≡ length buf.old }
+{
+    if bytes.len() <= buf.len() {
+        buf[..bytes.len()].copy_from_slice(bytes);
+        Received::Bytes(bytes.len())
+    } else {
+        Received::Nothing
+    }
+}
+
+/// The piece of this number from an end.
+fn piece_of(end: End, number: usize) -> Option<&'static [u8]> {
+    let piece = match end {
+        End::Client(_) => PIECES.get(number),
+        End::Link(_) => ANSWER.get(number),
+        End::Listener => None,
+    };
+    piece.copied()
+}
+
+impl Crowd {
+    fn new(alloc: Global) -> Crowd {
+        Crowd {
+            alloc,
+            accepted: 0,
+            next: Vec::new(alloc),
+            address: Vec::new(alloc),
+            done: Vec::new(alloc),
+            lost: false,
+            accepts: 0,
+            reads: 0,
+            failures: 0,
+        }
+    }
+
+    /// How many pieces an end has given, and one more from now on.
+    fn count(&mut self, end: End) -> usize {
+        for next in self.next.iter_mut() {
+            if next.end == end {
+                next.piece = next.piece.saturating_add(1);
+                return next.piece - 1;
+            }
+        }
+        self.lost = self.lost || self.next.push(Next { end, piece: 1 }).is_err();
+        0
+    }
+
+    fn keep(&mut self, effect: Result<Effect, AllocError>) {
+        match effect {
+            Ok(effect) => self.lost = self.lost || self.done.push(effect).is_err(),
+            Err(_) => self.lost = true,
+        }
+    }
+
+    fn effect_of(&self, end: End, bytes: &[u8]) -> Result<Effect, AllocError> {
+        let bytes = bytes_of(self.alloc, bytes)?;
+        match end {
+            End::Link(l) => Ok(Effect::Forward(l, bytes_of(self.alloc, self.address.as_slice())?, bytes)),
+            End::Client(n) => Ok(Effect::Client(n, bytes)),
+            End::Listener => Err(AllocError),
+        }
+    }
+}
+
+impl Sockets for Crowd {
+    ghost accepts = { λ s. s.accepts };
+
+    ghost reads = { λ s. s.reads };
+
+    ghost failures = { λ s. s.failures };
+
+    fn accept(&mut self, _n: u64) -> Result<bool, SocketFailed> {
+        self.accepts = self.accepts.saturating_add(1);
+        let comes = self.accepted < CLIENTS;
+        self.accepted = self.accepted.saturating_add(1);
+        Ok(comes)
+    }
+
+    fn read(&mut self, end: End, buf: &mut [u8]) -> Result<Received, SocketFailed> {
+        self.reads = self.reads.saturating_add(1);
+        let number = self.count(end);
+        match piece_of(end, number) {
+            Some(piece) => Ok(give(buf, piece)),
+            None => Ok(Received::End),
+        }
+    }
+
+    fn write(&mut self, end: End, bytes: &[u8]) -> Result<(), SocketFailed> {
+        let effect = self.effect_of(end, bytes);
+        self.keep(effect);
+        Ok(())
+    }
+
+    fn connect(&mut self, _link: u64, address: &[u8]) -> Result<(), SocketFailed> {
+        self.address.clear();
+        self.lost = self.lost || self.address.extend_from_slice(address).is_err();
+        Ok(())
+    }
+
+    fn shut(&mut self, end: End) -> Result<(), SocketFailed> {
+        match end {
+            End::Client(n) => self.keep(Ok(Effect::Close(n))),
+            End::Link(l) => self.keep(Ok(Effect::Drop(l))),
+            End::Listener => {}
+        }
+        Ok(())
+    }
+}
+
+/// Serves the crowd turn by turn, a second each; what went out, as text.
+fn serve(alloc: Global, ends: &mut Recording<Crowd, &mut Vec<u8>>) -> Result<(), Fail> {
+    let config = Config::read(alloc, TABLE).ok().ok_or("a table")?;
+    let shelf = ListShelf::new(alloc, config.capacity());
+    let mut engine = Engine::new(alloc, config, shelf, 1, 1);
+    let mut settled = true;
+    for now in 100..300u64 {
+        let now = ends.begin(now, settled).min(1000);
+        let report = turn(&mut engine, ends, alloc, now).ok().ok_or("a turn")?;
+        settled = report.works < 1000;
+    }
+    Ok(())
+}
+
+/// Clients and origins that all have something at once are recorded, and the replay of the record does the same, to the byte.
+#[test]
+fn a_record_replays_what_was_done(rt: HostRuntime) -> Result<(), Fail> {
+    let alloc = rt.alloc();
+    let mut script = Vec::new(alloc);
+    let record = Recorder::begin(alloc, &mut script, TABLE).ok().ok_or("a record")?;
+    let mut ends = Recording::new(Crowd::new(alloc), Some(record));
+    serve(alloc, &mut ends)?;
+    let crowd = ends.into_sockets();
+    assert!(rt; !crowd.lost);
+    // Of each client three requests or more are answered and its connection closed; each link is dropped.
+    assert!(rt; crowd.done.len() > 24);
+    let text = effects_text(alloc, crowd.done.as_slice())?;
+    match replayed(alloc, script.as_slice()) {
+        Ok(again) => assert!(rt; again.as_slice() == text.as_slice()),
+        Err(_) => assert!(rt; false),
+    }
+    Ok(())
+}
