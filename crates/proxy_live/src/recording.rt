@@ -42,7 +42,7 @@ fn place(end: End) -> (u8, u64) {
 }
 
 /// What a read comes to.
-fn happening<'a>(
+fn happening_of<'a>(
     end: End,
     received: &Result<Received, SocketFailed>,
     buf: &'a [u8],
@@ -191,7 +191,7 @@ impl<K: Sockets + Drop, W: Write + Drop> Sockets for Recording<K, W> {
             return Ok(Received::Nothing);
         }
         let received = self.sockets.read(end, buf);
-        if let Some(happening) = happening(end, &received, buf) {
+        if let Some(happening) = happening_of(end, &received, buf) {
             self.taken = true;
             self.last = Some(end);
             if !self.note(happening) {
