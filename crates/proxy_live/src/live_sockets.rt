@@ -12,11 +12,10 @@ use mio::net::{TcpListener, TcpStream};
 use mio::{Events, Interest, Poll, Token};
 use proxy_turn::{End, Received, SocketFailed, Sockets};
 use std::alloc::Global;
-use std::io;
 use std::io::ErrorKind;
 use std::net::{Net, SocketAddr};
-use std::str;
 use std::time::Duration;
+use std::{io, str};
 
 /// The most events of one wait.
 const MOST_EVENTS: usize = 1024;
@@ -26,7 +25,9 @@ const TICK: u64 = 1000;
 
 /// What a token stands for: a number times 4, and one of these.
 const CLIENT: usize = 0;
+
 const LINK: usize = 1;
+
 const LISTENER: usize = 2;
 
 /// After how many seconds without a byte an end counts as lost.
@@ -172,7 +173,8 @@ impl<'a, R: Net> LiveSockets<'a, R> {
     ) -> io::Result<LiveSockets<'a, R>> {
         let poll = Poll::new(net)?;
         let mut listener = TcpListener::bind(net, address)?;
-        poll.registry().register(&mut listener, Token(LISTENER), Interest::READABLE)?;
+        poll.registry()
+            .register(&mut listener, Token(LISTENER), Interest::READABLE)?;
         Ok(LiveSockets {
             net,
             alloc,
@@ -203,7 +205,8 @@ impl<'a, R: Net> LiveSockets<'a, R> {
         let none = busy || self.more || self.closing.more || !self.lost.is_empty();
         let limit = if none { 0 } else { TICK };
         self.more = false;
-        self.poll.poll(&mut self.events, Some(Duration::from_millis(limit)))
+        self.poll
+            .poll(&mut self.events, Some(Duration::from_millis(limit)))
     }
 
     /// Takes what the wait told, at this second of a clock that never goes back. Whether a new second has begun.

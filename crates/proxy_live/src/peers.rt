@@ -74,7 +74,9 @@ impl Peers {
 
     /// Whether something may have come that the next turn can read.
     pub(crate) fn some_readable(&self) -> bool {
-        self.items.iter().any(|peer| peer.readable && !peer.has_unsent())
+        self.items
+            .iter()
+            .any(|peer| peer.readable && !peer.has_unsent())
     }
 
     /// The least number, from this one on, whose stream may have something to be read.

@@ -74,23 +74,43 @@ fn serve<'a>(alloc: Global) -> Result<Command<'a>, Error> {
     let turns = option(alloc, "turns", "N", "turns to serve, 1 to 4294967295")
         .required(true)
         .value_parser(ValueParser::unsigned(1, 4_294_967_295));
-    let listen = option(alloc, "listen", "ADDRESS", "an IPv4 address and a port; port 0 lets the system choose")
-        .required(true);
+    let listen = option(
+        alloc,
+        "listen",
+        "ADDRESS",
+        "an IPv4 address and a port; port 0 lets the system choose",
+    )
+    .required(true);
     let command = command(alloc, "serve")
         .about("Serves clients by a table, for a number of turns")
         .arg(word(alloc, "table", "the table"))?
         .arg(listen)?
         .arg(turns)?
-        .arg(seconds(alloc, "origin-timeout", "how long an origin may send no byte"))?
-        .arg(seconds(alloc, "client-timeout", "how long a client that waits for nothing may send no byte"))?
-        .arg(option(alloc, "record", "FILE", "writes what happens into a script, up to 16777216 bytes"))?;
+        .arg(seconds(
+            alloc,
+            "origin-timeout",
+            "how long an origin may send no byte",
+        ))?
+        .arg(seconds(
+            alloc,
+            "client-timeout",
+            "how long a client that waits for nothing may send no byte",
+        ))?
+        .arg(option(
+            alloc,
+            "record",
+            "FILE",
+            "writes what happens into a script, up to 16777216 bytes",
+        ))?;
     Ok(command)
 }
 
 fn program<'a>(alloc: Global) -> Result<Command<'a>, Error> {
     let command = command(alloc, "revcache")
         .version(VERSION)
-        .about("A caching reverse proxy for HTTP/1.1; without a command, replays the script on standard input")
+        .about(
+            "A caching reverse proxy for HTTP/1.1; without a command, replays the script on standard input",
+        )
         .subcommand(check(alloc)?)?
         .subcommand(serve(alloc)?)?;
     Ok(command)

@@ -8,9 +8,9 @@ use hx_store::ListShelf;
 use proxy_engine::Engine;
 use proxy_live::{LiveSockets, Recorder, Server};
 use std::alloc::Global;
+use std::fs;
 use std::net::Net;
 use std::rt::{Clock, Files};
-use std::fs;
 
 fn engine_of(alloc: Global, config: Config) -> Engine<ListShelf> {
     let shelf = ListShelf::new(alloc, config.capacity());

@@ -10,10 +10,13 @@ use std::net::{SocketAddr, TcpListener, TcpStream};
 use std::test::Fail;
 use std::time::Duration;
 
-const ANSWER: &[u8] = b"HTTP/1.1 200 OK\r\nCache-Control: max-age=600\r\nContent-Length: 2\r\n\r\nhi";
+const ANSWER: &[u8] =
+    b"HTTP/1.1 200 OK\r\nCache-Control: max-age=600\r\nContent-Length: 2\r\n\r\nhi";
 
 fn engine_for(alloc: Global, origin: SocketAddr) -> Result<Engine<ListShelf>, Fail> {
-    let text = format!(in alloc; "version = 1\nname = \"edge\"\ncapacity = 2\nmax_body = 1000\nmax_stored = 1000\n[[line]]\nhost = \"*\"\nmethods = [\"GET\"]\npath = \"/\"\norigin = \"{origin}\"\n")?;
+    let text = format!(in alloc;
+        "version = 1\nname = \"edge\"\ncapacity = 2\nmax_body = 1000\nmax_stored = 1000\n[[line]]\nhost = \"*\"\nmethods = [\"GET\"]\npath = \"/\"\norigin = \"{origin}\"\n"
+    )?;
     let config = Config::read(alloc, text.as_bytes()).ok().ok_or("a table")?;
     let shelf = ListShelf::new(alloc, config.capacity());
     Ok(Engine::new(alloc, config, shelf, 1, 1))
@@ -42,7 +45,10 @@ fn loopback_hit(rt: HostRuntime) -> Result<(), Fail> {
     let alloc = rt.alloc();
     let origin = TcpListener::bind(&rt, "127.0.0.1:0")?;
     origin.set_nonblocking(true)?;
-    let any = "127.0.0.1:0".parse::<SocketAddr>().ok().ok_or("an address")?;
+    let any = "127.0.0.1:0"
+        .parse::<SocketAddr>()
+        .ok()
+        .ok_or("an address")?;
     let silence = Silence {
         origin: 60,
         client: 60,
@@ -50,9 +56,14 @@ fn loopback_hit(rt: HostRuntime) -> Result<(), Fail> {
     let sockets = LiveSockets::bind(&rt, alloc, any, silence)?;
     let address = sockets.address()?;
     let engine = engine_for(alloc, origin.local_addr()?)?;
-    let mut server: Server<'_, ListShelf, HostRuntime, Vec<u8>> = Server::new(alloc, engine, sockets, None);
+    let mut server: Server<'_, ListShelf, HostRuntime, Vec<u8>> = Server::new(
+        alloc, engine, sockets, None,
+    );
     let mut asked = 0u64;
-    for wanted in [b"fwd=uri-miss;ttl=600;stored".as_slice(), b"edge;hit;ttl=".as_slice()] {
+    for wanted in [
+        b"fwd=uri-miss;ttl=600;stored".as_slice(),
+        b"edge;hit;ttl=".as_slice(),
+    ] {
         let mut client = TcpStream::connect(&rt, address)?;
         client.write_all(b"GET /a HTTP/1.1\r\nHost: h\r\n\r\n")?;
         client.set_nonblocking(true)?;

@@ -6,11 +6,13 @@ use hx_allow::Config;
 use hx_fields::Bytes;
 use hx_store::ListShelf;
 use proxy_engine::Engine;
-use proxy_live::{Recorder, Recording};
-use proxy_script::{Effect, effects_text};
+use proxy_live::{RecordFault, Recorder, Recording};
+use proxy_script::{Effect, Happening, effects_text};
 use proxy_server::replayed;
 use proxy_turn::{End, Received, SocketFailed, Sockets, turn};
 use std::alloc::{AllocError, Global};
+use std::io;
+use std::io::{ErrorKind, Write};
 use std::test::Fail;
 
 const TABLE: &[u8] = b"version = 1
@@ -35,7 +37,10 @@ const PIECES: [&[u8]; 4] = [
 ];
 
 /// What an origin answers, a piece a read.
-const ANSWER: [&[u8]; 2] = [b"HTTP/1.1 200 OK\r\nCache-Control: max-age=60\r\nContent-Le", b"ngth: 2\r\n\r\nhi"];
+const ANSWER: [&[u8]; 2] = [
+    b"HTTP/1.1 200 OK\r\nCache-Control: max-age=60\r\nContent-Le",
+    b"ngth: 2\r\n\r\nhi",
+];
 
 /// How many clients come.
 const CLIENTS: u64 = 3;
@@ -125,7 +130,11 @@ impl Crowd {
     fn effect_of(&self, end: End, bytes: &[u8]) -> Result<Effect, AllocError> {
         let bytes = bytes_of(self.alloc, bytes)?;
         match end {
-            End::Link(l) => Ok(Effect::Forward(l, bytes_of(self.alloc, self.address.as_slice())?, bytes)),
+            End::Link(l) => Ok(Effect::Forward(
+                l,
+                bytes_of(self.alloc, self.address.as_slice())?,
+                bytes,
+            )),
             End::Client(n) => Ok(Effect::Client(n, bytes)),
             End::Listener => Err(AllocError),
         }
@@ -178,7 +187,7 @@ impl Sockets for Crowd {
 }
 
 /// Serves the crowd turn by turn, a second each; what went out, as text.
-fn serve(alloc: Global, ends: &mut Recording<Crowd, &mut Vec<u8>>) -> Result<(), Fail> {
+fn serve<W: Write + Drop>(alloc: Global, ends: &mut Recording<Crowd, W>) -> Result<(), Fail> {
     let config = Config::read(alloc, TABLE).ok().ok_or("a table")?;
     let shelf = ListShelf::new(alloc, config.capacity());
     let mut engine = Engine::new(alloc, config, shelf, 1, 1);
@@ -196,7 +205,9 @@ fn serve(alloc: Global, ends: &mut Recording<Crowd, &mut Vec<u8>>) -> Result<(),
 fn a_record_replays_what_was_done(rt: HostRuntime) -> Result<(), Fail> {
     let alloc = rt.alloc();
     let mut script = Vec::new(alloc);
-    let record = Recorder::begin(alloc, &mut script, TABLE).ok().ok_or("a record")?;
+    let record = Recorder::begin(alloc, &mut script, TABLE)
+        .ok()
+        .ok_or("a record")?;
     let mut ends = Recording::new(Crowd::new(alloc), Some(record));
     serve(alloc, &mut ends)?;
     let crowd = ends.into_sockets();
@@ -208,5 +219,71 @@ fn a_record_replays_what_was_done(rt: HostRuntime) -> Result<(), Fail> {
         Ok(again) => assert!(rt; again.as_slice() == text.as_slice()),
         Err(_) => assert!(rt; false),
     }
+    Ok(())
+}
+
+/// Takes so many writes, and fails from then on.
+#[derive(Drop)]
+struct Sink<'a> {
+    text: &'a mut Vec<u8>,
+    writes: u64,
+}
+
+impl Write for Sink<'_> {
+    fn write(&mut self, buf: &[u8]) -> io::Result<usize> {
+        if self.writes == 0 {
+            return Err(io::Error::from(ErrorKind::StorageFull));
+        }
+        self.writes -= 1;
+        self.text.extend_from_slice(buf)?;
+        Ok(buf.len())
+    }
+
+    fn flush(&mut self) -> io::Result<()> {
+        Ok(())
+    }
+}
+
+/// What couldn't be recorded isn't taken: the replay of what was recorded is what went out.
+#[test]
+fn nothing_is_done_that_is_not_recorded(rt: HostRuntime) -> Result<(), Fail> {
+    let alloc = rt.alloc();
+    for writes in 1..12u64 {
+        let mut script = Vec::new(alloc);
+        let sink = Sink {
+            text: &mut script,
+            writes,
+        };
+        let record = Recorder::begin(alloc, sink, TABLE).ok().ok_or("a record")?;
+        let mut ends = Recording::new(Crowd::new(alloc), Some(record));
+        serve(alloc, &mut ends)?;
+        assert!(rt; ends.fault() == Some(RecordFault::Write));
+        let crowd = ends.into_sockets();
+        let text = effects_text(alloc, crowd.done.as_slice())?;
+        match replayed(alloc, script.as_slice()) {
+            Ok(again) => assert!(rt; again.as_slice() == text.as_slice(), "{writes}"),
+            Err(_) => assert!(rt; false),
+        }
+    }
+    Ok(())
+}
+
+/// A record ends at the end of a happening, within the limit of a script, and stays ended.
+#[test]
+fn a_record_ends_within_the_limit(rt: HostRuntime) -> Result<(), Fail> {
+    let alloc = rt.alloc();
+    let mut script = Vec::new(alloc);
+    let mut record = Recorder::begin(alloc, &mut script, TABLE)
+        .ok()
+        .ok_or("a record")?;
+    let piece = Vec::from_elem(alloc, b'x', 1_000_000)?;
+    for now in 1..40u64 {
+        let happening = Happening::Client(1, piece.as_slice());
+        assert!(rt; record.happens(now, happening).is_ok());
+        assert!(rt; record.is_over() == (now > 16), "{now}");
+    }
+    drop(record);
+    assert!(rt; script.len() > 16_000_000 && script.len() <= 16_777_216);
+    assert!(rt; script.as_slice().ends_with(b"x\n"));
     Ok(())
 }
