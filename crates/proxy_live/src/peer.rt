@@ -42,9 +42,7 @@ pub(crate) struct Peer {
 }
 
 /// Writes as many of the bytes as the system takes; answers how many.
-fn write_some(stream: &mut TcpStream, bytes: &[u8]) -> io::Result<usize>
-    ensures { IfOk result (λ n. n ≤ length bytes.now) }
-{
+fn write_some(stream: &mut TcpStream, bytes: &[u8]) -> io::Result<usize> {
     let mut at = 0usize;
     for _try in 0..u64::MAX {
         if at >= bytes.len() {

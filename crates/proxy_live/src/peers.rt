@@ -97,7 +97,9 @@ impl Peers {
     }
 
     /// Keeps the streams of which this holds, and drops the others.
-    pub(crate) fn retain(&mut self, keeps: impl FnMut(&Peer) -> bool) {
+    pub(crate) fn retain<F: FnMut(&Peer) -> bool>(&mut self, keeps: F)
+        requires { F.IsAlwaysCallable keeps }
+    {
         self.items.retain(keeps)
     }
 }

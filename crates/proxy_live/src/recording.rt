@@ -58,6 +58,35 @@ fn happening_of<'a>(
     }
 }
 
+/// Records what happens, where a record is written. Whether it may be taken: not where it couldn't be recorded.
+fn note<W: Write + Drop>(
+    record: &mut Option<Recorder<W>>,
+    fault: &mut Option<RecordFault>,
+    now: u64,
+    happening: Happening<'_>,
+) -> bool {
+    if let Some(record) = record {
+        if let Err(e) = record.happens(now, happening) {
+            *fault = Some(e);
+            return false;
+        }
+    }
+    true
+}
+
+/// Records that an end is lost, which is taken in any case.
+fn note_loss<W: Write + Drop>(
+    record: &mut Option<Recorder<W>>,
+    fault: &mut Option<RecordFault>,
+    now: u64,
+    end: End,
+    kind: FailKind,
+) {
+    if let Some(happening) = loss(end, kind) {
+        let _ = note(record, fault, now, happening);
+    }
+}
+
 impl<K: Sockets + Drop, W: Write + Drop> Recording<K, W> {
     pub fn new(sockets: K, record: Option<Recorder<W>>) -> Recording<K, W> {
         Recording {
@@ -124,21 +153,10 @@ impl<K: Sockets + Drop, W: Write + Drop> Recording<K, W> {
         self.fault.is_none() && (!self.taken || !self.is_recording())
     }
 
-    /// Records what happens. Whether it may be taken: not where it couldn't be recorded.
-    pub fn note(&mut self, happening: Happening<'_>) -> bool {
-        if let Some(record) = &mut self.record {
-            if let Err(fault) = record.happens(self.now, happening) {
-                self.fault = Some(fault);
-                return false;
-            }
-        }
-        true
-    }
-
     /// Records what happens between two turns, as the one thing that happens.
     pub fn note_between(&mut self, happening: Happening<'_>) -> bool {
         self.taken = true;
-        self.note(happening)
+        note(&mut self.record, &mut self.fault, self.now, happening)
     }
 
     /// Whether an end has to wait for another turn.
@@ -149,14 +167,6 @@ impl<K: Sockets + Drop, W: Write + Drop> Recording<K, W> {
         match self.last {
             Some(last) if self.is_recording() => place(end) <= place(last),
             _ => false,
-        }
-    }
-
-    /// Records a failed call behind which nothing else is to be told.
-    fn note_loss(&mut self, end: End, kind: FailKind) {
-        self.failures = self.failures.saturating_add(1);
-        if let Some(happening) = loss(end, kind) {
-            let _ = self.note(happening);
         }
     }
 }
@@ -175,7 +185,12 @@ impl<K: Sockets + Drop, W: Write + Drop> Sockets for Recording<K, W> {
             return Ok(false);
         }
         match self.sockets.accept(n) {
-            Ok(true) => Ok(self.note(Happening::Accept(n))),
+            Ok(true) => Ok(note(
+                &mut self.record,
+                &mut self.fault,
+                self.now,
+                Happening::Accept(n),
+            )),
             Ok(false) => Ok(false),
             Err(failed) => {
                 self.failures = self.failures.saturating_add(1);
@@ -194,7 +209,7 @@ impl<K: Sockets + Drop, W: Write + Drop> Sockets for Recording<K, W> {
         if let Some(happening) = happening_of(end, &received, buf) {
             self.taken = true;
             self.last = Some(end);
-            if !self.note(happening) {
+            if !note(&mut self.record, &mut self.fault, self.now, happening) {
                 return Ok(Received::Nothing);
             }
         }
@@ -207,7 +222,14 @@ impl<K: Sockets + Drop, W: Write + Drop> Sockets for Recording<K, W> {
     fn write(&mut self, end: End, bytes: &[u8]) -> Result<(), SocketFailed> {
         let written = self.sockets.write(end, bytes);
         if written.is_err() {
-            self.note_loss(end, FailKind::Closed);
+            self.failures = self.failures.saturating_add(1);
+            note_loss(
+                &mut self.record,
+                &mut self.fault,
+                self.now,
+                end,
+                FailKind::Closed,
+            );
         }
         written
     }
@@ -215,7 +237,14 @@ impl<K: Sockets + Drop, W: Write + Drop> Sockets for Recording<K, W> {
     fn connect(&mut self, link: u64, address: &[u8]) -> Result<(), SocketFailed> {
         let connected = self.sockets.connect(link, address);
         if connected.is_err() {
-            self.note_loss(End::Link(link), FailKind::Refused);
+            self.failures = self.failures.saturating_add(1);
+            note_loss(
+                &mut self.record,
+                &mut self.fault,
+                self.now,
+                End::Link(link),
+                FailKind::Refused,
+            );
         }
         connected
     }
@@ -223,7 +252,14 @@ impl<K: Sockets + Drop, W: Write + Drop> Sockets for Recording<K, W> {
     fn shut(&mut self, end: End) -> Result<(), SocketFailed> {
         let shut = self.sockets.shut(end);
         if shut.is_err() {
-            self.note_loss(end, FailKind::Closed);
+            self.failures = self.failures.saturating_add(1);
+            note_loss(
+                &mut self.record,
+                &mut self.fault,
+                self.now,
+                end,
+                FailKind::Closed,
+            );
         }
         shut
     }
