@@ -88,3 +88,45 @@ fn loopback_hit(rt: HostRuntime) -> Result<(), Fail> {
     assert!(rt; asked == 1);
     Ok(())
 }
+
+/// An origin that never answers has timed out after its silence, and a client that sends nothing is closed after its own.
+#[test]
+fn silent_ends_are_let_go(rt: HostRuntime) -> Result<(), Fail> {
+    let alloc = rt.alloc();
+    let origin = TcpListener::bind(&rt, "127.0.0.1:0")?;
+    let any = "127.0.0.1:0"
+        .parse::<SocketAddr>()
+        .ok()
+        .ok_or("an address")?;
+    let silence = Silence {
+        origin: 1,
+        client: 1,
+    };
+    let sockets = LiveSockets::bind(&rt, alloc, any, silence)?;
+    let address = sockets.address()?;
+    let engine = engine_for(alloc, origin.local_addr()?)?;
+    let mut server: Server<'_, ListShelf, HostRuntime, Vec<u8>> = Server::new(
+        alloc, engine, sockets, None,
+    );
+    let mut idle = TcpStream::connect(&rt, address)?;
+    let mut client = TcpStream::connect(&rt, address)?;
+    client.write_all(b"GET /a HTTP/1.1\r\nHost: h\r\n\r\n")?;
+    client.set_nonblocking(true)?;
+    let mut buf = [0u8; 4096];
+    let mut got = 0usize;
+    for _ in 0..20u32 {
+        assert!(rt; server.serve_turn(&rt).is_ok());
+        if let Ok(n) = client.read(&mut buf) {
+            got = n;
+            break;
+        }
+    }
+    assert!(rt; got <= 4096 && contains(&buf[..got], b"HTTP/1.1 504 "));
+    assert!(rt; contains(&buf[..got], b"Refusal: origin timed-out;fwd=uri-miss\r\n"));
+    for _ in 0..4u32 {
+        assert!(rt; server.serve_turn(&rt).is_ok());
+    }
+    idle.set_read_timeout(Some(Duration::from_secs(5)))?;
+    assert!(rt; idle.read(&mut buf)? == 0);
+    Ok(())
+}
