@@ -406,7 +406,9 @@ impl<'a, R: Net> Sockets for LiveSockets<'a, R> {
                     self.closing.begin(peer, self.now);
                 }
             }
-            End::Link(_) => self.forget(end),
+            End::Link(l) => {
+                let _ = self.links.remove(l);
+            }
             End::Listener => {}
         }
         Ok(())
