@@ -282,7 +282,11 @@ impl<'a, R: Net> LiveSockets<'a, R> {
     }
 
     /// A connection that waits is taken under this number.
-    fn accept_one(&mut self, n: u64) -> io::Result<()> {
+    fn accept_one(&mut self, n: u64) -> io::Result<()>
+        ensures accepts { self.new.accepts ≡ self.old.accepts }
+        ensures reads { self.new.reads ≡ self.old.reads }
+        ensures failures { self.new.failures ≡ self.old.failures }
+    {
         let (stream, _) = self.listener.accept()?;
         let mut peer = Peer::new(self.alloc, n, stream, self.now);
         peer.register(&self.poll, token_of(CLIENT, n))?;
@@ -293,14 +297,22 @@ impl<'a, R: Net> LiveSockets<'a, R> {
     }
 
     /// Keeps a failure until the next turn begins.
-    fn lose(&mut self, end: End, kind: FailKind) -> Result<(), SocketFailed> {
+    fn lose(&mut self, end: End, kind: FailKind) -> Result<(), SocketFailed>
+        ensures accepts { self.new.accepts ≡ self.old.accepts }
+        ensures reads { self.new.reads ≡ self.old.reads }
+        ensures failures { self.new.failures ≡ self.old.failures }
+    {
         if self.lost.push((end, kind)).is_ok() {
             return Ok(());
         }
         Err(SocketFailed)
     }
 
-    fn write_client(&mut self, n: u64, bytes: &[u8]) -> Result<(), SocketFailed> {
+    fn write_client(&mut self, n: u64, bytes: &[u8]) -> Result<(), SocketFailed>
+        ensures accepts { self.new.accepts ≡ self.old.accepts }
+        ensures reads { self.new.reads ≡ self.old.reads }
+        ensures failures { self.new.failures ≡ self.old.failures }
+    {
         if let Some(peer) = self.clients.get_mut(n) {
             if peer.write(bytes, self.now).is_err() {
                 let _ = self.clients.remove(n);
@@ -310,7 +322,11 @@ impl<'a, R: Net> LiveSockets<'a, R> {
         Ok(())
     }
 
-    fn write_link(&mut self, l: u64, bytes: &[u8]) -> Result<(), SocketFailed> {
+    fn write_link(&mut self, l: u64, bytes: &[u8]) -> Result<(), SocketFailed>
+        ensures accepts { self.new.accepts ≡ self.old.accepts }
+        ensures reads { self.new.reads ≡ self.old.reads }
+        ensures failures { self.new.failures ≡ self.old.failures }
+    {
         if let Some(peer) = self.links.get_mut(l) {
             // What the origin had said before it broke off can still be read; its end is told then.
             if peer.write(bytes, self.now).is_err() && peer.connecting {
@@ -321,7 +337,11 @@ impl<'a, R: Net> LiveSockets<'a, R> {
         Ok(())
     }
 
-    fn connect_link(&mut self, l: u64, address: &[u8]) -> Result<(), SocketFailed> {
+    fn connect_link(&mut self, l: u64, address: &[u8]) -> Result<(), SocketFailed>
+        ensures accepts { self.new.accepts ≡ self.old.accepts }
+        ensures reads { self.new.reads ≡ self.old.reads }
+        ensures failures { self.new.failures ≡ self.old.failures }
+    {
         match begin_link(self.net, self.alloc, &self.poll, l, address, self.now) {
             Ok(peer) => match self.links.put(peer) {
                 Ok(()) => Ok(()),
