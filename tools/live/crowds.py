@@ -1,0 +1,146 @@
+"""Scenarios of many connections, and of clients that read or send slowly beside others."""
+import threading
+import time
+
+from live.client import request
+from live.expect import Unexpected, expect, expect_answer, expect_member, expect_within
+from live.failures import LATEST, SHORT, timed
+from live.origin import Origin, whole
+from live.scenario import scenario
+
+KEPT = "Cache-Control: max-age=600"
+MOST_CONNECTIONS = 256
+# The most bytes that are kept for an end that doesn't read.
+MOST_UNSENT = 64 << 20
+
+
+@scenario
+def a_slow_reader_stops_nobody(stage):
+    """A client asks for 130 MB and reads nothing. Others are answered at once, what is kept for it is bounded, and it
+    gets every byte once it reads."""
+    text = bytes(i * 7 % 251 for i in range(65536))
+    stage.origin(Origin({"/a": whole(200, KEPT, content=text)}))
+    proxy = stage.proxy()
+    proxy.client().ask("/a")
+    before, slow = proxy.resident(), proxy.client()
+    slow.send(request("/a") * 2000)
+    for _ in range(20):
+        answer, seconds = timed(proxy.client(), "/a")
+        expect_answer(answer, 200, "edge;hit;ttl=600", text)
+        expect_within("another client's answer", 0, 0.9, seconds)
+        time.sleep(0.02)
+    grown = proxy.resident() - before
+    if grown > MOST_UNSENT + (32 << 20):
+        raise Unexpected("memory kept for a slow reader", f"about {MOST_UNSENT} bytes at most", f"{grown} bytes")
+    for _ in range(2000):
+        if slow.response().content != text:
+            raise Unexpected("content", "as it was stored", "another one")
+
+
+@scenario
+def a_slow_origin_stops_nobody(stage):
+    """Of two exchanges the later may be answered first: each connection waits for its own origin alone."""
+    go = threading.Event()
+    origin = stage.origin(Origin({f"/{i}": lambda fetch: (go.wait(LATEST), whole(200, content=b"late")(fetch)) for i in range(50)}))
+    origin.answers["/a"] = whole(200, content=b"soon")
+    proxy = stage.proxy()
+    waiting = [proxy.client() for _ in range(50)]
+    for i, it in enumerate(waiting):
+        it.send(request(f"/{i}"))
+    origin.wait_for(50)
+    answer, seconds = timed(proxy.client(), "/a")
+    expect_answer(answer, 200, "edge;fwd=uri-miss", b"soon")
+    expect_within("another client's answer", 0, 0.9, seconds)
+    go.set()
+    for it in waiting:
+        expect_answer(it.response(), 200, "edge;fwd=uri-miss", b"late")
+
+
+@scenario
+def two_hundred_idle_connections(stage):
+    """Connections that send nothing cost no other client its answer, and are served when they ask."""
+    stage.origin(Origin({"/a": whole(200, KEPT, content=b"hello")}))
+    proxy = stage.proxy()
+    idle = [proxy.client() for _ in range(200)]
+    busy = proxy.client()
+    expect_answer(busy.ask("/a"), 200, "edge;fwd=uri-miss;ttl=600;stored", b"hello")
+    for _ in range(20):
+        answer, seconds = timed(busy, "/a")
+        expect_answer(answer, 200, "edge;hit;ttl=600", b"hello")
+        expect_within("a busy client's answer", 0, 0.9, seconds)
+    for it in idle:
+        expect_answer(it.ask("/a"), 200, "edge;hit;ttl=600", b"hello")
+
+
+@scenario
+def a_connection_beyond_256_waits_its_turn(stage):
+    """256 connections are open at a time. The next one is served when one of them ends."""
+    stage.origin(Origin({"/a": whole(200, KEPT, content=b"hello")}))
+    proxy = stage.proxy()
+    idle = [proxy.client() for _ in range(MOST_CONNECTIONS)]
+    idle[0].ask("/a")
+    last = proxy.client()
+    last.send(request("/a"))
+    expect("an answer while 256 are open", False, not last.has_nothing_to_read(1.5))
+    idle[7].leave()
+    expect_answer(last.response(), 200, "edge;hit;ttl=600", b"hello")
+
+
+@scenario
+def idle_clients_make_room_in_time(stage):
+    """256 connections that send nothing keep the next one out until the clients' time-out, and no longer."""
+    stage.origin(Origin({"/a": whole(200, KEPT, content=b"hello")}))
+    proxy = stage.proxy(options=["--client-timeout", str(SHORT)])
+    for _ in range(MOST_CONNECTIONS):
+        proxy.client()
+    answer, seconds = timed(proxy.client(), "/a")
+    expect_answer(answer, 200, "edge;fwd=uri-miss;ttl=600;stored", b"hello")
+    expect_within("the answer", 0, LATEST, seconds)
+
+
+@scenario
+def many_clients_at_a_time(stage):
+    """Thirty clients ask side by side, for their own and for shared targets; each gets what it asked for, in order."""
+    names = [f"/{i}" for i in range(20)]
+    stage.origin(Origin({it: whole(200, KEPT, content=it.encode() * 500) for it in names}))
+    proxy = stage.proxy()
+    for it in names:
+        proxy.client().ask(it)
+    faults = []
+
+    def ask_around(start):
+        try:
+            client = proxy.client()
+            for i in range(40):
+                target = names[(start + i * 7) % len(names)]
+                if i % 10 == 9:
+                    expect_member("edge;fwd=method", client.ask(target + "?x", method="POST", content=b"x" * i * 100))
+                else:
+                    expect_answer(client.ask(target), 200, "edge;hit;ttl=600", target.encode() * 500)
+        except Exception as fault:
+            faults.append(fault)
+
+    threads = [threading.Thread(target=ask_around, args=[i]) for i in range(30)]
+    for it in threads:
+        it.start()
+    for it in threads:
+        it.join()
+    if faults:
+        raise faults[0]
+
+
+@scenario
+def connections_come_and_go(stage):
+    """A thousand connections, one after the other, each with a request; memory is held for what is open alone."""
+    stage.origin(Origin({"/a": whole(200, KEPT, content=b"hello")}))
+    proxy = stage.proxy()
+    proxy.client().ask("/a")
+    for i in range(1000):
+        client = proxy.client()
+        expect_answer(client.ask("/a", "Connection: close"), 200, "edge;hit;ttl=600", b"hello")
+        expect("the connection closed", True, client.is_closed())
+        if i == 500:
+            before = proxy.resident()
+    grown = proxy.resident() - before
+    if grown > 4 << 20:
+        raise Unexpected("of 500 connections that are over", "no memory", f"{grown} bytes")

@@ -1,0 +1,164 @@
+"""Scenarios of other programs as clients and origin, of the command line, and of the record itself."""
+import http.client
+import http.server
+import os
+import socket
+import subprocess
+import threading
+import urllib.request
+
+from live.expect import expect, expect_answer
+from live.origin import Origin, whole
+from live.proxy import table_of
+from live.scenario import scenario
+
+KEPT = "Cache-Control: max-age=600"
+MOST_SCRIPT = 16777216
+
+
+def fields_of(answer):
+    """The status line and the fields of what curl wrote, from its last head on."""
+    head = answer.rpartition(b"HTTP/1.1 ")[2].partition(b"\r\n\r\n")[0].decode()
+    status, *lines = head.split("\r\n")
+    return int(status), dict(it.split(": ", 1) for it in lines)
+
+
+@scenario
+def curl_gets_heads_posts_and_asks_with_conditions(stage):
+    """curl over HTTP/1.1 and 1.0: a miss, a hit, HEAD, conditions, contents with and without a length."""
+    origin = stage.origin(Origin({"/a": whole(200, KEPT, 'ETag: "v1"', content=b"hello"), "/post": whole(201, content=b"made")}))
+    proxy = stage.proxy()
+    big, url = f"{stage.room.name}/big", proxy.url
+    with open(big, "wb") as it:
+        it.write(b"x" * 200000)
+    for words, status, member in (
+        ([url("/a")], 200, "edge;fwd=uri-miss;ttl=;stored"),
+        ([url("/a")], 200, "edge;hit;ttl="),
+        (["--head", url("/a")], 200, "edge;hit;ttl="),
+        (["--http1.0", url("/a")], 200, "edge;hit;ttl="),
+        (["--http2", url("/a")], 200, "edge;hit;ttl="),
+        (["--header", 'If-None-Match: "v1"', url("/a")], 304, "edge;hit;ttl="),
+        (["--range", "0-1", url("/a")], 200, "edge;fwd=bypass;detail=range"),
+        (["--data", "x=1", url("/post")], 201, "edge;fwd=method"),
+        (["--data-binary", f"@{big}", url("/post")], 201, "edge;fwd=method"),
+        (["--data-binary", f"@{big}", "--header", "Expect: 100-continue", url("/post")], 201, "edge;fwd=method"),
+        (["--data-binary", f"@{big}", "--header", "Transfer-Encoding: chunked", url("/post")], 201, "edge;fwd=method"),
+        (["--path-as-is", url("/a/../b")], 400, None),
+    ):
+        got, fields = fields_of(proxy.curl(*words))
+        expect(f"from curl {' '.join(words)} the status", status, got)
+        words_of = (fields.get("Cache-Status") or "").split(";")
+        expect("Cache-Status", member, ";".join("ttl=" if it.startswith("ttl=") else it for it in words_of) or None)
+    expect("lengths of contents at the origin", ["3"] + ["200000"] * 3, [it.value("Content-Length") for it in origin.fetches[2:]])
+
+
+@scenario
+def the_standard_library_as_client(stage):
+    """Python's http.client over one connection, and urllib."""
+    stage.origin(Origin({"/a": whole(200, KEPT, content=b"hello"), "/post": whole(201, content=b"made")}))
+    proxy = stage.proxy()
+    connection = http.client.HTTPConnection("127.0.0.1", proxy.port, timeout=10)
+    for method, target, content, status, text in (
+        ("GET", "/a", None, 200, b"hello"),
+        ("HEAD", "/a", None, 200, b""),
+        ("POST", "/post", b"x" * 50000, 201, b"made"),
+        ("GET", "/a", None, 200, b"hello"),
+        ("GET", "/none", None, 404, b"none"),
+    ):
+        connection.request(method, target, content)
+        answer = connection.getresponse()
+        expect(f"status and content of {method} {target}", (status, text), (answer.status, answer.read()))
+    connection.close()
+    with urllib.request.build_opener(urllib.request.ProxyHandler({})).open(proxy.url("/a"), timeout=10) as answer:
+        expect("what urllib read", b"hello", answer.read())
+    proxy.unseen_client()
+    proxy.unseen_client()
+
+
+class KeptFiles(http.server.SimpleHTTPRequestHandler):
+    """Python's own file server, whose answers may be kept for ten minutes."""
+
+    def end_headers(self):
+        self.send_header("Cache-Control", "max-age=600")
+        super().end_headers()
+
+    def log_message(self, *_words):
+        pass
+
+
+@scenario
+def the_standard_library_as_origin(stage):
+    """Files of Python's http.server, which speaks HTTP/1.0: a miss and a hit."""
+    with open(f"{stage.room.name}/file.txt", "wb") as it:
+        it.write(b"hello")
+    files = lambda *words: KeptFiles(*words, directory=stage.room.name)
+    with http.server.ThreadingHTTPServer(("127.0.0.1", 0), files) as server:
+        threading.Thread(target=server.serve_forever, daemon=True).start()
+        client = stage.proxy("127.0.0.1:%d" % server.server_port).client()
+        expect_answer(client.ask("/file.txt"), 200, "edge;fwd=uri-miss;ttl=600;stored", b"hello")
+        expect_answer(client.ask("/file.txt"), 200, "edge;hit;ttl=600", b"hello")
+        server.shutdown()
+
+
+def run(stage, *words):
+    """The status, the output and the line on standard error of a program that ends by itself."""
+    ran = subprocess.run([stage.program, *words], stdin=subprocess.DEVNULL, capture_output=True, timeout=20)
+    return ran.returncode, ran.stdout.decode(), ran.stderr.decode()
+
+
+@scenario
+def the_command_line_checks_a_table(stage):
+    """`check` names what is wrong with a table; what is no command line is a usage fault."""
+    file, wrong = f"{stage.room.name}/table.toml", f"{stage.room.name}/wrong.toml"
+    for name, text in ((file, table_of(["127.0.0.1:1"])), (wrong, table_of(["127.0.0.1:1"], capacity=0))):
+        with open(name, "w", encoding="utf-8") as it:
+            it.write(text)
+    with socket.create_server(("127.0.0.1", 0)) as taken:
+        address = "127.0.0.1:%d" % taken.getsockname()[1]
+        serve = ["serve", file, "--listen"]
+        for words, ended in (
+            (["check", file], (0, "ok 1 lines\n", "")),
+            (["check", wrong], (2, "", "config fault 4 key capacity\n")),
+            (["check", f"{file}.none"], (1, "", "read fault\n")),
+            (["check"], (64, "", "usage fault\n")),
+            (["sing"], (64, "", "usage fault\n")),
+            ([*serve, "127.0.0.1:0", "--turns", "0"], (64, "", "usage fault\n")),
+            ([*serve, "127.0.0.1:0", "--turns", "4294967296"], (64, "", "usage fault\n")),
+            ([*serve, "localhost:0", "--turns", "1"], (64, "", "usage fault\n")),
+            ([*serve, "127.0.0.1:0"], (64, "", "usage fault\n")),
+            ([*serve, address, "--turns", "1"], (1, "", "socket fault\n")),
+            (["serve", wrong, "--listen", address, "--turns", "1"], (2, "", "config fault 4 key capacity\n")),
+        ):
+            expect(f"from `{' '.join(words)}` status, output and standard error", ended, run(stage, *words))
+    for words in (["--help"], ["--version"], ["serve", "--help"]):
+        expect(f"status of {words}", 0, run(stage, *words)[0])
+
+
+@scenario
+def it_ends_when_its_turns_are_over(stage):
+    """`--turns`: a server without peers ends by itself with status 0, and leaves a record that can be replayed."""
+    origin = stage.origin(Origin({}))
+    proxy = stage.proxy(turns=3)
+    expect("status, output and standard error", (0, b"", ""), proxy.wait())
+    proxy.compare([origin])
+
+
+@scenario
+def a_record_is_cut_at_the_limit_of_a_script(stage):
+    """A record ends before a script's 16,777,216 bytes, which is said once; serving goes on. It replays to its end."""
+    stage.origin(Origin({"/a": whole(201, content=b"made")}))
+    proxy = stage.proxy()
+    client = proxy.client()
+    for _ in range(20):
+        expect_answer(client.ask("/a", method="POST", content=b"x" * 999999), 201, "edge;fwd=method", b"made")
+    size = os.path.getsize(proxy.record)
+    expect("a record just below the limit of a script", True, MOST_SCRIPT - 8192 <= size <= MOST_SCRIPT)
+    stage.is_cut, stage.lines = True, 1
+
+
+@scenario
+def a_record_that_cannot_be_written_ends_the_server(stage):
+    """A write fault of the record is the server's own."""
+    proxy = stage.proxy(turns=5, record_to="/dev/full") if os.path.exists("/dev/full") else None
+    if proxy:
+        expect("status and standard error", (1, "write fault\n"), proxy.wait()[::2])

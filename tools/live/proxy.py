@@ -1,0 +1,148 @@
+"""The built program in front of origins, with a record of what happens at its connections."""
+import os
+import select
+import subprocess
+import tempfile
+import threading
+import time
+
+from live import record
+from live.client import PATIENCE, Client, Said
+from live.expect import Skipped, Unexpected, expect
+
+MOST_TURNS = 4294967295
+LISTENING = "listening on "
+
+
+def table_of(lines, max_body=1000000, max_stored=100000, capacity=64):
+    """The operator's table, of (path, methods, origin) or of an origin's address for everything."""
+    text = f'version = 1\nname = "edge"\ncapacity = {capacity}\nmax_body = {max_body}\nmax_stored = {max_stored}\n'
+    for it in lines:
+        path, methods, origin = it if isinstance(it, tuple) else ("/", ["*"], it)
+        names = ", ".join(f'"{name}"' for name in methods)
+        text += f'\n[[line]]\nhost = "*"\nmethods = [{names}]\npath = "{path}"\norigin = "{origin}"\n'
+    return text
+
+
+class Proxy:
+    """A running program. Its clients are numbered in the order in which they connect, as the program numbers them."""
+
+    def __init__(self, program, folder, table, turns=MOST_TURNS, options=(), record_to=None):
+        self.program, self.folder, self.clients, self.connecting = program, folder, [], threading.Lock()
+        self.record = record_to or f"{folder}/record"
+        with open(f"{folder}/table.toml", "w", encoding="utf-8") as it:
+            it.write(table)
+        words = ["serve", f"{folder}/table.toml", "--listen", "127.0.0.1:0", "--turns", str(turns), "--record", self.record]
+        how = {"stdin": subprocess.DEVNULL, "stdout": subprocess.PIPE, "stderr": subprocess.PIPE}
+        self.process = subprocess.Popen([program, *words, *options], **how)
+        self.port = self.read_port()
+
+    def read_port(self):
+        """The port of the line that says where the program listens."""
+        line, deadline = b"", time.monotonic() + PATIENCE
+        while not line.endswith(b"\n"):
+            is_there = select.select([self.process.stderr], [], [], deadline - time.monotonic())[0]
+            byte = os.read(self.process.stderr.fileno(), 1) if is_there else b""
+            if not byte:
+                self.process.kill()
+                raise Unexpected("on standard error", "listening on 127.0.0.1:PORT", line)
+            line += byte
+        text = line.decode().rstrip("\n")
+        if not text.startswith(f"{LISTENING}127.0.0.1:"):
+            raise Unexpected("on standard error", "listening on 127.0.0.1:PORT", text)
+        return int(text.rpartition(":")[2])
+
+    def client(self):
+        with self.connecting:
+            it = Client(self.port, len(self.clients) + 1)
+            self.clients.append(it)
+        return it
+
+    def curl(self, *words):
+        """What curl wrote, with the heads that came in front. It makes one connection."""
+        with self.connecting:
+            words = ["curl", "--silent", "--show-error", "--noproxy", "*", "--max-time", str(PATIENCE), "--include", "--raw", *words]
+            try:
+                ran = subprocess.run(words, capture_output=True, timeout=2 * PATIENCE)
+            except FileNotFoundError:
+                raise Skipped("there is no curl") from None
+            self.clients.append(Said(len(self.clients) + 1, ran.stdout))
+        expect("curl's status and its line on standard error", (0, b""), (ran.returncode, ran.stderr))
+        return ran.stdout
+
+    def unseen_client(self):
+        """Counts a client that keeps no bytes."""
+        with self.connecting:
+            self.clients.append(Said(len(self.clients) + 1, None))
+
+    def url(self, target):
+        return f"http://127.0.0.1:{self.port}{target}"
+
+    def resident(self):
+        """The memory that the program holds, in bytes."""
+        with open(f"/proc/{self.process.pid}/status", encoding="utf-8") as it:
+            return next(int(line.split()[1]) * 1024 for line in it if line.startswith("VmRSS:"))
+
+    def wait(self):
+        """Waits for the end of the program by itself; its status, and what it wrote behind its first line."""
+        try:
+            out, err = self.process.communicate(timeout=PATIENCE)
+        except subprocess.TimeoutExpired:
+            raise Unexpected("the program's end", f"within {PATIENCE} s", "a running program") from None
+        return self.process.returncode, out, err.decode()
+
+    def stop(self, lines):
+        """Ends the program as a supervisor does. It has said so many lines behind its first."""
+        for it in self.clients:
+            it.settle()
+        ended = self.process.poll()
+        if ended is not None:
+            raise Unexpected("the program", "to run still", f"status {ended}, and {self.process.stderr.read()!r}")
+        self.process.terminate()
+        _, out, err = self.wait()
+        if out or err.count("\n") != lines:
+            raise Unexpected("of output nothing and of standard error", f"{lines} lines more", (out, err))
+
+    def compare(self, origins, is_cut=False):
+        """Replays the record of the run, and compares it with what every client and origin got."""
+        for it in self.clients:
+            it.drain()
+        effects = record.replay(self.program, self.record)
+        record.compare_clients(effects, self.clients, is_cut)
+        record.compare_origins(effects, origins, is_cut)
+
+
+class Stage:
+    """What one scenario starts, and its end: the program is stopped, its record replayed, and all compared."""
+
+    def __init__(self, program):
+        self.program, self.room = program, tempfile.TemporaryDirectory(prefix="live-test-")
+        self.origins, self.proxies, self.lines, self.is_cut = [], [], 0, False
+
+    def origin(self, it):
+        self.origins.append(it)
+        return it
+
+    def proxy(self, *lines, turns=MOST_TURNS, options=(), record_to=None, **table):
+        """A program before the origins of these lines, or before the ones that were made."""
+        text = table_of(lines or [it.address for it in self.origins], **table)
+        it = Proxy(self.program, self.room.name, text, turns, options, record_to)
+        self.proxies.append(it)
+        return it
+
+    def finish(self):
+        """Called where all that the scenario itself expects has come."""
+        running = [it for it in self.proxies if it.process.returncode is None]
+        for it in running:
+            it.stop(self.lines)
+        for it in running:
+            it.compare([one for one in self.origins if hasattr(one, "fetches")], self.is_cut)
+
+    def clear(self):
+        for it in self.proxies:
+            if it.process.poll() is None:
+                it.process.kill()
+                it.process.communicate()
+        for it in self.origins:
+            it.close()
+        self.room.cleanup()

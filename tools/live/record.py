@@ -1,0 +1,62 @@
+"""Replays the record of a run, and compares what went out with what came in at the other ends."""
+import subprocess
+
+from live.expect import Unexpected, expect
+
+
+class Effects:
+    """The effects that a replay writes, by the end that they are for."""
+
+    def __init__(self, text):
+        self.clients, self.forwards, self.closed = {}, {}, set()
+        at = 0
+        while at < len(text):
+            end = text.index(b"\n", at)
+            word, number, *rest = text[at:end].decode().split(" ")
+            at = end + 1
+            if rest:
+                length = int(rest[-1])
+                block, at = text[at : at + length], at + length + 1
+            if word == "client":
+                self.clients[int(number)] = self.clients.get(int(number), b"") + block
+            elif word == "forward":
+                self.forwards.setdefault(rest[0], []).append(block)
+            elif word == "close":
+                self.closed.add(int(number))
+
+
+def replay(program, file):
+    """The effects of a recorded script."""
+    with open(file, "rb") as script:
+        ran = subprocess.run([program], stdin=script, capture_output=True, timeout=60)
+    expect("from the record's replay the status and standard error", (0, b""), (ran.returncode, ran.stderr))
+    return Effects(ran.stdout)
+
+
+def compare_clients(effects, clients, is_cut):
+    """Each client got the bytes of the replay: all of them, but where it went away itself. A record that was cut has
+    the first part of what happened."""
+    unknown = sorted({*effects.clients} - {it.number for it in clients})
+    expect("from the replay no bytes for clients that never came", [], unknown)
+    for it in clients:
+        if it.received is None:
+            continue
+        wanted, got = effects.clients.get(it.number, b""), bytes(it.received)
+        if is_cut:
+            got = got[: len(wanted)]
+        elif it.has_left:
+            wanted = wanted[: len(got)]
+        expect(f"for client {it.number}, by the replay,", wanted, got)
+        if it.number in effects.closed and not it.has_left and not it.has_ended:
+            raise Unexpected(f"client {it.number}, by the replay,", "to be closed", "an open connection")
+
+
+def compare_origins(effects, origins, is_cut):
+    """Each connection that an origin accepted brought the bytes of the replay's forward."""
+    for it in origins:
+        wanted, got = effects.forwards.get(it.address, []), it.fetches
+        if not is_cut:
+            expect(f"by the replay connections to {it.address}:", len(wanted), len(got))
+        for bytes_, fetch in zip(wanted, got):
+            text = bytes(fetch.received)
+            expect("at an origin, by the replay,", bytes_ if fetch.is_whole else bytes_[: len(text)], text)
