@@ -4,11 +4,9 @@ import time
 
 from live.client import request
 from live.expect import Unexpected, expect, expect_answer, expect_member, expect_within
-from live.failures import LATEST, SHORT, timed
-from live.origin import Origin, whole
-from live.scenario import scenario
+from live.origin import Origin, silent, whole
+from live.scenario import AT_ONCE, KEPT, LATEST, SHORT, scenario, timed
 
-KEPT = "Cache-Control: max-age=600"
 MOST_CONNECTIONS = 256
 # The most bytes that are kept for an end that doesn't read.
 MOST_UNSENT = 64 << 20
@@ -27,7 +25,7 @@ def a_slow_reader_stops_nobody(stage):
     for _ in range(20):
         answer, seconds = timed(proxy.client(), "/a")
         expect_answer(answer, 200, "edge;hit;ttl=600", text)
-        expect_within("another client's answer", 0, 0.9, seconds)
+        expect_within("another client's answer", 0, AT_ONCE, seconds)
         time.sleep(0.02)
     grown = proxy.resident() - before
     if grown > MOST_UNSENT + (32 << 20):
@@ -50,7 +48,7 @@ def a_slow_origin_stops_nobody(stage):
     origin.wait_for(50)
     answer, seconds = timed(proxy.client(), "/a")
     expect_answer(answer, 200, "edge;fwd=uri-miss", b"soon")
-    expect_within("another client's answer", 0, 0.9, seconds)
+    expect_within("another client's answer", 0, AT_ONCE, seconds)
     go.set()
     for it in waiting:
         expect_answer(it.response(), 200, "edge;fwd=uri-miss", b"late")
@@ -67,7 +65,7 @@ def two_hundred_idle_connections(stage):
     for _ in range(20):
         answer, seconds = timed(busy, "/a")
         expect_answer(answer, 200, "edge;hit;ttl=600", b"hello")
-        expect_within("a busy client's answer", 0, 0.9, seconds)
+        expect_within("a busy client's answer", 0, AT_ONCE, seconds)
     for it in idle:
         expect_answer(it.ask("/a"), 200, "edge;hit;ttl=600", b"hello")
 
@@ -127,6 +125,52 @@ def many_clients_at_a_time(stage):
         it.join()
     if faults:
         raise faults[0]
+
+
+@scenario
+def an_idle_server_does_nothing(stage):
+    """Nobody makes the server spin: idle clients, half a request, a client that went away or ended its input while its
+    origin is silent, and one that doesn't read."""
+    text = b"x" * 100000
+    origin = stage.origin(Origin({"/a": whole(200, KEPT, content=text), "/silent": silent}))
+    proxy = stage.proxy()
+    proxy.client().ask("/a")
+    for _ in range(50):
+        proxy.client()
+    half, slow, gone, ended = (proxy.client() for _ in range(4))
+    half.send(request("/a")[:10])
+    slow.send(request("/a") * 100)
+    for it in (gone, ended):
+        it.send(request("/silent"))
+    origin.wait_for(3)
+    ended.half_close()
+    gone.leave()
+    time.sleep(0.5)
+    before = proxy.processor_seconds()
+    time.sleep(2)
+    expect_within("of two idle seconds the processor time", 0, 0.2, proxy.processor_seconds() - before)
+    slow.leave(reset=True)
+
+
+@scenario
+def descriptors_run_out(stage):
+    """Where the system gives no more descriptors, connections wait in the queue, the server doesn't spin, and those that
+    are open are served; when some end the others' turn comes."""
+    stage.origin(Origin({"/a": whole(200, KEPT, content=b"hello")}))
+    proxy = stage.proxy()
+    first = proxy.client()
+    first.ask("/a")
+    proxy.limit_descriptors(30)
+    others = [proxy.client() for _ in range(40)]
+    others[39].send(request("/a"))
+    time.sleep(0.5)
+    before = proxy.processor_seconds()
+    expect("an answer where no descriptor is left", False, not others[39].has_nothing_to_read(2))
+    expect_within("of two seconds without a descriptor the processor time", 0, 0.5, proxy.processor_seconds() - before)
+    expect_answer(first.ask("/a"), 200, "edge;hit;ttl=600", b"hello")
+    for it in others[:35]:
+        it.leave()
+    expect_answer(others[39].response(), 200, "edge;hit;ttl=600", b"hello")
 
 
 @scenario

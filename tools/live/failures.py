@@ -5,18 +5,7 @@ import time
 from live.client import request
 from live.expect import expect, expect_answer, expect_member, expect_refusal, expect_within
 from live.origin import FullQueue, Origin, Refusing, byte_by_byte, ends, head_of, held_back, raw, silent, whole
-from live.scenario import scenario
-
-KEPT = "Cache-Control: max-age=600"
-# Seconds of a time-out, in whole ones as the option has it, and the longest until it is told.
-SHORT, LATEST = 1, 5
-
-
-def timed(client, *words, **more):
-    """An answer, and the seconds that it took."""
-    began = time.monotonic()
-    answer = client.ask(*words, **more)
-    return answer, time.monotonic() - began
+from live.scenario import AT_ONCE, KEPT, LATEST, SHORT, scenario, timed
 
 
 @scenario
@@ -30,7 +19,7 @@ def a_silent_origin_times_out(stage):
     origin.wait_for(1)
     answer, seconds = timed(other, "/a")
     expect_answer(answer, 200, "edge;fwd=uri-miss;ttl=600;stored", b"hello")
-    expect_within("another client's answer", 0, 0.9, seconds)
+    expect_within("another client's answer", 0, AT_ONCE, seconds)
     expect_refusal(waiting.response(), 504, "origin timed-out;fwd=uri-miss")
     expect_within("504", SHORT, LATEST, time.monotonic() - began)
     expect("the link's end at the origin", True, origin.fetches[0].is_over.wait(LATEST))
@@ -86,7 +75,7 @@ def an_origin_with_a_full_queue_times_out(stage):
     time.sleep(0.1)
     answer, seconds = timed(other, "/a")
     expect_answer(answer, 200, "edge;fwd=uri-miss;ttl=600;stored", b"hello")
-    expect_within("another client's answer", 0, 0.8, seconds)
+    expect_within("another client's answer", 0, AT_ONCE, seconds)
     expect_refusal(waiting.response(), 504, "origin timed-out;fwd=uri-miss")
     expect_within("504", SHORT, LATEST, time.monotonic() - began)
 

@@ -5,9 +5,8 @@ import time
 from live.client import request
 from live.expect import Unexpected, expect, expect_answer, expect_member, expect_refusal
 from live.origin import Origin, byte_by_byte, ends, head_of, raw, whole
-from live.scenario import scenario
+from live.scenario import KEPT, scenario
 
-KEPT = "Cache-Control: max-age=600"
 CONTINUE = b"HTTP/1.1 100 Continue\r\n\r\n"
 
 

@@ -7,12 +7,11 @@ import subprocess
 import threading
 import urllib.request
 
-from live.expect import expect, expect_answer
+from live.expect import Skipped, expect, expect_answer
 from live.origin import Origin, whole
 from live.proxy import table_of
-from live.scenario import scenario
+from live.scenario import KEPT, scenario
 
-KEPT = "Cache-Control: max-age=600"
 MOST_SCRIPT = 16777216
 
 
@@ -144,6 +143,22 @@ def it_ends_when_its_turns_are_over(stage):
 
 
 @scenario
+def it_starts_again_at_its_port(stage):
+    """What a supervisor does: the program is ended while clients are connected, and started again at once, with an
+    empty store."""
+    origin = stage.origin(Origin({"/a": whole(200, KEPT, content=b"hello")}))
+    first = stage.proxy()
+    client = first.client()
+    expect_answer(client.ask("/a"), 200, "edge;fwd=uri-miss;ttl=600;stored", b"hello")
+    first.stop(0)
+    first.compare([origin])
+    expect("the connection's end", True, client.has_ended)
+    origin.fetches.clear()
+    again = stage.proxy(listen=f"127.0.0.1:{first.port}")
+    expect_answer(again.client().ask("/a"), 200, "edge;fwd=uri-miss;ttl=600;stored", b"hello")
+
+
+@scenario
 def a_record_is_cut_at_the_limit_of_a_script(stage):
     """A record ends before a script's 16,777,216 bytes, which is said once; serving goes on. It replays to its end."""
     stage.origin(Origin({"/a": whole(201, content=b"made")}))
@@ -159,6 +174,10 @@ def a_record_is_cut_at_the_limit_of_a_script(stage):
 @scenario
 def a_record_that_cannot_be_written_ends_the_server(stage):
     """A write fault of the record is the server's own."""
-    proxy = stage.proxy(turns=5, record_to="/dev/full") if os.path.exists("/dev/full") else None
-    if proxy:
-        expect("status and standard error", (1, "write fault\n"), proxy.wait()[::2])
+    if not os.path.exists("/dev/full"):
+        raise Skipped("there is no /dev/full")
+    file = f"{stage.room.name}/table.toml"
+    with open(file, "w", encoding="utf-8") as it:
+        it.write(table_of(["127.0.0.1:1"]))
+    status, _, said = run(stage, "serve", file, "--listen", "127.0.0.1:0", "--turns", "3", "--record", "/dev/full")
+    expect("status, and the last line on standard error", (1, "write fault"), (status, said.rstrip("\n").rpartition("\n")[2]))

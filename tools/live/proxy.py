@@ -1,5 +1,6 @@
 """The built program in front of origins, with a record of what happens at its connections."""
 import os
+import resource
 import select
 import subprocess
 import tempfile
@@ -27,12 +28,12 @@ def table_of(lines, max_body=1000000, max_stored=100000, capacity=64):
 class Proxy:
     """A running program. Its clients are numbered in the order in which they connect, as the program numbers them."""
 
-    def __init__(self, program, folder, table, turns=MOST_TURNS, options=(), record_to=None):
+    def __init__(self, program, folder, table, turns=MOST_TURNS, options=(), listen="127.0.0.1:0", record_to=None):
         self.program, self.folder, self.clients, self.connecting = program, folder, [], threading.Lock()
         self.record = record_to or f"{folder}/record"
         with open(f"{folder}/table.toml", "w", encoding="utf-8") as it:
             it.write(table)
-        words = ["serve", f"{folder}/table.toml", "--listen", "127.0.0.1:0", "--turns", str(turns), "--record", self.record]
+        words = ["serve", f"{folder}/table.toml", "--listen", listen, "--turns", str(turns), "--record", self.record]
         how = {"stdin": subprocess.DEVNULL, "stdout": subprocess.PIPE, "stderr": subprocess.PIPE}
         self.process = subprocess.Popen([program, *words, *options], **how)
         self.port = self.read_port()
@@ -83,6 +84,15 @@ class Proxy:
         with open(f"/proc/{self.process.pid}/status", encoding="utf-8") as it:
             return next(int(line.split()[1]) * 1024 for line in it if line.startswith("VmRSS:"))
 
+    def processor_seconds(self):
+        """The processor time that the program has taken."""
+        with open(f"/proc/{self.process.pid}/stat", encoding="utf-8") as it:
+            user, system = it.read().rpartition(")")[2].split()[11:13]
+        return (int(user) + int(system)) / os.sysconf("SC_CLK_TCK")
+
+    def limit_descriptors(self, count):
+        resource.prlimit(self.process.pid, resource.RLIMIT_NOFILE, (count, count))
+
     def wait(self):
         """Waits for the end of the program by itself; its status, and what it wrote behind its first line."""
         try:
@@ -123,10 +133,10 @@ class Stage:
         self.origins.append(it)
         return it
 
-    def proxy(self, *lines, turns=MOST_TURNS, options=(), record_to=None, **table):
+    def proxy(self, *lines, turns=MOST_TURNS, options=(), listen="127.0.0.1:0", **table):
         """A program before the origins of these lines, or before the ones that were made."""
         text = table_of(lines or [it.address for it in self.origins], **table)
-        it = Proxy(self.program, self.room.name, text, turns, options, record_to)
+        it = Proxy(self.program, self.room.name, text, turns, options, listen)
         self.proxies.append(it)
         return it
 
