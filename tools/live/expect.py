@@ -31,8 +31,8 @@ def near_difference(expected, got):
 
 
 def expect_member(expected, response):
-    """The proxy's member of Cache-Status. A second may end between a response's date and its use, so a ttl may be up
-    to sixty less, and none more."""
+    """The proxy's member of Cache-Status. The clock goes on between a response's date and its use: a ttl may be up to a
+    minute less than it is at the start, and never more."""
     got = response.value("Cache-Status") or "none"
     words = list(zip(expected.split(";"), got.split(";")))
     is_same = expected.count(";") == got.count(";") and all(a == b or is_ttl_within(a, b) for a, b in words)

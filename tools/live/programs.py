@@ -1,10 +1,9 @@
 """Scenarios of other programs as clients and origin, of the command line, and of the record itself."""
 import http.client
-import http.server
 import os
 import socket
 import subprocess
-import threading
+import sys
 import urllib.request
 
 from live.expect import Skipped, expect, expect_answer
@@ -12,7 +11,9 @@ from live.origin import Origin, whole
 from live.proxy import table_of
 from live.scenario import KEPT, scenario
 
-MOST_SCRIPT = 16777216
+TOOLS = os.path.dirname(os.path.dirname(os.path.realpath(__file__)))
+# The most bytes of a script, and of one happening in it.
+MOST_SCRIPT, MOST_HAPPENING = 16777216, 4200
 
 
 def fields_of(answer):
@@ -74,29 +75,20 @@ def the_standard_library_as_client(stage):
     proxy.unseen_client()
 
 
-class KeptFiles(http.server.SimpleHTTPRequestHandler):
-    """Python's own file server, whose answers may be kept for ten minutes."""
-
-    def end_headers(self):
-        self.send_header("Cache-Control", "max-age=600")
-        super().end_headers()
-
-    def log_message(self, *_words):
-        pass
-
-
 @scenario
 def the_standard_library_as_origin(stage):
-    """Files of Python's http.server, which speaks HTTP/1.0: a miss and a hit."""
+    """Files of Python's http.server, which speaks HTTP/1.0, by tools/origin: a miss and a hit, as README shows."""
     with open(f"{stage.room.name}/file.txt", "wb") as it:
         it.write(b"hello")
-    files = lambda *words: KeptFiles(*words, directory=stage.room.name)
-    with http.server.ThreadingHTTPServer(("127.0.0.1", 0), files) as server:
-        threading.Thread(target=server.serve_forever, daemon=True).start()
-        client = stage.proxy("127.0.0.1:%d" % server.server_port).client()
-        expect_answer(client.ask("/file.txt"), 200, "edge;fwd=uri-miss;ttl=600;stored", b"hello")
-        expect_answer(client.ask("/file.txt"), 200, "edge;hit;ttl=600", b"hello")
-        server.shutdown()
+    words = [sys.executable, f"{TOOLS}/origin", "0"]
+    with subprocess.Popen(words, cwd=stage.room.name, stdin=subprocess.DEVNULL, stderr=subprocess.PIPE) as origin:
+        try:
+            address = origin.stderr.readline().decode().strip().removeprefix("listening on ")
+            client = stage.proxy(address).client()
+            expect_answer(client.ask("/file.txt"), 200, "edge;fwd=uri-miss;ttl=60;stored", b"hello")
+            expect_answer(client.ask("/file.txt"), 200, "edge;hit;ttl=60", b"hello")
+        finally:
+            origin.kill()
 
 
 def run(stage, *words):
@@ -117,6 +109,7 @@ def the_command_line_checks_a_table(stage):
         serve = ["serve", file, "--listen"]
         for words, ended in (
             (["check", file], (0, "ok 1 lines\n", "")),
+            (["check", f"{TOOLS}/../deploy/table.toml"], (0, "ok 2 lines\n", "")),
             (["check", wrong], (2, "", "config fault 4 key capacity\n")),
             (["check", f"{file}.none"], (1, "", "read fault\n")),
             (["check"], (64, "", "usage fault\n")),
@@ -167,7 +160,7 @@ def a_record_is_cut_at_the_limit_of_a_script(stage):
     for _ in range(20):
         expect_answer(client.ask("/a", method="POST", content=b"x" * 999999), 201, "edge;fwd=method", b"made")
     size = os.path.getsize(proxy.record)
-    expect("a record just below the limit of a script", True, MOST_SCRIPT - 8192 <= size <= MOST_SCRIPT)
+    expect("a record just below the limit of a script", True, MOST_SCRIPT - MOST_HAPPENING <= size <= MOST_SCRIPT)
     stage.is_cut, stage.lines = True, 1
 
 
