@@ -140,8 +140,8 @@ def an_idle_server_does_nothing(stage):
     half, slow, gone, ended = (proxy.client() for _ in range(4))
     half.send(request("/a")[:10])
     slow.send(request("/a") * 100)
-    for it in (gone, ended):
-        it.send(request("/silent"))
+    gone.send(request("/silent?1"))
+    ended.send(request("/silent?2"))
     origin.wait_for(3)
     ended.half_close()
     gone.leave()

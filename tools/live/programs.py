@@ -6,7 +6,7 @@ import subprocess
 import sys
 import urllib.request
 
-from live.expect import Skipped, expect, expect_answer
+from live.expect import Skipped, Unexpected, expect, expect_answer
 from live.origin import Origin, whole
 from live.proxy import table_of
 from live.scenario import KEPT, scenario
@@ -160,7 +160,8 @@ def a_record_is_cut_at_the_limit_of_a_script(stage):
     for _ in range(20):
         expect_answer(client.ask("/a", method="POST", content=b"x" * 999999), 201, "edge;fwd=method", b"made")
     size = os.path.getsize(proxy.record)
-    expect("a record just below the limit of a script", True, MOST_SCRIPT - MOST_HAPPENING <= size <= MOST_SCRIPT)
+    if not MOST_SCRIPT - MOST_HAPPENING <= size <= MOST_SCRIPT:
+        raise Unexpected("a record of", f"{MOST_SCRIPT - MOST_HAPPENING} to {MOST_SCRIPT} bytes", f"{size} bytes")
     stage.is_cut, stage.lines = True, 1
 
 
