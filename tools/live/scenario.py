@@ -5,7 +5,7 @@ SCENARIOS = {}
 # What lets an answer be kept for ten minutes.
 KEPT = "Cache-Control: max-age=600"
 # Seconds of a time-out, in whole ones as its option has it, and the longest until it is told.
-SHORT, LATEST = 1, 5
+SHORT, LATEST = 2, 10
 # What an answer that waits for nobody takes at most. (A turn that waited would take a second.)
 AT_ONCE = 0.9
 
