@@ -141,7 +141,7 @@ def an_origin_that_answers_byte_by_byte(stage):
 
 @scenario
 def a_client_that_leaves_costs_its_answer_alone(stage):
-    """What a client asked for before it went away is stored for the next one; what it began to ask is forgotten."""
+    """What a client asked for before it closed is stored for the next one; what it began to ask is forgotten."""
     go = threading.Event()
     origin = stage.origin(Origin({"/a": held_back(go, whole(200, KEPT, content=b"hello" * 20000))}))
     proxy = stage.proxy()
@@ -152,12 +152,26 @@ def a_client_that_leaves_costs_its_answer_alone(stage):
     waiting = proxy.client()
     waiting.send(request("/a"))
     origin.wait_for(1)
-    waiting.leave(reset=True)
+    waiting.leave()
     time.sleep(0.1)
     go.set()
     expect("the link's end at the origin", True, origin.fetches[0].is_over.wait(LATEST))
     expect_answer(proxy.client().ask("/a"), 200, "edge;hit;ttl=600", b"hello" * 20000)
     expect("requests at the origin", 1, len(origin.fetches))
+
+
+@scenario
+def a_client_that_is_cut_off_frees_its_link(stage):
+    """A reset tells that nobody waits any more: the exchange is given up before the origin has answered."""
+    origin = stage.origin(Origin({"/silent": silent, "/a": whole(200, KEPT, content=b"hello")}))
+    proxy = stage.proxy()
+    for i in range(5):
+        waiting = proxy.client()
+        waiting.send(request("/silent"))
+        origin.wait_for(i + 1)
+        waiting.leave(reset=True)
+        expect("the link's end at the origin", True, origin.fetches[i].is_over.wait(LATEST))
+    expect_answer(proxy.client().ask("/a"), 200, "edge;fwd=uri-miss;ttl=600;stored", b"hello")
 
 
 @scenario

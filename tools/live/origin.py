@@ -74,6 +74,7 @@ class Origin:
             fetch = Fetch(connection)
             with self.came:
                 self.fetches.append(fetch)
+                self.came.notify_all()
             threading.Thread(target=self.serve, args=[fetch], daemon=True).start()
 
     def serve(self, fetch):
@@ -94,6 +95,11 @@ class Origin:
             if not self.came.wait_for(lambda: sum(it.is_whole for it in self.fetches) >= count, PATIENCE):
                 raise Unexpected("requests at the origin", count, len(self.fetches))
         return self.fetches
+
+    def wait_for_connections(self, count):
+        """Until the thread that accepts has come to so many, for a while."""
+        with self.came:
+            self.came.wait_for(lambda: len(self.fetches) >= count, 1)
 
     def close(self):
         # (a close alone doesn't wake the thread that accepts)

@@ -12,6 +12,7 @@ from live.proxy import table_of
 from live.scenario import KEPT, scenario
 
 TOOLS = os.path.dirname(os.path.dirname(os.path.realpath(__file__)))
+NO_ADDRESSES = ["localhost:0", "127.0.0.1", ":0", "[::1]:0", "127.0.0.1:65536", "127.0.0.1:08", "127.0.0.01:8", "127.0.0.1:+1"]
 # The most bytes of a script, and of one happening in it.
 MOST_SCRIPT, MOST_HAPPENING = 16777216, 4200
 
@@ -116,7 +117,8 @@ def the_command_line_checks_a_table(stage):
             (["sing"], (64, "", "usage fault\n")),
             ([*serve, "127.0.0.1:0", "--turns", "0"], (64, "", "usage fault\n")),
             ([*serve, "127.0.0.1:0", "--turns", "4294967296"], (64, "", "usage fault\n")),
-            ([*serve, "localhost:0", "--turns", "1"], (64, "", "usage fault\n")),
+            *(([*serve, it, "--turns", "1"], (64, "", "usage fault\n")) for it in NO_ADDRESSES),
+            (["check", file, file], (64, "", "usage fault\n")),
             ([*serve, "127.0.0.1:0"], (64, "", "usage fault\n")),
             ([*serve, address, "--turns", "1"], (1, "", "socket fault\n")),
             (["serve", wrong, "--listen", address, "--turns", "1"], (2, "", "config fault 4 key capacity\n")),

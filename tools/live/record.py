@@ -55,6 +55,7 @@ def compare_origins(effects, origins, is_cut):
     """Each connection that an origin accepted brought the bytes of the replay's forward."""
     for it in origins:
         wanted, got = effects.forwards.get(it.address, []), it.fetches
+        it.wait_for_connections(len(wanted))
         if not is_cut:
             expect(f"by the replay connections to {it.address}:", len(wanted), len(got))
         for bytes_, fetch in zip(wanted, got):
