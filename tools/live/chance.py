@@ -107,3 +107,4 @@ def whatever_happens_can_be_replayed(stage):
         it.join()
     if faults:
         raise faults[0]
+    proxy.wait_until_quiet()

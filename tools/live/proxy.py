@@ -101,6 +101,13 @@ class Proxy:
             raise Unexpected("the program's end", f"within {PATIENCE} s", "a running program") from None
         return self.process.returncode, out, err.decode()
 
+    def wait_until_quiet(self):
+        """Until the record has stopped growing: what it has last was carried out."""
+        size = -1
+        while (now := os.path.getsize(self.record)) != size:
+            size = now
+            time.sleep(0.5)
+
     def stop(self, lines):
         """Ends the program as a supervisor does. It has said so many lines behind its first."""
         for it in self.clients:

@@ -56,8 +56,8 @@ def compare_origins(effects, origins, is_cut):
     for it in origins:
         wanted, got = effects.forwards.get(it.address, []), it.fetches
         it.wait_for_connections(len(wanted))
+        for i, (text, fetch) in enumerate(zip(wanted, got)):
+            came = bytes(fetch.received)
+            expect(f"by connection {i + 1} to an origin, by the replay,", text if fetch.is_whole else text[: len(came)], came)
         if not is_cut:
             expect(f"by the replay connections to {it.address}:", len(wanted), len(got))
-        for bytes_, fetch in zip(wanted, got):
-            text = bytes(fetch.received)
-            expect("at an origin, by the replay,", bytes_ if fetch.is_whole else bytes_[: len(text)], text)
