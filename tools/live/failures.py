@@ -1,4 +1,5 @@
 """Scenarios of origins that fail, and of clients that do."""
+import signal
 import threading
 import time
 
@@ -35,6 +36,25 @@ def a_time_out_counts_from_the_last_byte(stage):
     answer, seconds = timed(proxy.client(), "/a")
     expect_answer(answer, 200, "edge;fwd=uri-miss;ttl=600;stored", b"hello")
     expect_within("the answer", 2.4, 10, seconds)
+
+
+@scenario
+def what_came_during_a_pause_came_in_time(stage):
+    """A server that the system halts for a while (a machine that is moved, too little processor) reads what has come
+    meanwhile before it calls anyone silent."""
+    go = threading.Event()
+    origin = stage.origin(Origin({"/a": held_back(go, whole(200, KEPT, content=b"hello"))}))
+    proxy = stage.proxy(options=["--origin-timeout", str(SHORT), "--client-timeout", str(SHORT)])
+    waiting, idle = proxy.client(), proxy.client()
+    waiting.send(request("/a"))
+    origin.wait_for(1)
+    proxy.process.send_signal(signal.SIGSTOP)
+    go.set()
+    idle.send(request("/a"))
+    time.sleep(SHORT + 2)
+    proxy.process.send_signal(signal.SIGCONT)
+    expect_answer(waiting.response(), 200, "edge;fwd=uri-miss;ttl=600;stored", b"hello")
+    expect("status for the other client", 200, idle.response().status)
 
 
 @scenario
