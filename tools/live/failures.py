@@ -200,9 +200,9 @@ def a_client_that_leaves_amid_an_answer(stage):
     stage.origin(Origin({"/a": whole(200, KEPT, content=b"x" * 100000)}))
     proxy = stage.proxy()
     proxy.client().ask("/a")
-    for _ in range(5):
+    for _ in range(3):
         leaving = proxy.client()
-        leaving.send(request("/a") * 100)
+        leaving.send(request("/a") * 50)
         leaving.read_some(1000)
         leaving.leave(reset=True)
         expect_answer(proxy.client().ask("/a"), 200, "edge;hit;ttl=600", b"x" * 100000)
