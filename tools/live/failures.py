@@ -48,6 +48,8 @@ def what_came_during_a_pause_came_in_time(stage):
     waiting, idle = proxy.client(), proxy.client()
     waiting.send(request("/a"))
     origin.wait_for(1)
+    # (the server has come to wait: the signal that halts it ends that wait too, with no word of what is ready)
+    time.sleep(0.5)
     proxy.process.send_signal(signal.SIGSTOP)
     go.set()
     idle.send(request("/a"))
