@@ -209,6 +209,14 @@ impl<'a, R: Net> LiveSockets<'a, R> {
             .poll(&mut self.events, Some(Duration::from_millis(limit)))
     }
 
+    /// Takes what has come since the wait, without waiting. A signal may have ended the wait before it told of anything.
+    pub fn look_again(&mut self) -> io::Result<()> {
+        self.poll
+            .poll(&mut self.events, Some(Duration::from_millis(0)))?;
+        self.take_events();
+        Ok(())
+    }
+
     /// Takes what the wait told, at this second of a clock that never goes back. Whether a new second has begun.
     pub fn refresh(&mut self, now: u64) -> bool {
         let ticked = now != self.now;

@@ -137,14 +137,17 @@ impl Peer {
             return Ok(());
         }
         self.heard = now;
-        let written = self.write_or_keep(bytes);
+        let written = self.write_or_keep(bytes, now);
         if written.is_err() {
             self.break_off();
         }
         written
     }
 
-    fn write_or_keep(&mut self, bytes: &[u8]) -> io::Result<()> {
+    fn write_or_keep(&mut self, bytes: &[u8], now: u64) -> io::Result<()> {
+        if self.has_unsent() {
+            self.flush(now)?;
+        }
         if self.has_unsent() {
             return self.keep(bytes);
         }

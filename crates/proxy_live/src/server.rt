@@ -103,6 +103,10 @@ impl<'a, S: Shelf + Drop, R: Net, W: Write + Drop> Server<'a, S, R, W> {
         requires { now < 253402300800 }
     {
         if self.ends.sockets.refresh(second) {
+            // What came before this second counts before an end is called silent, though the proxy was halted meanwhile.
+            if self.ends.sockets.look_again().is_err() {
+                return Err(ServeFault::Socket);
+            }
             self.sweeping = true;
         }
         let now = self.ends.begin(now, self.settled).min(LATEST);

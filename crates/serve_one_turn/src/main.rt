@@ -1,8 +1,0 @@
-//! The program, with the arguments of this folder.
-#![tactic(auto)]
-
-use std::process::ExitCode;
-
-fn main(rt: HostRuntime) -> ExitCode {
-    proxy_program::run(&rt)
-}
