@@ -18,7 +18,7 @@ class Effects:
                 length = int(rest[-1])
                 block, at = text[at : at + length], at + length + 1
             if word == "client":
-                self.clients[int(number)] = self.clients.get(int(number), b"") + block
+                self.clients.setdefault(int(number), bytearray()).extend(block)
             elif word == "forward":
                 self.forwards.setdefault(rest[0], []).append(block)
             elif word == "close":
@@ -41,7 +41,7 @@ def compare_clients(effects, clients, is_cut):
     for it in clients:
         if it.received is None:
             continue
-        wanted, got = effects.clients.get(it.number, b""), bytes(it.received)
+        wanted, got = bytes(effects.clients.get(it.number, b"")), bytes(it.received)
         if is_cut:
             got = got[: len(wanted)]
         elif it.has_left:
