@@ -93,6 +93,31 @@ fn piece_of(end: End, number: usize) -> Option<&'static [u8]> {
     piece.copied()
 }
 
+/// How many pieces an end has given, and one more from now on.
+fn count(next: &mut Vec<Next>, lost: &mut bool, end: End) -> usize {
+    for it in next.iter_mut() {
+        if it.end == end {
+            it.piece = it.piece.saturating_add(1);
+            return it.piece - 1;
+        }
+    }
+    if next.push(Next { end, piece: 1 }).is_err() {
+        *lost = true;
+    }
+    0
+}
+
+fn keep(done: &mut Vec<Effect>, lost: &mut bool, effect: Result<Effect, AllocError>) {
+    match effect {
+        Ok(effect) => {
+            if done.push(effect).is_err() {
+                *lost = true;
+            }
+        }
+        Err(_) => *lost = true,
+    }
+}
+
 impl Crowd {
     fn new(alloc: Global) -> Crowd {
         Crowd {
@@ -105,25 +130,6 @@ impl Crowd {
             accepts: 0,
             reads: 0,
             failures: 0,
-        }
-    }
-
-    /// How many pieces an end has given, and one more from now on.
-    fn count(&mut self, end: End) -> usize {
-        for next in self.next.iter_mut() {
-            if next.end == end {
-                next.piece = next.piece.saturating_add(1);
-                return next.piece - 1;
-            }
-        }
-        self.lost = self.lost || self.next.push(Next { end, piece: 1 }).is_err();
-        0
-    }
-
-    fn keep(&mut self, effect: Result<Effect, AllocError>) {
-        match effect {
-            Ok(effect) => self.lost = self.lost || self.done.push(effect).is_err(),
-            Err(_) => self.lost = true,
         }
     }
 
@@ -157,7 +163,7 @@ impl Sockets for Crowd {
 
     fn read(&mut self, end: End, buf: &mut [u8]) -> Result<Received, SocketFailed> {
         self.reads = self.reads.saturating_add(1);
-        let number = self.count(end);
+        let number = count(&mut self.next, &mut self.lost, end);
         match piece_of(end, number) {
             Some(piece) => Ok(give(buf, piece)),
             None => Ok(Received::End),
@@ -166,7 +172,7 @@ impl Sockets for Crowd {
 
     fn write(&mut self, end: End, bytes: &[u8]) -> Result<(), SocketFailed> {
         let effect = self.effect_of(end, bytes);
-        self.keep(effect);
+        keep(&mut self.done, &mut self.lost, effect);
         Ok(())
     }
 
@@ -178,8 +184,8 @@ impl Sockets for Crowd {
 
     fn shut(&mut self, end: End) -> Result<(), SocketFailed> {
         match end {
-            End::Client(n) => self.keep(Ok(Effect::Close(n))),
-            End::Link(l) => self.keep(Ok(Effect::Drop(l))),
+            End::Client(n) => keep(&mut self.done, &mut self.lost, Ok(Effect::Close(n))),
+            End::Link(l) => keep(&mut self.done, &mut self.lost, Ok(Effect::Drop(l))),
             End::Listener => {}
         }
         Ok(())
