@@ -1,4 +1,6 @@
 -- Counts of calls, which stop at the greatest number.
+--
+-- IsRise: a count rises      Calls, Raises: the three counts of sockets, and how they rise      failed: 1 for a call that failed
 use Rattle.std.specs.Prelude.{◌≡◌, ℕ, ◌+◌, ◌-◌, ◌^◌, ◌<◌, ◌≤◌, Result, Ok, Err}
 
 -- a count rises by k, as far as it ends below the greatest number
@@ -10,3 +12,17 @@ pub record IsRise (old new k : ℕ) : Type 0 where
 abbrev pub failed : {T E : Type 0} → Result T E → ℕ
 failed (Ok _) = 0
 failed (Err _) = 1
+
+-- how often `accept` and `read` were called, and how many calls failed
+pub record Calls : Type 0 where
+  pub accepts : ℕ
+  pub reads : ℕ
+  pub failures : ℕ
+
+abbrev pub calls : ℕ → ℕ → ℕ → Calls
+calls accepts reads failures = record { accepts = accepts; reads = reads; failures = failures }
+
+pub record Raises (old new : Calls) (accepts reads failures : ℕ) : Type 0 where
+  pub asked : IsRise old.accepts new.accepts accepts
+  pub read : IsRise old.reads new.reads reads
+  pub failed : IsRise old.failures new.failures failures

@@ -1,2 +1,4 @@
 pub mod Counts
+pub mod Parts
 pub mod Received
+pub mod Turn

@@ -1,11 +1,20 @@
 //! The socket calls of an act's effects. No call is made on an end on which one has failed.
 
+ghost use Rattle.std.specs.Prelude.{◌≡◌, ◌<◌, ◌≤◌, ◌+◌, ◌⊎◌, length, map, option_map, IfOk, IfErr, OnOk, OnErr, vec_len, vec_capacity};
+ghost use Rattle.hx_status.specs.declared.cause.FailKind.TheVariants.{Refused, Closed};
+ghost use Rattle.proxy_engine.specs.Happenings.{said};
+ghost use Rattle.proxy_engine.specs.Story.{Story};
+ghost use Rattle.proxy_engine.specs.State.{Stands};
+ghost use Rattle.proxy_turn.specs.Counts.{IsRise, calls, failed};
+ghost use Rattle.proxy_turn.specs.Turn.{end_of, is_lost, FailsAs};
+ghost use Rattle.proxy_turn.specs.Parts.{TookIf, IsFree, FindsIf, IsThere, AreThere, CarriedOne, CarriedOut};
+
 use crate::happenings::loss;
 use crate::report::TurnFault;
 use crate::sockets::Sockets;
 use hx_status::FailKind;
 use hx_store::Shelf;
-use proxy_engine::{End, Engine, Happening};
+use proxy_engine::{End, Engine, Happening, what_ends_stays_ended};
 use proxy_script::Effect;
 use std::alloc::Global;
 
@@ -14,7 +23,10 @@ pub(crate) fn take<S: Shelf>(
     engine: &mut Engine<S>,
     alloc: Global,
     happening: Option<Happening<'_>>,
-) -> Result<(), TurnFault> {
+) -> Result<(), TurnFault>
+    ensures ok { OnOk result ((s : Story) → Stands engine.old s → TookIf s (option_map said happening.entry) engine.new) }
+    ensures never { OnErr result ((s : Story) → Stands engine.old s → IsFree s (option_map said happening.entry) → FindsIf engine.old (option_map said happening.entry) → ⊥) }
+{
     if let Some(happening) = happening {
         engine.take(alloc, happening)?;
     }
@@ -22,7 +34,9 @@ pub(crate) fn take<S: Shelf>(
 }
 
 /// The end that an effect speaks of.
-fn end_of(effect: &Effect) -> End {
+fn end_of(effect: &Effect) -> End
+    ensures { result ≡ end_of effect.now }
+{
     match effect {
         Effect::Client(n, _) => End::Client(*n),
         Effect::Forward(l, _, _) => End::Link(*l),
@@ -31,13 +45,25 @@ fn end_of(effect: &Effect) -> End {
     }
 }
 
+/// Whether a call on that end has failed.
+fn is_lost(failed: &[End], end: End) -> bool
+    ensures { result ≡ is_lost failed.now end }
+{
+    failed.contains(&end)
+}
+
 /// Opens a link and writes its request.
 fn open<K: Sockets>(
     sockets: &mut K,
     link: u64,
     address: &[u8],
     bytes: &[u8],
-) -> Result<(), FailKind> {
+) -> Result<(), FailKind>
+    ensures kinds { IfErr result (λ kind. (kind ≡ Refused) ⊎ (kind ≡ Closed)) }
+    ensures accepts { K.accepts sockets.new ≡ K.accepts sockets.old }
+    ensures reads { K.reads sockets.new ≡ K.reads sockets.old }
+    ensures failures { IsRise (K.failures sockets.old) (K.failures sockets.new) (failed result) }
+{
     if sockets.connect(link, address).is_err() {
         return Err(FailKind::Refused);
     }
@@ -48,7 +74,12 @@ fn open<K: Sockets>(
 }
 
 /// Makes the calls of an effect. The error says as what a failed call on a link counts.
-fn call<K: Sockets>(sockets: &mut K, effect: &Effect) -> Result<(), FailKind> {
+fn call<K: Sockets>(sockets: &mut K, effect: &Effect) -> Result<(), FailKind>
+    ensures kinds { IfErr result (FailsAs effect.now) }
+    ensures accepts { K.accepts sockets.new ≡ K.accepts sockets.old }
+    ensures reads { K.reads sockets.new ≡ K.reads sockets.old }
+    ensures failures { IsRise (K.failures sockets.old) (K.failures sockets.new) (failed result) }
+{
     let done = match effect {
         Effect::Client(n, bytes) => sockets.write(End::Client(*n), bytes.as_slice()),
         Effect::Forward(l, address, bytes) => {
@@ -63,17 +94,23 @@ fn call<K: Sockets>(sockets: &mut K, effect: &Effect) -> Result<(), FailKind> {
     }
 }
 
-/// Carries out an effect, unless a call on its end has failed; answers how many calls failed. There is room for one more
-/// end in `failed`.
+/// Carries out an effect, unless a call on its end has failed; answers how many calls failed. Where there is room for one more
+/// end in `failed`, it takes no memory.
 fn carry_out_one<S: Shelf, K: Sockets>(
     engine: &mut Engine<S>,
     sockets: &mut K,
     alloc: Global,
     effect: &Effect,
     failed: &mut Vec<End>,
-) -> Result<u64, TurnFault> {
+) -> Result<u64, TurnFault>
+    ensures ok { IfOk result (λ count. (s : Story) → Stands engine.old s → IsThere s (end_of effect.now) → CarriedOne s failed.old.items effect.now engine.new failed.new.items (calls (K.accepts sockets.old) (K.reads sockets.old) (K.failures sockets.old)) (calls (K.accepts sockets.new) (K.reads sockets.new) (K.failures sockets.new)) count) }
+    ensures never { OnErr result (vec_len failed.old < vec_capacity failed.old → (s : Story) → Stands engine.old s → IsThere s (end_of effect.now) → ⊥) }
+    ensures room { vec_capacity failed.old ≤ vec_capacity failed.new }
+    ensures one { vec_len failed.new ≤ vec_len failed.old + 1 }
+    ensures few { IfOk result (λ count. count ≤ 1) }
+{
     let end = end_of(effect);
-    if failed.contains(&end) {
+    if is_lost(failed, end) {
         return Ok(0);
     }
     let Err(kind) = call(sockets, effect) else {
@@ -86,14 +123,20 @@ fn carry_out_one<S: Shelf, K: Sockets>(
     }
 }
 
-/// Carries out the effects of an act, in order; answers how many calls failed. There is room in `failed` for their ends.
+/// Carries out the effects of an act, in order; answers how many calls failed. Where there is room in `failed` for their
+/// ends, it takes no memory.
 pub(crate) fn carry_out<S: Shelf, K: Sockets>(
     engine: &mut Engine<S>,
     sockets: &mut K,
     alloc: Global,
     effects: &[Effect],
     failed: &mut Vec<End>,
-) -> Result<u64, TurnFault> {
+) -> Result<u64, TurnFault>
+    ensures ok { IfOk result (λ count. (s : Story) → Stands engine.old s → AreThere s (map end_of effects.now) → CarriedOut s failed.old.items effects.now engine.new failed.new.items (calls (K.accepts sockets.old) (K.reads sockets.old) (K.failures sockets.old)) (calls (K.accepts sockets.new) (K.reads sockets.new) (K.failures sockets.new)) count) }
+    ensures never { OnErr result (vec_len failed.old + length effects.now ≤ vec_capacity failed.old → (s : Story) → Stands engine.old s → AreThere s (map end_of effects.now) → ⊥) }
+    ensures few { IfOk result (λ count. count ≤ length effects.now) }
+{
+    what_ends_stays_ended();
     let mut faults = 0u64;
     for effect in effects {
         let more = carry_out_one(engine, sockets, alloc, effect, failed)?;

@@ -6,11 +6,13 @@
 
 mod effects;
 mod happenings;
+mod laws;
 mod report;
 mod sockets;
 mod turns;
 
 pub use crate::happenings::{arrival, ending, loss};
+pub use crate::laws::turns_are_lived;
 pub use crate::report::{Report, TurnFault};
 pub use crate::sockets::{Received, SocketFailed, Sockets};
 pub use crate::turns::turn;

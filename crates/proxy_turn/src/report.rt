@@ -1,5 +1,6 @@
 //! What a turn tells of itself.
 ghost use Rattle.std.specs.Prelude.{◌≡◌};
+ghost use Rattle.proxy_turn.specs.Parts.{of_engine};
 ghost use Rattle.proxy_turn.specs.declared.report.TurnFault.TheVariants.{NoMemory};
 
 use proxy_engine::EngineFault;
@@ -31,6 +32,8 @@ pub enum TurnFault {
 
 /// A turn names connections and links that are there, so what the engine refuses it for is memory or a spent number.
 impl From<EngineFault> for TurnFault {
+    ghost from_gives = { λ given fault. fault ≡ of_engine given };
+
     fn from(fault: EngineFault) -> TurnFault {
         match fault {
             EngineFault::Spent => TurnFault::Spent,

@@ -1,6 +1,12 @@
 //! A turn, in three parts: a connection is accepted, each end from which bytes may come is read once, and what is then due
 //! is done.
-ghost use Rattle.std.specs.Prelude.{◌<◌, ◌≡◌, length};
+ghost use Rattle.std.specs.Prelude.{◌<◌, ◌≤◌, ◌≡◌, ◌^◌, length, IfOk, IfErr};
+ghost use Rattle.proxy_engine.specs.Story.{Story};
+ghost use Rattle.proxy_engine.specs.State.{Stands};
+ghost use Rattle.proxy_engine.specs.Orderly.{IsOrderly};
+ghost use Rattle.proxy_turn.specs.Counts.{calls};
+ghost use Rattle.proxy_turn.specs.Turn.{Turns};
+ghost use Rattle.proxy_turn.specs.Parts.{Asks, IsThere, ReadsOne, ReadsNone, ReadsAll, WorksAll};
 
 use crate::effects::{carry_out, take};
 use crate::happenings::{arrival, ending, loss};
@@ -8,7 +14,10 @@ use crate::report::{Report, TurnFault};
 use crate::sockets::{Received, Sockets};
 use hx_status::FailKind;
 use hx_store::Shelf;
-use proxy_engine::{End, Engine, Happening, Work};
+use proxy_engine::{
+    End, Engine, Happening, Work, an_act_has_three_effects_at_most, effects_name_open_ends,
+    what_ends_stays_ended,
+};
 use std::alloc::Global;
 
 /// The most connections that are open at a time.
@@ -28,7 +37,9 @@ fn accept<S: Shelf, K: Sockets>(
     engine: &mut Engine<S>,
     sockets: &mut K,
     alloc: Global,
-) -> Result<u64, TurnFault> {
+) -> Result<u64, TurnFault>
+    ensures { (s : Story) → Stands engine.old s → Asks s engine.new (calls (K.accepts sockets.old) (K.reads sockets.old) (K.failures sockets.old)) (calls (K.accepts sockets.new) (K.reads sockets.new) (K.failures sockets.new)) result }
+{
     if engine.open_connections() >= MOST_OPEN {
         return Ok(0);
     }
@@ -39,7 +50,7 @@ fn accept<S: Shelf, K: Sockets>(
     match sockets.accept(n) {
         Ok(false) => Ok(0),
         Ok(true) => {
-            engine.take(alloc, Happening::Accept(n))?;
+            take(engine, alloc, Some(Happening::Accept(n)))?;
             Ok(1)
         }
         Err(_) => Err(TurnFault::Listener),
@@ -55,7 +66,11 @@ fn read_one<S: Shelf, K: Sockets>(
     end: End,
     buf: &mut [u8],
 ) -> Result<u64, TurnFault>
+    requires { length buf.old ≡ 4096 }
     ensures length { length buf.new ≡ length buf.old }
+    ensures few { IfOk result (λ count. count ≤ 1) }
+    ensures ok { IfOk result (λ count. (s : Story) → Stands engine.old s → IsThere s end → ReadsOne s end engine.new (calls (K.accepts sockets.old) (K.reads sockets.old) (K.failures sockets.old)) (calls (K.accepts sockets.new) (K.reads sockets.new) (K.failures sockets.new)) count) }
+    ensures err { IfErr result (λ fault. (s : Story) → Stands engine.old s → IsThere s end → ReadsNone s engine.new (calls (K.accepts sockets.old) (K.reads sockets.old) (K.failures sockets.old)) (calls (K.accepts sockets.new) (K.reads sockets.new) (K.failures sockets.new)) fault) }
 {
     engine.reserve(alloc, end)?;
     match sockets.read(end, buf) {
@@ -80,13 +95,21 @@ fn read_all<S: Shelf, K: Sockets>(
     engine: &mut Engine<S>,
     sockets: &mut K,
     alloc: Global,
-) -> Result<(u64, u64), TurnFault> {
-    let ends = engine.readable_ends(alloc)?;
+) -> Result<(u64, u64), TurnFault>
+    ensures few { IfOk result (λ counts. counts.1 < 2 ^ 63) }
+    ensures reads { (s : Story) → Stands engine.old s → ReadsAll s engine.new (calls (K.accepts sockets.old) (K.reads sockets.old) (K.failures sockets.old)) (calls (K.accepts sockets.new) (K.reads sockets.new) (K.failures sockets.new)) result }
+{
+    what_ends_stays_ended();
+    let Ok(ends) = engine.readable_ends(alloc) else {
+        return Err(TurnFault::NoMemory);
+    };
     let mut buf = [0u8; PIECE];
     let mut faults = 0u64;
     for end in &ends {
-        let more = read_one(engine, sockets, alloc, *end, &mut buf)?;
-        faults = faults.saturating_add(more);
+        match read_one(engine, sockets, alloc, *end, &mut buf) {
+            Ok(more) => faults = faults.saturating_add(more),
+            Err(fault) => return Err(fault),
+        }
     }
     Ok((ends.len() as u64, faults))
 }
@@ -99,18 +122,29 @@ fn work_all<S: Shelf, K: Sockets>(
     now: u64,
 ) -> Result<(u64, u64), TurnFault>
     requires { now < 253402300800 }
+    ensures { (s : Story) → Stands engine.old s → IsOrderly s → WorksAll now s engine.new (calls (K.accepts sockets.old) (K.reads sockets.old) (K.failures sockets.old)) (calls (K.accepts sockets.new) (K.reads sockets.new) (K.failures sockets.new)) result }
 {
-    let mut failed = engine.failed_links(alloc)?;
+    effects_name_open_ends();
+    what_ends_stays_ended();
+    an_act_has_three_effects_at_most();
+    let Ok(mut failed) = engine.failed_links(alloc) else {
+        return Err(TurnFault::NoMemory);
+    };
     let mut faults = 0u64;
     for works in 0..MOST_WORKS {
         // Room comes first: what an act did has to be carried out whole.
-        failed.reserve(MOST_EFFECTS)?;
-        match engine.work(alloc, now)? {
-            Work::Idle => return Ok((works, faults)),
-            Work::Did(effects) => {
-                let more = carry_out(engine, sockets, alloc, &effects, &mut failed)?;
-                faults = faults.saturating_add(more);
+        if failed.reserve(MOST_EFFECTS).is_err() {
+            return Err(TurnFault::NoMemory);
+        }
+        match engine.work(alloc, now) {
+            Ok(Work::Idle) => return Ok((works, faults)),
+            Ok(Work::Did(effects)) => {
+                match carry_out(engine, sockets, alloc, &effects, &mut failed) {
+                    Ok(more) => faults = faults.saturating_add(more),
+                    Err(fault) => return Err(fault),
+                }
             }
+            Err(fault) => return Err(TurnFault::from(fault)),
         }
     }
     Ok((MOST_WORKS, faults))
@@ -127,10 +161,21 @@ pub fn turn<S: Shelf, K: Sockets>(
     now: u64,
 ) -> Result<Report, TurnFault>
     requires { now < 253402300800 }
+    ensures { (s : Story) → Stands engine.old s → IsOrderly s → Turns now s engine.new (calls (K.accepts sockets.old) (K.reads sockets.old) (K.failures sockets.old)) (calls (K.accepts sockets.new) (K.reads sockets.new) (K.failures sockets.new)) result }
 {
-    let accepted = accept(engine, sockets, alloc)?;
-    let (reads, unread) = read_all(engine, sockets, alloc)?;
-    let (works, undone) = work_all(engine, sockets, alloc, now)?;
+    effects_name_open_ends();
+    let accepted = match accept(engine, sockets, alloc) {
+        Ok(accepted) => accepted,
+        Err(fault) => return Err(fault),
+    };
+    let (reads, unread) = match read_all(engine, sockets, alloc) {
+        Ok(counts) => counts,
+        Err(fault) => return Err(fault),
+    };
+    let (works, undone) = match work_all(engine, sockets, alloc, now) {
+        Ok(counts) => counts,
+        Err(fault) => return Err(fault),
+    };
     Ok(Report {
         accepted,
         reads,

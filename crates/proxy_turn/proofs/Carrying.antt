@@ -1,0 +1,65 @@
+-- Effects that are carried out, one after another.
+use Rattle.std.proofs.Common.{◌≡◌, ◌≢◌, ℕ, zero, suc, ◌+◌, ◌<◌, ◌≤◌, List, [], ◌∷◌, ◌++◌, length, map, take, get_or, refl, sym, ap, ◌∙◌, subst, arith, Bool, true, false, Option, None, Some}
+use Rattle.std.proofs.Math.Seq.{take-suc, take-length}
+use Rattle.std.proofs.lemmas.List.{take_all, length-append}
+use Rattle.hx_status.specs.declared.cause.FailKind.{FailKind}
+use Rattle.proxy_script.specs.declared.effect_list.Effect.{Effect}
+use Rattle.proxy_engine.specs.Happenings.{Said}
+use Rattle.proxy_engine.specs.Story.{Story}
+use Rattle.proxy_engine.specs.Orderly.{Stays, TakesStay}
+use Rattle.proxy_engine.specs.State.{State, Stands}
+use Rattle.proxy_engine.specs.declared.happening.End.{End}
+use Rattle.proxy_turn.specs.Counts.{Calls, Raises}
+use Rattle.proxy_turn.specs.Turn.{TakesIf, lost, is_lost, end_of, FailsAs, Fate, Lost, CarriesOne, CarriesOut, fate_failures, failed_fates}
+use Rattle.proxy_turn.specs.Parts.{TookIf, IsThere, AreThere, CarriedOne, CarriedOut}
+use Rattle.proxy_turn.proofs.Counting.{raises_none, raises_on}
+use Rattle.proxy_turn.proofs.There.{all_there_later, there_at}
+use Rattle.proxy_turn.proofs.Turning.{carries_more, carries_stays, sum_more}
+
+pub carried_lost : (s : Story) (gone : List End) (effect : Effect) (e : State) (more : List End) (before after : Calls) (kind : FailKind) (end : End) (o : Option Said) → end ≡ end_of effect → is_lost gone end ≡ false → FailsAs effect kind → o ≡ lost end kind
+    → TookIf s o e → more ≡ gone ++ end ∷ [] → Raises before after 0 0 1 → CarriedOne s gone effect e more before after 1
+carried_lost s gone effect e more before after kind end o is here fails said took longer raises = record {
+  fate = Lost kind;
+  last = took.after;
+  carries = (
+    ap (is_lost gone) (sym is) ∙ here,
+    fails,
+    subst (λ (x : Option Said). TakesIf s x took.after) (said ∙ ap (λ (x : End). lost x kind) is) took.takes,
+    longer ∙ ap (λ (x : End). gone ++ x ∷ []) is,
+  );
+  stands = took.stands;
+  counted = refl;
+  raises = raises;
+}
+
+effect_there : (s : Story) (es : List Effect) (i : ℕ) (effect : Effect) → AreThere s (map end_of es) → i < length es → effect ≡ get_or es i effect → IsThere s (end_of effect)
+effect_there s [] i effect there l is = absurd (omega (arith, l))
+effect_there s (e ∷ es) zero effect there l is = subst (λ (x : Effect). IsThere s (end_of x)) (sym is) there.0
+effect_there s (e ∷ es) (suc i) effect there l is = effect_there s es i effect there.1 (omega (arith, l)) is
+
+pub carried_none : (s : Story) (gone : List End) (e : State) (here : Calls) → Stands e s → CarriedOut s gone [] e gone here here 0
+carried_none s gone e here stands = record { fates = []; last = s; carries = (refl, refl); stands = stands; counted = refl; raises = raises_none here }
+
+pub named_later : (stay : TakesStay) (s : Story) (gone : List End) (es : List Effect) (i : ℕ) (effect : Effect) (e : State) (mid : List End) (a b : Calls) (faults : ℕ) → effect ≡ get_or es i effect → i < length es → AreThere s (map end_of es) → (done : CarriedOut s gone (take i es) e mid a b faults)
+    → IsThere done.last (end_of effect)
+named_later stay s gone es i effect e mid a b faults is l there done =
+    effect_there done.last es i effect (all_there_later s done.last (map end_of es) (carries_stays stay (take i es) done.fates s gone done.last mid done.carries) there) l is
+
+module _ (s : Story) (gone : List End) (es : List Effect) (i : ℕ) (effect : Effect) (e new : State) (mid more : List End) (a b c : Calls) (faults count : ℕ) where
+  pub carried_more : effect ≡ get_or es i effect → i < length es → (done : CarriedOut s gone (take i es) e mid a b faults) → CarriedOne done.last mid effect new more b c count → CarriedOut s gone (take (i + 1) es) new more a c (faults + count)
+  carried_more is l done one =
+      let longer : take (i + 1) es ≡ take i es ++ effect ∷ [] = next in
+      record {
+        fates = done.fates ++ one.fate ∷ [];
+        last = one.last;
+        carries = subst (λ (xs : List Effect). CarriesOut s gone xs (done.fates ++ one.fate ∷ []) one.last more) (sym longer)
+            (carries_more (take i es) done.fates s gone done.last mid effect one.fate one.last more done.carries one.carries);
+        stands = one.stands;
+        counted = let before = done.counted in let here = one.counted in let sum = sum_more fate_failures done.fates one.fate in omega (arith, before, here, sum);
+        raises = subst (λ (n : ℕ). Raises a c 0 0 n) (sym (sum_more fate_failures done.fates one.fate)) (raises_on a b c 0 0 (failed_fates done.fates) 0 0 (fate_failures one.fate) done.raises one.raises);
+      }
+    where
+      next : take (i + 1) es ≡ take i es ++ effect ∷ []
+      next =
+          let same : i + 1 ≡ suc i = omega arith in
+          ap (λ (n : ℕ). take n es) same ∙ (take-suc es i effect l ∙ ap (λ (x : Effect). take i es ++ x ∷ []) (sym is))

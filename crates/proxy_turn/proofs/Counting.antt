@@ -1,0 +1,36 @@
+-- Counts that rise one after another.
+use Rattle.std.proofs.Common.{◌≡◌, ℕ, ◌+◌, refl, sym, arith, Result, Ok, Err, OnErr}
+use Rattle.proxy_turn.specs.Counts.{IsRise, Calls, calls, Raises}
+
+pub rise_none : (a b : ℕ) → b ≡ a → IsRise a b 0
+rise_none a b same = record { no_less = omega (arith, same); exact = λ l. omega (arith, same) }
+
+pub rise_on : (a b c j k : ℕ) → IsRise a b j → IsRise b c k → IsRise a c (j + k)
+rise_on a b c j k f g =
+    let less = f.no_less in
+    let more = g.no_less in
+    record {
+      no_less = omega (arith, less, more);
+      exact = λ l. let second = g.exact l in let first = f.exact (omega (arith, more, l)) in omega (arith, first, second);
+    }
+
+pub raises_none : (c : Calls) → Raises c c 0 0 0
+raises_none c = record { asked = rise_none c.accepts c.accepts refl; read = rise_none c.reads c.reads refl; failed = rise_none c.failures c.failures refl }
+
+pub raises_on : (a b c : Calls) (i j k x y z : ℕ) → Raises a b i j k → Raises b c x y z → Raises a c (i + x) (j + y) (k + z)
+raises_on a b c i j k x y z f g = record {
+  asked = rise_on a.accepts b.accepts c.accepts i x f.asked g.asked;
+  read = rise_on a.reads b.reads c.reads j y f.read g.read;
+  failed = rise_on a.failures b.failures c.failures k z f.failed g.failed;
+}
+
+pub raises_failed : (accepts reads failures more_accepts more_reads more_failures k : ℕ) → more_accepts ≡ accepts → more_reads ≡ reads → IsRise failures more_failures k → Raises (calls accepts reads failures) (calls more_accepts more_reads more_failures) 0 0 k
+raises_failed accepts reads failures more_accepts more_reads more_failures k same_accepts same_reads rise =
+    record { asked = rise_none accepts more_accepts same_accepts; read = rise_none reads more_reads same_reads; failed = rise }
+
+pub raises_read : (accepts reads failures more_accepts more_reads more_failures k : ℕ) → more_accepts ≡ accepts → IsRise reads more_reads 1 → IsRise failures more_failures k → Raises (calls accepts reads failures) (calls more_accepts more_reads more_failures) 0 1 k
+raises_read accepts reads failures more_accepts more_reads more_failures k same_accepts read rise = record { asked = rise_none accepts more_accepts same_accepts; read = read; failed = rise }
+
+pub on_err : {A E : Type 0} {P : Type 0} (r : Result A E) → P → OnErr r P
+on_err (Ok x) p = tt
+on_err (Err e) p = p

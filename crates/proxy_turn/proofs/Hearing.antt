@@ -1,0 +1,127 @@
+-- Ends that are read, one after another.
+use Rattle.std.proofs.Common.{◌≡◌, ℕ, zero, suc, ◌+◌, ◌-◌, ◌<◌, ◌≤◌, List, [], ◌∷◌, ◌++◌, length, map, take, drop, get_or, refl, sym, ap, ◌∙◌, subst, arith, Option, None, Some, Ok, Err}
+use Rattle.std.proofs.Math.Seq.{take-suc}
+use Rattle.std.proofs.lemmas.List.{map-append, length-append, length-map, append-nil, take_all, take-append-drop}
+use Rattle.hx_status.specs.declared.cause.FailKind.{FailKind}
+use Rattle.proxy_engine.specs.Happenings.{Said}
+use Rattle.proxy_engine.specs.Story.{Story}
+use Rattle.proxy_engine.specs.Orderly.{TakesStay}
+use Rattle.proxy_engine.specs.Reading.{ends_read}
+use Rattle.proxy_engine.specs.Room.{IsRoomy, IsRoomyLink, HasRoom}
+use Rattle.proxy_engine.specs.State.{State, Stands}
+use Rattle.proxy_engine.specs.declared.ends.Connection.{Connection}
+use Rattle.proxy_engine.specs.declared.ends.Link.{Link}
+use Rattle.proxy_engine.specs.declared.happening.End.{End}
+use Rattle.proxy_engine.specs.declared.happening.End.TheVariants as ends
+use Rattle.proxy_turn.specs.Counts.{Calls, Raises}
+use Rattle.proxy_turn.specs.Turn.{TakesIf, arrived, ended, lost, Given, said_by, given_failures, Read, Reads, ends_of, failed_reads}
+use Rattle.proxy_turn.specs.Parts.{TookIf, IsFree, FindsIf, IsThere, AreThere, ReadsOne, ReadsNone, ReadsSome, ReadsAll}
+use Rattle.proxy_turn.specs.declared.report.TurnFault.{TurnFault}
+use Rattle.proxy_turn.specs.declared.report.TurnFault.TheVariants.{NoMemory}
+use Rattle.proxy_turn.proofs.Counting.{raises_none, raises_on}
+use Rattle.proxy_turn.proofs.There.{all_there_later, there_at}
+use Rattle.proxy_turn.proofs.Turning.{reads_more, reads_stay, sum_more}
+
+roomy_less : (o : Option Connection) (n m : ℕ) → m ≤ n → IsRoomy o n → IsRoomy o m
+roomy_less None n m l room = tt
+roomy_less (Some c) n m l room = omega (arith, l, room)
+
+roomy_link_less : (o : Option Link) (n m : ℕ) → m ≤ n → IsRoomyLink o n → IsRoomyLink o m
+roomy_link_less None n m l room = tt
+roomy_link_less (Some k) n m l room = omega (arith, l, room)
+
+pub arrived_found : (e : State) (end : End) (bytes : List ℕ) → HasRoom e end → length bytes ≤ 4096 → FindsIf e (arrived end bytes)
+arrived_found e ends.Listener bytes room l = tt
+arrived_found e (ends.Client n) bytes room l = roomy_less (get_or e.connections (n - 1) None) 4096 (length bytes) l room
+arrived_found e (ends.Link k) bytes room l = roomy_link_less (get_or e.links (k - e.first) None) 4096 (length bytes) l room
+
+pub ended_found : (e : State) (end : End) → FindsIf e (ended end)
+ended_found e ends.Listener = tt
+ended_found e (ends.Client n) = tt
+ended_found e (ends.Link k) = tt
+
+pub lost_found : (e : State) (end : End) (kind : FailKind) → FindsIf e (lost end kind)
+lost_found e ends.Listener kind = tt
+lost_found e (ends.Client n) kind = tt
+lost_found e (ends.Link k) kind = tt
+
+-- what an end gave was taken
+pub read_by : (s : Story) (end : End) (e : State) (before after : Calls) (given : Given) (o : Option Said) → o ≡ said_by end given → TookIf s o e → Raises before after 0 1 (given_failures given) → ReadsOne s end e before after (given_failures given)
+read_by s end e before after given o is took raises = record { given = given; took = subst (λ (x : Option Said). TookIf s x e) is took; counted = refl; raises = raises }
+
+pub reads_none : (s : Story) (e : State) (here : Calls) → Stands e s → ReadsSome s [] e here here
+reads_none s e here stands = record { last = s; are = refl; stands = stands; raises = raises_none here }
+
+-- an end that was there is there behind the reads
+pub read_later : (stay : TakesStay) (s : Story) (es : List End) (reads : List Read) (i : ℕ) (end : End) (e : State) (a b : Calls) → end ≡ get_or es i end → i < length es → AreThere s es → (done : ReadsSome s reads e a b) → IsThere done.last end
+read_later stay s es reads i end e a b is l there done = there_at done.last es i end (all_there_later s done.last es (reads_stay stay reads s done.last done.are) there) l is
+
+-- one more
+pub reads_one : (s : Story) (reads : List Read) (end : End) (e new : State) (a b c : Calls) (count : ℕ) → (done : ReadsSome s reads e a b) → (one : ReadsOne done.last end new b c count) → ReadsSome s (reads ++ record { end = end; given = one.given } ∷ []) new a c
+reads_one s reads end e new a b c count done one =
+    let r : Read = record { end = end; given = one.given } in
+    record {
+      last = one.took.after;
+      are = reads_more reads s done.last one.took.after r done.are one.took.takes;
+      stands = one.took.stands;
+      raises = subst (λ (n : ℕ). Raises a c 0 n (failed_reads (reads ++ r ∷ []))) (sym (length-append reads (r ∷ [])))
+          (subst (λ (n : ℕ). Raises a c 0 (length reads + 1) n) (sym (sum_more (λ (x : Read). given_failures x.given) reads r)) (raises_on a b c 0 (length reads) (failed_reads reads) 0 1 (given_failures one.given) done.raises one.raises));
+    }
+
+-- these ends were read
+pub record SoFar (s : Story) (es : List End) (e : State) (a b : Calls) (faults : ℕ) : Type 0 where
+  pub reads : List Read
+  pub ends : ends_of reads ≡ es
+  pub some : ReadsSome s reads e a b
+  pub counted : faults ≡ failed_reads reads
+
+pub so_far_none : (s : Story) (e : State) (here : Calls) → Stands e s → SoFar s [] e here here 0
+so_far_none s e here stands = record { reads = []; ends = refl; some = reads_none s e here stands; counted = refl }
+
+pub so_far_more : (s : Story) (es : List End) (i : ℕ) (end : End) (e new : State) (a b c : Calls) (faults count : ℕ) → end ≡ get_or es i end → i < length es → (done : SoFar s (take i es) e a b faults) → ReadsOne done.some.last end new b c count
+    → SoFar s (take (i + 1) es) new a c (faults + count)
+so_far_more s es i end e new a b c faults count is l done one =
+    let r : Read = record { end = end; given = one.given } in
+    record {
+      reads = done.reads ++ r ∷ [];
+      ends = map-append (λ (x : Read). x.end) done.reads (r ∷ []) ∙ (ap (λ (xs : List End). xs ++ end ∷ []) done.ends ∙ sym next);
+      some = reads_one s done.reads end e new a b c count done.some one;
+      counted = let before = done.counted in let here = one.counted in let sum = sum_more (λ (x : Read). given_failures x.given) done.reads r in omega (arith, before, here, sum);
+    }
+  where
+    next : take (i + 1) es ≡ take i es ++ end ∷ []
+    next =
+        let same : i + 1 ≡ suc i = omega arith in
+        ap (λ (n : ℕ). take n es) same ∙ (take-suc es i end l ∙ ap (λ (x : End). take i es ++ x ∷ []) (sym is))
+
+pub so_far_later : (stay : TakesStay) (s : Story) (es : List End) (i : ℕ) (end : End) (e : State) (a b : Calls) (faults : ℕ) → end ≡ get_or es i end → i < length es → AreThere s es → (done : SoFar s (take i es) e a b faults) → IsThere done.some.last end
+so_far_later stay s es i end e a b faults is l there done = read_later stay s es done.reads i end e a b is l there done.some
+
+pub read_whole : (s : Story) (es : List End) (n : ℕ) (e : State) (a b : Calls) (faults : ℕ) (counts : ℕ × ℕ) → es ≡ ends_read s → length es ≤ n → SoFar s (take n es) e a b faults → counts.0 ≡ length es → counts.1 ≡ faults → ReadsAll s e a b (Ok counts)
+read_whole s es n e a b faults counts is l done number more =
+    let all = done.ends ∙ take_all n es l in
+    record {
+      reads = done.reads;
+      rest = [];
+      ends = append-nil (ends_of done.reads) ∙ (all ∙ is);
+      some = done.some;
+      tells = (refl, number ∙ (sym (ap length all) ∙ length-map done.reads (λ (x : Read). x.end)), more ∙ done.counted);
+    }
+
+pub read_partly : (s : Story) (es : List End) (i : ℕ) (e new : State) (a b c : Calls) (faults : ℕ) (fault : TurnFault) → es ≡ ends_read s → (done : SoFar s (take i es) e a b faults) → ReadsNone done.some.last new b c fault → ReadsAll s new a c (Err fault)
+read_partly s es i e new a b c faults fault is done none = record {
+  reads = done.reads;
+  rest = drop i es;
+  ends = ap (λ (xs : List End). xs ++ drop i es) done.ends ∙ (take-append-drop i es ∙ is);
+  some = record { last = done.some.last; are = done.some.are; stands = none.stands; raises = subst (λ (x : Calls). Raises a x 0 (length done.reads) (failed_reads done.reads)) none.same done.some.raises };
+  tells = none.fault_is;
+}
+
+pub read_not : (s : Story) (e : State) (here : Calls) (fault : TurnFault) → fault ≡ NoMemory → Stands e s → ReadsAll s e here here (Err fault)
+read_not s e here fault is stands = record { reads = []; rest = ends_read s; ends = refl; some = reads_none s e here stands; tells = is }
+
+-- an element is itself at its place
+pub read_at : {A : Type 0} (d : A) (xs : List A) (i : ℕ) → i < length xs → get_or xs i d ≡ get_or xs i (get_or xs i d)
+read_at d [] i l = absurd (omega (arith, l))
+read_at d (x ∷ xs) zero l = refl
+read_at d (x ∷ xs) (suc i) l = read_at d xs i (omega (arith, l))

@@ -1,0 +1,58 @@
+-- The listener: when it is asked, and what it gives is taken.
+use Rattle.std.proofs.Common.{◌≡◌, rules, inl, inr, ℕ, suc, ◌+◌, ◌<◌, ◌≤◌, ◌^◌, ◌==◌, nat_lt, nat_le, List, [], ◌∷◌, length, refl, sym, ap, ◌∙◌, subst, arith, Bool, true, false, cond, ◌&&◌, Option, None, Some, is_some}
+use Rattle.proxy_engine.specs.Happenings.{Said, Accepts}
+use Rattle.proxy_engine.specs.Story.{Story, heard, fault_of}
+use Rattle.proxy_engine.specs.State.{State, Both, Stands}
+use Rattle.proxy_engine.specs.Reading.{open_count, next_connection}
+use Rattle.proxy_engine.specs.Room.{HasRoom, Finds}
+use Rattle.proxy_engine.specs.declared.happening.EngineFault.TheVariants.{WrongNumber}
+use Rattle.proxy_engine.specs.declared.happening.End.TheVariants as ends
+use Rattle.proxy_turn.specs.Counts.{Calls, Raises}
+use Rattle.proxy_turn.specs.Turn.{TakesIf, NotAsked, Failed, NoneCame, Came, asks, accepted_by}
+use Rattle.proxy_turn.specs.Parts.{Asks, TookIf}
+use Rattle.proxy_turn.specs.declared.report.TurnFault.{TurnFault}
+use Rattle.proxy_turn.specs.declared.report.TurnFault.TheVariants as faults
+
+both_long : {A B : Type 0} (R : A → B → Type 0) (xs : List A) (ys : List B) → Both R xs ys → length xs ≡ length ys
+both_long R [] [] h = refl
+both_long R [] (y ∷ ys) h = absurd h
+both_long R (x ∷ xs) [] h = absurd h
+both_long R (x ∷ xs) (y ∷ ys) h = ap suc (both_long R xs ys h.1)
+
+-- a number is left
+number_left : (b : Bool) (m n : ℕ) → cond b (Some m) None ≡ Some n → (b ≡ true) × (n ≡ m)
+number_left true m n e = (refl, by_value e)
+  where
+    by_value : ◌≡◌ {A = Option ℕ} (Some m) (Some n) → n ≡ m
+    by_value e = search (rules, e)
+number_left false m n e = absurd cc
+
+pub number_is : (s : Story) (o : Option ℕ) (n : ℕ) → o ≡ next_connection s → o ≡ Some n → (length s.connections + 1 < 2 ^ 64) × (n ≡ length s.connections + 1)
+number_is s o n is some =
+    let left = number_left (nat_lt (length s.connections + 1) (2 ^ 64)) (length s.connections + 1) n (sym is ∙ some) in
+    (less (length s.connections + 1) (2 ^ 64) left.0, left.1)
+  where
+    less : (a b : ℕ) → nat_lt a b ≡ true → a < b
+    less a b e = search (arith, e)
+
+pub accept_free : (s : Story) (n : ℕ) → n ≡ length s.connections + 1 → fault_of s (Accepts n) ≡ None
+accept_free s n is = ap (λ (b : Bool). cond b None (Some WrongNumber)) (same n (length s.connections + 1) is)
+  where
+    same : (a b : ℕ) → a ≡ b → (a == b) ≡ true
+    same a b e = search (arith, e)
+
+pub accept_found : (e : State) (s : Story) (n : ℕ) → Stands e s → HasRoom e ends.Listener → length s.connections + 1 < 2 ^ 64 → Finds e (Accepts n)
+accept_found e s n stands (inl room) left = room
+accept_found e s n stands (inr full) left = let long = both_long _ e.connections s.connections stands.connections in absurd (omega (arith, full, left, long))
+
+-- it is asked
+pub does_ask : (s : Story) (o : Option ℕ) (n count : ℕ) → o ≡ next_connection s → o ≡ Some n → count ≡ open_count s → count < 256 → asks s ≡ true
+does_ask s o n count is some counted few =
+    both (nat_lt (open_count s) 256) (is_some (next_connection s)) (less (open_count s) 256 (omega (arith, counted, few))) (ap (λ (x : Option ℕ). is_some x) (sym is ∙ some))
+  where
+    less : (a b : ℕ) → a < b → nat_lt a b ≡ true
+    less a b l = search (arith, l)
+
+    both : (a b : Bool) → a ≡ true → b ≡ true → a && b ≡ true
+    both true b e f = f
+    both false b e f = absurd cc

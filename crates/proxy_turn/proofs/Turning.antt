@@ -1,0 +1,149 @@
+-- Reads, effects and acts, one more of each; and what they keep.
+use Rattle.std.proofs.Common.{◌≡◌, inl, inr, ℕ, ◌+◌, ◌<◌, ◌≤◌, List, [], ◌∷◌, ◌++◌, length, refl, sym, ap, ◌∙◌, subst, arith, Option, None, Some}
+use Rattle.std.proofs.lemmas.List.{append-nil, append_assoc}
+use Rattle.std.proofs.lemmas.List.Sums.{sum_by-append}
+use Rattle.proxy_script.specs.declared.effect_list.Effect.{Effect}
+use Rattle.proxy_engine.specs.Happenings.{Said}
+use Rattle.proxy_engine.specs.Story.{Story, heard, fault_of}
+use Rattle.proxy_engine.specs.Due.{IsDueFirst}
+use Rattle.proxy_engine.specs.Acts.{Does}
+use Rattle.proxy_engine.specs.Lives.{Step, Took, Worked, Lives, Leads}
+use Rattle.proxy_engine.specs.Orderly.{IsOrderly, Stays, TakesInOrder, TakesStay, ActsInOrder, ActsStay}
+use Rattle.proxy_engine.specs.Reading.{failed_links}
+use Rattle.proxy_engine.specs.declared.happening.End.{End}
+use Rattle.proxy_turn.specs.Turn.{TakesIf, accepted_by, Given, said_by, Read, Reads, lost, end_of, Fate, Carried, Passed, Lost, CarriesOne, CarriesOut, Round, Works, fate_failures, failed_reads, failed_fates, failed_rounds, given_failures, IsTurn, TurnsAreLived}
+
+-- ---- one more
+
+pub reads_more : (rs : List Read) (s t u : Story) (r : Read) → Reads s rs t → TakesIf t (said_by r.end r.given) u → Reads s (rs ++ r ∷ []) u
+reads_more [] s t u r here takes = (u, subst (λ x. TakesIf x (said_by r.end r.given) u) here takes, refl)
+reads_more (first ∷ rs) s t u r before takes = (before.0, before.1, reads_more rs before.0 t u r before.2 takes)
+
+pub carries_more : (es : List Effect) (fs : List Fate) (s : Story) (gone : List End) (t : Story) (mid : List End) (e : Effect) (f : Fate) (u : Story) (more : List End) → CarriesOut s gone es fs t mid → CarriesOne t mid e f u more
+    → CarriesOut s gone (es ++ e ∷ []) (fs ++ f ∷ []) u more
+carries_more [] [] s gone t mid e f u more here one =
+    (u, more, subst (λ x. CarriesOne x gone e f u more) here.0 (subst (λ es. CarriesOne t es e f u more) here.1 one), (refl, refl))
+carries_more [] (x ∷ fs) s gone t mid e f u more before one = absurd before
+carries_more (x ∷ es) [] s gone t mid e f u more before one = absurd before
+carries_more (x ∷ es) (y ∷ fs) s gone t mid e f u more before one =
+    (before.0, before.1, before.2, carries_more es fs before.0 before.1 t mid e f u more before.3 one)
+
+pub works_more : (rs : List Round) (now : ℕ) (s : Story) (gone : List End) (t : Story) (mid : List End) (r : Round) (done u : Story) (more : List End) → Works now s gone rs t mid
+    → IsDueFirst t (Some r.act) → Does t now r.act r.told done → CarriesOut done mid r.told r.fates u more → Works now s gone (rs ++ r ∷ []) u more
+works_more [] now s gone t mid r done u more here due does out =
+    (done, u, more, subst (λ x. IsDueFirst x (Some r.act)) here.0 due, subst (λ x. Does x now r.act r.told done) here.0 does, subst (λ es. CarriesOut done es r.told r.fates u more) here.1 out, (refl, refl))
+works_more (x ∷ rs) now s gone t mid r done u more before due does out =
+    (before.0, before.1, before.2, before.3, before.4, before.5, works_more rs now before.1 before.2 t mid r done u more before.6 due does out)
+
+pub sum_more : {A : Type 0} (f : A → ℕ) (xs : List A) (x : A) → Rattle.std.specs.Prelude.sum_by f (xs ++ x ∷ []) ≡ Rattle.std.specs.Prelude.sum_by f xs + f x
+sum_more f xs x = let both = sum_by-append f xs (x ∷ []) in omega (arith, both)
+
+-- ---- what stays
+
+stays_same : (s : Story) → Stays s s
+stays_same s = record { closed = λ i l e. e; gone = λ i l e. e; dropped = λ j l e. e; connections = omega arith; links = omega arith; first = refl }
+
+pub stays_on : (r s t : Story) → Stays r s → Stays s t → Stays r t
+stays_on r s t f g =
+    let connections = f.connections in
+    let links = f.links in
+    let more_connections = g.connections in
+    let more_links = g.links in
+    record {
+      closed = λ i l e. g.closed i (omega (arith, l, connections)) (f.closed i l e);
+      gone = λ i l e. g.gone i (omega (arith, l, connections)) (f.gone i l e);
+      dropped = λ j l e. g.dropped j (omega (arith, l, links)) (f.dropped j l e);
+      connections = omega (arith, connections, more_connections);
+      links = omega (arith, links, more_links);
+      first = g.first ∙ f.first;
+    }
+
+module _ (stay : TakesStay) where
+  pub if_stays : (s : Story) (o : Option Said) (t : Story) → TakesIf s o t → Stays s t
+  if_stays s None t takes = subst (Stays s) (sym takes) (stays_same s)
+  if_stays s (Some h) t takes = subst (Stays s) (sym takes.1) (stay s h)
+
+  pub reads_stay : (rs : List Read) (s t : Story) → Reads s rs t → Stays s t
+  reads_stay [] s t here = subst (Stays s) (sym here) (stays_same s)
+  reads_stay (r ∷ rs) s t before = stays_on s before.0 t (if_stays s (said_by r.end r.given) before.0 before.1) (reads_stay rs before.0 t before.2)
+
+  pub carries_stays : (es : List Effect) (fs : List Fate) (s : Story) (gone : List End) (t : Story) (more : List End) → CarriesOut s gone es fs t more → Stays s t
+  carries_stays [] [] s gone t more here = subst (Stays s) (sym here.0) (stays_same s)
+  carries_stays [] (f ∷ fs) s gone t more out = absurd out
+  carries_stays (e ∷ es) [] s gone t more out = absurd out
+  carries_stays (e ∷ es) (f ∷ fs) s gone t more out = stays_on s out.0 t (one f out.2) (carries_stays es fs out.0 out.1 t more out.3)
+    where
+      one : (f : Fate) → CarriesOne s gone e f out.0 out.1 → Stays s out.0
+      one Carried c = subst (Stays s) (sym c.1) (stays_same s)
+      one Passed c = subst (Stays s) (sym c.1) (stays_same s)
+      one (Lost kind) c = if_stays s (lost (end_of e) kind) out.0 c.2
+
+module _ (takes_in_order : TakesInOrder) where
+  pub if_orderly : (s : Story) (o : Option Said) (t : Story) → TakesIf s o t → IsOrderly s → IsOrderly t
+  if_orderly s None t takes h = subst IsOrderly (sym takes) h
+  if_orderly s (Some said) t takes h = subst IsOrderly (sym takes.1) (takes_in_order s said h)
+
+  pub reads_orderly : (rs : List Read) (s t : Story) → Reads s rs t → IsOrderly s → IsOrderly t
+  reads_orderly [] s t here h = subst IsOrderly (sym here) h
+  reads_orderly (r ∷ rs) s t before h = reads_orderly rs before.0 t before.2 (if_orderly s (said_by r.end r.given) before.0 before.1 h)
+
+  pub carries_orderly : (es : List Effect) (fs : List Fate) (s : Story) (gone : List End) (t : Story) (more : List End) → CarriesOut s gone es fs t more → IsOrderly s → IsOrderly t
+  carries_orderly [] [] s gone t more here h = subst IsOrderly (sym here.0) h
+  carries_orderly [] (f ∷ fs) s gone t more out h = absurd out
+  carries_orderly (e ∷ es) [] s gone t more out h = absurd out
+  carries_orderly (e ∷ es) (f ∷ fs) s gone t more out h = carries_orderly es fs out.0 out.1 t more out.3 (one f out.2)
+    where
+      one : (f : Fate) → CarriesOne s gone e f out.0 out.1 → IsOrderly out.0
+      one Carried c = subst IsOrderly (sym c.1) h
+      one Passed c = subst IsOrderly (sym c.1) h
+      one (Lost kind) c = if_orderly s (lost (end_of e) kind) out.0 c.2 h
+
+  pub works_orderly : ActsInOrder → (rs : List Round) (now : ℕ) (s : Story) (gone : List End) (t : Story) (more : List End) → Works now s gone rs t more → IsOrderly s → IsOrderly t
+  works_orderly acts [] now s gone t more here h = subst IsOrderly (sym here.0) h
+  works_orderly acts (r ∷ rs) now s gone t more w h =
+      works_orderly acts rs now w.1 w.2 t more w.6 (carries_orderly r.told r.fates w.0 gone w.1 w.2 w.5 ((acts s now r.act r.told w.0 h w.3 w.4).0))
+
+-- ---- what an engine lives through
+
+lives_on : (later : List Step) (s : Story) (steps : List Step) (t u : Story) → Lives s steps t → Lives t later u → Lives s (later ++ steps) u
+lives_on [] s steps t u first here = subst (Lives s steps) (sym here) first
+lives_on (step ∷ later) s steps t u first rest = (rest.0, lives_on later s steps t rest.0 first rest.1, rest.2)
+
+abbrev IsLived : Story → Story → Type 0
+IsLived s t = (steps : List Step) × Lives s steps t
+
+lived_none : (s t : Story) → t ≡ s → IsLived s t
+lived_none s t here = ([], here)
+
+lived_on : (s t u : Story) → IsLived s t → IsLived t u → IsLived s u
+lived_on s t u first rest = (rest.0 ++ first.0, lives_on rest.0 s first.0 t u first.1 rest.1)
+
+if_lived : (s : Story) (o : Option Said) (t : Story) → TakesIf s o t → IsLived s t
+if_lived s None t takes = lived_none s t takes
+if_lived s (Some h) t takes = (Took h ∷ [], (s, refl, takes))
+
+reads_lived : (rs : List Read) (s t : Story) → Reads s rs t → IsLived s t
+reads_lived [] s t here = lived_none s t here
+reads_lived (r ∷ rs) s t before = lived_on s before.0 t (if_lived s (said_by r.end r.given) before.0 before.1) (reads_lived rs before.0 t before.2)
+
+carries_lived : (es : List Effect) (fs : List Fate) (s : Story) (gone : List End) (t : Story) (more : List End) → CarriesOut s gone es fs t more → IsLived s t
+carries_lived [] [] s gone t more here = lived_none s t here.0
+carries_lived [] (f ∷ fs) s gone t more out = absurd out
+carries_lived (e ∷ es) [] s gone t more out = absurd out
+carries_lived (e ∷ es) (f ∷ fs) s gone t more out = lived_on s out.0 t (one f out.2) (carries_lived es fs out.0 out.1 t more out.3)
+  where
+    one : (f : Fate) → CarriesOne s gone e f out.0 out.1 → IsLived s out.0
+    one Carried c = lived_none s out.0 c.1
+    one Passed c = lived_none s out.0 c.1
+    one (Lost kind) c = if_lived s (lost (end_of e) kind) out.0 c.2
+
+works_lived : (rs : List Round) (now : ℕ) (s : Story) (gone : List End) (t : Story) (more : List End) → Works now s gone rs t more → IsLived s t
+works_lived [] now s gone t more here = lived_none s t here.0
+works_lived (r ∷ rs) now s gone t more w =
+    lived_on s w.0 t (Worked now r.act r.told ∷ [], (s, refl, (w.3, w.4)))
+    (lived_on w.0 w.1 t (carries_lived r.told r.fates w.0 gone w.1 w.2 w.5) (works_lived rs now w.1 w.2 t more w.6))
+
+pub turns_are_lived : TurnsAreLived
+turns_are_lived now s asked reads rest rounds t turn =
+    lived_on s turn.begun t (if_lived s (accepted_by s asked) turn.begun turn.accepts)
+    (lived_on turn.begun turn.read t (reads_lived reads turn.begun turn.read turn.reads_are) (works_lived rounds now turn.read (failed_links turn.read) t turn.gone turn.works))
