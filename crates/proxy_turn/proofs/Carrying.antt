@@ -1,19 +1,18 @@
 -- Effects that are carried out, one after another.
-use Rattle.std.proofs.Common.{◌≡◌, ◌≢◌, ℕ, zero, suc, ◌+◌, ◌<◌, ◌≤◌, List, [], ◌∷◌, ◌++◌, length, map, take, get_or, refl, sym, ap, ◌∙◌, subst, arith, Bool, true, false, Option, None, Some}
-use Rattle.std.proofs.Math.Seq.{take-suc, take-length}
-use Rattle.std.proofs.lemmas.List.{take_all, length-append}
+use Rattle.std.proofs.Common.{◌≡◌, ℕ, zero, suc, ◌+◌, ◌<◌, List, [], ◌∷◌, ◌++◌, length, map, take, get_or, refl, sym, ap, ◌∙◌, subst, arith, false, Option}
+use Rattle.std.proofs.Math.Seq.{take-suc}
 use Rattle.hx_status.specs.declared.cause.FailKind.{FailKind}
 use Rattle.proxy_script.specs.declared.effect_list.Effect.{Effect}
 use Rattle.proxy_engine.specs.Happenings.{Said}
 use Rattle.proxy_engine.specs.Story.{Story}
-use Rattle.proxy_engine.specs.Orderly.{Stays, TakesStay}
+use Rattle.proxy_engine.specs.Orderly.{TakesStay}
 use Rattle.proxy_engine.specs.State.{State, Stands}
 use Rattle.proxy_engine.specs.declared.happening.End.{End}
 use Rattle.proxy_turn.specs.Counts.{Calls, Raises}
-use Rattle.proxy_turn.specs.Turn.{TakesIf, lost, is_lost, end_of, FailsAs, Fate, Lost, CarriesOne, CarriesOut, fate_failures, failed_fates}
+use Rattle.proxy_turn.specs.Turn.{TakesIf, lost, is_lost, end_of, FailsAs, Lost, CarriesOut, fate_failures, failed_fates}
 use Rattle.proxy_turn.specs.Parts.{TookIf, IsThere, AreThere, CarriedOne, CarriedOut}
 use Rattle.proxy_turn.proofs.Counting.{raises_none, raises_on}
-use Rattle.proxy_turn.proofs.There.{all_there_later, there_at}
+use Rattle.proxy_turn.proofs.There.{all_there_later}
 use Rattle.proxy_turn.proofs.Turning.{carries_more, carries_stays, sum_more}
 
 pub carried_lost : (s : Story) (gone : List End) (effect : Effect) (e : State) (more : List End) (before after : Calls) (kind : FailKind) (end : End) (o : Option Said) → end ≡ end_of effect → is_lost gone end ≡ false → FailsAs effect kind → o ≡ lost end kind

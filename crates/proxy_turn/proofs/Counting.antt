@@ -1,5 +1,5 @@
 -- Counts that rise one after another.
-use Rattle.std.proofs.Common.{◌≡◌, ℕ, ◌+◌, refl, sym, arith, Result, Ok, Err, OnErr}
+use Rattle.std.proofs.Common.{◌≡◌, ℕ, ◌+◌, refl, arith, Result, Ok, Err, OnErr}
 use Rattle.proxy_turn.specs.Counts.{IsRise, Calls, calls, Raises}
 
 pub rise_none : (a b : ℕ) → b ≡ a → IsRise a b 0

@@ -1,5 +1,5 @@
 -- Ends that are read, one after another.
-use Rattle.std.proofs.Common.{◌≡◌, ℕ, zero, suc, ◌+◌, ◌-◌, ◌<◌, ◌≤◌, List, [], ◌∷◌, ◌++◌, length, map, take, drop, get_or, refl, sym, ap, ◌∙◌, subst, arith, Option, None, Some, Ok, Err}
+use Rattle.std.proofs.Common.{◌≡◌, ℕ, zero, suc, ◌+◌, ◌-◌, ◌<◌, ◌≤◌, List, [], ◌∷◌, ◌++◌, length, take, drop, get_or, refl, sym, ap, ◌∙◌, subst, arith, Option, None, Some, Ok, Err}
 use Rattle.std.proofs.Math.Seq.{take-suc}
 use Rattle.std.proofs.lemmas.List.{map-append, length-append, length-map, append-nil, take_all, take-append-drop}
 use Rattle.hx_status.specs.declared.cause.FailKind.{FailKind}
@@ -14,8 +14,8 @@ use Rattle.proxy_engine.specs.declared.ends.Link.{Link}
 use Rattle.proxy_engine.specs.declared.happening.End.{End}
 use Rattle.proxy_engine.specs.declared.happening.End.TheVariants as ends
 use Rattle.proxy_turn.specs.Counts.{Calls, Raises}
-use Rattle.proxy_turn.specs.Turn.{TakesIf, arrived, ended, lost, Given, said_by, given_failures, Read, Reads, ends_of, failed_reads}
-use Rattle.proxy_turn.specs.Parts.{TookIf, IsFree, FindsIf, IsThere, AreThere, ReadsOne, ReadsNone, ReadsSome, ReadsAll}
+use Rattle.proxy_turn.specs.Turn.{arrived, ended, lost, Given, said_by, given_failures, Read, ends_of, failed_reads}
+use Rattle.proxy_turn.specs.Parts.{TookIf, FindsIf, IsThere, AreThere, ReadsOne, ReadsNone, ReadsSome, ReadsAll}
 use Rattle.proxy_turn.specs.declared.report.TurnFault.{TurnFault}
 use Rattle.proxy_turn.specs.declared.report.TurnFault.TheVariants.{NoMemory}
 use Rattle.proxy_turn.proofs.Counting.{raises_none, raises_on}

@@ -1,17 +1,13 @@
 -- The listener: when it is asked, and what it gives is taken.
-use Rattle.std.proofs.Common.{◌≡◌, rules, inl, inr, ℕ, suc, ◌+◌, ◌<◌, ◌≤◌, ◌^◌, ◌==◌, nat_lt, nat_le, List, [], ◌∷◌, length, refl, sym, ap, ◌∙◌, subst, arith, Bool, true, false, cond, ◌&&◌, Option, None, Some, is_some}
-use Rattle.proxy_engine.specs.Happenings.{Said, Accepts}
-use Rattle.proxy_engine.specs.Story.{Story, heard, fault_of}
+use Rattle.std.proofs.Common.{◌≡◌, rules, inl, inr, ℕ, suc, ◌+◌, ◌<◌, ◌^◌, ◌==◌, nat_lt, List, [], ◌∷◌, length, refl, sym, ap, ◌∙◌, arith, Bool, true, false, cond, ◌&&◌, Option, None, Some, is_some}
+use Rattle.proxy_engine.specs.Happenings.{Accepts}
+use Rattle.proxy_engine.specs.Story.{Story, fault_of}
 use Rattle.proxy_engine.specs.State.{State, Both, Stands}
 use Rattle.proxy_engine.specs.Reading.{open_count, next_connection}
 use Rattle.proxy_engine.specs.Room.{HasRoom, Finds}
 use Rattle.proxy_engine.specs.declared.happening.EngineFault.TheVariants.{WrongNumber}
 use Rattle.proxy_engine.specs.declared.happening.End.TheVariants as ends
-use Rattle.proxy_turn.specs.Counts.{Calls, Raises}
-use Rattle.proxy_turn.specs.Turn.{TakesIf, NotAsked, Failed, NoneCame, Came, asks, accepted_by}
-use Rattle.proxy_turn.specs.Parts.{Asks, TookIf}
-use Rattle.proxy_turn.specs.declared.report.TurnFault.{TurnFault}
-use Rattle.proxy_turn.specs.declared.report.TurnFault.TheVariants as faults
+use Rattle.proxy_turn.specs.Turn.{asks}
 
 both_long : {A B : Type 0} (R : A → B → Type 0) (xs : List A) (ys : List B) → Both R xs ys → length xs ≡ length ys
 both_long R [] [] h = refl

@@ -1,17 +1,16 @@
 -- Reads, effects and acts, one more of each; and what they keep.
-use Rattle.std.proofs.Common.{◌≡◌, inl, inr, ℕ, ◌+◌, ◌<◌, ◌≤◌, List, [], ◌∷◌, ◌++◌, length, refl, sym, ap, ◌∙◌, subst, arith, Option, None, Some}
-use Rattle.std.proofs.lemmas.List.{append-nil, append_assoc}
+use Rattle.std.proofs.Common.{◌≡◌, ℕ, ◌+◌, List, [], ◌∷◌, ◌++◌, refl, sym, ◌∙◌, subst, arith, Option, None, Some}
 use Rattle.std.proofs.lemmas.List.Sums.{sum_by-append}
 use Rattle.proxy_script.specs.declared.effect_list.Effect.{Effect}
 use Rattle.proxy_engine.specs.Happenings.{Said}
-use Rattle.proxy_engine.specs.Story.{Story, heard, fault_of}
+use Rattle.proxy_engine.specs.Story.{Story}
 use Rattle.proxy_engine.specs.Due.{IsDueFirst}
 use Rattle.proxy_engine.specs.Acts.{Does}
-use Rattle.proxy_engine.specs.Lives.{Step, Took, Worked, Lives, Leads}
-use Rattle.proxy_engine.specs.Orderly.{IsOrderly, Stays, TakesInOrder, TakesStay, ActsInOrder, ActsStay}
+use Rattle.proxy_engine.specs.Lives.{Step, Took, Worked, Lives}
+use Rattle.proxy_engine.specs.Orderly.{IsOrderly, Stays, TakesInOrder, TakesStay, ActsInOrder}
 use Rattle.proxy_engine.specs.Reading.{failed_links}
 use Rattle.proxy_engine.specs.declared.happening.End.{End}
-use Rattle.proxy_turn.specs.Turn.{TakesIf, accepted_by, Given, said_by, Read, Reads, lost, end_of, Fate, Carried, Passed, Lost, CarriesOne, CarriesOut, Round, Works, fate_failures, failed_reads, failed_fates, failed_rounds, given_failures, IsTurn, TurnsAreLived}
+use Rattle.proxy_turn.specs.Turn.{TakesIf, accepted_by, said_by, Read, Reads, lost, end_of, Fate, Carried, Passed, Lost, CarriesOne, CarriesOut, Round, Works, TurnsAreLived}
 
 -- ---- one more
 

@@ -1,13 +1,11 @@
 -- A turn of its parts.
-use Rattle.std.proofs.Common.{◌≡◌, inl, inr, ℕ, ◌+◌, ◌<◌, ◌≤◌, ◌^◌, List, [], ◌++◌, length, refl, sym, ap, ◌∙◌, subst, arith, Result, Ok, Err}
-use Rattle.std.proofs.lemmas.List.{append-nil}
+use Rattle.std.proofs.Common.{◌≡◌, inl, inr, ℕ, ◌+◌, ◌≤◌, [], length, refl, ap, ◌∙◌, subst, arith, Result, Ok, Err}
 use Rattle.proxy_engine.specs.Story.{Story}
 use Rattle.proxy_engine.specs.Orderly.{IsOrderly, TakesInOrder}
 use Rattle.proxy_engine.specs.Reading.{ends_read, failed_links}
-use Rattle.proxy_engine.specs.State.{State, Stands}
-use Rattle.proxy_engine.specs.declared.happening.End.{End}
+use Rattle.proxy_engine.specs.State.{State}
 use Rattle.proxy_turn.specs.Counts.{Calls, Raises}
-use Rattle.proxy_turn.specs.Turn.{Asked, NotAsked, Failed, NoneCame, Came, asked_calls, asked_failures, accepted_by, failed_reads, failed_rounds, IsTurn, IsWhole, Tells, Turns}
+use Rattle.proxy_turn.specs.Turn.{Asked, NotAsked, asked_calls, asked_failures, accepted_by, failed_reads, failed_rounds, IsTurn, Tells, Turns}
 use Rattle.proxy_turn.specs.Parts.{AskTells, Asks, ReadsAll, WorkTells, WorksAll}
 use Rattle.proxy_turn.specs.declared.report.Report.{Report}
 use Rattle.proxy_turn.specs.declared.report.TurnFault.{TurnFault}

@@ -1,5 +1,5 @@
 -- Acts that are done, and their effects carried out, one after another.
-use Rattle.std.proofs.Common.{◌≡◌, inl, inr, ℕ, suc, ◌+◌, ◌*◌, ◌<◌, ◌≤◌, ◌^◌, min, List, [], ◌∷◌, ◌++◌, length, map, refl, sym, ap, ◌∙◌, subst, arith, Option, None, Some, Ok, Err}
+use Rattle.std.proofs.Common.{◌≡◌, inl, inr, ℕ, ◌+◌, ◌*◌, ◌≤◌, List, [], ◌∷◌, ◌++◌, length, map, refl, sym, ap, ◌∙◌, subst, arith, Some, Ok, Err}
 use Rattle.std.proofs.lemmas.List.{length-append}
 use Rattle.std.specs.declared.vec.Vec.{Vec}
 use Rattle.std.specs.declared.alloc.Global.{Global}
@@ -17,7 +17,7 @@ use Rattle.proxy_engine.specs.declared.happening.EngineFault.TheVariants as engi
 use Rattle.proxy_engine.specs.declared.happening.Work.{Work}
 use Rattle.proxy_engine.specs.declared.happening.Work.TheVariants as work
 use Rattle.proxy_turn.specs.Counts.{Calls, Raises}
-use Rattle.proxy_turn.specs.Turn.{Round, Works, end_of, failed_fates, failed_rounds}
+use Rattle.proxy_turn.specs.Turn.{Round, end_of, failed_fates, failed_rounds}
 use Rattle.proxy_turn.specs.Parts.{of_engine, AreThere, CarriedOut, WorksSome, WorkTells, WorksAll}
 use Rattle.proxy_turn.specs.declared.report.TurnFault.{TurnFault}
 use Rattle.proxy_turn.specs.declared.report.TurnFault.TheVariants.{NoMemory}

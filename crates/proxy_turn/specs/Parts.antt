@@ -1,6 +1,5 @@
 -- What each part of a turn does, over the stories of the engine, with the calls that it makes.
-use Rattle.std.specs.Prelude.{◌≡◌, ℕ, ◌+◌, ◌≤◌, List, [], ◌∷◌, ◌++◌, length, true, Option, None, Some, Result, Ok, Err, ◌⊎◌}
-use Rattle.hx_status.specs.declared.cause.FailKind.{FailKind}
+use Rattle.std.specs.Prelude.{◌≡◌, ℕ, ◌≤◌, List, [], ◌∷◌, ◌++◌, length, true, Option, None, Some, Result, Ok, Err, ◌⊎◌}
 use Rattle.proxy_script.specs.declared.effect_list.Effect.{Effect}
 use Rattle.proxy_engine.specs.Happenings.{Said}
 use Rattle.proxy_engine.specs.Story.{Story, fault_of, connection_fault, link_fault}

@@ -1,4 +1,4 @@
-use Rattle.std.proofs.Common.{◌≡◌, ◌<◌, ◌+◌, length, map, sym, subst, arith, rules}
+use Rattle.std.proofs.Common.{◌≡◌, ◌<◌, ◌+◌, length, sym, subst, arith, rules}
 use Rattle.proxy_turn.specs.Parts.{CarriedOut}
 use Rattle.proxy_turn.proofs.Counting.{on_err}
 use Rattle.proxy_turn.proofs.Carrying.{named_later, carried_more}
@@ -8,10 +8,10 @@ pub returns-in_err-more-clause-never : goal.returns-in_err-more-clause-never
 returns-in_err-more-clause-never g c =
     let n : c.loop-effect.effect-index < length c.args.effects.now = omega arith in
     on_err c.from_residual.result (λ fits s stands there.
-        let done = c.loop-effect.invariant.done s stands there in
-        let room = c.loop-effect.invariant.room fits in
-        c.in_err-more.ensures.never (omega (arith, room, n)) done.last done.stands
-        (named_later c.what_ends_stays_ended.ensures.takes s _ c.args.effects.now c.loop-effect.effect-index c.effect-item.result c.loop-effect.engine _ _ _ c.loop-effect.faults c.effect-item.is n there done))
+    let done = c.loop-effect.invariant.done s stands there in
+    let room = c.loop-effect.invariant.room fits in
+    c.in_err-more.ensures.never (omega (arith, room, n)) done.last done.stands
+    (named_later c.what_ends_stays_ended.ensures.takes s _ c.args.effects.now c.loop-effect.effect-index c.effect-item.result c.loop-effect.engine _ _ _ c.loop-effect.faults c.effect-item.is n there done))
 
 pub loop-effect-preserved : goal.loop-effect-preserved
 loop-effect-preserved g c =

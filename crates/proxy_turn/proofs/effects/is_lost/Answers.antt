@@ -1,8 +1,7 @@
 use Rattle.std.proofs.Common.{◌≡◌, refl, ap, ◌∙◌, List, [], ◌∷◌, Bool, ◌||◌, rules}
 use Rattle.std.specs.List.{list_any}
 use Rattle.proxy_engine.specs.declared.happening.End.{End}
-use Rattle.proxy_engine.specs.declared.happening.End.TheVariants as ends
-use Rattle.proxy_turn.specs.Turn.{same_end, is_lost}
+use Rattle.proxy_turn.specs.Turn.{same_end}
 use Rattle.proxy_turn.proofs.effects.is_lost.Goals as goal
 
 any_same : (eq same : End → Bool) → ((x : End) → eq x ≡ same x) → (xs : List End) → list_any eq xs ≡ list_any same xs

@@ -1,4 +1,4 @@
-use Rattle.proxy_turn.specs.Turn.{Bytes, Ended, Broken, Nothing}
+use Rattle.proxy_turn.specs.Turn.{Bytes}
 use Rattle.proxy_turn.proofs.Counting.{raises_read}
 use Rattle.proxy_turn.proofs.Hearing.{read_by}
 use Rattle.proxy_turn.proofs.turns.read_one.Goals as goal

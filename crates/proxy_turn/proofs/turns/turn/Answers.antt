@@ -1,4 +1,4 @@
-use Rattle.std.proofs.Common.{◌≡◌, ◌+◌, refl, sym, arith, rules}
+use Rattle.std.proofs.Common.{◌≡◌, ◌+◌, refl, rules}
 use Rattle.proxy_turn.proofs.Whole.{asks_alone, reads_last, works_last, read_orderly, whole, few_works}
 use Rattle.proxy_turn.proofs.turns.turn.Goals as goal
 
