@@ -2,6 +2,7 @@ mod Carrying
 mod Counting
 mod Hearing
 mod Listening
+mod Serving
 mod There
 mod Turning
 mod Whole

@@ -104,7 +104,7 @@ module _ (takes_in_order : TakesInOrder) where
 
 -- ---- what an engine lives through
 
-lives_on : (later : List Step) (s : Story) (steps : List Step) (t u : Story) → Lives s steps t → Lives t later u → Lives s (later ++ steps) u
+pub lives_on : (later : List Step) (s : Story) (steps : List Step) (t u : Story) → Lives s steps t → Lives t later u → Lives s (later ++ steps) u
 lives_on [] s steps t u first here = subst (Lives s steps) (sym here) first
 lives_on (step ∷ later) s steps t u first rest = (rest.0, lives_on later s steps t rest.0 first rest.1, rest.2)
 

@@ -1,8 +1,24 @@
 //! Laws on the definitions that the contracts cite.
 ghost use Rattle.proxy_turn.specs.Turn.{TurnsAreLived};
+ghost use Rattle.proxy_turn.specs.Served.{BeginsLived, TakesLive, TurnsLive, LivedAreServing};
+
+use proxy_engine::{effects_name_open_ends, lives_are_runs};
 
 /// A turn is takes and acts of the engine, one after another. So what `proxy_engine::lives_are_runs` says of whatever an engine
 /// lives through, it says of turns over sockets.
 pub fn turns_are_lived()
     ensures { TurnsAreLived }
 {}
+
+/// Whatever happens to an engine, and whatever its sockets do in its turns: the steps of its core are a good run, by its table
+/// and with the headline, of the requests that its clients' bytes spell.
+pub fn engines_live_on()
+    ensures begins { BeginsLived }
+    ensures takes { TakesLive }
+    ensures turns { TurnsLive }
+    ensures serves { LivedAreServing }
+{
+    turns_are_lived();
+    effects_name_open_ends();
+    lives_are_runs();
+}
