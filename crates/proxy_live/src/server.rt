@@ -1,5 +1,6 @@
 //! A server: a wait, what failed or was silent since the last turn, and a turn, again and again.
-ghost use Rattle.std.specs.Prelude.{◌<◌, IfOk};
+ghost use Rattle.std.specs.Prelude.{◌≡◌, ◌<◌, IfOk};
+ghost use Rattle.proxy_turn.specs.Served.{HasLived, IsServing};
 
 use crate::live_sockets::LiveSockets;
 use crate::recorder::{RecordFault, Recorder};
@@ -7,9 +8,10 @@ use crate::recording::Recording;
 use hx_status::FailKind;
 use hx_store::Shelf;
 use proxy_engine::Engine;
-use proxy_turn::{End, Report, TurnFault, loss, turn};
+use proxy_turn::{End, Report, TurnFault, engines_live_on, loss, turn};
 use std::alloc::Global;
 use std::io::{ErrorKind, Write};
+use std::marker::Model;
 use std::net::Net;
 use std::time::Clock;
 
@@ -32,7 +34,8 @@ pub enum ServeFault {
     Spent,
 }
 
-/// An engine over sockets of the system.
+/// An engine over sockets of the system. Contracts see the engine's state, and whatever the sockets do, its core's steps are a
+/// good run of the requests that its clients' bytes spell.
 #[derive(Drop)]
 pub struct Server<'a, S: Shelf + Drop, R: Net, W: Write + Drop> {
     alloc: Global,
@@ -44,6 +47,17 @@ pub struct Server<'a, S: Shelf + Drop, R: Net, W: Write + Drop> {
     settled: bool,
     /// Silent ends are to be looked for.
     sweeping: bool,
+}
+
+impl<'a, S: Shelf + Drop, R: Net, W: Write + Drop> Model for Server<'a, S, R, W> {
+    ghost use Rattle.proxy_engine.specs.State.{State};
+    ghost use Rattle.proxy_turn.specs.Served.{HasLived};
+
+    ghost Value = { State };
+
+    ghost view = { λ s. s.engine };
+
+    ghost invariant = { λ s. HasLived s.engine };
 }
 
 /// The moment of a clock, in Unix seconds; 0 before 1970.
@@ -72,7 +86,10 @@ impl<'a, S: Shelf + Drop, R: Net, W: Write + Drop> Server<'a, S, R, W> {
         engine: Engine<S>,
         sockets: LiveSockets<'a, R>,
         record: Option<Recorder<W>>,
-    ) -> Server<'a, S, R, W> {
+    ) -> Server<'a, S, R, W>
+        requires { HasLived engine }
+        ensures { result ≡ engine }
+    {
         Server {
             alloc,
             engine,
@@ -89,7 +106,19 @@ impl<'a, S: Shelf + Drop, R: Net, W: Write + Drop> Server<'a, S, R, W> {
     }
 
     /// Waits until something is ready, for a second at most, and serves a turn.
-    pub fn serve_turn<C: Clock>(&mut self, clock: &C) -> Result<(), ServeFault> {
+    ///
+    /// After it, also after an `Err`, the steps of the engine's core are a good run by its table, with the headline.
+    pub fn serve_turn<C: Clock>(&mut self, clock: &C) -> Result<(), ServeFault>
+        ensures { IsServing self.new }
+    {
+        engines_live_on();
+        let served = self.serve_next(clock);
+        let _engine = &self.engine;
+        served
+    }
+
+    /// Waits, and serves a turn.
+    fn serve_next<C: Clock>(&mut self, clock: &C) -> Result<(), ServeFault> {
         if self.ends.sockets.wait(self.busy).is_err() {
             return Err(ServeFault::Socket);
         }
@@ -102,6 +131,7 @@ impl<'a, S: Shelf + Drop, R: Net, W: Write + Drop> Server<'a, S, R, W> {
     fn serve_at(&mut self, second: u64, now: u64) -> Result<(), ServeFault>
         requires { now < 253402300800 }
     {
+        engines_live_on();
         if self.ends.sockets.refresh(second) {
             // What came before this second counts before an end is called silent, though the proxy was halted meanwhile.
             if self.ends.sockets.look_again().is_err() {
@@ -147,6 +177,7 @@ impl<'a, S: Shelf + Drop, R: Net, W: Write + Drop> Server<'a, S, R, W> {
 
     /// The engine takes that an end is lost.
     fn lose(&mut self, end: End, kind: FailKind) {
+        engines_live_on();
         if let Some(happening) = loss(end, kind) {
             if self.ends.note_between(happening) {
                 // It takes no memory, and the end was there.
