@@ -1,4 +1,6 @@
 //! Serving: the table, the listener and the record, and then turn after turn.
+ghost use Rattle.std.specs.Prelude.{◌≡◌};
+ghost use Rattle.proxy_turn.specs.Served.{HasLived};
 
 use crate::command_line::Service;
 use crate::fault::Fault;
@@ -7,12 +9,18 @@ use hx_allow::Config;
 use hx_store::ListShelf;
 use proxy_engine::Engine;
 use proxy_live::{LiveSockets, Recorder, Server};
+use proxy_turn::engines_live_on;
 use std::alloc::Global;
 use std::fs;
 use std::net::Net;
 use std::rt::{Clock, Files};
 
-fn engine_of(alloc: Global, config: Config) -> Engine<ListShelf> {
+/// An engine to which nothing has happened, with the operator's table.
+fn engine_of(alloc: Global, config: Config) -> Engine<ListShelf>
+    ensures lived { HasLived result }
+    ensures table { result.core.table ≡ config }
+{
+    engines_live_on();
     let shelf = ListShelf::new(alloc, config.capacity());
     Engine::new(alloc, config, shelf, 1, 1)
 }
