@@ -1,10 +1,11 @@
 //! A server: a wait, what failed or was silent since the last turn, and a turn, again and again.
-ghost use Rattle.std.specs.Prelude.{◌≡◌, ◌<◌, IfOk};
+ghost use Rattle.std.specs.Prelude.{◌≡◌, ◌<◌, [], IfOk};
 ghost use Rattle.proxy_turn.specs.Served.{HasLived, IsServing};
 
 use crate::live_sockets::LiveSockets;
 use crate::recorder::{RecordFault, Recorder};
 use crate::recording::Recording;
+use hx_allow::Config;
 use hx_status::FailKind;
 use hx_store::Shelf;
 use proxy_engine::Engine;
@@ -80,19 +81,22 @@ fn seconds<C: Clock>(clock: &C) -> Result<u64, ServeFault> {
 }
 
 impl<'a, S: Shelf + Drop, R: Net, W: Write + Drop> Server<'a, S, R, W> {
-    /// A server to which nothing has happened. The first turn doesn't wait.
+    /// A server to which nothing has happened. The shelf is empty and has the configured capacity; serials of stored responses
+    /// and numbers of links begin at 1. The first turn doesn't wait.
     pub fn new(
         alloc: Global,
-        engine: Engine<S>,
+        config: Config,
+        shelf: S,
         sockets: LiveSockets<'a, R>,
         record: Option<Recorder<W>>,
     ) -> Server<'a, S, R, W>
-        requires { HasLived engine }
-        ensures { result ≡ engine }
+        requires { S.entries shelf ≡ [] }
+        ensures { result.core.table ≡ config }
     {
+        engines_live_on();
         Server {
             alloc,
-            engine,
+            engine: Engine::new(alloc, config, shelf, 1, 1),
             ends: Recording::new(sockets, record),
             busy: true,
             settled: true,

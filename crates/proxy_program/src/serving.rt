@@ -1,29 +1,14 @@
 //! Serving: the table, the listener and the record, and then turn after turn.
-ghost use Rattle.std.specs.Prelude.{◌≡◌};
-ghost use Rattle.proxy_turn.specs.Served.{HasLived};
 
 use crate::command_line::Service;
 use crate::fault::Fault;
 use crate::files::read_table;
 use hx_allow::Config;
 use hx_store::ListShelf;
-use proxy_engine::Engine;
 use proxy_live::{LiveSockets, Recorder, Server};
-use proxy_turn::engines_live_on;
-use std::alloc::Global;
 use std::fs;
 use std::net::Net;
 use std::rt::{Clock, Files};
-
-/// An engine to which nothing has happened, with the operator's table.
-fn engine_of(alloc: Global, config: Config) -> Engine<ListShelf>
-    ensures lived { HasLived result }
-    ensures table { result.core.table ≡ config }
-{
-    engines_live_on();
-    let shelf = ListShelf::new(alloc, config.capacity());
-    Engine::new(alloc, config, shelf, 1, 1)
-}
 
 /// A record in a new file, if one is asked for.
 fn record_of<R: Files + AllocGlobal>(
@@ -64,7 +49,8 @@ pub(crate) fn serve<R: Net + Clock + Files + Eprint + AllocGlobal>(
     };
     let record = record_of(rt, service.record, table.as_slice())?;
     announce(rt, &sockets)?;
-    let mut server = Server::new(rt.alloc(), engine_of(rt.alloc(), config), sockets, record);
+    let shelf = ListShelf::new(rt.alloc(), config.capacity());
+    let mut server = Server::new(rt.alloc(), config, shelf, sockets, record);
     let mut told = false;
     for _ in 0..service.turns {
         server.serve_turn(rt)?;

@@ -2,7 +2,6 @@
 
 use hx_allow::Config;
 use hx_store::ListShelf;
-use proxy_engine::Engine;
 use proxy_live::{LiveSockets, Server, Silence};
 use std::alloc::Global;
 use std::io::{ErrorKind, Read, Write};
@@ -13,13 +12,11 @@ use std::time::Duration;
 const ANSWER: &[u8] =
     b"HTTP/1.1 200 OK\r\nCache-Control: max-age=600\r\nContent-Length: 2\r\n\r\nhi";
 
-fn engine_for(alloc: Global, origin: SocketAddr) -> Result<Engine<ListShelf>, Fail> {
+fn table_for(alloc: Global, origin: SocketAddr) -> Result<Config, Fail> {
     let text = format!(in alloc;
         "version = 1\nname = \"edge\"\ncapacity = 2\nmax_body = 1000\nmax_stored = 1000\n[[line]]\nhost = \"*\"\nmethods = [\"GET\"]\npath = \"/\"\norigin = \"{origin}\"\n"
     )?;
-    let config = Config::read(alloc, text.as_bytes()).ok().ok_or("a table")?;
-    let shelf = ListShelf::new(alloc, config.capacity());
-    Ok(Engine::new(alloc, config, shelf, 1, 1))
+    Ok(Config::read(alloc, text.as_bytes()).ok().ok_or("a table")?)
 }
 
 fn contains(text: &[u8], part: &[u8]) -> bool {
@@ -55,9 +52,10 @@ fn loopback_hit(rt: HostRuntime) -> Result<(), Fail> {
     };
     let sockets = LiveSockets::bind(&rt, alloc, any, silence)?;
     let address = sockets.address()?;
-    let engine = engine_for(alloc, origin.local_addr()?)?;
+    let config = table_for(alloc, origin.local_addr()?)?;
+    let shelf = ListShelf::new(alloc, config.capacity());
     let mut server: Server<'_, ListShelf, HostRuntime, Vec<u8>> = Server::new(
-        alloc, engine, sockets, None,
+        alloc, config, shelf, sockets, None,
     );
     let mut asked = 0u64;
     for wanted in [
@@ -104,9 +102,10 @@ fn silent_ends_are_let_go(rt: HostRuntime) -> Result<(), Fail> {
     };
     let sockets = LiveSockets::bind(&rt, alloc, any, silence)?;
     let address = sockets.address()?;
-    let engine = engine_for(alloc, origin.local_addr()?)?;
+    let config = table_for(alloc, origin.local_addr()?)?;
+    let shelf = ListShelf::new(alloc, config.capacity());
     let mut server: Server<'_, ListShelf, HostRuntime, Vec<u8>> = Server::new(
-        alloc, engine, sockets, None,
+        alloc, config, shelf, sockets, None,
     );
     let mut idle = TcpStream::connect(&rt, address)?;
     let mut client = TcpStream::connect(&rt, address)?;
