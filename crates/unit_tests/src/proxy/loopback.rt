@@ -19,6 +19,24 @@ fn table_for(alloc: Global, origin: SocketAddr) -> Result<Config, Fail> {
     Ok(Config::read(alloc, text.as_bytes()).ok().ok_or("a table")?)
 }
 
+/// A server before that origin, which records nothing, and its address.
+fn server_before<'a>(
+    rt: &'a HostRuntime,
+    origin: SocketAddr,
+    silence: Silence,
+) -> Result<(Server<'a, ListShelf, HostRuntime, Vec<u8>>, SocketAddr), Fail> {
+    let alloc = rt.alloc();
+    let any = "127.0.0.1:0"
+        .parse::<SocketAddr>()
+        .ok()
+        .ok_or("an address")?;
+    let sockets = LiveSockets::bind(rt, alloc, any, silence)?;
+    let address = sockets.address()?;
+    let config = table_for(alloc, origin)?;
+    let shelf = ListShelf::new(alloc, config.capacity());
+    Ok((Server::new(alloc, config, shelf, sockets, None), address))
+}
+
 fn contains(text: &[u8], part: &[u8]) -> bool {
     text.windows(part.len().max(1)).any(|w| w == part)
 }
@@ -39,24 +57,13 @@ fn answer(stream: TcpStream) -> Result<(), Fail> {
 /// The second client's request is answered by what the first one's brought, and the origin is asked once.
 #[test]
 fn loopback_hit(rt: HostRuntime) -> Result<(), Fail> {
-    let alloc = rt.alloc();
     let origin = TcpListener::bind(&rt, "127.0.0.1:0")?;
     origin.set_nonblocking(true)?;
-    let any = "127.0.0.1:0"
-        .parse::<SocketAddr>()
-        .ok()
-        .ok_or("an address")?;
     let silence = Silence {
         origin: 60,
         client: 60,
     };
-    let sockets = LiveSockets::bind(&rt, alloc, any, silence)?;
-    let address = sockets.address()?;
-    let config = table_for(alloc, origin.local_addr()?)?;
-    let shelf = ListShelf::new(alloc, config.capacity());
-    let mut server: Server<'_, ListShelf, HostRuntime, Vec<u8>> = Server::new(
-        alloc, config, shelf, sockets, None,
-    );
+    let (mut server, address) = server_before(&rt, origin.local_addr()?, silence)?;
     let mut asked = 0u64;
     for wanted in [
         b"fwd=uri-miss;ttl=600;stored".as_slice(),
@@ -90,23 +97,12 @@ fn loopback_hit(rt: HostRuntime) -> Result<(), Fail> {
 /// An origin that never answers has timed out after its silence, and a client that sends nothing is closed after its own.
 #[test]
 fn silent_ends_are_let_go(rt: HostRuntime) -> Result<(), Fail> {
-    let alloc = rt.alloc();
     let origin = TcpListener::bind(&rt, "127.0.0.1:0")?;
-    let any = "127.0.0.1:0"
-        .parse::<SocketAddr>()
-        .ok()
-        .ok_or("an address")?;
     let silence = Silence {
         origin: 1,
         client: 1,
     };
-    let sockets = LiveSockets::bind(&rt, alloc, any, silence)?;
-    let address = sockets.address()?;
-    let config = table_for(alloc, origin.local_addr()?)?;
-    let shelf = ListShelf::new(alloc, config.capacity());
-    let mut server: Server<'_, ListShelf, HostRuntime, Vec<u8>> = Server::new(
-        alloc, config, shelf, sockets, None,
-    );
+    let (mut server, address) = server_before(&rt, origin.local_addr()?, silence)?;
     let mut idle = TcpStream::connect(&rt, address)?;
     let mut client = TcpStream::connect(&rt, address)?;
     client.write_all(b"GET /a HTTP/1.1\r\nHost: h\r\n\r\n")?;
