@@ -12,7 +12,8 @@ use hx_reuse::{ErrorRule, ReuseRule};
 use hx_status::{Cause, Detail, How, Status, member, refusal};
 use hx_target::TargetFault;
 
-static REUSE_RULES: [(&str, ReuseRule); 17] = [
+static REUSE_RULES: [(&str, ReuseRule); 18] = [
+    ("Operator", ReuseRule::Operator),
     ("Method", ReuseRule::Method),
     ("Content", ReuseRule::Content),
     ("Range", ReuseRule::Range),

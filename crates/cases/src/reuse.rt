@@ -2,6 +2,8 @@
 //! moment when it came, or `stored 1 at 2, asked for at 0`, and its lines; behind `for` the lines of the request that it
 //! answered. Last comes the request, as `at 59 GET`.
 //!
+//! `cache off` may stand in front of all: the request then goes over a line without cache.
+//!
 //! A response without a Date is given that of its moment. `hit 1` is answered, or `forward` with the number and the name of
 //! the least rule against it, and which response that one is about.
 
@@ -156,10 +158,19 @@ fn decided(
     shelf: &ListShelf,
     asked: &Asked,
     now: u64,
+    caches: bool,
 ) -> Result<Decision, AllocError> {
     let serials = shelf.find(alloc, &asked.target.key)?;
     let directives = Directives::of(alloc, &asked.fields)?;
-    decide(alloc, asked, &directives, shelf, serials.as_slice(), now)
+    decide(
+        alloc,
+        asked,
+        &directives,
+        shelf,
+        serials.as_slice(),
+        now,
+        caches,
+    )
 }
 
 fn write_decision(text: &mut String, decision: Decision) -> Result<(), AllocError> {
@@ -172,15 +183,33 @@ fn write_decision(text: &mut String, decision: Decision) -> Result<(), AllocErro
     }
 }
 
-/// What is decided of a request.
-pub fn reuse(text: &mut String, label: Line<'_>, parts: &[Part<'_>]) -> Result<(), Fault> {
+/// Writes what is decided of the request that stands behind the stored responses.
+fn write_decided(
+    text: &mut String,
+    label: Line<'_>,
+    parts: &[Part<'_>],
+    caches: bool,
+) -> Result<(), Fault> {
     let [stored @ .., request] = parts else {
         return Err(label.fault("no request"));
     };
     let shelf = shelf_of(*text.allocator(), stored)?;
     let (now, asked) = asked_at(*text.allocator(), request)?;
-    let decision = decided(*text.allocator(), &shelf, &asked, now)?;
+    let decision = decided(*text.allocator(), &shelf, &asked, now, caches)?;
     Ok(write_decision(text, decision)?)
+}
+
+/// What is decided of a request.
+pub fn reuse(text: &mut String, label: Line<'_>, parts: &[Part<'_>]) -> Result<(), Fault> {
+    match parts {
+        [word, rest @ ..] if word.head.text == "cache off" => {
+            if word.fields.len() > 0 {
+                return Err(word.head.fault("field lines behind `cache off`"));
+            }
+            write_decided(text, label, rest, false)
+        }
+        _ => write_decided(text, label, parts, true),
+    }
 }
 
 fn on_error_at(

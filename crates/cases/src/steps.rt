@@ -2,8 +2,9 @@
 //!
 //! The group's front is the operator's table. A case is a scenario: `at MOMENT, ID asks METHOD PATH`, `at MOMENT, ID is
 //! answered STATUS`, `at MOMENT, ID fails KIND` or `at MOMENT, ID is abandoned`, the first two perhaps `with content TEXT` and
-//! with field lines below; then `gives forward`, by the table's first line, `gives reply` with what is stored, used and removed,
-//! each with the message below, `gives refusal` with the core's fault, or `gives an end`. The answer is the number of steps.
+//! with field lines below; then `gives forward`, by the table's first line, or `gives forward by line N`, `gives reply` with
+//! what is stored, used and removed, each with the message below, `gives refusal` with the core's fault, or `gives an end`.
+//! The answer is the number of steps.
 
 use crate::case_file::Case;
 use crate::field_lines::fields_of;
@@ -229,7 +230,7 @@ fn write_given(text: &mut String, given: &Result<Outcome, CoreFault>) -> Result<
     match given {
         Ok(Outcome::Reply(reply)) => write_changes(text, reply),
         Ok(Outcome::Forward(1, _)) => text.push_str("gives forward"),
-        Ok(Outcome::Forward(_, _)) => text.push_str("gives forward by a later line"),
+        Ok(Outcome::Forward(line, _)) => write!(text, "gives forward by line {line}"),
         Ok(Outcome::Ended) => text.push_str("gives an end"),
         Err(fault) => write!(text, "gives refusal {fault:?}"),
     }

@@ -45,6 +45,7 @@ fn facts_of(
     requires { directives.now ≡ occurrences_of fields.now }
 {
     Ok(Facts {
+        operator: false,
         vary_star: is_star(alloc, asked, fields)?,
         listed: false,
         explicit: Lifetime::of(fields, directives).explicit,
@@ -61,6 +62,7 @@ fn with_part(mut facts: Facts, part: &Part<'_>) -> Result<Facts, Fault> {
         return Err(part.head.fault("field lines behind what is known besides"));
     }
     match part.head.text {
+        "a line without cache" => facts.operator = true,
         "Connection names a cache field" => facts.listed = true,
         "too large" => facts.too_large = true,
         "overtaken" => facts.overtaken = true,

@@ -27,13 +27,25 @@ fn write_fault(text: &mut String, fault: &ConfigFault) -> Result<(), AllocError>
         ConfigFault::BadOrigin(line) => write!(text, "BadOrigin line {line}"),
         ConfigFault::NoLines => text.push_str("NoLines"),
         ConfigFault::OutOfMemory => text.push_str("OutOfMemory"),
+        ConfigFault::BadCache(line) => write!(text, "BadCache line {line}"),
     }
+}
+
+/// Tells that a table is read, and which of its lines, 256 at most, have no cache.
+fn write_read(text: &mut String, config: &Config) -> Result<(), AllocError> {
+    text.push_str("read")?;
+    for line in 1..=256u16 {
+        if usize::from(line) <= config.lines() && !config.caches(line) {
+            write!(text, ", line {line} cache=off")?;
+        }
+    }
+    Ok(())
 }
 
 /// Whether bytes are a table.
 fn tell(text: &mut String, table: &[u8]) -> Result<(), AllocError> {
     match Config::read(*text.allocator(), table) {
-        Ok(_) => text.push_str("read"),
+        Ok(config) => write_read(text, &config),
         Err(fault) => write_fault(text, &fault),
     }
 }
@@ -110,6 +122,16 @@ pub fn changed_tables(text: &mut String, front: &[Line<'_>], case: &Case<'_>) ->
     )
 }
 
+/// The line that allows a request, its origin, and that it has no cache where it has none.
+fn write_allowed(text: &mut String, config: &Config, line: u16) -> Result<(), AllocError> {
+    write!(text, "allowed by line {line} to {}", config.origin(line))?;
+    if config.caches(line) {
+        Ok(())
+    } else {
+        text.push_str(" cache=off")
+    }
+}
+
 fn write_verdict(
     text: &mut String,
     config: &Config,
@@ -117,9 +139,7 @@ fn write_verdict(
     target: &Target,
 ) -> Result<(), AllocError> {
     match config.judge(method, target) {
-        Verdict::Allowed(line) => {
-            write!(text, "allowed by line {line} to {}", config.origin(line))
-        }
+        Verdict::Allowed(line) => write_allowed(text, config, line),
         Verdict::DeniedBy(line) => write!(text, "denied by line {line}"),
         Verdict::NoLine => text.push_str("no line"),
     }

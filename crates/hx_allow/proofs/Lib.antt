@@ -1,4 +1,7 @@
 pub mod FirstFaults
 pub mod Items
+pub mod LinesRead
 pub mod Readings
 pub mod TablePaths
+pub mod Versions
+pub mod Origins

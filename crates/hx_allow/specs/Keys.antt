@@ -1,7 +1,7 @@
 -- The keys of numbers, as they stand in the table, and the numbers of faults.
 use Rattle.std.specs.Prelude.{ℕ, List, codes}
 use Rattle.hx_allow.specs.declared.faults.ConfigFault.{ConfigFault}
-use Rattle.hx_allow.specs.declared.faults.ConfigFault.TheVariants.{NotToml, UnknownKey, BadName, BadNumber, BadHost, BadMethod, BadPath, BadOrigin, NoLines, OutOfMemory}
+use Rattle.hx_allow.specs.declared.faults.ConfigFault.TheVariants.{NotToml, UnknownKey, BadName, BadNumber, BadHost, BadMethod, BadPath, BadOrigin, NoLines, OutOfMemory, BadCache}
 use Rattle.hx_allow.specs.declared.faults.NumberKey.{NumberKey}
 use Rattle.hx_allow.specs.declared.faults.NumberKey.TheVariants.{Version, Capacity, MaxBody, MaxStored}
 
@@ -23,3 +23,4 @@ fault_number (BadPath line) = 7
 fault_number (BadOrigin line) = 8
 fault_number NoLines = 9
 fault_number OutOfMemory = 10
+fault_number (BadCache line) = 11

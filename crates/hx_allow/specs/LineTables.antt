@@ -1,9 +1,9 @@
 -- What a `[[line]]` table says, or its first fault.
-use Rattle.std.specs.Prelude.{ℕ, ◌+◌, ◌-◌, ◌==◌, nat_le, Bool, true, false, not, ◌&&◌, ◌||◌, if◌then◌else◌, List, [], ◌∷◌, length, slice_index, codes, bytes_eq, Option, Some, None, unwrap_or}
+use Rattle.std.specs.Prelude.{ℕ, ◌+◌, ◌-◌, ◌==◌, nat_le, Bool, true, false, not, ◌&&◌, ◌||◌, if◌then◌else◌, List, [], ◌∷◌, length, slice_index, codes, bytes_eq, Option, Some, None, is_none, unwrap_or}
 use Rattle.std.specs.List.{list_any, list_all}
 use Rattle.std.specs.Char.{is_ascii_uppercase}
 use Rattle.http_uri.specs.ByteClasses.{slash, hash_sign, question_mark}
-use Rattle.toml.specs.Data.{Items, no_items, item, table, Members, as_str, as_table}
+use Rattle.toml.specs.Data.{Items, no_items, item, table, Members, get_member, as_str, as_table}
 use Rattle.hx_fields.specs.Tokens.{is_token}
 use Rattle.hx_target.specs.Hosts.{is_host}
 use Rattle.hx_target.specs.Paths.{has_bad_escape, has_dot_segment, table_path_of}
@@ -12,8 +12,9 @@ use Rattle.hx_allow.specs.Lines.{Line as PlainLine}
 use Rattle.hx_allow.specs.Matching.{is_never_allowed}
 use Rattle.hx_allow.specs.Values.{first_unknown, text_at, is_some_and, counts_within, all_items, unless_text, texts_of, items_at}
 use Rattle.hx_allow.specs.declared.values.Scope.TheVariants.{Line}
+use Rattle.hx_allow.specs.declared.values.TableVersion.{TableVersion}
 use Rattle.hx_allow.specs.declared.faults.ConfigFault.{ConfigFault}
-use Rattle.hx_allow.specs.declared.faults.ConfigFault.TheVariants.{UnknownKey, BadHost, BadMethod, BadPath, BadOrigin}
+use Rattle.hx_allow.specs.declared.faults.ConfigFault.TheVariants.{UnknownKey, BadHost, BadMethod, BadPath, BadOrigin, BadCache}
 
 -- `*`, or a host in lower case
 unfoldable pub is_line_host : List ℕ → Bool
@@ -44,9 +45,21 @@ is_line_path text =
 abbrev pub is_line_origin : List ℕ → Bool
 is_line_origin text = bytes_eq text (codes "deny") || is_address text
 
--- the first fault of the line with this number
-unfoldable pub line_fault : ℕ → Members → Option ConfigFault
-line_fault n ms = after_keys (first_unknown Line ms)
+abbrev pub denies : Members → Bool
+denies ms = is_some_and (λ text. bytes_eq text (codes "deny")) (text_at (codes "origin") ms)
+
+-- `on` or `off`
+abbrev pub is_cache_word : List ℕ → Bool
+is_cache_word text = bytes_eq text (codes "on") || bytes_eq text (codes "off")
+
+-- `cache` doesn't stand, or it is such a word in a line that doesn't deny
+abbrev pub is_line_cache : Members → Bool
+is_line_cache ms =
+    is_none (get_member (codes "cache") ms) || (is_some_and is_cache_word (text_at (codes "cache") ms) && not (denies ms))
+
+-- the first fault of the line with this number, in a table of this version
+unfoldable pub line_fault : TableVersion → ℕ → Members → Option ConfigFault
+line_fault version n ms = after_keys (first_unknown (Line version) ms)
   where
     after_keys : Option (List ℕ) → Option ConfigFault
     after_keys (Some key) = Some (UnknownKey key)
@@ -55,7 +68,13 @@ line_fault n ms = after_keys (first_unknown Line ms)
         else if not (is_some_and are_line_methods (items_at (codes "methods") ms)) then Some (BadMethod n)
         else if not (is_some_and is_line_path (text_at (codes "path") ms)) then Some (BadPath n)
         else if not (is_some_and is_line_origin (text_at (codes "origin") ms)) then Some (BadOrigin n)
+        else if not (is_line_cache ms) then Some (BadCache n)
         else None
+
+-- a line is cached unless it says no
+abbrev pub is_cached : Option (List ℕ) → Bool
+is_cached None = true
+is_cached (Some text) = not (bytes_eq text (codes "off"))
 
 -- the line, where it has no fault
 unfoldable pub line_of : Members → PlainLine
@@ -64,20 +83,21 @@ line_of ms = record {
   methods = texts_of (unwrap_or (items_at (codes "methods") ms) no_items);
   path = table_path_of (unwrap_or (text_at (codes "path") ms) []);
   origin = unless_text (codes "deny") (text_at (codes "origin") ms);
+  caches = is_cached (text_at (codes "cache") ms);
 }
 
 abbrev pub or_later : Option ConfigFault → Option ConfigFault → Option ConfigFault
 or_later None later = later
 or_later (Some fault) later = Some fault
 
-abbrev pub item_fault : ℕ → Option Members → Option ConfigFault
-item_fault n None = None
-item_fault n (Some ms) = line_fault n ms
+abbrev pub item_fault : TableVersion → ℕ → Option Members → Option ConfigFault
+item_fault version n None = None
+item_fault version n (Some ms) = line_fault version n ms
 
--- the first fault among lines of which the first has this number
-abbrev pub lines_fault : ℕ → Items → Option ConfigFault
-lines_fault n no_items = None
-lines_fault n (item d ds) = or_later (item_fault n (as_table d)) (lines_fault (n + 1) ds)
+-- the first fault among lines of which the first has this number, in a table of this version
+abbrev pub lines_fault : TableVersion → ℕ → Items → Option ConfigFault
+lines_fault version n no_items = None
+lines_fault version n (item d ds) = or_later (item_fault version n (as_table d)) (lines_fault version (n + 1) ds)
 
 -- the items of an array of these tables
 abbrev pub tables : List Members → Items

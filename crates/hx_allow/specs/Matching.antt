@@ -2,11 +2,13 @@
 --
 -- matches_line: a line's host, a method and its path match
 -- verdict_of: the first line that matches
-use Rattle.std.specs.Prelude.{◌≤◌, IsSome, ℕ, ◌+◌, ◌-◌, ◌==◌, nat_lt, Bool, true, not, ◌&&◌, ◌||◌, if◌then◌else◌, List, [], ◌∷◌, length, take, slice_index, slice_get, codes, bytes_eq, Option, Some, None, is_some}
+-- origin_of, caches_of: what the line of a number says     longest_origin: the most bytes of an origin's address
+use Rattle.std.specs.Prelude.{◌≤◌, IsSome, ℕ, ◌+◌, ◌-◌, ◌==◌, nat_lt, Bool, true, not, ◌&&◌, ◌||◌, if◌then◌else◌, List, [], ◌∷◌, length, max, fold, take, slice_index, slice_get, codes, bytes_eq, Option, Some, None, is_some, unwrap_or}
 use Rattle.std.specs.Option.{option_and_then}
 use Rattle.std.specs.List.{list_any}
 use Rattle.hx_target.specs.declared.targets.Target.{Target}
 use Rattle.hx_allow.specs.Lines.{Line}
+use Rattle.hx_allow.specs.Values.{is_some_and}
 use Rattle.hx_allow.specs.declared.verdicts.Verdict.{Verdict}
 use Rattle.hx_allow.specs.declared.verdicts.Verdict.TheVariants.{Allowed, DeniedBy, NoLine}
 
@@ -56,6 +58,14 @@ verdict_of lines method target = verdict_from 1 lines method target
 -- the origin of the line with this number, where it stands and doesn't deny
 abbrev pub origin_of : List Line → ℕ → Option (List ℕ)
 origin_of lines n = option_and_then (λ (line : Line). line.origin) (slice_get lines (n - 1))
+
+-- the bytes of the longest address of an origin
+abbrev pub longest_origin : List Line → ℕ
+longest_origin lines = fold (λ n (line : Line). max n (length (unwrap_or line.origin []))) 0 lines
+
+-- what the line with this number says of the store; what the table doesn't say isn't kept
+abbrev pub caches_of : List Line → ℕ → Bool
+caches_of lines n = is_some_and (λ (line : Line). line.caches) (slice_get lines (n - 1))
 
 -- a line of this number stands and has an origin
 abbrev pub IsAllowing : List Line → ℕ → Type 0

@@ -14,6 +14,8 @@ use Rattle.hx_allow.specs.Lines.{Table}
 use Rattle.hx_allow.specs.LineTables.{lines_fault, lines_of, has_key}
 use Rattle.hx_allow.specs.Values.{first_unknown, text_at, number_between, is_some_and, counts_within, all_items, items_at}
 use Rattle.hx_allow.specs.declared.values.Scope.TheVariants.{Top}
+use Rattle.hx_allow.specs.declared.values.TableVersion.{TableVersion}
+use Rattle.hx_allow.specs.declared.values.TableVersion.TheVariants.{One, Two}
 use Rattle.hx_allow.specs.declared.faults.ConfigFault.{ConfigFault}
 use Rattle.hx_allow.specs.declared.faults.ConfigFault.TheVariants.{NotToml, UnknownKey, BadName, BadNumber, NoLines}
 use Rattle.hx_allow.specs.declared.faults.NumberKey.{NumberKey}
@@ -38,13 +40,17 @@ least MaxBody = 0
 least MaxStored = 0
 
 abbrev pub greatest : NumberKey → ℕ
-greatest Version = 1
+greatest Version = 2
 greatest Capacity = 65536
 greatest MaxBody = 16777216
 greatest MaxStored = 16777216
 
 abbrev pub number_at : NumberKey → Members → Option ℕ
 number_at key t = number_between (least key) (greatest key) (get_member (key_text key) t)
+
+-- the version that the number of `version` names
+abbrev pub version_of : Members → TableVersion
+version_of t = if is_some_and (λ n. n == 2) (number_at Version t) then Two else One
 
 -- an array of 1 to 256 tables
 abbrev pub are_lines : Items → Bool
@@ -70,7 +76,7 @@ table_fault t = after_keys (first_unknown Top t)
   where
     after_name : Option NumberKey → Option ConfigFault
     after_name (Some key) = Some (BadNumber key)
-    after_name None = if is_none (lines_at t) then Some NoLines else lines_fault 1 (unwrap_or (lines_at t) no_items)
+    after_name None = if is_none (lines_at t) then Some NoLines else lines_fault (version_of t) 1 (unwrap_or (lines_at t) no_items)
 
     after_keys : Option (List ℕ) → Option ConfigFault
     after_keys (Some key) = Some (UnknownKey key)

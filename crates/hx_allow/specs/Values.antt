@@ -5,11 +5,18 @@ use Rattle.std.specs.List.{list_any}
 use Rattle.toml.specs.Data.{Data, as_integer, Items, no_items, item, Members, no_members, member, get_member, as_str, as_array}
 use Rattle.hx_allow.specs.declared.values.Scope.{Scope}
 use Rattle.hx_allow.specs.declared.values.Scope.TheVariants.{Top, Line}
+use Rattle.hx_allow.specs.declared.values.TableVersion.{TableVersion}
+use Rattle.hx_allow.specs.declared.values.TableVersion.TheVariants.{One, Two}
+
+-- the keys of a line that a version has besides those of the first
+abbrev pub further_keys : TableVersion → List (List ℕ)
+further_keys One = []
+further_keys Two = codes "cache" ∷ []
 
 -- the keys that stand at the top, and in a line
 abbrev pub known_keys : Scope → List (List ℕ)
 known_keys Top = codes "version" ∷ codes "name" ∷ codes "capacity" ∷ codes "max_body" ∷ codes "max_stored" ∷ codes "line" ∷ []
-known_keys Line = codes "host" ∷ codes "methods" ∷ codes "path" ∷ codes "origin" ∷ []
+known_keys (Line version) = codes "host" ∷ codes "methods" ∷ codes "path" ∷ codes "origin" ∷ further_keys version
 
 abbrev pub is_known : Scope → List ℕ → Bool
 is_known scope key = list_any (bytes_eq key) (known_keys scope)

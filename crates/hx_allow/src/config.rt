@@ -1,6 +1,6 @@
 //! The operator's table, read.
-ghost use Rattle.std.specs.Prelude.{◌≡◌, ◌≤◌, [], length, Err, slice_get, unwrap_or};
-ghost use Rattle.hx_allow.specs.Matching.{verdict_of, origin_of, NamesAnOrigin};
+ghost use Rattle.std.specs.Prelude.{◌≡◌, ◌≤◌, ℕ, [], length, Err, slice_get, unwrap_or};
+ghost use Rattle.hx_allow.specs.Matching.{verdict_of, origin_of, caches_of, longest_origin, NamesAnOrigin};
 ghost use Rattle.std.specs.Option.{option_copied};
 ghost use Rattle.hx_allow.specs.Tables.{ReadsAs};
 
@@ -11,12 +11,15 @@ use hx_target::Target;
 use std::alloc::Global;
 use std::marker::Model;
 
-/// The operator's table: the proxy's name, its limits, and which requests go to which origin.
+/// The operator's table: the proxy's name, its limits, which requests go to which origin, and which of them may be
+/// answered from the store.
 pub struct Config {
     pub(crate) name: String,
     pub(crate) capacity: usize,
     pub(crate) max_body: u64,
     pub(crate) max_stored: u64,
+    /// The bytes of the longest address of an origin.
+    pub(crate) longest_origin: usize,
     pub(crate) lines: Vec<Line>,
 }
 
@@ -28,24 +31,26 @@ impl Drop for Config {
             capacity: _,
             max_body: _,
             max_stored: _,
+            longest_origin: _,
             lines: _,
         } = self;
     }
 }
 
 impl Model for Config {
-    ghost use Rattle.std.specs.Prelude.{string_bytes, length, ◌≤◌};
+    ghost use Rattle.std.specs.Prelude.{string_bytes, length, ◌≤◌, ◌≡◌};
     ghost use Rattle.hx_allow.specs.Lines.{Table};
+    ghost use Rattle.hx_allow.specs.Matching.{longest_origin as longest_among};
 
     ghost Value = { Table };
 
     ghost view = { λ c. record { name = string_bytes c.name; capacity = c.capacity; max_body = c.max_body; max_stored = c.max_stored; lines = c.lines.items } };
 
-    ghost invariant = { λ c. length c.lines.items ≤ 256 };
+    ghost invariant = { λ c. (length c.lines.items ≤ 256) × (c.longest_origin ≡ longest_among c.lines.items) };
 }
 
 impl Config {
-    /// Reads a table. The least fault in the order of looking is answered, and want of memory last.
+    /// Reads a table of version 1 or 2. The first fault in the order of looking is answered, and want of memory last.
     pub fn read(alloc: Global, bytes: &[u8]) -> Result<Config, ConfigFault>
         ensures table { ¬ (result ≡ Err ConfigFault.OutOfMemory) → ReadsAs bytes.now result }
         // That a text is too long is told without memory.
@@ -85,6 +90,25 @@ impl Config {
                 None => "",
             },
             None => "",
+        }
+    }
+
+    /// The bytes of the longest address of an origin: room for that of any line.
+    pub fn longest_origin(&self) -> usize
+        ensures longest { result ≡ longest_origin self.now.lines }
+        ensures each { (line : ℕ) → length (unwrap_or (origin_of self.now.lines line) []) ≤ result }
+    {
+        self.longest_origin
+    }
+
+    /// Whether the requests of a line, counted from 1, may be answered from the store, and their responses stored. It is
+    /// false where the table has no such line, and true of a line that denies, whose requests reach no store.
+    pub fn caches(&self, line: u16) -> bool
+        ensures { result ≡ caches_of self.now.lines line }
+    {
+        match line_at(&self.lines, usize::from(line).saturating_sub(1)) {
+            Some(line) => line.caches,
+            None => false,
         }
     }
 

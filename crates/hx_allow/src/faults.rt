@@ -9,7 +9,7 @@ use std::alloc::AllocError;
 /// A key of the table that has a number.
 #[derive(Clone, Copy, Debug, PartialEq, Eq, Hash)]
 pub enum NumberKey {
-    /// The version of the table's format, 1.
+    /// The version of the table's format, 1 or 2.
     Version,
     /// The most entries of the store, 1 to 65,536.
     Capacity,
@@ -58,10 +58,12 @@ pub enum ConfigFault {
     NoLines,
     /// Memory ran out.
     OutOfMemory,
+    /// `cache` of this line is neither `"on"` nor `"off"`, or stands in a line that denies.
+    BadCache(u16),
 }
 
 impl ConfigFault {
-    /// The fault's number, 1 to 10.
+    /// The fault's number, 1 to 11.
     pub fn number(&self) -> u8
         ensures { result ≡ fault_number self.now }
     {
@@ -76,6 +78,7 @@ impl ConfigFault {
             ConfigFault::BadOrigin(_) => 8,
             ConfigFault::NoLines => 9,
             ConfigFault::OutOfMemory => 10,
+            ConfigFault::BadCache(_) => 11,
         }
     }
 }

@@ -1,8 +1,8 @@
-//! What the definitions of `specs/` say together, and what they give on tables of one and of two lines: each
+//! What the definitions of `specs/` say together, and what they give on tables of a few lines: each
 //! function's contract is a law, and its body is empty.
-ghost use Rattle.std.specs.Prelude.{◌≡◌, ◌+◌, ◌++◌, List, ℕ, Result, Ok, Err, Some, None, [], ◌∷◌, codes, length, option_map};
+ghost use Rattle.std.specs.Prelude.{◌≡◌, ◌+◌, ◌++◌, List, ℕ, Result, Ok, Err, Some, None, [], ◌∷◌, true, false, codes, length, option_map};
 ghost use Rattle.std.specs.List.{All, position_from};
-ghost use Rattle.toml.specs.Data.{Members};
+ghost use Rattle.toml.specs.Data.{Members, get_member};
 ghost use Rattle.toml.specs.Parse.{parse_document};
 ghost use Rattle.hx_target.specs.declared.targets.Target.{Target};
 ghost use Rattle.hx_target.specs.Judgement.{Judged};
@@ -10,8 +10,11 @@ ghost use Rattle.hx_target.specs.Paths.{table_path_of};
 ghost use Rattle.hx_allow.specs.Lines.{Line, Table};
 ghost use Rattle.hx_allow.specs.LineTables.{line_fault, lines_fault, tables};
 ghost use Rattle.hx_allow.specs.Matching.{matches_line, verdict_of, line_number};
-ghost use Rattle.hx_allow.specs.Tables.{judge_table, ReadsAs};
+ghost use Rattle.hx_allow.specs.Tables.{version_of, judge_table, ReadsAs};
 ghost use Rattle.hx_allow.specs.declared.faults.ConfigFault.{ConfigFault as Fault};
+ghost use Rattle.hx_allow.specs.declared.faults.NumberKey.TheVariants.{Version};
+ghost use Rattle.hx_allow.specs.declared.values.TableVersion.{TableVersion};
+ghost use Rattle.hx_allow.specs.declared.values.TableVersion.TheVariants.{One};
 
 use hx_target::normalising_twice_is_once;
 
@@ -38,23 +41,47 @@ pub fn one_verdict_for_each_table_path()
 
 /// Where the lines in front have no fault, a fault of a line is told by that line's number, whatever follows.
 pub fn the_first_line_at_fault_is_told()
-    ensures { (before : List Members) (members : Members) (after : List Members) (fault : Fault) → lines_fault 1 (tables before) ≡ None → line_fault (1 + length before) members ≡ Some fault → lines_fault 1 (tables (before ++ members ∷ after)) ≡ Some fault }
+    ensures { (version : TableVersion) (before : List Members) (members : Members) (after : List Members) (fault : Fault) → lines_fault version 1 (tables before) ≡ None → line_fault version (1 + length before) members ≡ Some fault → lines_fault version 1 (tables (before ++ members ∷ after)) ≡ Some fault }
+{}
+
+/// A table of the first version is never refused for `cache`, and each of its lines is cached. A line without the key is
+/// read alike in both versions.
+pub fn version_one_reads_as_before()
+    ensures never { (t : Members) (line : ℕ) → version_of t ≡ One → ¬ (judge_table t ≡ Err (Fault.BadCache line)) }
+    ensures cached { (t : Members) (table : Table) → version_of t ≡ One → judge_table t ≡ Ok table → All (λ (line : Line). line.caches ≡ true) table.lines }
+    ensures alike { (version : TableVersion) (n : ℕ) (members : Members) → get_member (codes "cache") members ≡ None → line_fault version n members ≡ line_fault One n members }
 {}
 
 /// The table of the first example.
 #[tactic(auto, unfolding(toml::proofs::OnLiterals::toml_on_literals, crate::specs::Tables::judge_table, crate::specs::Tables::table_fault, crate::specs::Tables::table_of, crate::specs::Tables::is_name, crate::specs::LineTables::line_fault, crate::specs::LineTables::line_of, crate::specs::LineTables::is_line_host, crate::specs::LineTables::is_line_method, crate::specs::LineTables::is_line_path, crate::specs::Addresses::is_address, hx_target::specs::Hosts::short_number, hx_target::specs::Paths::has_dot_segment))]
 pub fn a_whole_table_is_read()
-    ensures { option_map judge_table (parse_document (codes "version = 1\nname = \"edge\"\ncapacity = 2\nmax_body = 1000\nmax_stored = 1000\n\n[[line]]\nhost = \"*\"\nmethods = [\"GET\", \"HEAD\", \"POST\"]\npath = \"/\"\norigin = \"127.0.0.1:8081\"\n")) ≡ Some (Ok (record { name = codes "edge"; capacity = 2; max_body = 1000; max_stored = 1000; lines = record { host = None; methods = codes "GET" ∷ codes "HEAD" ∷ codes "POST" ∷ []; path = codes "/"; origin = Some (codes "127.0.0.1:8081") } ∷ [] })) }
+    ensures { option_map judge_table (parse_document (codes "version = 1\nname = \"edge\"\ncapacity = 2\nmax_body = 1000\nmax_stored = 1000\n\n[[line]]\nhost = \"*\"\nmethods = [\"GET\", \"HEAD\", \"POST\"]\npath = \"/\"\norigin = \"127.0.0.1:8081\"\n")) ≡ Some (Ok (record { name = codes "edge"; capacity = 2; max_body = 1000; max_stored = 1000; lines = record { host = None; methods = codes "GET" ∷ codes "HEAD" ∷ codes "POST" ∷ []; path = codes "/"; origin = Some (codes "127.0.0.1:8081"); caches = true } ∷ [] })) }
 {}
 
 /// A table of two lines, in their order: the first denies a path, the second allows what is left.
 #[tactic(auto, unfolding(toml::proofs::OnLiterals::toml_on_literals, crate::specs::Tables::judge_table, crate::specs::Tables::table_fault, crate::specs::Tables::table_of, crate::specs::Tables::is_name, crate::specs::LineTables::line_fault, crate::specs::LineTables::line_of, crate::specs::LineTables::is_line_host, crate::specs::LineTables::is_line_method, crate::specs::LineTables::is_line_path, crate::specs::Addresses::is_address, hx_target::specs::Hosts::is_host, hx_target::specs::Hosts::short_number, hx_target::specs::Paths::has_dot_segment))]
 pub fn a_table_of_two_lines_is_read()
-    ensures { option_map judge_table (parse_document (codes "version = 1\nname = \"edge\"\ncapacity = 2\nmax_body = 1000\nmax_stored = 1000\n\n[[line]]\nhost = \"*\"\nmethods = [\"*\"]\npath = \"/admin\"\norigin = \"deny\"\n\n[[line]]\nhost = \"x\"\nmethods = [\"GET\"]\npath = \"/\"\norigin = \"127.0.0.1:8081\"\n")) ≡ Some (Ok (record { name = codes "edge"; capacity = 2; max_body = 1000; max_stored = 1000; lines = record { host = None; methods = codes "*" ∷ []; path = codes "/admin"; origin = None } ∷ record { host = Some (codes "x"); methods = codes "GET" ∷ []; path = codes "/"; origin = Some (codes "127.0.0.1:8081") } ∷ [] })) }
+    ensures { option_map judge_table (parse_document (codes "version = 1\nname = \"edge\"\ncapacity = 2\nmax_body = 1000\nmax_stored = 1000\n\n[[line]]\nhost = \"*\"\nmethods = [\"*\"]\npath = \"/admin\"\norigin = \"deny\"\n\n[[line]]\nhost = \"x\"\nmethods = [\"GET\"]\npath = \"/\"\norigin = \"127.0.0.1:8081\"\n")) ≡ Some (Ok (record { name = codes "edge"; capacity = 2; max_body = 1000; max_stored = 1000; lines = record { host = None; methods = codes "*" ∷ []; path = codes "/admin"; origin = None; caches = true } ∷ record { host = Some (codes "x"); methods = codes "GET" ∷ []; path = codes "/"; origin = Some (codes "127.0.0.1:8081"); caches = true } ∷ [] })) }
 {}
 
 /// A fault of the second line has its number, and the first in the order of looking is named.
 #[tactic(auto, unfolding(toml::proofs::OnLiterals::toml_on_literals, crate::specs::Tables::judge_table, crate::specs::Tables::table_fault, crate::specs::Tables::table_of, crate::specs::Tables::is_name, crate::specs::LineTables::line_fault, crate::specs::LineTables::line_of, crate::specs::LineTables::is_line_host, crate::specs::LineTables::is_line_method, crate::specs::LineTables::is_line_path, crate::specs::Addresses::is_address, hx_target::specs::Hosts::is_host, hx_target::specs::Hosts::short_number, hx_target::specs::Paths::has_dot_segment))]
 pub fn a_fault_of_the_second_line_has_its_number()
     ensures { option_map judge_table (parse_document (codes "version = 1\nname = \"edge\"\ncapacity = 2\nmax_body = 1000\nmax_stored = 1000\n\n[[line]]\nhost = \"*\"\nmethods = [\"*\"]\npath = \"/admin\"\norigin = \"deny\"\n\n[[line]]\nhost = \"x\"\nmethods = [\"GET\"]\npath = \"/a/\"\norigin = \"allow\"\n")) ≡ Some (Err (Fault.BadPath 2)) }
+{}
+
+/// A table of the second version: a line without cache, one that says that it has one, and one that says nothing.
+#[tactic(auto, unfolding(toml::proofs::OnLiterals::toml_on_literals, crate::specs::Tables::judge_table, crate::specs::Tables::table_fault, crate::specs::Tables::table_of, crate::specs::Tables::is_name, crate::specs::LineTables::line_fault, crate::specs::LineTables::line_of, crate::specs::LineTables::is_line_host, crate::specs::LineTables::is_line_method, crate::specs::LineTables::is_line_path, crate::specs::Addresses::is_address, hx_target::specs::Hosts::is_host, hx_target::specs::Hosts::short_number, hx_target::specs::Paths::has_dot_segment))]
+pub fn lines_without_cache_are_read()
+    ensures { option_map judge_table (parse_document (codes "version = 2\nname = \"edge\"\ncapacity = 2\nmax_body = 1000\nmax_stored = 1000\n\n[[line]]\nhost = \"*\"\nmethods = [\"*\"]\npath = \"/live\"\norigin = \"127.0.0.1:8081\"\ncache = \"off\"\n\n[[line]]\nhost = \"*\"\nmethods = [\"GET\"]\npath = \"/shop\"\norigin = \"127.0.0.1:8081\"\ncache = \"on\"\n\n[[line]]\nhost = \"*\"\nmethods = [\"GET\"]\npath = \"/\"\norigin = \"127.0.0.1:8081\"\n")) ≡ Some (Ok (record { name = codes "edge"; capacity = 2; max_body = 1000; max_stored = 1000; lines = record { host = None; methods = codes "*" ∷ []; path = codes "/live"; origin = Some (codes "127.0.0.1:8081"); caches = false } ∷ record { host = None; methods = codes "GET" ∷ []; path = codes "/shop"; origin = Some (codes "127.0.0.1:8081"); caches = true } ∷ record { host = None; methods = codes "GET" ∷ []; path = codes "/"; origin = Some (codes "127.0.0.1:8081"); caches = true } ∷ [] })) }
+{}
+
+/// The first fault of tables that differ in their version and in the `cache` of their line: a version that isn't known,
+/// the key in a table of the first version, a word that isn't known, and the key in a line that denies.
+#[tactic(auto, unfolding(toml::proofs::OnLiterals::toml_on_literals, crate::specs::Tables::judge_table, crate::specs::Tables::table_fault, crate::specs::Tables::table_of, crate::specs::Tables::is_name, crate::specs::LineTables::line_fault, crate::specs::LineTables::line_of, crate::specs::LineTables::is_line_host, crate::specs::LineTables::is_line_method, crate::specs::LineTables::is_line_path, crate::specs::Addresses::is_address, hx_target::specs::Hosts::is_host, hx_target::specs::Hosts::short_number, hx_target::specs::Paths::has_dot_segment))]
+pub fn table_versions()
+    ensures unknown { option_map judge_table (parse_document (codes "version = 3\nname = \"edge\"\ncapacity = 2\nmax_body = 1000\nmax_stored = 1000\n\n[[line]]\nhost = \"*\"\nmethods = [\"*\"]\npath = \"/live\"\norigin = \"127.0.0.1:8081\"\n")) ≡ Some (Err (Fault.BadNumber Version)) }
+    ensures first { option_map judge_table (parse_document (codes "version = 1\nname = \"edge\"\ncapacity = 2\nmax_body = 1000\nmax_stored = 1000\n\n[[line]]\nhost = \"*\"\nmethods = [\"*\"]\npath = \"/live\"\norigin = \"127.0.0.1:8081\"\ncache = \"off\"\n")) ≡ Some (Err (Fault.UnknownKey (codes "cache"))) }
+    ensures word { option_map judge_table (parse_document (codes "version = 2\nname = \"edge\"\ncapacity = 2\nmax_body = 1000\nmax_stored = 1000\n\n[[line]]\nhost = \"*\"\nmethods = [\"*\"]\npath = \"/live\"\norigin = \"127.0.0.1:8081\"\ncache = \"no\"\n")) ≡ Some (Err (Fault.BadCache 1)) }
+    ensures denying { option_map judge_table (parse_document (codes "version = 2\nname = \"edge\"\ncapacity = 2\nmax_body = 1000\nmax_stored = 1000\n\n[[line]]\nhost = \"*\"\nmethods = [\"*\"]\npath = \"/live\"\norigin = \"deny\"\ncache = \"off\"\n")) ≡ Some (Err (Fault.BadCache 1)) }
 {}

@@ -19,7 +19,8 @@ pub use config::Config;
 pub use faults::{ConfigFault, NumberKey};
 pub use laws::{
     a_fault_of_the_second_line_has_its_number, a_table_is_read_in_one_way,
-    a_table_of_two_lines_is_read, a_whole_table_is_read, one_verdict_for_each_table_path,
-    the_first_line_at_fault_is_told, the_first_line_that_matches_decides,
+    a_table_of_two_lines_is_read, a_whole_table_is_read, lines_without_cache_are_read,
+    one_verdict_for_each_table_path, table_versions, the_first_line_at_fault_is_told,
+    the_first_line_that_matches_decides, version_one_reads_as_before,
 };
 pub use verdicts::Verdict;

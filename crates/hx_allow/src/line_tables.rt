@@ -7,12 +7,14 @@ ghost use Rattle.std.specs.List.{list_any, list_all};
 ghost use Rattle.std.specs.Char.{is_ascii_uppercase};
 ghost use Rattle.toml.specs.View.{table_view, items_view, view};
 ghost use Rattle.hx_allow.specs.Values.{is_some_and, items_at, unless_text, texts_of};
-ghost use Rattle.hx_allow.specs.LineTables.{is_line_host, is_line_method, are_line_methods, is_path_byte, ends_open, is_line_path, is_line_origin, line_fault, line_of, lines_fault, lines_of, item_fault, has_key};
+ghost use Rattle.hx_allow.specs.LineTables.{is_line_host, is_line_method, are_line_methods, is_path_byte, ends_open, is_line_path, is_line_origin, denies, is_cache_word, is_line_cache, is_cached, line_fault, line_of, lines_fault, lines_of, item_fault, has_key};
 
 use crate::ConfigFault;
 use crate::addresses::is_address;
 use crate::lines::{Line, is_never_allowed};
-use crate::values::{Scope, array_at, counts_within, first_unknown, text_at};
+use crate::values::{
+    Scope, TableVersion, array_at, counts_within, first_unknown, text_at, value_at,
+};
 use hx_fields::{Bytes, is_token};
 use hx_target::{has_bad_escape, is_host, names_a_dot_segment, table_path};
 use std::alloc::{AllocError, Global};
@@ -126,6 +128,33 @@ fn is_good_origin(text: Option<&str>) -> bool
     }
 }
 
+fn denies(table: &Table) -> bool
+    ensures { result ≡ denies (table_view table.now) }
+{
+    match text_at(table, "origin") {
+        Some(text) => text == "deny",
+        None => false,
+    }
+}
+
+fn is_cache_word(value: &Value) -> bool
+    ensures { result ≡ is_some_and is_cache_word (as_str (view value.now)) }
+{
+    match value.as_str() {
+        Some(text) => text == "on" || text == "off",
+        None => false,
+    }
+}
+
+fn is_good_cache(table: &Table) -> bool
+    ensures { result ≡ is_line_cache (table_view table.now) }
+{
+    match value_at(table, "cache") {
+        Some(value) => is_cache_word(value) && !denies(table),
+        None => true,
+    }
+}
+
 /// The fault of a key that isn't known, with its bytes, or want of memory.
 pub fn unknown_key_fault(alloc: Global, key: &str) -> ConfigFault
     ensures { ¬ (result ≡ ConfigFault.OutOfMemory) → result ≡ ConfigFault.UnknownKey key.now }
@@ -138,11 +167,16 @@ pub fn unknown_key_fault(alloc: Global, key: &str) -> ConfigFault
 
 /// The first fault of a line. Only the bytes of an unknown key take memory.
 #[tactic(auto, unfolding(crate::specs::LineTables::line_fault))]
-fn line_fault(alloc: Global, number: u16, table: &Table) -> Option<ConfigFault>
-    ensures first { ¬ (result ≡ Some ConfigFault.OutOfMemory) → result ≡ line_fault number (table_view table.now) }
-    ensures memory_last { result ≡ Some ConfigFault.OutOfMemory → has_key (line_fault number (table_view table.now)) ≡ true }
+fn line_fault(
+    alloc: Global,
+    version: TableVersion,
+    number: u16,
+    table: &Table,
+) -> Option<ConfigFault>
+    ensures first { ¬ (result ≡ Some ConfigFault.OutOfMemory) → result ≡ line_fault version number (table_view table.now) }
+    ensures memory_last { result ≡ Some ConfigFault.OutOfMemory → has_key (line_fault version number (table_view table.now)) ≡ true }
 {
-    if let Some(key) = first_unknown(Scope::Line, table) {
+    if let Some(key) = first_unknown(Scope::Line(version), table) {
         return Some(unknown_key_fault(alloc, key));
     }
     if !is_good_host(text_at(table, "host")) {
@@ -156,6 +190,9 @@ fn line_fault(alloc: Global, number: u16, table: &Table) -> Option<ConfigFault>
     }
     if !is_good_origin(text_at(table, "origin")) {
         return Some(ConfigFault::BadOrigin(number));
+    }
+    if !is_good_cache(table) {
+        return Some(ConfigFault::BadCache(number));
     }
     None
 }
@@ -190,6 +227,16 @@ fn path_rule(alloc: Global, text: Option<&str>) -> Result<Bytes, AllocError>
     }
 }
 
+/// Whether a line is cached, which it is unless it says no.
+fn cache_rule(text: Option<&str>) -> bool
+    ensures { result ≡ is_cached (option_copied text.entry) }
+{
+    match text {
+        Some(text) => text != "off",
+        None => true,
+    }
+}
+
 fn copy_texts(alloc: Global, values: &[Value]) -> Result<Vec<Bytes>, AllocError>
     ensures { IfOk result (λ texts. texts.items ≡ texts_of (items_view values.now)) }
 {
@@ -221,28 +268,34 @@ fn line_of(alloc: Global, table: &Table) -> Result<Line, AllocError>
         methods: method_texts(alloc, table)?,
         path: path_rule(alloc, text_at(table, "path"))?,
         origin: origin_rule(alloc, text_at(table, "origin"))?,
+        caches: cache_rule(text_at(table, "cache")),
     })
 }
 
-fn item_fault(alloc: Global, number: u16, value: &Value) -> Option<ConfigFault>
-    ensures first { ¬ (result ≡ Some ConfigFault.OutOfMemory) → result ≡ item_fault number (as_table (view value.now)) }
-    ensures memory_last { result ≡ Some ConfigFault.OutOfMemory → has_key (item_fault number (as_table (view value.now))) ≡ true }
+fn item_fault(
+    alloc: Global,
+    version: TableVersion,
+    number: u16,
+    value: &Value,
+) -> Option<ConfigFault>
+    ensures first { ¬ (result ≡ Some ConfigFault.OutOfMemory) → result ≡ item_fault version number (as_table (view value.now)) }
+    ensures memory_last { result ≡ Some ConfigFault.OutOfMemory → has_key (item_fault version number (as_table (view value.now))) ≡ true }
 {
     match value.as_table() {
-        Some(table) => line_fault(alloc, number, table),
+        Some(table) => line_fault(alloc, version, number, table),
         None => None,
     }
 }
 
 /// The first fault among at most 256 lines, which are counted from 1.
-pub fn lines_fault(alloc: Global, values: &[Value]) -> Option<ConfigFault>
+pub fn lines_fault(alloc: Global, version: TableVersion, values: &[Value]) -> Option<ConfigFault>
     requires { length values.now ≤ 256 }
-    ensures first { ¬ (result ≡ Some ConfigFault.OutOfMemory) → result ≡ lines_fault 1 (items_view values.now) }
-    ensures memory_last { result ≡ Some ConfigFault.OutOfMemory → has_key (lines_fault 1 (items_view values.now)) ≡ true }
+    ensures first { ¬ (result ≡ Some ConfigFault.OutOfMemory) → result ≡ lines_fault version 1 (items_view values.now) }
+    ensures memory_last { result ≡ Some ConfigFault.OutOfMemory → has_key (lines_fault version 1 (items_view values.now)) ≡ true }
 {
     let mut number = 1u16;
     for value in values {
-        if let Some(fault) = item_fault(alloc, number, value) {
+        if let Some(fault) = item_fault(alloc, version, number, value) {
             return Some(fault);
         }
         number += 1;

@@ -1,8 +1,8 @@
 //! A line of the table, and which requests it matches.
-ghost use Rattle.std.specs.Prelude.{◌≡◌, ◌≤◌, length, drop, option_map, string_bytes};
+ghost use Rattle.std.specs.Prelude.{◌≡◌, ◌≤◌, [], length, drop, option_map, string_bytes, unwrap_or};
 ghost use Rattle.std.specs.Option.{option_copied};
 ghost use Rattle.std.specs.List.{list_any};
-ghost use Rattle.hx_allow.specs.Matching.{matches_host, is_never_allowed, matches_method, is_any_or_same, matches_path, matches_line};
+ghost use Rattle.hx_allow.specs.Matching.{matches_host, is_never_allowed, matches_method, is_any_or_same, matches_path, matches_line, longest_origin};
 
 use http::Method;
 use hx_fields::Bytes;
@@ -20,6 +20,8 @@ pub struct Line {
     pub path: Bytes,
     /// The address of the origin, or none where the line denies.
     pub origin: Option<String>,
+    /// Whether its requests may be answered from the store, and their responses stored.
+    pub caches: bool,
 }
 
 impl Model for Line {
@@ -28,7 +30,7 @@ impl Model for Line {
 
     ghost Value = { PlainLine };
 
-    ghost view = { λ l. record { host = l.host; methods = l.methods.items; path = l.path; origin = option_map string_bytes l.origin } };
+    ghost view = { λ l. record { host = l.host; methods = l.methods.items; path = l.path; origin = option_map string_bytes l.origin; caches = l.caches } };
 }
 
 fn matches_host(host: Option<&Bytes>, asked: &[u8]) -> bool
@@ -79,7 +81,27 @@ fn matches_path(path: &[u8], asked: &[u8]) -> bool
     path.len() < asked.len() && &asked[..path.len()] == path && asked[path.len()] == b'/'
 }
 
+/// The most bytes of an origin's address among lines.
+pub fn longest_origin(lines: &[Line]) -> usize
+    ensures { result ≡ longest_origin lines.now }
+{
+    let mut longest = 0;
+    for line in lines {
+        longest = longest.max(line.origin_len());
+    }
+    longest
+}
+
 impl Line {
+    fn origin_len(&self) -> usize
+        ensures { result ≡ length (unwrap_or self.now.origin []) }
+    {
+        match &self.origin {
+            Some(origin) => origin.len(),
+            None => 0,
+        }
+    }
+
     /// Whether the line's host, a method and its path match.
     #[tactic(auto, unfolding(crate::specs::Matching::matches_line))]
     pub fn matches(&self, method: &Method, target: &Target) -> bool

@@ -6,10 +6,13 @@ ghost use Rattle.toml.specs.Data.{as_table};
 ghost use Rattle.toml.specs.View.{table_view, array_view, items_view, view};
 ghost use Rattle.hx_allow.specs.Values.{is_some_and, text_at};
 ghost use Rattle.hx_allow.specs.LineTables.{has_key};
-ghost use Rattle.hx_allow.specs.Tables.{is_name_byte, is_name, number_at, are_lines, lines_at, table_fault, table_of, judge_table, number_fault, wants_memory};
+ghost use Rattle.hx_allow.specs.Tables.{is_name_byte, is_name, number_at, version_of, are_lines, lines_at, table_fault, table_of, judge_table, number_fault, wants_memory};
 
 use crate::line_tables::{lines_fault, lines_of, unknown_key_fault};
-use crate::values::{Scope, array_at, counts_within, first_unknown, number_between, text_at};
+use crate::lines::longest_origin;
+use crate::values::{
+    Scope, TableVersion, array_at, counts_within, first_unknown, number_between, text_at,
+};
 use crate::{Config, ConfigFault, NumberKey};
 use std::alloc::{AllocError, Global};
 use toml::value::Array;
@@ -53,10 +56,19 @@ fn number_at(table: &Table, key: NumberKey) -> Option<u32>
     ensures { result ≡ number_at key (table_view table.now) }
 {
     match key {
-        NumberKey::Version => number_between(table, "version", 1, 1),
+        NumberKey::Version => number_between(table, "version", 1, 2),
         NumberKey::Capacity => number_between(table, "capacity", 1, 65_536),
         NumberKey::MaxBody => number_between(table, "max_body", 0, 16_777_216),
         NumberKey::MaxStored => number_between(table, "max_stored", 0, 16_777_216),
+    }
+}
+
+fn version_of(table: &Table) -> TableVersion
+    ensures { result ≡ version_of (table_view table.now) }
+{
+    match number_at(table, NumberKey::Version) {
+        Some(2) => TableVersion::Two,
+        _ => TableVersion::One,
     }
 }
 
@@ -127,7 +139,7 @@ fn table_fault(alloc: Global, table: &Table) -> Option<ConfigFault>
         return Some(ConfigFault::BadNumber(key));
     }
     match lines_at(table) {
-        Some(values) => lines_fault(alloc, values),
+        Some(values) => lines_fault(alloc, version_of(table), values),
         None => Some(ConfigFault::NoLines),
     }
 }
@@ -146,6 +158,7 @@ fn config_of(alloc: Global, table: &Table) -> Result<Config, AllocError>
         capacity: number_at(table, NumberKey::Capacity).unwrap_or(0) as usize,
         max_body: u64::from(number_at(table, NumberKey::MaxBody).unwrap_or(0)),
         max_stored: u64::from(number_at(table, NumberKey::MaxStored).unwrap_or(0)),
+        longest_origin: longest_origin(&lines),
         lines,
     })
 }

@@ -9,13 +9,22 @@ ghost use Rattle.hx_allow.specs.Values.{is_known, first_unknown, text_at, items_
 use toml::value::Array;
 use toml::{Table, Value};
 
+/// The version of the table's format, which is the number of its key `version`.
+#[derive(Clone, Copy, Debug, PartialEq, Eq)]
+pub enum TableVersion {
+    /// No line has the key `cache`.
+    One,
+    /// A line may have the key `cache`.
+    Two,
+}
+
 /// Which part of the table keys stand in.
 #[derive(Clone, Copy, Debug, PartialEq, Eq)]
 pub enum Scope {
     /// The top of the table.
     Top,
-    /// One of its lines.
-    Line,
+    /// One of the lines of a table of this version.
+    Line(TableVersion),
 }
 
 fn is_known(scope: Scope, key: &[u8]) -> bool
@@ -23,7 +32,8 @@ fn is_known(scope: Scope, key: &[u8]) -> bool
 {
     match scope {
         Scope::Top => is_top_key(key),
-        Scope::Line => is_line_key(key),
+        Scope::Line(TableVersion::One) => is_line_key(key),
+        Scope::Line(TableVersion::Two) => is_line_key(key) || key == b"cache".as_slice(),
     }
 }
 
@@ -39,7 +49,7 @@ fn is_top_key(key: &[u8]) -> bool
 }
 
 fn is_line_key(key: &[u8]) -> bool
-    ensures { result ≡ is_known Scope.Line key.now }
+    ensures { result ≡ is_known (Scope.Line TableVersion.One) key.now }
 {
     key == b"host".as_slice()
         || key == b"methods".as_slice()
@@ -65,7 +75,8 @@ pub fn first_unknown(scope: Scope, table: &Table) -> Option<&str>
     }
 }
 
-fn value_at<'a>(table: &'a Table, key: &str) -> Option<&'a Value>
+/// The value of a key, where it stands.
+pub fn value_at<'a>(table: &'a Table, key: &str) -> Option<&'a Value>
     ensures { option_map (λ v. view v.now) result ≡ get_member key.now (table_view table.now) }
 {
     table.get(key)

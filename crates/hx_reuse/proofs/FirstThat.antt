@@ -1,25 +1,25 @@
 -- Of a list in the order of its numbers, the first that passes a test is the least that does.
-use Rattle.std.proofs.Common.{◌≡◌, ℕ, ◌<◌, ◌⊎◌, inl, inr, Bool, true, false, cond, List, [], ◌∷◌, refl, ap, arith}
-use Rattle.std.specs.Prelude.{◌&&◌, nat_lt, find, Option, Some, None}
+use Rattle.std.proofs.Common.{◌≡◌, ℕ, ◌+◌, ◌<◌, ◌≤◌, ◌⊎◌, inl, inr, Bool, true, false, cond, List, [], ◌∷◌, refl, ap, arith}
+use Rattle.std.specs.Prelude.{◌&&◌, nat_le, find, Option, Some, None}
 use Rattle.std.proofs.lemmas.Bool.Decides.{nat_tests}
 use Rattle.hx_reuse.proofs.Members.{IsMember}
 
 module _ {R : Type 0} (number : R → ℕ) where
-  -- the numbers ascend from above n
+  -- the numbers ascend from n on
   unfoldable pub ascends : ℕ → List R → Bool
   ascends n [] = true
-  ascends n (x ∷ xs) = nat_lt n (number x) && ascends (number x) xs
+  ascends n (x ∷ xs) = nat_le n (number x) && ascends (number x + 1) xs
 
-  above : (n : ℕ) (xs : List R) (q : R) → ascends n xs ≡ true → IsMember q xs → n < number q
+  above : (n : ℕ) (xs : List R) (q : R) → ascends n xs ≡ true → IsMember q xs → n ≤ number q
   unfolding ascends
   above n [] q h m = absurd m
   above n (x ∷ xs) q h (inl same) = rw (← same) (grind (arith, nat_tests))
   above n (x ∷ xs) q h (inr m) =
-      let rest : ascends (number x) xs ≡ true = grind (arith, nat_tests) in
-      let first : n < number x = grind (arith, nat_tests) in
-      omega (arith, above (number x) xs q rest m)
+      let rest : ascends (number x + 1) xs ≡ true = grind (arith, nat_tests) in
+      let first : n ≤ number x = grind (arith, nat_tests) in
+      omega (arith, above (number x + 1) xs q rest m)
 
-  tail_ascends : (n : ℕ) (x : R) (xs : List R) → ascends n (x ∷ xs) ≡ true → ascends (number x) xs ≡ true
+  tail_ascends : (n : ℕ) (x : R) (xs : List R) → ascends n (x ∷ xs) ≡ true → ascends (number x + 1) xs ≡ true
   unfolding ascends
   tail_ascends n x xs h = grind (arith, nat_tests)
 
@@ -45,8 +45,8 @@ module _ {R : Type 0} (number : R → ℕ) where
         never x r q e f l = let same_number : number q ≡ number r = rw (← e, f) refl in omega arith
     fails_before n (x ∷ xs) r q a h (inr m) l =
         elim (at_head x xs r (p x) refl h) [
-          | inl k ↦ absurd (let over : number x < number q = above (number x) xs q (tail_ascends n x xs a) m in let under : number q < number x = rw k.1 l in omega arith)
-          | inr k ↦ fails_before (number x) xs r q (tail_ascends n x xs a) k.1 m l
+          | inl k ↦ absurd (let over : number x + 1 ≤ number q = above (number x + 1) xs q (tail_ascends n x xs a) m in let under : number q < number x = rw k.1 l in omega arith)
+          | inr k ↦ fails_before (number x + 1) xs r q (tail_ascends n x xs a) k.1 m l
         ]
 
     pub none_passes : (xs : List R) (q : R) → find p xs ≡ None → IsMember q xs → p q ≡ false
@@ -70,5 +70,5 @@ module _ {R : Type 0} (number : R → ℕ) where
         let is : ◌≡◌ {A = Option R} (Some x) (Some r) = ap Some same in
         rw now is
     first_found n (x ∷ xs) r a (inr m) h before =
-        let not_now : p x ≡ false = before x (above (number x) xs r (tail_ascends n x xs a) m) in
-        rw not_now (first_found (number x) xs r (tail_ascends n x xs a) m h before)
+        let not_now : p x ≡ false = before x (omega (arith, above (number x + 1) xs r (tail_ascends n x xs a) m)) in
+        rw not_now (first_found (number x + 1) xs r (tail_ascends n x xs a) m h before)

@@ -43,12 +43,12 @@ passed p [] x h m = absurd m
 passed p (y ∷ ys) x h (inl same) = rw (← same) (left_true (p y) (list_all p ys) h)
 passed p (y ∷ ys) x h (inr m) = passed p ys x (right_true (p y) (list_all p ys) h) m
 
-module _ (held : List Stored) (asked : Asked) (now : ℕ) (response : Stored) (sent : IsSent held asked now response) where
-  reused : MayBeReused held asked now response
+module _ (caches : Bool) (held : List Stored) (asked : Asked) (now : ℕ) (response : Stored) (sent : IsSent caches held asked now response) where
+  reused : MayBeReused caches held asked now response
   reused =
-      let r = reused_is_allowed held asked now response.serial sent.is_the_hit in
+      let r = reused_is_allowed caches held asked now response.serial sent.is_the_hit in
       let same : r.0 ≡ response = distinct_entries held sent.names_one r.0 response (member_contained held r.0 r.1.is_chosen.is_candidate.is_held) (member_contained held response sent.is_held) r.2 in
-      subst (λ (e : Stored). MayBeReused held asked now e) same r.1
+      subst (λ (e : Stored). MayBeReused caches held asked now e) same r.1
 
   pub same_values : (kept : NominatedValue) → Contains response.nominated kept → kept.value ≡ combined_of asked.fields kept.name
   same_values kept c =

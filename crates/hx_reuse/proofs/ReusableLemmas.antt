@@ -13,7 +13,7 @@ use Rattle.hx_store.specs.Serials.{Distinct}
 use Rattle.hx_store.specs.Shelf.{serials}
 use Rattle.hx_reuse.specs.declared.decision.Decision.TheVariants.{Hit}
 use Rattle.hx_reuse.specs.declared.rule.ReuseRule.{ReuseRule}
-use Rattle.hx_reuse.specs.declared.rule.ReuseRule.TheVariants.{Method, Content, Range, Precondition, UriMiss, VaryMiss, ResponseNoCache, RequestNoCache, AboveMaxAge, BelowMinFresh, MustRevalidate, NoLifetime, StaleNoCache, NoMaxStale, PastMaxStale, StaleMaxAge, StaleMinFresh}
+use Rattle.hx_reuse.specs.declared.rule.ReuseRule.TheVariants.{Operator, Method, Content, Range, Precondition, UriMiss, VaryMiss, ResponseNoCache, RequestNoCache, AboveMaxAge, BelowMinFresh, MustRevalidate, NoLifetime, StaleNoCache, NoMaxStale, PastMaxStale, StaleMaxAge, StaleMinFresh}
 use Rattle.hx_reuse.specs.Chosen.{of_key, chosen_of}
 use Rattle.hx_reuse.specs.Rules.{Standing, stands, against, standing, fresh, must_revalidate, above_max_age, below_min_fresh, accepts_stale, past_limit, is_some_and, decision_of}
 use Rattle.hx_reuse.specs.Reusable.{IsWithinMaxAge, IsFreshForMinFresh, IsSentFresh, IsSentStale, TakesStaleness, MayBeReused}
@@ -152,10 +152,11 @@ module _ (e : Stored) (asked : Asked) (now : ℕ) where
   none_against free (inl sent) rule = none_where_fresh free sent (is_below here.age here.lifetime.seconds sent.is_fresh) rule
   none_against free (inr sent) rule = none_where_stale free sent (is_not_below here.age here.lifetime.seconds sent.is_stale) rule
 
-module _ (held : List Stored) (asked : Asked) (now : ℕ) where
+module _ (caches : Bool) (held : List Stored) (asked : Asked) (now : ℕ) where
   -- ---- from no rule to the list
 
-  none_on : (e : Stored) → chosen_of held asked ≡ Some e → ((rule : ReuseRule) → stands rule held asked now ≡ false) → (rule : ReuseRule) → against rule (standing e asked now) ≡ false
+  none_on : (e : Stored) → chosen_of held asked ≡ Some e → ((rule : ReuseRule) → stands rule caches held asked now ≡ false) → (rule : ReuseRule) → against rule (standing e asked now) ≡ false
+  none_on e is none Operator = refl
   none_on e is none Method = refl
   none_on e is none Content = refl
   none_on e is none Range = refl
@@ -164,12 +165,13 @@ module _ (held : List Stored) (asked : Asked) (now : ℕ) where
   none_on e is none VaryMiss = refl
   none_on e is none rule = sym (ap (is_some_and (λ x. against rule (standing x asked now))) is) ∙ none rule
 
-  pub reused_is_allowed : (serial : ℕ) → decision_of held asked now ≡ Hit serial → (response : Stored) × MayBeReused held asked now response × (response.serial ≡ serial)
+  pub reused_is_allowed : (serial : ℕ) → decision_of caches held asked now ≡ Hit serial → (response : Stored) × MayBeReused caches held asked now response × (response.serial ≡ serial)
   reused_is_allowed serial h =
-      let may = may_be_sent held asked now serial h in
+      let may = may_be_sent caches held asked now serial h in
       let none = none_on may.response may.chosen_is may.no_rule in (
         may.response,
         record {
+          operator_allows = not_false caches (may.no_rule Operator);
           is_chosen = chosen_is_latest held asked may.response may.chosen_is;
           request_allows = record { method_allows = method_allows asked.method (may.no_rule Method); no_content = may.no_rule Content; no_range = may.no_rule Range; no_precondition = may.no_rule Precondition };
           no_no_cache = none ResponseNoCache;
@@ -180,7 +182,8 @@ module _ (held : List Stored) (asked : Asked) (now : ℕ) where
 
   -- ---- and back
 
-  none_stands : (e : Stored) → chosen_of held asked ≡ Some e → MayBeReused held asked now e → (rule : ReuseRule) → stands rule held asked now ≡ false
+  none_stands : (e : Stored) → chosen_of held asked ≡ Some e → MayBeReused caches held asked now e → (rule : ReuseRule) → stands rule caches held asked now ≡ false
+  none_stands e is may Operator = ap not may.operator_allows
   none_stands e is may Method = method_is_allowed asked.method may.request_allows.method_allows
   none_stands e is may Content = may.request_allows.no_content
   none_stands e is may Range = may.request_allows.no_range
@@ -192,7 +195,7 @@ module _ (held : List Stored) (asked : Asked) (now : ℕ) where
   none_stands e is may rule =
       ap (is_some_and (λ x. against rule (standing x asked now))) is ∙ none_against e asked now may.no_no_cache may.fresh_or_stale rule
 
-  pub allowed_is_reused : (response : Stored) → Distinct (serials held) → MayBeReused held asked now response → decision_of held asked now ≡ Hit response.serial
+  pub allowed_is_reused : (response : Stored) → Distinct (serials held) → MayBeReused caches held asked now response → decision_of caches held asked now ≡ Hit response.serial
   allowed_is_reused response distinct may =
       let is = latest_is_the_chosen held asked response distinct may.is_chosen in
-      is_sent held asked now response.serial (record { response = response; chosen_is = is; serial_is = refl; no_rule = none_stands response is may })
+      is_sent caches held asked now response.serial (record { response = response; chosen_is = is; serial_is = refl; no_rule = none_stands response is may })

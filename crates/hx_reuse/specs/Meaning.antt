@@ -4,7 +4,7 @@
 -- IsCandidate, IsChosen: a held response that matches, the latest of these     MayBeSent: it, where no rule stands
 -- IsLeast: a rule that stands, and none before it     NamesTheResponse: the response that a rule is named with
 -- Below them are the statements that the laws of `src/laws.rt` prove.
-use Rattle.std.specs.Prelude.{◌≡◌, ℕ, ◌<◌, ◌≤◌, ◌⊎◌, true, false, List, Option, Some, None}
+use Rattle.std.specs.Prelude.{◌≡◌, ℕ, ◌<◌, ◌⊎◌, Bool, true, false, List, Option, Some, None}
 use Rattle.std.specs.List.{Contains}
 use Rattle.hx_target.specs.Keys.{same_key}
 use Rattle.hx_vary.specs.Vary.{vary_matches}
@@ -14,8 +14,9 @@ use Rattle.hx_store.specs.Serials.{Distinct}
 use Rattle.hx_store.specs.Shelf.{serials, find_entry}
 use Rattle.hx_reuse.specs.Chosen.{comes_later, chosen_of}
 use Rattle.hx_reuse.specs.Words.{number_of, reason_of, detail_of, error_word_of}
-use Rattle.hx_reuse.specs.Rules.{stands, decision_of}
+use Rattle.hx_reuse.specs.Rules.{stands, names_entry, decision_of}
 use Rattle.hx_reuse.specs.declared.rule.ReuseRule.{ReuseRule}
+use Rattle.hx_reuse.specs.declared.rule.ReuseRule.TheVariants.{Operator}
 use Rattle.hx_reuse.specs.declared.rule.ErrorRule.{ErrorRule}
 use Rattle.hx_reuse.specs.declared.decision.Decision.TheVariants.{Hit, Forward}
 
@@ -32,22 +33,22 @@ pub record IsChosen (held : List Stored) (asked : Asked) (response : Stored) : T
   pub none_later : (other : Stored) → IsCandidate held asked other → comes_later other response ≡ false
 
 -- the chosen response has this serial, and no rule stands
-pub record MayBeSent (held : List Stored) (asked : Asked) (now serial : ℕ) : Type 0 where
+pub record MayBeSent (caches : Bool) (held : List Stored) (asked : Asked) (now serial : ℕ) : Type 0 where
   pub response : Stored
   pub chosen_is : chosen_of held asked ≡ Some response
   pub serial_is : response.serial ≡ serial
-  pub no_rule : (rule : ReuseRule) → stands rule held asked now ≡ false
+  pub no_rule : (rule : ReuseRule) → stands rule caches held asked now ≡ false
 
 -- the rule stands, and none of a smaller number does
-pub record IsLeast (held : List Stored) (asked : Asked) (now : ℕ) (rule : ReuseRule) : Type 0 where
-  pub it_stands : stands rule held asked now ≡ true
-  pub none_before : (other : ReuseRule) → number_of other < number_of rule → stands other held asked now ≡ false
+pub record IsLeast (caches : Bool) (held : List Stored) (asked : Asked) (now : ℕ) (rule : ReuseRule) : Type 0 where
+  pub it_stands : stands rule caches held asked now ≡ true
+  pub none_before : (other : ReuseRule) → number_of other < number_of rule → stands other caches held asked now ≡ false
 
--- the first six rules are named alone, the others with the response that they stand against
+-- a rule on the chosen response is named with it, the others are named alone
 abbrev pub NamesTheResponse : List Stored → Asked → ReuseRule → Option ℕ → Type 0
 NamesTheResponse held asked rule named =
-    ((number_of rule ≤ 6) × (named ≡ None))
-    ⊎ ((6 < number_of rule) × ((response : Stored) × (chosen_of held asked ≡ Some response) × (named ≡ Some response.serial)))
+    ((names_entry rule ≡ false) × (named ≡ None))
+    ⊎ ((names_entry rule ≡ true) × ((response : Stored) × (chosen_of held asked ≡ Some response) × (named ≡ Some response.serial)))
 
 -- ---- the statements
 
@@ -65,30 +66,34 @@ ChoosesNoOther = (held : List Stored) (asked : Asked) (response : Stored) →
     Distinct (serials held) → IsChosen held asked response → chosen_of held asked ≡ Some response
 
 abbrev pub SendsWhatMayBeSent : Type 0
-SendsWhatMayBeSent = (held : List Stored) (asked : Asked) (now serial : ℕ) →
-    MayBeSent held asked now serial → decision_of held asked now ≡ Hit serial
+SendsWhatMayBeSent = (caches : Bool) (held : List Stored) (asked : Asked) (now serial : ℕ) →
+    MayBeSent caches held asked now serial → decision_of caches held asked now ≡ Hit serial
 
 abbrev pub SendsNothingElse : Type 0
-SendsNothingElse = (held : List Stored) (asked : Asked) (now serial : ℕ) →
-    decision_of held asked now ≡ Hit serial → MayBeSent held asked now serial
+SendsNothingElse = (caches : Bool) (held : List Stored) (asked : Asked) (now serial : ℕ) →
+    decision_of caches held asked now ≡ Hit serial → MayBeSent caches held asked now serial
 
 -- what is sent is held, for this request
 abbrev pub SendsWhatIsHeld : Type 0
-SendsWhatIsHeld = (held : List Stored) (asked : Asked) (now serial : ℕ) →
-    decision_of held asked now ≡ Hit serial → (response : Stored) × IsChosen held asked response × (response.serial ≡ serial)
+SendsWhatIsHeld = (caches : Bool) (held : List Stored) (asked : Asked) (now serial : ℕ) →
+    decision_of caches held asked now ≡ Hit serial → (response : Stored) × IsChosen held asked response × (response.serial ≡ serial)
 
 -- where each serial names one response, that of a hit finds the chosen one in the store
 abbrev pub FindsWhatIsSent : Type 0
-FindsWhatIsSent = (held : List Stored) (asked : Asked) (now serial : ℕ) →
-    Distinct (serials held) → decision_of held asked now ≡ Hit serial → find_entry serial held ≡ chosen_of held asked
+FindsWhatIsSent = (caches : Bool) (held : List Stored) (asked : Asked) (now serial : ℕ) →
+    Distinct (serials held) → decision_of caches held asked now ≡ Hit serial → find_entry serial held ≡ chosen_of held asked
 
 abbrev pub NamesTheLeast : Type 0
-NamesTheLeast = (held : List Stored) (asked : Asked) (now : ℕ) (rule : ReuseRule) (named : Option ℕ) →
-    decision_of held asked now ≡ Forward rule named → IsLeast held asked now rule × NamesTheResponse held asked rule named
+NamesTheLeast = (caches : Bool) (held : List Stored) (asked : Asked) (now : ℕ) (rule : ReuseRule) (named : Option ℕ) →
+    decision_of caches held asked now ≡ Forward rule named → IsLeast caches held asked now rule × NamesTheResponse held asked rule named
 
 abbrev pub ForwardsWhereOneStands : Type 0
-ForwardsWhereOneStands = (held : List Stored) (asked : Asked) (now : ℕ) (rule : ReuseRule) →
-    IsLeast held asked now rule → (named : Option ℕ) × (decision_of held asked now ≡ Forward rule named)
+ForwardsWhereOneStands = (caches : Bool) (held : List Stored) (asked : Asked) (now : ℕ) (rule : ReuseRule) →
+    IsLeast caches held asked now rule → (named : Option ℕ) × (decision_of caches held asked now ≡ Forward rule named)
+
+-- own: what the operator keeps from the store goes forward by its rule, whatever is held
+abbrev pub ForwardsWithoutCache : Type 0
+ForwardsWithoutCache = (held : List Stored) (asked : Asked) (now : ℕ) → decision_of false held asked now ≡ Forward Operator None
 
 -- a reader of Cache-Status knows the rule (RFC 9211, sections 2.2 and 2.8)
 abbrev pub WordsTellRulesApart : Type 0

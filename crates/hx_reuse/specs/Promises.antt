@@ -2,7 +2,7 @@
 --
 -- ForbidsStale: the response may not be sent stale    IsSent: it is the one that answers
 -- Below them are the statements that the laws of `src/laws.rt` prove.
-use Rattle.std.specs.Prelude.{◌≡◌, ℕ, ◌<◌, ◌⊎◌, true, List, None}
+use Rattle.std.specs.Prelude.{◌≡◌, ℕ, ◌<◌, ◌⊎◌, Bool, true, List, None}
 use Rattle.std.specs.List.{Contains}
 use Rattle.hx_fields.specs.Lines.{combined_of}
 use Rattle.hx_directives.specs.Occurrences.{occurrences_of}
@@ -27,28 +27,28 @@ ForbidsStale response =
     ⊎ ((has (occurrences_of response.fields) ProxyRevalidate ≡ true) ⊎ (has (occurrences_of response.fields) SMaxage ≡ true))
 
 -- a held response answers the request without the origin; each serial names one response
-pub record IsSent (held : List Stored) (asked : Asked) (now : ℕ) (response : Stored) : Type 0 where
+pub record IsSent (caches : Bool) (held : List Stored) (asked : Asked) (now : ℕ) (response : Stored) : Type 0 where
   pub names_one : Distinct (serials held)
   pub is_held : Contains held response
-  pub is_the_hit : decision_of held asked now ≡ Hit response.serial
+  pub is_the_hit : decision_of caches held asked now ≡ Hit response.serial
 
 -- ---- the statements
 
 -- the request has of each nominated field the value that the response was asked for with (RFC 9111, section 4.1)
 abbrev pub SendsNoOtherVariant : Type 0
-SendsNoOtherVariant = (held : List Stored) (asked : Asked) (now : ℕ) (response : Stored) →
-    IsSent held asked now response → (kept : NominatedValue) → Contains response.nominated kept →
+SendsNoOtherVariant = (caches : Bool) (held : List Stored) (asked : Asked) (now : ℕ) (response : Stored) →
+    IsSent caches held asked now response → (kept : NominatedValue) → Contains response.nominated kept →
     kept.value ≡ combined_of asked.fields kept.name
 
 -- one that forbids to be sent stale is fresh
 abbrev pub NeverSendsStaleAgainst : Type 0
-NeverSendsStaleAgainst = (held : List Stored) (asked : Asked) (now : ℕ) (response : Stored) →
-    IsSent held asked now response → ForbidsStale response → age_of response.times now < (lifetime_of response.fields).seconds
+NeverSendsStaleAgainst = (caches : Bool) (held : List Stored) (asked : Asked) (now : ℕ) (response : Stored) →
+    IsSent caches held asked now response → ForbidsStale response → age_of response.times now < (lifetime_of response.fields).seconds
 
 -- one with no-cache is sent only once it was validated (RFC 9111, section 5.2.2.4)
 abbrev pub NeverSendsUnvalidated : Type 0
-NeverSendsUnvalidated = (held : List Stored) (asked : Asked) (now : ℕ) (response : Stored) →
-    IsSent held asked now response → has (occurrences_of response.fields) NoCache ≡ true → ⊥
+NeverSendsUnvalidated = (caches : Bool) (held : List Stored) (asked : Asked) (now : ℕ) (response : Stored) →
+    IsSent caches held asked now response → has (occurrences_of response.fields) NoCache ≡ true → ⊥
 
 -- nor is one of either kind sent in place of an error
 abbrev pub NeverSendsOnError : Type 0

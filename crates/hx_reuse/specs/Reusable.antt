@@ -2,7 +2,7 @@
 -- and without the rules and their numbers (RFC 9111, section 4).
 --
 -- IsForTheCache: the request     IsSentFresh, IsSentStale: the two ways to be sent     MayBeReused: all of the list
-use Rattle.std.specs.Prelude.{◌≡◌, ℕ, ◌+◌, ◌-◌, ◌<◌, ◌≤◌, ◌⊎◌, true, false, List, codes, Some, None}
+use Rattle.std.specs.Prelude.{◌≡◌, ℕ, ◌+◌, ◌-◌, ◌<◌, ◌≤◌, ◌⊎◌, Bool, true, false, List, codes, Some, None}
 use Rattle.hx_directives.specs.Occurrences.{occurrences_of}
 use Rattle.hx_directives.specs.Answers.{has, first_valid, max_stale}
 use Rattle.hx_directives.specs.declared.names.Directive.TheVariants.{NoCache, MaxAge, MinFresh, MustRevalidate, ProxyRevalidate, SMaxage}
@@ -66,7 +66,9 @@ pub record IsSentStale (response : Stored) (asked : Asked) (now : ℕ) : Type 0 
   pub no_min_fresh : first_valid (occurrences_of asked.fields) MinFresh ≡ None
 
 -- all that is asked of a response which isn't validated first (RFC 9111, sections 4 and 5.2.2.4)
-pub record MayBeReused (held : List Stored) (asked : Asked) (now : ℕ) (response : Stored) : Type 0 where
+-- own: the operator lets the request be answered from the store
+pub record MayBeReused (caches : Bool) (held : List Stored) (asked : Asked) (now : ℕ) (response : Stored) : Type 0 where
+  pub operator_allows : caches ≡ true
   pub is_chosen : IsChosen held asked response
   pub request_allows : IsForTheCache asked
   pub no_no_cache : has (occurrences_of response.fields) NoCache ≡ false
@@ -75,10 +77,10 @@ pub record MayBeReused (held : List Stored) (asked : Asked) (now : ℕ) (respons
 -- ---- the statements
 
 abbrev pub ReusesNothingElse : Type 0
-ReusesNothingElse = (held : List Stored) (asked : Asked) (now serial : ℕ) →
-    decision_of held asked now ≡ Hit serial → (response : Stored) × MayBeReused held asked now response × (response.serial ≡ serial)
+ReusesNothingElse = (caches : Bool) (held : List Stored) (asked : Asked) (now serial : ℕ) →
+    decision_of caches held asked now ≡ Hit serial → (response : Stored) × MayBeReused caches held asked now response × (response.serial ≡ serial)
 
 -- where each serial names one response
 abbrev pub ReusesWhatMayBeReused : Type 0
-ReusesWhatMayBeReused = (held : List Stored) (asked : Asked) (now : ℕ) (response : Stored) →
-    Distinct (serials held) → MayBeReused held asked now response → decision_of held asked now ≡ Hit response.serial
+ReusesWhatMayBeReused = (caches : Bool) (held : List Stored) (asked : Asked) (now : ℕ) (response : Stored) →
+    Distinct (serials held) → MayBeReused caches held asked now response → decision_of caches held asked now ≡ Hit response.serial

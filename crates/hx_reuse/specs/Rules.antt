@@ -17,9 +17,8 @@ use Rattle.hx_hop.specs.declared.asked_for.Asked.{Asked}
 use Rattle.hx_hop.specs.Bypass.{has_content, asks_for_range, has_precondition}
 use Rattle.hx_store.specs.Stored.{Stored}
 use Rattle.hx_reuse.specs.Chosen.{of_key, chosen_of}
-use Rattle.hx_reuse.specs.Words.{number_of}
 use Rattle.hx_reuse.specs.declared.rule.ReuseRule.{ReuseRule}
-use Rattle.hx_reuse.specs.declared.rule.ReuseRule.TheVariants.{Method, Content, Range, Precondition, UriMiss, VaryMiss, ResponseNoCache, RequestNoCache, AboveMaxAge, BelowMinFresh, MustRevalidate, NoLifetime, StaleNoCache, NoMaxStale, PastMaxStale, StaleMaxAge, StaleMinFresh}
+use Rattle.hx_reuse.specs.declared.rule.ReuseRule.TheVariants.{Operator, Method, Content, Range, Precondition, UriMiss, VaryMiss, ResponseNoCache, RequestNoCache, AboveMaxAge, BelowMinFresh, MustRevalidate, NoLifetime, StaleNoCache, NoMaxStale, PastMaxStale, StaleMaxAge, StaleMinFresh}
 use Rattle.hx_reuse.specs.declared.decision.Decision.{Decision}
 use Rattle.hx_reuse.specs.declared.decision.Decision.TheVariants.{Hit, Forward}
 
@@ -82,15 +81,17 @@ against StaleMaxAge s = not (fresh s) && above_max_age s
 against StaleMinFresh s = not (fresh s) && is_some (first_valid s.request directive.MinFresh)
 against _ s = false
 
--- the condition of each rule
-abbrev pub stands : ReuseRule → List Stored → Asked → ℕ → Bool
-stands Method held asked now = not (bytes_eq asked.method (codes "GET") || bytes_eq asked.method (codes "HEAD"))
-stands Content held asked now = has_content asked
-stands Range held asked now = asks_for_range asked
-stands Precondition held asked now = has_precondition asked
-stands UriMiss held asked now = length (of_key held asked) == 0
-stands VaryMiss held asked now = is_none (chosen_of held asked)
-stands rule held asked now = is_some_and (λ e. against rule (standing e asked now)) (chosen_of held asked)
+-- the condition of each rule; the first word is the operator's, whether a stored response may answer the request
+abbrev pub stands : ReuseRule → Bool → List Stored → Asked → ℕ → Bool
+-- own: what the operator keeps from the store
+stands Operator caches held asked now = not caches
+stands Method caches held asked now = not (bytes_eq asked.method (codes "GET") || bytes_eq asked.method (codes "HEAD"))
+stands Content caches held asked now = has_content asked
+stands Range caches held asked now = asks_for_range asked
+stands Precondition caches held asked now = has_precondition asked
+stands UriMiss caches held asked now = length (of_key held asked) == 0
+stands VaryMiss caches held asked now = is_none (chosen_of held asked)
+stands rule caches held asked now = is_some_and (λ e. against rule (standing e asked now)) (chosen_of held asked)
 
 -- the rules by their numbers
 abbrev pub request_rules : List ReuseRule
@@ -103,17 +104,24 @@ entry_rules =
 
 abbrev pub reuse_rules : List ReuseRule
 reuse_rules =
-    Method ∷ Content ∷ Range ∷ Precondition ∷ UriMiss ∷ VaryMiss
+    Operator ∷ Method ∷ Content ∷ Range ∷ Precondition ∷ UriMiss ∷ VaryMiss
     ∷ ResponseNoCache ∷ RequestNoCache ∷ AboveMaxAge ∷ BelowMinFresh ∷ MustRevalidate ∷ NoLifetime ∷ StaleNoCache
     ∷ NoMaxStale ∷ PastMaxStale ∷ StaleMaxAge ∷ StaleMinFresh ∷ []
 
 -- the least rule that stands
-unfoldable pub reuse_rule_of : List Stored → Asked → ℕ → Option ReuseRule
-reuse_rule_of held asked now = find (λ rule. stands rule held asked now) reuse_rules
+unfoldable pub reuse_rule_of : Bool → List Stored → Asked → ℕ → Option ReuseRule
+reuse_rule_of caches held asked now = find (λ rule. stands rule caches held asked now) reuse_rules
 
--- the rule speaks of the chosen response: its number is 7 or more
+-- the rule speaks of the chosen response
 abbrev pub names_entry : ReuseRule → Bool
-names_entry rule = nat_lt 6 (number_of rule)
+names_entry Operator = false
+names_entry Method = false
+names_entry Content = false
+names_entry Range = false
+names_entry Precondition = false
+names_entry UriMiss = false
+names_entry VaryMiss = false
+names_entry rule = true
 
 -- where no rule stands a response is chosen, so the last case never comes (law `a_hit_is_held`)
 abbrev pub decided : Option ReuseRule → Option ℕ → Decision
@@ -121,7 +129,6 @@ decided (Some rule) serial = Forward rule (if names_entry rule then serial else 
 decided None (Some serial) = Hit serial
 decided None None = Hit 0
 
--- the chosen response is sent, or the request goes forward by the least rule; a rule from the seventh on names
--- the response that it stands against
-unfoldable pub decision_of : List Stored → Asked → ℕ → Decision
-decision_of held asked now = decided (reuse_rule_of held asked now) (option_map (λ e. e.serial) (chosen_of held asked))
+-- the chosen response is sent, or the request goes forward by the least rule; a rule on the chosen response names it
+unfoldable pub decision_of : Bool → List Stored → Asked → ℕ → Decision
+decision_of caches held asked now = decided (reuse_rule_of caches held asked now) (option_map (λ e. e.serial) (chosen_of held asked))

@@ -4,11 +4,12 @@
 -- error_number_of, error_word_of: the same of a rule after an error
 use Rattle.std.specs.Prelude.{ℕ, List, codes, Option, Some, None}
 use Rattle.hx_reuse.specs.declared.rule.ReuseRule.{ReuseRule}
-use Rattle.hx_reuse.specs.declared.rule.ReuseRule.TheVariants.{Method, Content, Range, Precondition, UriMiss, VaryMiss, ResponseNoCache, RequestNoCache, AboveMaxAge, BelowMinFresh, MustRevalidate, NoLifetime, StaleNoCache, NoMaxStale, PastMaxStale, StaleMaxAge, StaleMinFresh}
+use Rattle.hx_reuse.specs.declared.rule.ReuseRule.TheVariants.{Operator, Method, Content, Range, Precondition, UriMiss, VaryMiss, ResponseNoCache, RequestNoCache, AboveMaxAge, BelowMinFresh, MustRevalidate, NoLifetime, StaleNoCache, NoMaxStale, PastMaxStale, StaleMaxAge, StaleMinFresh}
 use Rattle.hx_reuse.specs.declared.rule.ErrorRule.{ErrorRule}
 use Rattle.hx_reuse.specs.declared.rule.ErrorRule.TheVariants as on_error
 
 abbrev pub number_of : ReuseRule → ℕ
+number_of Operator = 0
 number_of Method = 1
 number_of Content = 2
 number_of Range = 3
@@ -29,6 +30,7 @@ number_of StaleMinFresh = 17
 
 -- own: `stale` also names a fresh response that has to be validated because of its own no-cache
 abbrev pub reason_of : ReuseRule → List ℕ
+reason_of Operator = codes "bypass"
 reason_of Method = codes "method"
 reason_of Content = codes "bypass"
 reason_of Range = codes "bypass"
@@ -48,6 +50,7 @@ reason_of StaleMaxAge = codes "stale"
 reason_of StaleMinFresh = codes "stale"
 
 abbrev pub detail_of : ReuseRule → Option (List ℕ)
+detail_of Operator = Some (codes "operator")
 detail_of Method = None
 detail_of Content = Some (codes "content")
 detail_of Range = Some (codes "range")

@@ -1,5 +1,5 @@
 //! The least rule against a request, and against the response that was chosen for it.
-ghost use Rattle.std.specs.Prelude.{◌≡◌, ℕ, List, false, find, ◌||◌, nat_lt, ◌+◌};
+ghost use Rattle.std.specs.Prelude.{◌≡◌, ℕ, Bool, List, false, find, ◌||◌, nat_lt, ◌+◌};
 ghost use Rattle.hx_directives.specs.Occurrences.{occurrences_of};
 ghost use Rattle.hx_directives.specs.Answers.{first_valid, has, max_stale};
 ghost use Rattle.hx_directives.specs.declared.names.Directive.TheVariants.{MaxAge, MinFresh, NoCache, MustRevalidate, ProxyRevalidate, SMaxage};
@@ -15,7 +15,7 @@ use hx_store::Entry;
 
 /// The least rule on the request alone.
 pub(crate) fn request_rule(asked: &Asked) -> Option<ReuseRule>
-    ensures { (held : List Stored) (now : ℕ) → result ≡ find (λ r. stands r held asked.now now) request_rules }
+    ensures { (caches : Bool) (held : List Stored) (now : ℕ) → result ≡ find (λ r. stands r caches held asked.now now) request_rules }
 {
     if asked.method.as_str() != "GET" && asked.method.as_str() != "HEAD" {
         return Some(ReuseRule::Method);

@@ -1,5 +1,5 @@
 //! What is done with a request: the least rule that stands, or the response that may be sent.
-ghost use Rattle.std.specs.Prelude.{◌≡◌, IfOk};
+ghost use Rattle.std.specs.Prelude.{◌≡◌, true, IfOk};
 ghost use Rattle.hx_directives.specs.Occurrences.{occurrences_of};
 ghost use Rattle.hx_store.specs.Serials.{Distinct};
 ghost use Rattle.hx_store.specs.Shelf.{serials as serials_held, serials_of};
@@ -18,13 +18,35 @@ use std::alloc::{AllocError, Global};
 pub enum Decision {
     /// No rule stands against the stored response of this serial.
     Hit(u64),
-    /// The least rule that stands. From the seventh on it stands against the response of the serial.
+    /// The least rule that stands, and the serial of the response that it stands against, where it stands against one.
     Forward(ReuseRule, Option<u64>),
 }
 
-/// What is done with a request at a moment in Unix seconds: its directives and the serials that the shelf holds
-/// for its key are handed in.
+/// What is done with a request at a moment in Unix seconds: its directives, the serials that the shelf holds for its key,
+/// and the operator's word, whether a stored response may answer it, are handed in.
 pub fn decide<S: Shelf>(
+    alloc: Global,
+    asked: &Asked,
+    asked_directives: &Directives,
+    shelf: &S,
+    serials: &[u64],
+    now: u64,
+    caches: bool,
+) -> Result<Decision, AllocError>
+    requires directives { asked_directives.now ≡ occurrences_of asked.now.fields }
+    requires distinct { Distinct (serials_held (S.entries shelf.now)) }
+    requires serials { serials.now ≡ serials_of asked.now.target.key (S.entries shelf.now) }
+    ensures { IfOk result (λ decision. decision ≡ decision_of caches (S.entries shelf.now) asked.now now) }
+{
+    if caches {
+        decide_from_store(alloc, asked, asked_directives, shelf, serials, now)
+    } else {
+        Ok(Decision::Forward(ReuseRule::Operator, None))
+    }
+}
+
+/// The same, where a stored response may answer the request.
+fn decide_from_store<S: Shelf>(
     alloc: Global,
     asked: &Asked,
     asked_directives: &Directives,
@@ -35,7 +57,7 @@ pub fn decide<S: Shelf>(
     requires directives { asked_directives.now ≡ occurrences_of asked.now.fields }
     requires distinct { Distinct (serials_held (S.entries shelf.now)) }
     requires serials { serials.now ≡ serials_of asked.now.target.key (S.entries shelf.now) }
-    ensures { IfOk result (λ decision. decision ≡ decision_of (S.entries shelf.now) asked.now now) }
+    ensures { IfOk result (λ decision. decision ≡ decision_of true (S.entries shelf.now) asked.now now) }
 {
     match request_rule(asked) {
         Some(rule) => Ok(Decision::Forward(rule, None)),

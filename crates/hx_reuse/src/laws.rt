@@ -1,6 +1,6 @@
 //! What the definitions that `decide` and `may_serve_on_error` are held to say of every list of held responses, request
 //! and moment.
-ghost use Rattle.hx_reuse.specs.Meaning.{ChoosesTheLatest, ChoosesWhereOneCan, ChoosesNoOther, SendsWhatMayBeSent, SendsNothingElse, SendsWhatIsHeld, FindsWhatIsSent, NamesTheLeast, ForwardsWhereOneStands, WordsTellRulesApart, WordsTellErrorRulesApart};
+ghost use Rattle.hx_reuse.specs.Meaning.{ChoosesTheLatest, ChoosesWhereOneCan, ChoosesNoOther, SendsWhatMayBeSent, SendsNothingElse, SendsWhatIsHeld, FindsWhatIsSent, NamesTheLeast, ForwardsWhereOneStands, ForwardsWithoutCache, WordsTellRulesApart, WordsTellErrorRulesApart};
 ghost use Rattle.hx_reuse.specs.Reusable.{ReusesWhatMayBeReused, ReusesNothingElse};
 ghost use Rattle.hx_reuse.specs.OnError.{SendsOnErrorWhatMayBeSent, SendsOnErrorNothingElse, NamesTheLeastOnError, NamesOneThatStandsOnError};
 ghost use Rattle.hx_reuse.specs.Promises.{SendsNoOtherVariant, NeverSendsStaleAgainst, NeverSendsUnvalidated, NeverSendsOnError};
@@ -31,7 +31,13 @@ pub fn forward_names_the_least_rule()
     ensures every { ForwardsWhereOneStands }
 {}
 
-/// A response is sent exactly where RFC 9111, section 4 lets one be reused that isn't validated first.
+/// What the operator keeps from the store is never answered from it: the request goes forward, by that rule.
+pub fn nothing_is_reused_against_the_operator()
+    ensures { ForwardsWithoutCache }
+{}
+
+/// A response is sent exactly where RFC 9111, section 4 lets one be reused that isn't validated first,
+/// and the operator doesn't keep the request from the store.
 pub fn sent_where_it_may_be_reused()
     ensures every { ReusesWhatMayBeReused }
     ensures only { ReusesNothingElse }

@@ -17,14 +17,15 @@ mod worked_cases;
 pub use crate::decision::{Decision, decide};
 pub use crate::laws::{
     a_hit_is_held, forward_names_the_least_rule, no_other_variant_is_sent,
-    sent_on_error_where_it_may_be, sent_where_it_may_be_reused, sent_where_no_rule_stands,
-    the_latest_that_matches_is_chosen, the_least_error_rule_is_named, what_has_to_be_validated_is,
-    words_tell_the_rule,
+    nothing_is_reused_against_the_operator, sent_on_error_where_it_may_be,
+    sent_where_it_may_be_reused, sent_where_no_rule_stands, the_latest_that_matches_is_chosen,
+    the_least_error_rule_is_named, what_has_to_be_validated_is, words_tell_the_rule,
 };
 pub use crate::on_error::may_serve_on_error;
 pub use crate::rule::{ErrorRule, ReuseRule};
 pub use crate::worked_cases::{
     age_equal_to_lifetime_is_stale, bypass_rules_in_order, least_error_rule, least_reuse_rule,
-    moment_goes_backwards, no_lifetime_is_only_validated, request_max_age_and_only_if_cached,
-    stale_if_error_of_request, stale_if_error_of_response, vary_values_are_compared,
+    line_without_cache, moment_goes_backwards, no_lifetime_is_only_validated,
+    request_max_age_and_only_if_cached, stale_if_error_of_request, stale_if_error_of_response,
+    vary_values_are_compared,
 };

@@ -5,8 +5,10 @@ ghost use Rattle.hx_reuse.specs.Words.{number_of, reason_of, detail_of, error_nu
 /// A rule against sending a stored response (RFC 9111, sections 4 and 5.2.1), in the order in which they are asked.
 #[derive(Clone, Copy, Debug, PartialEq, Eq)]
 pub enum ReuseRule {
+    /// The operator keeps what the request asks for from the store.
+    Operator = 0,
     /// The method is neither GET nor HEAD.
-    Method = 1,
+    Method,
     /// The request has content of at least one byte.
     Content,
     /// The request has Range or If-Range.
@@ -42,7 +44,7 @@ pub enum ReuseRule {
 }
 
 impl ReuseRule {
-    /// The number, from 1.
+    /// The number, from 0.
     pub fn number(self) -> u8
         ensures { result ≡ number_of self }
     {
@@ -55,7 +57,8 @@ impl ReuseRule {
     {
         match self {
             ReuseRule::Method => "method",
-            ReuseRule::Content | ReuseRule::Range | ReuseRule::Precondition => "bypass",
+            ReuseRule::Operator | ReuseRule::Content | ReuseRule::Range | ReuseRule::Precondition =>
+                "bypass",
             ReuseRule::UriMiss => "uri-miss",
             ReuseRule::VaryMiss => "vary-miss",
             ReuseRule::RequestNoCache | ReuseRule::AboveMaxAge | ReuseRule::BelowMinFresh => {
@@ -79,6 +82,7 @@ impl ReuseRule {
         match self {
             ReuseRule::Method | ReuseRule::UriMiss | ReuseRule::VaryMiss | ReuseRule::NoMaxStale =>
                 { None }
+            ReuseRule::Operator => Some("operator"),
             ReuseRule::Content => Some("content"),
             ReuseRule::Range => Some("range"),
             ReuseRule::Precondition => Some("precondition"),

@@ -2,7 +2,7 @@
 //! body is empty.
 #![tactic(auto, unfolding(crate::specs::Rules::reuse_rule_of, crate::specs::Rules::decision_of, crate::specs::ErrorRules::error_rule_on))]
 
-ghost use Rattle.std.specs.Prelude.{◌≡◌, ◌∷◌, [], Some, None, Ok, Err, true, codes};
+ghost use Rattle.std.specs.Prelude.{◌≡◌, ◌∷◌, [], Some, None, Ok, Err, true, false, codes};
 ghost use Rattle.hx_fields.specs.Examples.{line};
 ghost use Rattle.hx_directives.specs.Answers.{has};
 ghost use Rattle.hx_directives.specs.declared.names.Directive.TheVariants.{OnlyIfCached};
@@ -14,53 +14,60 @@ use crate::{Decision, ErrorRule, ReuseRule};
 
 /// Stored for a request in German: the same value, none, and two lines.
 pub fn vary_values_are_compared()
-    ensures same { decision_of held_in_german (get (speaks (codes "de") ∷ [])) 1 ≡ Decision.Hit 1 }
-    ensures absent { decision_of held_in_german (get []) 1 ≡ Decision.Forward ReuseRule.VaryMiss None }
-    ensures two_lines { decision_of held_in_german (get (speaks (codes "de") ∷ speaks (codes "en") ∷ [])) 1 ≡ Decision.Forward ReuseRule.VaryMiss None }
+    ensures same { decision_of true held_in_german (get (speaks (codes "de") ∷ [])) 1 ≡ Decision.Hit 1 }
+    ensures absent { decision_of true held_in_german (get []) 1 ≡ Decision.Forward ReuseRule.VaryMiss None }
+    ensures two_lines { decision_of true held_in_german (get (speaks (codes "de") ∷ speaks (codes "en") ∷ [])) 1 ≡ Decision.Forward ReuseRule.VaryMiss None }
 {}
 
 /// A response of a minute at 90, stored at 101: it was a second on the way.
 pub fn moment_goes_backwards()
-    ensures { decision_of (stored_at 101 [] (control (codes "max-age=60")) ∷ []) (get []) 90 ≡ Decision.Hit 1 }
+    ensures { decision_of true (stored_at 101 [] (control (codes "max-age=60")) ∷ []) (get []) 90 ≡ Decision.Hit 1 }
 {}
 
 /// A response of a minute, at a minute and a second before.
 pub fn age_equal_to_lifetime_is_stale()
-    ensures stale { decision_of (held (codes "max-age=60")) (get []) 60 ≡ Decision.Forward ReuseRule.NoMaxStale (Some 1) }
-    ensures fresh { decision_of (held (codes "max-age=60")) (get []) 59 ≡ Decision.Hit 1 }
+    ensures stale { decision_of true (held (codes "max-age=60")) (get []) 60 ≡ Decision.Forward ReuseRule.NoMaxStale (Some 1) }
+    ensures fresh { decision_of true (held (codes "max-age=60")) (get []) 59 ≡ Decision.Hit 1 }
 {}
 
 /// A response of 6 seconds, asked for with max-age=5. Whether the origin may be asked is no matter of the rule.
 pub fn request_max_age_and_only_if_cached()
-    ensures max_age { decision_of (held (codes "max-age=60")) (get (control (codes "max-age=5"))) 6 ≡ Decision.Forward ReuseRule.AboveMaxAge (Some 1) }
-    ensures only_if_cached { decision_of (held (codes "max-age=60")) (get (control (codes "max-age=5, only-if-cached"))) 6 ≡ Decision.Forward ReuseRule.AboveMaxAge (Some 1) }
+    ensures max_age { decision_of true (held (codes "max-age=60")) (get (control (codes "max-age=5"))) 6 ≡ Decision.Forward ReuseRule.AboveMaxAge (Some 1) }
+    ensures only_if_cached { decision_of true (held (codes "max-age=60")) (get (control (codes "max-age=5, only-if-cached"))) 6 ≡ Decision.Forward ReuseRule.AboveMaxAge (Some 1) }
     ensures is_asked { has (asks (codes "max-age=5, only-if-cached")) OnlyIfCached ≡ true }
 {}
 
 /// Content, a range and a precondition, in this order, with nothing held.
 pub fn bypass_rules_in_order()
-    ensures content { decision_of [] (get_with (codes "x") (line (codes "Range") (codes "bytes=0-1") ∷ [])) 0 ≡ Decision.Forward ReuseRule.Content None }
-    ensures range { decision_of [] (get (line (codes "Range") (codes "bytes=0-1") ∷ line (codes "If-Match") (codes "*") ∷ [])) 0 ≡ Decision.Forward ReuseRule.Range None }
-    ensures precondition { decision_of [] (get (line (codes "If-Match") (codes "*") ∷ [])) 0 ≡ Decision.Forward ReuseRule.Precondition None }
-    ensures no_byte { decision_of [] (get_with [] []) 0 ≡ Decision.Forward ReuseRule.UriMiss None }
+    ensures content { decision_of true [] (get_with (codes "x") (line (codes "Range") (codes "bytes=0-1") ∷ [])) 0 ≡ Decision.Forward ReuseRule.Content None }
+    ensures range { decision_of true [] (get (line (codes "Range") (codes "bytes=0-1") ∷ line (codes "If-Match") (codes "*") ∷ [])) 0 ≡ Decision.Forward ReuseRule.Range None }
+    ensures precondition { decision_of true [] (get (line (codes "If-Match") (codes "*") ∷ [])) 0 ≡ Decision.Forward ReuseRule.Precondition None }
+    ensures no_byte { decision_of true [] (get_with [] []) 0 ≡ Decision.Forward ReuseRule.UriMiss None }
+{}
+
+/// Where the operator keeps a request from the store its rule is the first, with a fresh response at hand and before content.
+pub fn line_without_cache()
+    ensures fresh { decision_of false (held (codes "max-age=60")) (get []) 1 ≡ Decision.Forward ReuseRule.Operator None }
+    ensures content { decision_of false [] (get_with (codes "x") []) 0 ≡ Decision.Forward ReuseRule.Operator None }
+    ensures with_cache { decision_of true (held (codes "max-age=60")) (get []) 1 ≡ Decision.Hit 1 }
 {}
 
 /// A response that states no lifetime, with an entity tag, at 5.
 pub fn no_lifetime_is_only_validated()
-    ensures { decision_of (held_with_tag []) (get []) 5 ≡ Decision.Forward ReuseRule.NoLifetime (Some 1) }
+    ensures { decision_of true (held_with_tag []) (get []) 5 ≡ Decision.Forward ReuseRule.NoLifetime (Some 1) }
 {}
 
 /// The least rule, where several stand.
 pub fn least_reuse_rule()
-    ensures response_no_cache { decision_of (held (codes "no-cache, max-age=60")) (get (control (codes "no-cache"))) 1 ≡ Decision.Forward ReuseRule.ResponseNoCache (Some 1) }
-    ensures request_no_cache { decision_of (held (codes "max-age=60")) (get (control (codes "no-cache, max-age=0"))) 1 ≡ Decision.Forward ReuseRule.RequestNoCache (Some 1) }
-    ensures must_revalidate { decision_of (held_with_tag (control (codes "must-revalidate"))) (get []) 5 ≡ Decision.Forward ReuseRule.MustRevalidate (Some 1) }
-    ensures past_max_stale { decision_of (held (codes "max-age=60")) (get (control (codes "max-stale=5, max-age=0"))) 66 ≡ Decision.Forward ReuseRule.PastMaxStale (Some 1) }
+    ensures response_no_cache { decision_of true (held (codes "no-cache, max-age=60")) (get (control (codes "no-cache"))) 1 ≡ Decision.Forward ReuseRule.ResponseNoCache (Some 1) }
+    ensures request_no_cache { decision_of true (held (codes "max-age=60")) (get (control (codes "no-cache, max-age=0"))) 1 ≡ Decision.Forward ReuseRule.RequestNoCache (Some 1) }
+    ensures must_revalidate { decision_of true (held_with_tag (control (codes "must-revalidate"))) (get []) 5 ≡ Decision.Forward ReuseRule.MustRevalidate (Some 1) }
+    ensures past_max_stale { decision_of true (held (codes "max-age=60")) (get (control (codes "max-stale=5, max-age=0"))) 66 ≡ Decision.Forward ReuseRule.PastMaxStale (Some 1) }
 {}
 
 /// Of 10 seconds, with stale-if-error=60: stale by 60 and by 61, and with must-revalidate too.
 pub fn stale_if_error_of_response()
-    ensures stale { decision_of (held (codes "max-age=10, stale-if-error=60")) (get []) 70 ≡ Decision.Forward ReuseRule.NoMaxStale (Some 1) }
+    ensures stale { decision_of true (held (codes "max-age=10, stale-if-error=60")) (get []) 70 ≡ Decision.Forward ReuseRule.NoMaxStale (Some 1) }
     ensures within { leave_on_error (controlled (codes "max-age=10, stale-if-error=60")) [] 70 ≡ Ok tt }
     ensures past { leave_on_error (controlled (codes "max-age=10, stale-if-error=60")) [] 71 ≡ Err ErrorRule.TooStale }
     ensures forbidden { leave_on_error (controlled (codes "max-age=10, stale-if-error=60, must-revalidate")) [] 70 ≡ Err ErrorRule.MustRevalidate }

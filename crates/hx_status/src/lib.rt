@@ -17,6 +17,6 @@ pub use crate::refusing::refusal;
 pub use crate::status::{Detail, How, Status};
 pub use crate::telling::member;
 pub use crate::worked_cases::{
-    bypass_rules_in_order, least_reuse_rule, no_lifetime_is_only_validated, second_request_waits,
-    stale_if_error_of_request, stale_if_error_of_response, worked_texts,
+    bypass_rules_in_order, least_reuse_rule, line_without_cache, no_lifetime_is_only_validated,
+    second_request_waits, stale_if_error_of_request, stale_if_error_of_response, worked_texts,
 };

@@ -29,6 +29,13 @@ pub fn bypass_rules_in_order()
     ensures precondition { member_text (codes "edge") (passed_on rule.Precondition) ≡ codes "edge;fwd=bypass;detail=precondition" }
 {}
 
+/// On a line without cache: passed on, what only the origin could answer, and a failure.
+pub fn line_without_cache()
+    ensures passed_on { member_text (codes "edge") (passed_on rule.Operator) ≡ codes "edge;fwd=bypass;detail=operator" }
+    ensures only_if_cached { text_of (OnlyIfCached rule.Operator) ≡ codes "only-if-cached;fwd=bypass;detail=operator" }
+    ensures refused { text_of (Origin Refused rule.Operator None) ≡ codes "origin refused;fwd=bypass;detail=operator" }
+{}
+
 /// The least rule where several stand, and what only the origin could answer.
 pub fn least_reuse_rule()
     ensures response_no_cache { member_text (codes "edge") (passed_on rule.ResponseNoCache) ≡ codes "edge;fwd=stale;detail=response-no-cache" }

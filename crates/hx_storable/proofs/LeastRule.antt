@@ -5,28 +5,29 @@ use Rattle.hx_hop.specs.declared.asked_for.Asked.{Asked}
 use Rattle.hx_hop.specs.declared.answered_with.Answered.{Answered}
 use Rattle.hx_storable.specs.declared.known_facts.Facts.{Facts}
 use Rattle.hx_storable.specs.declared.rule.StoreRule.{StoreRule}
-use Rattle.hx_storable.specs.declared.rule.StoreRule.TheVariants.{Method, Bypass, Status, MustUnderstand, ResponseNoStore, RequestNoStore, Private, Authorization, NothingAllows, VaryStar, ConnectionField, NothingToReuse, TooLarge, Overtaken, Serials}
+use Rattle.hx_storable.specs.declared.rule.StoreRule.TheVariants.{Operator, Method, Bypass, Status, MustUnderstand, ResponseNoStore, RequestNoStore, Private, Authorization, NothingAllows, VaryStar, ConnectionField, NothingToReuse, TooLarge, Overtaken, Serials}
 use Rattle.hx_storable.specs.Rules.{stands, number_of, storage_rules, storage_rule_of}
 use Rattle.hx_storable.specs.Storable.{IsLeast, IsStored}
 use Rattle.hx_storable.proofs.FirstThat.{IsMember, ascends, passes, fails_before, none_passes, none_found, first_found}
 
 -- each rule is in the table
 listed : (r : StoreRule) → IsMember r storage_rules
-listed Method = inl refl
-listed Bypass = inr (inl refl)
-listed Status = inr (inr (inl refl))
-listed MustUnderstand = inr (inr (inr (inl refl)))
-listed ResponseNoStore = inr (inr (inr (inr (inl refl))))
-listed RequestNoStore = inr (inr (inr (inr (inr (inl refl)))))
-listed Private = inr (inr (inr (inr (inr (inr (inl refl))))))
-listed Authorization = inr (inr (inr (inr (inr (inr (inr (inl refl)))))))
-listed NothingAllows = inr (inr (inr (inr (inr (inr (inr (inr (inl refl))))))))
-listed VaryStar = inr (inr (inr (inr (inr (inr (inr (inr (inr (inl refl)))))))))
-listed ConnectionField = inr (inr (inr (inr (inr (inr (inr (inr (inr (inr (inl refl))))))))))
-listed NothingToReuse = inr (inr (inr (inr (inr (inr (inr (inr (inr (inr (inr (inl refl)))))))))))
-listed TooLarge = inr (inr (inr (inr (inr (inr (inr (inr (inr (inr (inr (inr (inl refl))))))))))))
-listed Overtaken = inr (inr (inr (inr (inr (inr (inr (inr (inr (inr (inr (inr (inr (inl refl)))))))))))))
-listed Serials = inr (inr (inr (inr (inr (inr (inr (inr (inr (inr (inr (inr (inr (inr (inl refl))))))))))))))
+listed Operator = inl refl
+listed Method = inr (inl refl)
+listed Bypass = inr (inr (inl refl))
+listed Status = inr (inr (inr (inl refl)))
+listed MustUnderstand = inr (inr (inr (inr (inl refl))))
+listed ResponseNoStore = inr (inr (inr (inr (inr (inl refl)))))
+listed RequestNoStore = inr (inr (inr (inr (inr (inr (inl refl))))))
+listed Private = inr (inr (inr (inr (inr (inr (inr (inl refl)))))))
+listed Authorization = inr (inr (inr (inr (inr (inr (inr (inr (inl refl))))))))
+listed NothingAllows = inr (inr (inr (inr (inr (inr (inr (inr (inr (inl refl)))))))))
+listed VaryStar = inr (inr (inr (inr (inr (inr (inr (inr (inr (inr (inl refl))))))))))
+listed ConnectionField = inr (inr (inr (inr (inr (inr (inr (inr (inr (inr (inr (inl refl)))))))))))
+listed NothingToReuse = inr (inr (inr (inr (inr (inr (inr (inr (inr (inr (inr (inr (inl refl))))))))))))
+listed TooLarge = inr (inr (inr (inr (inr (inr (inr (inr (inr (inr (inr (inr (inr (inl refl)))))))))))))
+listed Overtaken = inr (inr (inr (inr (inr (inr (inr (inr (inr (inr (inr (inr (inr (inr (inl refl))))))))))))))
+listed Serials = inr (inr (inr (inr (inr (inr (inr (inr (inr (inr (inr (inr (inr (inr (inr (inl refl)))))))))))))))
 
 in_order : ascends number_of 0 storage_rules ≡ true
 unfolding ascends

@@ -10,7 +10,7 @@ use Rattle.hx_hop.specs.declared.answered_with.Answered.{Answered}
 use Rattle.hx_hop.specs.Bypass.{has_content, asks_for_range, has_precondition}
 use Rattle.hx_storable.specs.declared.known_facts.Facts.{Facts}
 use Rattle.hx_storable.specs.declared.rule.StoreRule.{StoreRule}
-use Rattle.hx_storable.specs.declared.rule.StoreRule.TheVariants.{Method, Bypass, Status, MustUnderstand, ResponseNoStore, RequestNoStore, Private, Authorization, NothingAllows, VaryStar, ConnectionField, NothingToReuse, TooLarge, Overtaken, Serials}
+use Rattle.hx_storable.specs.declared.rule.StoreRule.TheVariants.{Operator, Method, Bypass, Status, MustUnderstand, ResponseNoStore, RequestNoStore, Private, Authorization, NothingAllows, VaryStar, ConnectionField, NothingToReuse, TooLarge, Overtaken, Serials}
 use Rattle.hx_storable.specs.Rules.{asks, says, is_heuristic, is_understood, allows_shared, allows_storing, stands}
 use Rattle.hx_storable.specs.Storable.{IsFinal, NeedsUnderstanding, IsNotForbidden, AllowsShared, AllowsStoring, IsForTheStore, MayBeStored, IsStored}
 use Rattle.hx_storable.proofs.JoinedTests.{never, not_false, not_true, left_false, right_false, neither, one_of, or_left, or_right, second_false, either_false, first_absent, last_absent, is_equal, not_equal, implied}
@@ -125,6 +125,7 @@ module _ (asked : Asked) (answered : Answered) (facts : Facts) where
 
     may_be_stored : IsFinal answered → MayBeStored asked answered facts
     may_be_stored final = record {
+      operator_allows = none Operator;
       is_storable = record {
         method_is_understood = inl is_get;
         status_is_final = final;
@@ -189,6 +190,7 @@ module _ (asked : Asked) (answered : Answered) (facts : Facts) where
 
   module _ (may : MayBeStored asked answered facts) where
     none_stands : (any : StoreRule) → stands any asked answered facts ≡ false
+    none_stands Operator = may.operator_allows
     none_stands Method = get_is_method asked.method may.is_for_the_store.is_get
     none_stands Bypass =
         neither (has_content asked || asks_for_range asked) (has_precondition asked)
@@ -253,3 +255,6 @@ module _ (asked : Asked) (answered : Answered) (facts : Facts) where
 
   pub other_methods_forbid : ((asked.method ≡ codes "GET") → ⊥) → IsStored asked answered facts → ⊥
   other_methods_forbid p h = p (is_get (λ any. no_rule_stands asked answered facts any h))
+
+  pub operator_forbids : facts.operator ≡ true → IsStored asked answered facts → ⊥
+  operator_forbids p h = never (sym p ∙ no_rule_stands asked answered facts Operator h)

@@ -17,7 +17,7 @@ use Rattle.hx_hop.specs.declared.answered_with.Answered.{Answered}
 use Rattle.hx_hop.specs.Bypass.{has_content, asks_for_range, has_precondition}
 use Rattle.hx_storable.specs.declared.known_facts.Facts.{Facts}
 use Rattle.hx_storable.specs.declared.rule.StoreRule.{StoreRule}
-use Rattle.hx_storable.specs.declared.rule.StoreRule.TheVariants.{Method, Bypass, Status, MustUnderstand, ResponseNoStore, RequestNoStore, Private, Authorization, NothingAllows, VaryStar, ConnectionField, NothingToReuse, TooLarge, Overtaken, Serials}
+use Rattle.hx_storable.specs.declared.rule.StoreRule.TheVariants.{Operator, Method, Bypass, Status, MustUnderstand, ResponseNoStore, RequestNoStore, Private, Authorization, NothingAllows, VaryStar, ConnectionField, NothingToReuse, TooLarge, Overtaken, Serials}
 
 -- the statuses that are heuristically cacheable (RFC 9110, section 15.1)
 abbrev pub heuristic_statuses : List ℕ
@@ -50,6 +50,8 @@ allows_storing answered =
 
 -- the condition of each rule
 abbrev pub stands : StoreRule → Asked → Answered → Facts → Bool
+-- own: what the operator keeps from the store
+stands Operator asked answered facts = facts.operator
 -- own: of all methods that it understands this cache stores answers to GET alone
 stands Method asked answered facts = not (bytes_eq asked.method (codes "GET"))
 -- own: such a request goes past the cache, in both directions
@@ -87,10 +89,11 @@ rules_on_facts = VaryStar ∷ ConnectionField ∷ NothingToReuse ∷ TooLarge �
 
 abbrev pub storage_rules : List StoreRule
 storage_rules =
-    Method ∷ Bypass ∷ Status ∷ MustUnderstand ∷ ResponseNoStore ∷ RequestNoStore ∷ Private ∷ Authorization
+    Operator ∷ Method ∷ Bypass ∷ Status ∷ MustUnderstand ∷ ResponseNoStore ∷ RequestNoStore ∷ Private ∷ Authorization
     ∷ NothingAllows ∷ rules_on_facts
 
 abbrev pub number_of : StoreRule → ℕ
+number_of Operator = 0
 number_of Method = 1
 number_of Bypass = 2
 number_of Status = 3

@@ -73,7 +73,9 @@ pub record HasRoom (facts : Facts) : Type 0 where
   pub not_too_large : facts.too_large ≡ false
   pub has_serial : facts.no_serial ≡ false
 
+-- own: the operator lets it be stored
 pub record MayBeStored (asked : Asked) (answered : Answered) (facts : Facts) : Type 0 where
+  pub operator_allows : facts.operator ≡ false
   pub is_storable : IsStorable asked answered
   pub is_for_the_store : IsForTheStore asked
   pub is_of_use : IsOfUse facts
@@ -143,3 +145,7 @@ PartsAreNeverStored = IsNeverStored (λ asked answered. (answered.status ≡ 206
 -- the method isn't GET
 abbrev pub OnlyGetIsStored : Type 0
 OnlyGetIsStored = IsNeverStored (λ asked answered. (asked.method ≡ codes "GET") → ⊥)
+
+-- the operator keeps it from the store
+abbrev pub OperatorForbids : Type 0
+OperatorForbids = (asked : Asked) (answered : Answered) (facts : Facts) → facts.operator ≡ true → IsStored asked answered facts → ⊥

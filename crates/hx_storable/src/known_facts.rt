@@ -3,6 +3,8 @@
 /// What is known of an answer besides its head and the request.
 #[derive(Clone, Copy, Debug, PartialEq, Eq)]
 pub struct Facts {
+    /// The operator keeps what the request asks for from the store.
+    pub operator: bool,
     /// A member of its Vary is `*` or no token (RFC 9111, section 4.1).
     pub vary_star: bool,
     /// Its Connection, as it was received, names a cache field, such as Cache-Control or Vary.

@@ -3,8 +3,8 @@
 ghost use Rattle.std.specs.Prelude.{◌≡◌, ◌∷◌, [], codes, Some, None};
 ghost use Rattle.hx_fields.specs.Examples.{line};
 ghost use Rattle.hx_storable.specs.Rules.{storage_rule_of};
-ghost use Rattle.hx_storable.specs.Storable.{StoresNothingElse, StoresWhatMayBeStored, NamesTheLeast, NamesOneThatStands, StoresWhereNoneStands, NoStoreForbids, NoStoreForbidsUnlessUnderstood, RequestsNoStoreForbids, PrivateForbids, AuthorizationForbids, PartsAreNeverStored, OnlyGetIsStored};
-ghost use Rattle.hx_storable.specs.Cases.{control, get, authorized, answer, lasting, starred, starred_and_listed};
+ghost use Rattle.hx_storable.specs.Storable.{StoresNothingElse, StoresWhatMayBeStored, NamesTheLeast, NamesOneThatStands, StoresWhereNoneStands, NoStoreForbids, NoStoreForbidsUnlessUnderstood, RequestsNoStoreForbids, PrivateForbids, AuthorizationForbids, PartsAreNeverStored, OnlyGetIsStored, OperatorForbids};
+ghost use Rattle.hx_storable.specs.Cases.{control, get, authorized, answer, lasting, starred, starred_and_listed, kept_out, not_kept_out};
 
 use crate::{Facts, StoreRule};
 
@@ -41,15 +41,20 @@ pub fn only_whole_answers_to_get_are_stored()
     ensures method { OnlyGetIsStored }
 {}
 
-/// The least number, where several rules stand.
+/// What the operator keeps from the store is never stored, whatever the origin says of it.
+pub fn nothing_is_stored_against_the_operator()
+    ensures { OperatorForbids }
+{}
+
+/// The least number, where several rules stand, and the operator's doesn't.
 #[tactic(auto, unfolding(crate::specs::Rules::storage_rule_of))]
 pub fn least_storage_rule(facts: Facts)
-    ensures status { storage_rule_of (get []) (answer 206 (control (codes "must-understand"))) facts ≡ Some StoreRule.Status }
-    ensures must_understand { storage_rule_of (get (control (codes "no-store"))) (answer 299 (control (codes "must-understand"))) facts ≡ Some StoreRule.MustUnderstand }
-    ensures response_no_store { storage_rule_of (get (control (codes "no-store"))) (answer 200 (control (codes "no-store"))) facts ≡ Some StoreRule.ResponseNoStore }
-    ensures request_no_store { storage_rule_of (get (control (codes "no-store"))) (answer 200 (control (codes "private"))) facts ≡ Some StoreRule.RequestNoStore }
-    ensures private { storage_rule_of authorized (answer 200 (control (codes "private"))) facts ≡ Some StoreRule.Private }
-    ensures authorization { storage_rule_of authorized (answer 299 []) facts ≡ Some StoreRule.Authorization }
+    ensures status { storage_rule_of (get []) (answer 206 (control (codes "must-understand"))) (not_kept_out facts) ≡ Some StoreRule.Status }
+    ensures must_understand { storage_rule_of (get (control (codes "no-store"))) (answer 299 (control (codes "must-understand"))) (not_kept_out facts) ≡ Some StoreRule.MustUnderstand }
+    ensures response_no_store { storage_rule_of (get (control (codes "no-store"))) (answer 200 (control (codes "no-store"))) (not_kept_out facts) ≡ Some StoreRule.ResponseNoStore }
+    ensures request_no_store { storage_rule_of (get (control (codes "no-store"))) (answer 200 (control (codes "private"))) (not_kept_out facts) ≡ Some StoreRule.RequestNoStore }
+    ensures private { storage_rule_of authorized (answer 200 (control (codes "private"))) (not_kept_out facts) ≡ Some StoreRule.Private }
+    ensures authorization { storage_rule_of authorized (answer 299 []) (not_kept_out facts) ≡ Some StoreRule.Authorization }
     ensures nothing_allows { storage_rule_of (get []) (answer 299 (line (codes "Vary") (codes "*") ∷ [])) starred ≡ Some StoreRule.NothingAllows }
     ensures vary_star { storage_rule_of (get []) (answer 200 (line (codes "Vary") (codes "*") ∷ [])) starred_and_listed ≡ Some StoreRule.VaryStar }
 {}
@@ -66,4 +71,12 @@ pub fn authorization_and_private()
     ensures max_age { storage_rule_of authorized (answer 200 (control (codes "max-age=60"))) lasting ≡ Some StoreRule.Authorization }
     ensures public { storage_rule_of authorized (answer 200 (control (codes "public, max-age=60"))) lasting ≡ None }
     ensures private { storage_rule_of (get []) (answer 200 (control (codes "private=\"Set-Cookie, X\", max-age=60"))) lasting ≡ Some StoreRule.Private }
+{}
+
+/// An answer that nothing else stands against, and one that a later rule stands against too.
+#[tactic(auto, unfolding(crate::specs::Rules::storage_rule_of))]
+pub fn line_without_cache()
+    ensures lasting { storage_rule_of (get []) (answer 200 (control (codes "max-age=60"))) kept_out ≡ Some StoreRule.Operator }
+    ensures private { storage_rule_of (get []) (answer 200 (control (codes "private"))) kept_out ≡ Some StoreRule.Operator }
+    ensures with_cache { storage_rule_of (get []) (answer 200 (control (codes "max-age=60"))) lasting ≡ None }
 {}

@@ -12,7 +12,8 @@ mod storing;
 
 pub use crate::known_facts::Facts;
 pub use crate::laws::{
-    authorization_and_private, least_storage_rule, must_understand_overrides_no_store,
+    authorization_and_private, least_storage_rule, line_without_cache,
+    must_understand_overrides_no_store, nothing_is_stored_against_the_operator,
     nothing_private_is_stored, only_whole_answers_to_get_are_stored, stored_where_it_may_be_stored,
     the_least_storage_rule_is_named, what_is_told_not_to_be_stored_never_is,
 };

@@ -3,8 +3,10 @@
 /// A rule against storing a response (RFC 9111, sections 3, 3.5 and 5.2), in the order in which they are asked.
 #[derive(Clone, Copy, Debug, PartialEq, Eq)]
 pub enum StoreRule {
+    /// The operator keeps what the request asks for from the store.
+    Operator = 0,
     /// The method isn't GET.
-    Method = 1,
+    Method,
     /// The request has content, asks for a range, or has a precondition that only the origin can judge.
     Bypass,
     /// The status is 206 or 304: the response isn't the whole of a representation.

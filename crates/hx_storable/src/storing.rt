@@ -107,7 +107,9 @@ pub fn first_rule_against(
     requires response { directives.now ≡ occurrences_of answered.now.fields }
     ensures { result ≡ storage_rule_of asked.now answered.now facts }
 {
-    if !is_get(asked) {
+    if facts.operator {
+        Some(StoreRule::Operator)
+    } else if !is_get(asked) {
         Some(StoreRule::Method)
     } else if goes_past_the_cache(asked) {
         Some(StoreRule::Bypass)

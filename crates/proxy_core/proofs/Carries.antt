@@ -8,7 +8,7 @@ use Rattle.hx_target.specs.Keys.{same_key}
 use Rattle.hx_framing.specs.declared.responses.Response.{Response}
 use Rattle.hx_hop.specs.declared.asked_for.Asked.{Asked}
 use Rattle.hx_allow.specs.Lines.{Table}
-use Rattle.hx_allow.specs.Matching.{verdict_of}
+use Rattle.hx_allow.specs.Matching.{verdict_of, caches_of}
 use Rattle.hx_allow.specs.declared.verdicts.Verdict.{Verdict}
 use Rattle.hx_allow.specs.declared.verdicts.Verdict.TheVariants as verdict
 use Rattle.hx_store.specs.Stored.{Stored}
@@ -36,6 +36,7 @@ use Rattle.proxy_core.specs.Promises.{goes_forward, is_arrival, times}
 use Rattle.proxy_core.specs.Carrying.{arrival_of, again_of, WentOnce, WentAgain, Arrived, LeastAtItsArrival, CarriesItsArrival}
 use Rattle.proxy_core.proofs.ExchangeLists.{overtaken_by, find-push, find-gone_out, found-id}
 use Rattle.proxy_core.proofs.Moves.{Move, apart, opens, passes, again, closes, out_again, move_of, and_none, failed_back}
+use Rattle.proxy_core.proofs.Tracing.{same_table}
 use Rattle.proxy_core.proofs.HeldLaw.{good_plain, entries_are_held, exchanges_are_open}
 
 none_some : (y : Option Exchange) (z : Exchange) → y ≡ None → y ≡ Some z → ⊥
@@ -49,21 +50,21 @@ module _ (table : Table) (es : List Stored) (now : ℕ) (asked : Asked) (line : 
     pub line_allows : verdict_of table.lines asked.method asked.target ≡ verdict.Allowed line
     pub rule : ReuseRule
     pub against : Option ℕ
-    pub decided : decision_of es asked now ≡ decision.Forward rule against
+    pub decided : decision_of (caches_of table.lines line) es asked now ≡ decision.Forward rule against
     pub bytes_are : bytes ≡ forward_text table asked (condition_at es against)
 
   went_by : (v : Verdict) → verdict_of table.lines asked.method asked.target ≡ v → arrived table es now asked v ≡ Forward line bytes → WentBy
-  went_by (verdict.Allowed n) v h = by_decision (decision_of es asked now) refl h
+  went_by (verdict.Allowed n) v h = by_decision (decision_of (caches_of table.lines n) es asked now) refl h
     where
-      unless : (rule : ReuseRule) (against : Option ℕ) (b : Bool) → decision_of es asked now ≡ decision.Forward rule against →
+      unless : (rule : ReuseRule) (against : Option ℕ) (b : Bool) → decision_of (caches_of table.lines n) es asked now ≡ decision.Forward rule against →
           unanswered table n now asked rule (condition_at es against) b ≡ Forward line bytes → WentBy
       unless rule against true d h = absurd (cc)
       unless rule against false d h =
           let same : n ≡ line = cc in
           let text : forward_text table asked (condition_at es against) ≡ bytes = cc in
-          record { line_allows = v ∙ ap (λ m. verdict.Allowed m) same; rule = rule; against = against; decided = d; bytes_are = sym text }
+          record { line_allows = v ∙ ap (λ m. verdict.Allowed m) same; rule = rule; against = against; decided = ap (λ m. decision_of (caches_of table.lines m) es asked now) (sym same) ∙ d; bytes_are = sym text }
 
-      by_decision : (d : Decision) → decision_of es asked now ≡ d → allowed table es n now asked d ≡ Forward line bytes → WentBy
+      by_decision : (d : Decision) → decision_of (caches_of table.lines n) es asked now ≡ d → allowed table es n now asked d ≡ Forward line bytes → WentBy
       by_decision (decision.Hit t) k h = absurd (cc)
       by_decision (decision.Forward rule against) k h = unless rule against (is_only_if_cached asked) k h
   went_by (verdict.DeniedBy n) v h = absurd (cc)
@@ -221,17 +222,17 @@ module _ (table : Table) (limit first : ℕ) where
   -- at the arrival
   carried_first : (past : List Item) → IsGood (begun table limit first) past → (now id : ℕ) (asked : Asked) (o : Outcome) (x : Exchange) →
       o ≡ arrived table (left (begun table limit first) past).entries now asked (verdict_of table.lines asked.method asked.target) → exchange id past ≡ None →
-      find_exchange id (open_after (left (begun table limit first) past).entries (left (begun table limit first) past).exchanges (Arrive now id asked) o) ≡ Some x →
+      find_exchange id (open_after table (left (begun table limit first) past).entries (left (begun table limit first) past).exchanges (Arrive now id asked) o) ≡ Some x →
       Carried table limit id (record { event = Arrive now id asked; outcome = o } ∷ past) x
   carried_first past g now id asked (Reply r) x h free found = absurd (none_some _ x free found)
   carried_first past g now id asked Ended x h free found = absurd (none_some _ x free found)
   carried_first past g now id asked (Forward line bytes) x h free found =
       let s = left (begun table limit first) past in
-      let y = opened s.entries now id asked line in
+      let y = opened table s.entries now id asked line in
       let w = went_by table s.entries now asked line bytes (verdict_of table.lines asked.method asked.target) refl (sym h) in
       let here : y ≡ x = same_Some y x (sym (find-push id s.exchanges y free ∙ ap (λ b. cond b (Some y) (find_exchange id s.exchanges)) (eq-eqb id id refl)) ∙ found) in
       let held = entries_are_held table limit first past g in
-      let named = names_the_least s.entries asked now w.rule w.against w.decided in
+      let named = names_the_least (caches_of table.lines line) s.entries asked now w.rule w.against w.decided in
       let rule : y.rule ≡ w.rule = ap rule_of w.decided in
       let condition : y.condition ≡ condition_at s.entries w.against = ap (λ (d : Decision). condition_at s.entries (named_by d)) w.decided in
       subst (Carried table limit id (record { event = Arrive now id asked; outcome = Forward line bytes } ∷ past)) here (
@@ -243,7 +244,7 @@ module _ (table : Table) (limit first : ℕ) where
           past_is = refl;
           none_since = tt;
           line_allows = w.line_allows;
-          rule_is_least = subst (λ (es : List Stored). IsLeast es asked now y.rule) held (subst (λ (q : ReuseRule). IsLeast s.entries asked now q) (sym rule) named.0);
+          rule_is_least = subst (λ (es : List Stored). IsLeast (caches_of table.lines line) es asked now y.rule) held (subst (λ (q : ReuseRule). IsLeast (caches_of table.lines line) s.entries asked now q) (sym rule) named.0);
           went = inl (record {
             since_then = refl;
             request_time = refl;
@@ -299,7 +300,7 @@ module _ (table : Table) (limit first : ℕ) where
   again_at : (past : List Item) (id : ℕ) (i : Item) (z x : Exchange) → Carried table limit id past z → exchange id past ≡ Some z → eqb (id_of i.event) id ≡ true →
       is_arrival i.event ≡ false → goes_forward i.outcome ≡ true →
       i.outcome ≡ outcome_of table (left (begun table limit first) past).entries (left (begun table limit first) past).exchanges (exchange (id_of i.event) past) (left (begun table limit first) past).next i.event →
-      find_exchange id (open_after (left (begun table limit first) past).entries (left (begun table limit first) past).exchanges i.event i.outcome) ≡ Some x →
+      find_exchange id (open_after table (left (begun table limit first) past).entries (left (begun table limit first) past).exchanges i.event i.outcome) ≡ Some x →
       Carried table limit id (i ∷ past) x
   again_at past id i z x c z_is same late out is found = by_event i.event i.outcome same late out is found
     where
@@ -312,17 +313,17 @@ module _ (table : Table) (limit first : ℕ) where
       next : Option ℕ
       next = (left (begun table limit first) past).next
 
-      by_answer : (now n : ℕ) (r : Response) (o : Outcome) → n ≡ id → goes_forward o ≡ true → o ≡ answered table es now z r next (decision_of es z.asked now) →
-          find_exchange id (open_after es xs (Answer now n r) o) ≡ Some x → Carried table limit id (record { event = Answer now n r; outcome = o } ∷ past) x
+      by_answer : (now n : ℕ) (r : Response) (o : Outcome) → n ≡ id → goes_forward o ≡ true → o ≡ answered table es now z r next (decision_of (caches_of table.lines z.line) es z.asked now) →
+          find_exchange id (open_after table es xs (Answer now n r) o) ≡ Some x → Carried table limit id (record { event = Answer now n r; outcome = o } ∷ past) x
       by_answer now n r (Reply reply) e out is found = absurd (false≢true out)
       by_answer now n r Ended e out is found = absurd (false≢true out)
       by_answer now n r (Forward line bytes) e out is found =
           subst (λ m. Carried table limit id (record { event = Answer now m r; outcome = Forward line bytes } ∷ past) x) (sym e)
-          (carried_again past now id r z line bytes x c z_is (subst (IsAgain table z) (sym is) (again_by table es now z r next (decision_of es z.asked now)))
+          (carried_again past now id r z line bytes x c z_is (subst (IsAgain table z) (sym is) (again_by table es now z r next (decision_of (caches_of table.lines z.line) es z.asked now)))
           (ap (λ m. find_exchange id (map (gone_out m now) xs)) (sym e) ∙ found))
 
       by_event : (event : Event) (o : Outcome) → eqb (id_of event) id ≡ true → is_arrival event ≡ false → goes_forward o ≡ true →
-          o ≡ outcome_of table es xs (exchange (id_of event) past) next event → find_exchange id (open_after es xs event o) ≡ Some x →
+          o ≡ outcome_of table es xs (exchange (id_of event) past) next event → find_exchange id (open_after table es xs event o) ≡ Some x →
           Carried table limit id (record { event = event; outcome = o } ∷ past) x
       by_event (Arrive now n asked) o same late out is found = absurd (false≢true (sym late))
       by_event (Answer now n r) o same late out is found =
@@ -332,30 +333,33 @@ module _ (table : Table) (limit first : ℕ) where
           let w : exchange n past ≡ Some z = ap (λ m. exchange m past) (eqb-true n id same) ∙ z_is in
           let back : goes_forward o ≡ false =
           ap goes_forward (is ∙ ap (λ (w : Option Exchange). outcome_of table es xs w next (Fail now n kind)) w)
-          ∙ failed_back table es now z kind None (fallback_for es z.asked now (decision_of es z.asked now)) in
+          ∙ failed_back table es now z kind None (fallback_for es z.asked now (decision_of (caches_of table.lines z.line) es z.asked now)) in
           absurd (false≢true (sym back ∙ out))
       by_event (Abandon n) o same late out is found = absurd (false≢true (sym (ap goes_forward is) ∙ out))
 
   carries : (past : List Item) → IsGood (begun table limit first) past → (id : ℕ) (x : Exchange) → exchange id past ≡ Some x → Carried table limit id past x
   carries [] g id x h = absurd (cc)
-  carries (i ∷ past) g id x h = by_move (λ z q. carries past g.1 id z q) (exchange id (i ∷ past)) (move_of table (left (begun table limit first) past) i id g.0) h refl
+  carries (i ∷ past) g id x h = by_move (λ z q. carries past g.1 id z q) (exchange id (i ∷ past)) (move_of table (left (begun table limit first) past) i id (same_table (begun table limit first) past) g.0) h refl
     where
       s : State
       s = left (begun table limit first) past
+
+      at_table : find_exchange id (open_after table s.entries s.exchanges i.event i.outcome) ≡ exchange id (i ∷ past)
+      at_table = ap (λ (t : Table). find_exchange id (open_after t s.entries s.exchanges i.event i.outcome)) (sym (same_table (begun table limit first) past))
 
       by_move : ((z : Exchange) → exchange id past ≡ Some z → Carried table limit id past z) → (y : Option Exchange) → Move id (find_exchange (id_of i.event) s.exchanges) i.event i.outcome (exchange id past) y → y ≡ Some x → exchange id (i ∷ past) ≡ y →
           Carried table limit id (i ∷ past) x
       by_move was y (apart n e) h k =
           carried_apart table limit id i past _ (exchange id past) x n was (sym e ∙ h)
-      by_move was y (opens es now asked line e x_is f q) h k =
+      by_move was y (opens at es now asked line e x_is f q) h k =
           let item : record { event = Arrive now id asked; outcome = i.outcome } ≡ i = ap (λ (v : Event). record { event = v; outcome = i.outcome }) (sym e) in
           subst (λ (j : Item). Carried table limit id (j ∷ past) x) item
           (carried_first past g.1 now id asked i.outcome x
           (g.0.outcome_is ∙ ap (λ (v : Event). outcome_of table s.entries s.exchanges (find_exchange (id_of v) s.exchanges) s.next v) e) x_is
-          (ap (λ (v : Event). find_exchange id (open_after s.entries s.exchanges v i.outcome)) (sym e) ∙ k ∙ h))
+          (ap (λ (v : Event). find_exchange id (open_after table s.entries s.exchanges v i.outcome)) (sym e) ∙ at_table ∙ k ∙ h))
       by_move was y (passes t e x_is f q) h k = absurd (none_some y x q h)
       by_move was y (again z now t e z_is c f q) h k =
-          again_at past id i z x (was z z_is) z_is t e f g.0.outcome_is (k ∙ h)
+          again_at past id i z x (was z z_is) z_is t e f g.0.outcome_is (at_table ∙ k ∙ h)
       by_move was y (closes z t e x_is f q) h k = absurd (none_some y x q h)
 
 pub carries_its_arrival : CarriesItsArrival
@@ -364,7 +368,7 @@ carries_its_arrival table limit first id trace x g h =
     carries table limit first trace p id x (ap (find_exchange id) (exchanges_are_open table limit first trace p) ∙ h)
 
 pub least_at_its_arrival : (table : Table) (limit first id : ℕ) (trace : List Item) (x : Exchange) → IsGoodHistory table limit first trace →
-    find_exchange id (open_exchanges limit trace) ≡ Some x → LeastAtItsArrival limit x trace
+    find_exchange id (open_exchanges table limit trace) ≡ Some x → LeastAtItsArrival table limit x trace
 least_at_its_arrival table limit first id trace x g h =
     let a = (carries_its_arrival table limit first id trace x g h).0 in
     record {

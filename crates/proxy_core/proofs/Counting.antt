@@ -77,8 +77,8 @@ leaves_no_choice table limit first (i ∷ past) (j ∷ other) g k h =
     let same : past ≡ other = leaves_no_choice table limit first past other g.1 k.1 p.1 in
     let outcome : i.outcome ≡ j.outcome =
     g.0.outcome_is
-    ∙ ap (λ (v : Event). outcome_by table (held_entries limit past) (open_exchanges limit past) (next_serial first past) v) p.0
-    ∙ ap (λ (zs : List Item). outcome_by table (held_entries limit zs) (open_exchanges limit zs) (next_serial first zs) j.event) same
+    ∙ ap (λ (v : Event). outcome_by table (held_entries table limit past) (open_exchanges table limit past) (next_serial first past) v) p.0
+    ∙ ap (λ (zs : List Item). outcome_by table (held_entries table limit zs) (open_exchanges table limit zs) (next_serial first zs) j.event) same
     ∙ sym k.0.outcome_is
     in
     ap (λ (k : Item). k ∷ past) (same_item i j p.0 outcome) ∙ ap (λ (zs : List Item). j ∷ zs) same

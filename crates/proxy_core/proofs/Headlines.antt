@@ -4,7 +4,7 @@ use Rattle.std.proofs.lemmas.Bool.{eq-eqb}
 use Rattle.hx_framing.specs.declared.responses.Response.{Response}
 use Rattle.hx_hop.specs.declared.asked_for.Asked.{Asked}
 use Rattle.hx_allow.specs.Lines.{Table}
-use Rattle.hx_allow.specs.Matching.{verdict_of}
+use Rattle.hx_allow.specs.Matching.{verdict_of, caches_of}
 use Rattle.hx_allow.specs.declared.verdicts.Verdict.TheVariants.{Allowed}
 use Rattle.hx_status.specs.declared.cause.FailKind.{FailKind}
 use Rattle.proxy_core.specs.declared.exchange.Exchange.{Exchange}
@@ -44,24 +44,24 @@ module _ (table : Table) (limit first : ℕ) where
   goes item past g line bytes h = by_event item.event refl
     where
       xs : List Exchange
-      xs = open_exchanges limit past
+      xs = open_exchanges table limit past
 
       -- the outcome, where the event is known
-      outcome_at : (event : Event) → item.event ≡ event → item.outcome ≡ outcome_by table (held_entries limit past) xs (next_serial first past) event
-      outcome_at event e = g.0.outcome_is ∙ ap (λ (v : Event). outcome_by table (held_entries limit past) xs (next_serial first past) v) e
+      outcome_at : (event : Event) → item.event ≡ event → item.outcome ≡ outcome_by table (held_entries table limit past) xs (next_serial first past) event
+      outcome_at event e = g.0.outcome_is ∙ ap (λ (v : Event). outcome_by table (held_entries table limit past) xs (next_serial first past) v) e
 
       by_answer : (now id : ℕ) (r : Response) (w : Option Exchange) → find_exchange id xs ≡ w →
-          Forward line bytes ≡ outcome_of table (held_entries limit past) xs w (next_serial first past) (Answer now id r) → Goes table past line (Answer now id r)
+          Forward line bytes ≡ outcome_of table (held_entries table limit past) xs w (next_serial first past) (Answer now id r) → Goes table past line (Answer now id r)
       by_answer now id r None w_is o = absurd (cc)
       by_answer now id r (Some x) w_is o =
-          let again = subst (IsAgain table x) (sym o) (again_by table (held_entries limit past) now x r (next_serial first past) (decision_of (held_entries limit past) x.asked now)) in
+          let again = subst (IsAgain table x) (sym o) (again_by table (held_entries table limit past) now x r (next_serial first past) (decision_of (caches_of table.lines x.line) (held_entries table limit past) x.asked now)) in
           let carried = (carries_its_arrival table limit first id past x g.1 w_is).0 in
           (x.asked, has_its_request table limit first id past x g.1 w_is, carried.line_allows ∙ ap (λ n. Allowed n) (sym again.0))
 
-      by_failure : (now id : ℕ) (kind : FailKind) (w : Option Exchange) → Forward line bytes ≡ outcome_of table (held_entries limit past) xs w (next_serial first past) (Fail now id kind) → Goes table past line (Fail now id kind)
+      by_failure : (now id : ℕ) (kind : FailKind) (w : Option Exchange) → Forward line bytes ≡ outcome_of table (held_entries table limit past) xs w (next_serial first past) (Fail now id kind) → Goes table past line (Fail now id kind)
       by_failure now id kind None o = absurd (cc)
       by_failure now id kind (Some x) o =
-          not_forward _ line bytes (failed_back table (held_entries limit past) now x kind None (fallback_for (held_entries limit past) x.asked now (decision_of (held_entries limit past) x.asked now))) (sym o)
+          not_forward _ line bytes (failed_back table (held_entries table limit past) now x kind None (fallback_for (held_entries table limit past) x.asked now (decision_of (caches_of table.lines x.line) (held_entries table limit past) x.asked now))) (sym o)
 
       by_event : (event : Event) → item.event ≡ event → Goes table past line item.event
       by_event (Arrive now id asked) e =

@@ -152,26 +152,27 @@ kept limit es x event next st us rm look (stores s e a b q f k off) l h n =
     subst (λ o. P o us) (sym a) (subst (P (Some s)) (sym b) (kept_stores limit es x event next s e rm look q f k off h n))
 
 -- the core stands for a trace
-pub record Stands (limit first : ℕ) (past : List Item) (st : State) : Type 0 where
+pub record Stands (table : Table) (limit first : ℕ) (past : List Item) (st : State) : Type 0 where
+  pub table_is : st.table ≡ table
   pub limit_is : st.limit ≡ limit
   pub serials_are : serials st.entries ≡ held_serials limit past
-  pub entries_are : EachIs (held_entry limit past) st.entries
-  pub exchanges_are : st.exchanges ≡ open_exchanges limit past
+  pub entries_are : EachIs (held_entry table limit past) st.entries
+  pub exchanges_are : st.exchanges ≡ open_exchanges table limit past
   pub next_is : st.next ≡ next_serial first past
   pub fresh : NoneFrom st.next st.entries
 
-held_is : (limit first : ℕ) (past : List Item) (st : State) → Stands limit first past st → st.entries ≡ held_entries limit past
-held_is limit first past st p =
-    sym (EachIs-all (held_entry limit past) st.entries p.entries_are) ∙ ap (filter_map (held_entry limit past)) p.serials_are
+held_is : (table : Table) (limit first : ℕ) (past : List Item) (st : State) → Stands table limit first past st → st.entries ≡ held_entries table limit past
+held_is table limit first past st p =
+    sym (EachIs-all (held_entry table limit past) st.entries p.entries_are) ∙ ap (filter_map (held_entry table limit past)) p.serials_are
 
-stands_more : (table : Table) (limit first : ℕ) (past : List Item) (st : State) (i : Item) → Stands limit first past st →
-    Accepts table st.entries st.exchanges st.next i → Stands limit first (i ∷ past) (after st i.event i.outcome)
+stands_more : (table : Table) (limit first : ℕ) (past : List Item) (st : State) (i : Item) → Stands table limit first past st →
+    Accepts table st.entries st.exchanges st.next i → Stands table limit first (i ∷ past) (after st i.event i.outcome)
 stands_more table limit first past st i p a =
     let event = i.event in
     let o = i.outcome in
     let es = st.entries in
     let x = find_exchange (id_of event) st.exchanges in
-    let look : ℕ → Option Stored = held_entry limit past in
+    let look : ℕ → Option Stored = held_entry table limit past in
     let kind : Kind es x event st.next (stored_in o) (used_in o) (removed_in o) = kind_in table st i p.fresh a in
     let item = done_by i in
     let same_length : length es ≡ length (held_serials limit past) = sym (length-serials es) ∙ ap length p.serials_are in
@@ -181,23 +182,26 @@ stands_more table limit first past st i p a =
     let k = kept st.limit es x event st.next (stored_in o) (used_in o) (removed_in o) look kind len p.entries_are p.fresh in
     let e = entries_are st.limit es x event o in
     record {
+      table_is = p.table_is;
       limit_is = p.limit_is;
       serials_are = ap serials e ∙ k.serials_are
           ∙ ap (λ n. take n (recent_after item (serials es))) p.limit_is
           ∙ ap (λ xs. take limit (recent_after item xs)) p.serials_are
           ∙ sym (held_more limit item (map done_by past));
-      entries_are = EachIs-same (look_after x event (stored_in o) (used_in o) look) (entry_after (find_exchange (id_of event) (open_exchanges limit past)) event o look) _
+      entries_are = EachIs-same (look_after x event (stored_in o) (used_in o) look) (entry_after (find_exchange (id_of event) (open_exchanges table limit past)) event o look) _
           (λ s. ap (λ xs. look_after (find_exchange (id_of event) xs) event (stored_in o) (used_in o) look s) (sym p.exchanges_are))
           (subst (EachIs (look_after x event (stored_in o) (used_in o) look)) (sym e) k.entries_are);
-      exchanges_are = ap (λ zs. open_after zs st.exchanges event o) (held_is limit first past st p)
-          ∙ ap (λ xs. open_after (held_entries limit past) xs event o) p.exchanges_are;
+      exchanges_are = ap (λ (t : Table). open_after t st.entries st.exchanges event o) p.table_is
+          ∙ ap (λ zs. open_after table zs st.exchanges event o) (held_is table limit first past st p)
+          ∙ ap (λ xs. open_after table (held_entries table limit past) xs event o) p.exchanges_are;
       next_is = ap (λ n. next_after n (stored_in o)) p.next_is;
       fresh = subst (NoneFrom (next_after st.next (stored_in o))) (sym e) k.fresh;
     }
 
 -- what a good trace leaves stands for it
-pub stands_for : (table : Table) (limit first : ℕ) (past : List Item) → IsGood (begun table limit first) past → Stands limit first past (left (begun table limit first) past)
+pub stands_for : (table : Table) (limit first : ℕ) (past : List Item) → IsGood (begun table limit first) past → Stands table limit first past (left (begun table limit first) past)
 stands_for table limit first [] g = record {
+  table_is = refl;
   limit_is = refl;
   serials_are = refl;
   entries_are = EachIs-nil (λ s. None);
@@ -210,12 +214,12 @@ stands_for table limit first (i ∷ past) g =
 
 -- the bounded list has what is held
 pub entries_are_held : (table : Table) (limit first : ℕ) (past : List Item) → IsGood (begun table limit first) past →
-    (left (begun table limit first) past).entries ≡ held_entries limit past
-entries_are_held table limit first past g = held_is limit first past (left (begun table limit first) past) (stands_for table limit first past g)
+    (left (begun table limit first) past).entries ≡ held_entries table limit past
+entries_are_held table limit first past g = held_is table limit first past (left (begun table limit first) past) (stands_for table limit first past g)
 
 -- the other things that a trace leaves
 pub exchanges_are_open : (table : Table) (limit first : ℕ) (past : List Item) → IsGood (begun table limit first) past →
-    (left (begun table limit first) past).exchanges ≡ open_exchanges limit past
+    (left (begun table limit first) past).exchanges ≡ open_exchanges table limit past
 exchanges_are_open table limit first past g = (stands_for table limit first past g).exchanges_are
 
 pub next_is_counted : (table : Table) (limit first : ℕ) (past : List Item) → IsGood (begun table limit first) past →
@@ -232,9 +236,9 @@ good_held table limit first (i ∷ past) g =
       record {
         allowed = ap (λ xs. fault_by xs i.event) (sym p.exchanges_are) ∙ a.allowed;
         outcome_is = a.outcome_is
-            ∙ ap (λ es. outcome_by table es st.exchanges st.next i.event) (held_is limit first past st p)
-            ∙ ap (λ xs. outcome_by table (held_entries limit past) xs st.next i.event) p.exchanges_are
-            ∙ ap (λ n. outcome_by table (held_entries limit past) (open_exchanges limit past) n i.event) p.next_is;
+            ∙ ap (λ es. outcome_by table es st.exchanges st.next i.event) (held_is table limit first past st p)
+            ∙ ap (λ xs. outcome_by table (held_entries table limit past) xs st.next i.event) p.exchanges_are
+            ∙ ap (λ n. outcome_by table (held_entries table limit past) (open_exchanges table limit past) n i.event) p.next_is;
       },
       good_held table limit first past g.1,
     )
@@ -250,17 +254,17 @@ good_plain table limit first (i ∷ past) g =
       record {
         allowed = ap (λ xs. fault_by xs i.event) p.exchanges_are ∙ a.allowed;
         outcome_is = a.outcome_is
-            ∙ sym (ap (λ es. outcome_by table es st.exchanges st.next i.event) (held_is limit first past st p)
-            ∙ ap (λ xs. outcome_by table (held_entries limit past) xs st.next i.event) p.exchanges_are
-            ∙ ap (λ n. outcome_by table (held_entries limit past) (open_exchanges limit past) n i.event) p.next_is);
+            ∙ sym (ap (λ es. outcome_by table es st.exchanges st.next i.event) (held_is table limit first past st p)
+            ∙ ap (λ xs. outcome_by table (held_entries table limit past) xs st.next i.event) p.exchanges_are
+            ∙ ap (λ n. outcome_by table (held_entries table limit past) (open_exchanges table limit past) n i.event) p.next_is);
       },
       plain,
     )
 
 -- the fault at the next event, said of the exchanges that are open
 pub stops_held : (table : Table) (limit first : ℕ) (past : List Item) (next : Option Event) (fault : CoreFault) → IsGood (begun table limit first) past →
-    Stops (left (begun table limit first) past) next fault → StopsAt (open_exchanges limit past) next fault
+    Stops (left (begun table limit first) past) next fault → StopsAt (open_exchanges table limit past) next fault
 stops_held table limit first past None fault g r = r
 stops_held table limit first past (Some e) fault g r =
-    let k : fault_by (left (begun table limit first) past).exchanges e ≡ fault_by (open_exchanges limit past) e = ap (λ xs. fault_by xs e) (exchanges_are_open table limit first past g) in
+    let k : fault_by (left (begun table limit first) past).exchanges e ≡ fault_by (open_exchanges table limit past) e = ap (λ xs. fault_by xs e) (exchanges_are_open table limit first past g) in
     elim r [ inl a ↦ inl (sym k ∙ a) | inr b ↦ inr (sym k ∙ b.0, b.1) ]

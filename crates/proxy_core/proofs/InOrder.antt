@@ -198,33 +198,33 @@ new_apart now id asked o (x ∷ xs) h = by_id (λ k. new_apart now id asked o xs
 same_ids : {past : List Item} {a b : List ℕ} → a ≡ b → Stand b past → Stand a past
 same_ids {past} {a} {b} e h = subst (λ ids. Stand ids past) (sym e) h
 
-stand_step : (es : List Stored) (xs : List Exchange) (past : List Item) (event : Event) (o : Outcome) → fault_of (find_exchange (id_of event) xs) event ≡ None → Stand (ids_of xs) past →
-    Stand (ids_of (open_after es xs event o)) (record { event = event; outcome = o } ∷ past)
-stand_step es xs past (Arrive now id asked) o free h = by_outcome o (was_free (find_exchange id xs) refl free)
+stand_step : (table : Table) (es : List Stored) (xs : List Exchange) (past : List Item) (event : Event) (o : Outcome) → fault_of (find_exchange (id_of event) xs) event ≡ None → Stand (ids_of xs) past →
+    Stand (ids_of (open_after table es xs event o)) (record { event = event; outcome = o } ∷ past)
+stand_step table es xs past (Arrive now id asked) o free h = by_outcome o (was_free (find_exchange id xs) refl free)
   where
     was_free : (w : Option Exchange) → find_exchange id xs ≡ w → fault_of w (Arrive now id asked) ≡ None → find_exchange id xs ≡ None
     was_free None e f = e
     was_free (Some x) e f = absurd (cc)
 
-    by_outcome : (o : Outcome) → find_exchange id xs ≡ None → Stand (ids_of (open_after es xs (Arrive now id asked) o)) (record { event = Arrive now id asked; outcome = o } ∷ past)
+    by_outcome : (o : Outcome) → find_exchange id xs ≡ None → Stand (ids_of (open_after table es xs (Arrive now id asked) o)) (record { event = Arrive now id asked; outcome = o } ∷ past)
     by_outcome (Forward line bytes) f =
         let i : Item = record { event = Arrive now id asked; outcome = Forward line bytes } in
-        same_ids (ids-push xs (opened es now id asked line)) (with_one i past (ids_of xs) refl (new_apart now id asked (Forward line bytes) xs f) h)
+        same_ids (ids-push xs (opened table es now id asked line)) (with_one i past (ids_of xs) refl (new_apart now id asked (Forward line bytes) xs f) h)
     by_outcome (Reply r) f = further (record { event = Arrive now id asked; outcome = Reply r }) past (ids_of xs) (new_apart now id asked (Reply r) xs f) h
     by_outcome Ended f = further (record { event = Arrive now id asked; outcome = Ended }) past (ids_of xs) (new_apart now id asked Ended xs f) h
-stand_step es xs past (Answer now id r) (Forward line bytes) free h =
+stand_step table es xs past (Answer now id r) (Forward line bytes) free h =
     let i : Item = record { event = Answer now id r; outcome = Forward line bytes } in
     same_ids (ids-map (gone_out id now) (gone_out-id id now) xs) (further i past (ids_of xs) (late_apart i (ids_of xs) refl) h)
-stand_step es xs past (Answer now id r) (Reply reply) free h =
+stand_step table es xs past (Answer now id r) (Reply reply) free h =
     let i : Item = record { event = Answer now id r; outcome = Reply reply } in
     same_ids (ids-left_open (invalidated_by (find_exchange id xs) r) id xs) (without_one id (ids_of xs) (i ∷ past) (further i past (ids_of xs) (late_apart i (ids_of xs) refl) h))
-stand_step es xs past (Answer now id r) Ended free h =
+stand_step table es xs past (Answer now id r) Ended free h =
     let i : Item = record { event = Answer now id r; outcome = Ended } in
     same_ids (ids-left_open (invalidated_by (find_exchange id xs) r) id xs) (without_one id (ids_of xs) (i ∷ past) (further i past (ids_of xs) (late_apart i (ids_of xs) refl) h))
-stand_step es xs past (Fail now id kind) o free h =
+stand_step table es xs past (Fail now id kind) o free h =
     let i : Item = record { event = Fail now id kind; outcome = o } in
     same_ids (ids-closed id xs) (without_one id (ids_of xs) (i ∷ past) (further i past (ids_of xs) (late_apart i (ids_of xs) refl) h))
-stand_step es xs past (Abandon id) o free h =
+stand_step table es xs past (Abandon id) o free h =
     let i : Item = record { event = Abandon id; outcome = o } in
     same_ids (ids-closed id xs) (without_one id (ids_of xs) (i ∷ past) (further i past (ids_of xs) (late_apart i (ids_of xs) refl) h))
 
@@ -232,7 +232,7 @@ stand_all : (table : Table) (limit first : ℕ) (past : List Item) → IsGood (b
 stand_all table limit first [] g = record { arrived = tt; order = tt }
 stand_all table limit first (i ∷ past) g =
     let s = left (begun table limit first) past in
-    stand_step s.entries s.exchanges past i.event i.outcome g.0.allowed (stand_all table limit first past g.1)
+    stand_step s.table s.entries s.exchanges past i.event i.outcome g.0.allowed (stand_all table limit first past g.1)
 
 pub open_in_order_of_arrival : OpenInOrderOfArrival
 open_in_order_of_arrival table limit first trace g =

@@ -19,5 +19,6 @@ pub mod InOrder
 pub mod FirstRules
 pub mod SendLaws
 pub mod SentResponses
+pub mod Uncached
 pub mod Headlines
 pub mod Driven

@@ -16,6 +16,7 @@ use Rattle.proxy_core.specs.Traces.{Item, begun, left, IsGood}
 use Rattle.proxy_core.specs.Promises.{goes_forward, is_arrival, times, asked_at, asked_by, key_by_step, is_key, invalidates_key, NoneInvalidates, some_invalidates}
 use Rattle.proxy_core.proofs.ExchangeLists.{overtaken_by}
 use Rattle.proxy_core.proofs.Moves.{Move, apart, opens, passes, again, closes, asked_of, move_of}
+use Rattle.proxy_core.proofs.Tracing.{same_table}
 
 -- ---- the request of an open exchange is that of the latest arrival of its id
 
@@ -50,7 +51,7 @@ asked_more : (id : ℕ) (w : Option Exchange) (event : Event) (o : Outcome) (x y
     ((a : Asked) → asked_of x ≡ Some a → b ≡ Some a) → asked_of y ≡ Some a → asked_at id event b ≡ Some a
 asked_more id w event o x y b a (apart n h) f g =
     asked_apart id event b n ∙ f a (sym (asked_overtaken (key_by_step (asked_of w) event o) x) ∙ sym (ap asked_of h) ∙ g)
-asked_more id w event o x y b a (opens es now asked line e x_is k h) f g =
+asked_more id w event o x y b a (opens table es now asked line e x_is k h) f g =
     ap (λ v. asked_at id v b) e ∙ ap (λ c. cond c (Some asked) b) (eq-eqb id id refl) ∙ sym (ap asked_of h) ∙ g
 asked_more id w event o x y b a (passes t e x_is k h) f g = absurd (none_asked y a h g)
 asked_more id w event o x y b a (again z now t e q c k h) f g = asked_late id event b e ∙ f a (ap asked_of q ∙ sym (ap asked_of h) ∙ g)
@@ -60,7 +61,7 @@ pub asked_is : (table : Table) (limit first : ℕ) (past : List Item) → IsGood
     asked_of (find_exchange id (left (begun table limit first) past).exchanges) ≡ Some a → asked_by id past ≡ Some a
 asked_is table limit first [] g id a h = absurd (cc)
 asked_is table limit first (i ∷ past) g id a k =
-    asked_more id _ i.event i.outcome _ _ (asked_by id past) a (move_of table (left (begun table limit first) past) i id g.0)
+    asked_more id _ i.event i.outcome _ _ (asked_by id past) a (move_of table (left (begun table limit first) past) i id (same_table (begun table limit first) past) g.0)
     (λ a q. asked_is table limit first past g.1 id a q) k
 
 -- what an item invalidates, by the exchange and by the items before
@@ -124,7 +125,7 @@ none_some (Some x) z h g = cc
 out_now : (id : ℕ) (w : Option Exchange) (event : Event) (o : Outcome) (x y : Option Exchange) (z : Exchange) → Move id w event o x y →
     eqb (id_of event) id ≡ true → goes_forward o ≡ true → y ≡ Some z → z.overtaken ≡ false
 out_now id w event o x y z (apart n h) t f g = absurd (false≢true (sym n ∙ t))
-out_now id w event o x y z (opens es now asked line e x_is q h) t f g = ap (λ (z : Exchange). z.overtaken) (same_Some z _ (sym g ∙ h))
+out_now id w event o x y z (opens table es now asked line e x_is q h) t f g = ap (λ (z : Exchange). z.overtaken) (same_Some z _ (sym g ∙ h))
 out_now id w event o x y z (passes u e x_is q h) t f g = absurd (none_some y z h g)
 out_now id w event o x y z (again v now u e q c p h) t f g = ap (λ (z : Exchange). z.overtaken) (same_Some z _ (sym g ∙ h))
 out_now id w event o x y z (closes v u e q p h) t f g = absurd (none_some y z h g)
@@ -164,7 +165,7 @@ module _ (table : Table) (limit first : ℕ) (f : Item) (before : List Item) (id
             ∙ ap (λ o. is_key o u.was.asked.target.key || some_invalidates u.was.asked.target.key items (f ∷ before)) (sym (same_key_of_step table limit first i (items ++ f ∷ before) g))
             ∙ ap (λ (r : Asked). some_invalidates r.target.key (i ∷ items) (f ∷ before)) (sym u.asked),
       )
-  out_step i items g n out y (opens es now asked line e x_is q p) z r =
+  out_step i items g n out y (opens table es now asked line e x_is q p) z r =
       let t : (eqb (id_of i.event) id && goes_forward i.outcome) ≡ true =
       ap (λ v. eqb (id_of v) id && goes_forward i.outcome) e ∙ ap (λ b. eqb id id && b) q ∙ ap (λ b. b && true) (eq-eqb id id refl) in
       absurd (false≢true (sym n ∙ t))
@@ -180,8 +181,8 @@ module _ (table : Table) (limit first : ℕ) (f : Item) (before : List Item) (id
       (asked_by id (f ∷ before) ≡ Some z.asked) × (z.overtaken ≡ some_invalidates z.asked.target.key items (f ∷ before))
   out_since [] g o e n = λ z q. (
     asked_is table limit first (f ∷ before) g id z.asked (ap asked_of q),
-    out_now id _ f.event f.outcome _ _ z (move_of table (left (begun table limit first) before) f id g.0) (eq-eqb (id_of f.event) id e) o q,
+    out_now id _ f.event f.outcome _ _ z (move_of table (left (begun table limit first) before) f id (same_table (begun table limit first) before) g.0) (eq-eqb (id_of f.event) id e) o q,
   )
   out_since (i ∷ items) g o e n =
       let m = none_more _ _ n in
-      out_step i items g m.0 (out_since items g.1 o e m.1) _ (move_of table (left (begun table limit first) (items ++ f ∷ before)) i id g.0)
+      out_step i items g m.0 (out_since items g.1 o e m.1) _ (move_of table (left (begun table limit first) (items ++ f ∷ before)) i id (same_table (begun table limit first) (items ++ f ∷ before)) g.0)

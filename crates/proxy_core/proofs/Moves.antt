@@ -1,5 +1,5 @@
 -- What an accepted step does to the exchange of an id.
-use Rattle.std.proofs.Common.{◌≡◌, ℕ, Bool, true, false, not, cond, ◌&&◌, ◌||◌, ◌==◌, eqb, Option, None, Some, is_some, List, refl, sym, ◌∙◌, ap, arith, inl, inr}
+use Rattle.std.proofs.Common.{◌≡◌, ℕ, Bool, true, false, not, cond, ◌&&◌, ◌||◌, ◌==◌, eqb, Option, None, Some, is_some, List, refl, sym, ◌∙◌, ap, subst, arith, inl, inr}
 use Rattle.std.specs.Prelude.{option_map, nat_le}
 use Rattle.std.proofs.lemmas.Bool.{cases_Bool, eqb-true, false≢true}
 use Rattle.std.proofs.lemmas.Bool.Decides.{nat_tests}
@@ -7,6 +7,7 @@ use Rattle.http.specs.Method.{safe_methods, is_among}
 use Rattle.hx_framing.specs.declared.responses.Response.{Response}
 use Rattle.hx_hop.specs.declared.asked_for.Asked.{Asked}
 use Rattle.hx_allow.specs.Lines.{Table}
+use Rattle.hx_allow.specs.Matching.{caches_of}
 use Rattle.hx_store.specs.Stored.{Stored}
 use Rattle.hx_reuse.specs.Rules.{decision_of}
 use Rattle.hx_reuse.specs.declared.decision.Decision.{Decision}
@@ -39,7 +40,7 @@ out_again now z = goes_out now z.rule None z
 -- of a step of the exchange w of its own id, what becomes of the exchange x of an id
 pub data Move (id : ℕ) (w : Option Exchange) (event : Event) (o : Outcome) (x y : Option Exchange) : Type 0 where
   apart : eqb (id_of event) id ≡ false → y ≡ overtaken_by (key_by_step (asked_of w) event o) x → Move id w event o x y
-  opens : (es : List Stored) (now : ℕ) (asked : Asked) (line : ℕ) → event ≡ Arrive now id asked → x ≡ None → goes_forward o ≡ true → y ≡ Some (opened es now id asked line) → Move id w event o x y
+  opens : (table : Table) (es : List Stored) (now : ℕ) (asked : Asked) (line : ℕ) → event ≡ Arrive now id asked → x ≡ None → goes_forward o ≡ true → y ≡ Some (opened table es now id asked line) → Move id w event o x y
   passes : eqb (id_of event) id ≡ true → is_arrival event ≡ true → x ≡ None → goes_forward o ≡ false → y ≡ None → Move id w event o x y
   again : (z : Exchange) (now : ℕ) → eqb (id_of event) id ≡ true → is_arrival event ≡ false → x ≡ Some z → is_some z.condition ≡ true →
       goes_forward o ≡ true → y ≡ Some (out_again now z) → Move id w event o x y
@@ -192,16 +193,16 @@ module _ (table : Table) (es : List Stored) (xs : List Exchange) (next : Option 
       ]
 
   arrives : (now i : ℕ) (asked : Asked) (o : Outcome) → find_exchange i xs ≡ None →
-      Move id None (Arrive now i asked) o (find_exchange id xs) (find_exchange id (open_after es xs (Arrive now i asked) o))
+      Move id None (Arrive now i asked) o (find_exchange id xs) (find_exchange id (open_after table es xs (Arrive now i asked) o))
   arrives now i asked (Forward line bytes) f =
-      let p = find-push id xs (opened es now i asked line) f in
+      let p = find-push id xs (opened table es now i asked line) f in
       elim (cases_Bool (eqb i id)) [
         | inl t ↦ (
             let same = eqb-true i id t in
-            opens es now asked line (ap (λ n. Arrive now n asked) same) (ap (λ n. find_exchange n xs) (sym same) ∙ f) refl
-            (p ∙ ap (λ b. cond b (Some (opened es now i asked line)) (find_exchange id xs)) t ∙ ap (λ n. Some (opened es now n asked line)) same)
+            opens table es now asked line (ap (λ n. Arrive now n asked) same) (ap (λ n. find_exchange n xs) (sym same) ∙ f) refl
+            (p ∙ ap (λ b. cond b (Some (opened table es now i asked line)) (find_exchange id xs)) t ∙ ap (λ n. Some (opened table es now n asked line)) same)
             )
-        | inr n ↦ apart n (p ∙ ap (λ b. cond b (Some (opened es now i asked line)) (find_exchange id xs)) n)
+        | inr n ↦ apart n (p ∙ ap (λ b. cond b (Some (opened table es now i asked line)) (find_exchange id xs)) n)
       ]
   arrives now i asked (Reply r) f = elim (cases_Bool (eqb i id)) [
     | inl t ↦ passes t refl (ap (λ n. find_exchange n xs) (sym (eqb-true i id t)) ∙ f) refl (ap (λ n. find_exchange n xs) (sym (eqb-true i id t)) ∙ f)
@@ -212,11 +213,11 @@ module _ (table : Table) (es : List Stored) (xs : List Exchange) (next : Option 
     | inr n ↦ apart n refl
   ]
 
-  answers : (now i : ℕ) (r : Response) (z : Exchange) (o : Outcome) → find_exchange i xs ≡ Some z → o ≡ answered table es now z r next (decision_of es z.asked now) →
-      Move id (Some z) (Answer now i r) o (find_exchange id xs) (find_exchange id (open_after es xs (Answer now i r) o))
+  answers : (now i : ℕ) (r : Response) (z : Exchange) (o : Outcome) → find_exchange i xs ≡ Some z → o ≡ answered table es now z r next (decision_of (caches_of table.lines z.line) es z.asked now) →
+      Move id (Some z) (Answer now i r) o (find_exchange id xs) (find_exchange id (open_after table es xs (Answer now i r) o))
   unfolding is_either
   answers now i r z (Forward line bytes) f h =
-      let d = decision_of es z.asked now in
+      let d = decision_of (caches_of table.lines z.line) es z.asked now in
       let p = find-gone_out i now id xs in
       let v = again_asked table es now z r next d (ap goes_forward (sym h)) in
       elim (cases_Bool (eqb i id)) [
@@ -231,22 +232,24 @@ module _ (table : Table) (es : List Stored) (xs : List Exchange) (next : Option 
   answers now i r z (Reply p) f h = gone z (Answer now i r) (Reply p) f refl refl _ (
       find-left_open (invalidated_by (find_exchange i xs) r) i id xs
       ∙ ap (λ k. cond (eqb i id) None (overtaken_by k (find_exchange id xs)))
-      (ap (λ w. invalidated_by w r) f ∙ same_key_invalidated table es now z r next (decision_of es z.asked now) ∙ ap (key_by_answer z.asked r) (sym h))
+      (ap (λ w. invalidated_by w r) f ∙ same_key_invalidated table es now z r next (decision_of (caches_of table.lines z.line) es z.asked now) ∙ ap (key_by_answer z.asked r) (sym h))
       )
-  answers now i r z Ended f h = absurd (false≢true (ap is_either h ∙ answer_either table es now z r next (decision_of es z.asked now)))
+  answers now i r z Ended f h = absurd (false≢true (ap is_either h ∙ answer_either table es now z r next (decision_of (caches_of table.lines z.line) es z.asked now)))
 
   step : (event : Event) (o : Outcome) (w : Option Exchange) → find_exchange (id_of event) xs ≡ w → fault_of w event ≡ None → o ≡ outcome_of table es xs w next event →
-      Move id w event o (find_exchange id xs) (find_exchange id (open_after es xs event o))
+      Move id w event o (find_exchange id xs) (find_exchange id (open_after table es xs event o))
   step (Arrive now i asked) o None f a h = arrives now i asked o f
   step (Arrive now i asked) o (Some w) f a h = absurd (cc)
   step (Answer now i r) o None f a h = absurd (cc)
   step (Answer now i r) o (Some w) f a h = answers now i r w o f h
   step (Fail now i kind) o None f a h = absurd (cc)
   step (Fail now i kind) o (Some w) f a h =
-      gone w (Fail now i kind) o f refl (ap goes_forward h ∙ failed_back table es now w kind None (fallback_for es w.asked now (decision_of es w.asked now))) _ (find-closed i id xs)
+      gone w (Fail now i kind) o f refl (ap goes_forward h ∙ failed_back table es now w kind None (fallback_for es w.asked now (decision_of (caches_of table.lines w.line) es w.asked now))) _ (find-closed i id xs)
   step (Abandon i) o None f a h = absurd (cc)
   step (Abandon i) o (Some w) f a h = gone w (Abandon i) o f refl (ap goes_forward h) _ (find-closed i id xs)
 
-pub move_of : (table : Table) (s : State) (i : Item) (id : ℕ) → Accepts table s.entries s.exchanges s.next i →
+pub move_of : (table : Table) (s : State) (i : Item) (id : ℕ) → s.table ≡ table → Accepts table s.entries s.exchanges s.next i →
     Move id (find_exchange (id_of i.event) s.exchanges) i.event i.outcome (find_exchange id s.exchanges) (find_exchange id (after s i.event i.outcome).exchanges)
-move_of table s i id a = step table s.entries s.exchanges s.next id i.event i.outcome (find_exchange (id_of i.event) s.exchanges) refl a.allowed a.outcome_is
+move_of table s i id same h =
+    let a = subst (λ (t : Table). Accepts t s.entries s.exchanges s.next i) (sym same) h in
+    step s.table s.entries s.exchanges s.next id i.event i.outcome (find_exchange (id_of i.event) s.exchanges) refl a.allowed a.outcome_is

@@ -5,6 +5,7 @@ use Rattle.hx_target.specs.declared.keys.Key.{Key}
 use Rattle.hx_target.specs.Keys.{same_key}
 use Rattle.hx_hop.specs.declared.asked_for.Asked.{Asked}
 use Rattle.hx_allow.specs.Lines.{Table}
+use Rattle.hx_allow.specs.Matching.{caches_of}
 use Rattle.hx_store.specs.Stored.{Stored}
 use Rattle.hx_reuse.specs.Rules.{decision_of}
 use Rattle.hx_reuse.specs.declared.rule.ReuseRule.{ReuseRule}
@@ -21,6 +22,7 @@ use Rattle.proxy_core.specs.Promises.{goes_forward, is_arrival, NoneArrives, key
 use Rattle.proxy_core.specs.Meaning.{has_ended, OpenFromArrivalToEnd, OpenByArrivalAlone, HasItsRequest, KeepsItsRule, OvertakenWhereInvalidated}
 use Rattle.proxy_core.proofs.ExchangeLists.{overtaken_by, find-push}
 use Rattle.proxy_core.proofs.Moves.{Move, apart, opens, passes, again, closes, asked_of, move_of, and_none}
+use Rattle.proxy_core.proofs.Tracing.{same_table}
 use Rattle.proxy_core.proofs.TwiceForward.{not_both, fresh_arrival, part}
 use Rattle.proxy_core.proofs.HeldLaw.{good_plain, entries_are_held, exchanges_are_open}
 use Rattle.proxy_core.proofs.Marks.{asked_is, out_since}
@@ -36,7 +38,7 @@ open_step : (id : ℕ) (w : Option Exchange) (event : Event) (o : Outcome) (x y 
     is_some y ≡ (b && not ((eqb (id_of event) id && not (goes_forward o)) || e))
 open_step id w event o x y b e (apart n h) a i =
     ap is_some h ∙ some_overtaken (key_by_step (asked_of w) event o) x ∙ i ∙ sym (ap (λ c. b && not ((c && not (goes_forward o)) || e)) n)
-open_step id w event o x y b e (opens es now asked line ev x_is f h) a i = absurd (fresh_arrival id now asked event ev a)
+open_step id w event o x y b e (opens table es now asked line ev x_is f h) a i = absurd (fresh_arrival id now asked event ev a)
 open_step id w event o x y b e (passes t ev x_is f h) a i = absurd (not_both _ _ t ev a)
 open_step id w event o x y b e (again z now t ev x_is c f h) a i =
     ap is_some h ∙ sym (ap is_some x_is) ∙ i
@@ -47,7 +49,7 @@ open_step id w event o x y b e (closes z t ev x_is f h) a i =
 open_first : (id : ℕ) (w : Option Exchange) (event : Event) (o : Outcome) (x y : Option Exchange) → Move id w event o x y →
     eqb (id_of event) id ≡ true → is_arrival event ≡ true → is_some y ≡ (goes_forward o && true)
 open_first id w event o x y (apart n h) t a = absurd (false≢true (sym n ∙ t))
-open_first id w event o x y (opens es now asked line ev x_is f h) t a = ap is_some h ∙ sym (ap (λ b. b && true) f)
+open_first id w event o x y (opens table es now asked line ev x_is f h) t a = ap is_some h ∙ sym (ap (λ b. b && true) f)
 open_first id w event o x y (passes u ev x_is f h) t a = ap is_some h ∙ sym (ap (λ b. b && true) f)
 open_first id w event o x y (again z now u ev x_is c f h) t a = absurd (false≢true (sym ev ∙ a))
 open_first id w event o x y (closes z u ev x_is f h) t a = absurd (false≢true (sym ev ∙ a))
@@ -55,10 +57,10 @@ open_first id w event o x y (closes z u ev x_is f h) t a = absurd (false≢true 
 module _ (start : State) (before : List Item) (arrival : Item) where
   open_plain : (items : List Item) → IsGood start (items ++ arrival ∷ before) → is_arrival arrival.event ≡ true → NoneArrives (id_of arrival.event) items →
       is_some (find_exchange (id_of arrival.event) (left start (items ++ arrival ∷ before)).exchanges) ≡ (goes_forward arrival.outcome && not (has_ended (id_of arrival.event) items))
-  open_plain [] g a n = open_first _ _ _ _ _ _ (move_of start.table (left start before) arrival (id_of arrival.event) g.0) (eq-eqb (id_of arrival.event) (id_of arrival.event) refl) a
+  open_plain [] g a n = open_first _ _ _ _ _ _ (move_of start.table (left start before) arrival (id_of arrival.event) (same_table start before) g.0) (eq-eqb (id_of arrival.event) (id_of arrival.event) refl) a
   open_plain (i ∷ items) g a n =
       open_step _ _ _ _ _ _ (goes_forward arrival.outcome) (has_ended (id_of arrival.event) items)
-      (move_of start.table (left start (items ++ arrival ∷ before)) i (id_of arrival.event) g.0) n.0 (open_plain items g.1 a n.1)
+      (move_of start.table (left start (items ++ arrival ∷ before)) i (id_of arrival.event) (same_table start (items ++ arrival ∷ before)) g.0) n.0 (open_plain items g.1 a n.1)
 
 pub open_from_arrival_to_end : OpenFromArrivalToEnd
 open_from_arrival_to_end table limit first items before arrival g a n =
@@ -75,7 +77,7 @@ none_step id w event o x y (apart n h) a i = h ∙ ap (overtaken_by (key_by_step
     none_marked : (key : Option Key) → overtaken_by key None ≡ None
     none_marked None = refl
     none_marked (Some key) = refl
-none_step id w event o x y (opens es now asked line ev x_is f h) a i = absurd (fresh_arrival id now asked event ev a)
+none_step id w event o x y (opens table es now asked line ev x_is f h) a i = absurd (fresh_arrival id now asked event ev a)
 none_step id w event o x y (passes t ev x_is f h) a i = h
 none_step id w event o x y (again z now t ev x_is c f h) a i = absurd (false≢true (ap is_some (sym i ∙ x_is)))
 none_step id w event o x y (closes z t ev x_is f h) a i = h
@@ -84,7 +86,7 @@ none_plain : (table : Table) (limit first id : ℕ) (trace : List Item) → IsGo
     find_exchange id (left (begun table limit first) trace).exchanges ≡ None
 none_plain table limit first id [] g n = refl
 none_plain table limit first id (i ∷ past) g n =
-    none_step _ _ _ _ _ _ (move_of table (left (begun table limit first) past) i id g.0) n.0 (none_plain table limit first id past g.1 n.1)
+    none_step _ _ _ _ _ _ (move_of table (left (begun table limit first) past) i id (same_table (begun table limit first) past) g.0) n.0 (none_plain table limit first id past g.1 n.1)
 
 pub open_by_arrival_alone : OpenByArrivalAlone
 open_by_arrival_alone table limit first id trace g n =
@@ -104,28 +106,32 @@ overtaken_where_invalidated table limit first items before f x g o n h =
     (out_since table limit first f before (id_of f.event) items p o refl n x
     (ap (find_exchange (id_of f.event)) (exchanges_are_open table limit first (items ++ f ∷ before) p) ∙ h)).1
 
-overtake_rule : (key : Key) (x : Exchange) → (overtake key x).rule ≡ x.rule
-overtake_rule key x = elim (same_key x.asked.target.key key) as (λ b. (cond b (record x { overtaken = true }) x).rule ≡ x.rule) [
-  | true ↦ refl
-  | false ↦ refl
+overtake_rule : (rule : ℕ → ReuseRule) (key : Key) (x : Exchange) → x.rule ≡ rule x.line → (overtake key x).rule ≡ rule (overtake key x).line
+overtake_rule rule key x h = elim (same_key x.asked.target.key key) as (λ b. (cond b (record x { overtaken = true }) x).rule ≡ rule (cond b (record x { overtaken = true }) x).line) [
+  | true ↦ h
+  | false ↦ h
 ]
 
--- the exchange, where there is one, has this rule
-HasRule : ReuseRule → Option Exchange → Type 0
+-- the exchange, where there is one, has the rule that is that of its line
+HasRule : (ℕ → ReuseRule) → Option Exchange → Type 0
 HasRule rule None = Unit {0}
-HasRule rule (Some x) = x.rule ≡ rule
+HasRule rule (Some x) = x.rule ≡ rule x.line
 
-rule_marked : (rule : ReuseRule) (key : Option Key) (x : Option Exchange) → HasRule rule x → HasRule rule (overtaken_by key x)
+-- by the word of a line
+abbrev rule_for : Table → List Stored → Asked → ℕ → ℕ → ReuseRule
+rule_for table es asked now line = rule_of (decision_of (caches_of table.lines line) es asked now)
+
+rule_marked : (rule : ℕ → ReuseRule) (key : Option Key) (x : Option Exchange) → HasRule rule x → HasRule rule (overtaken_by key x)
 unfolding HasRule
 rule_marked rule None x h = h
 rule_marked rule (Some key) None h = tt
-rule_marked rule (Some key) (Some x) h = overtake_rule key x ∙ h
+rule_marked rule (Some key) (Some x) h = overtake_rule rule key x h
 
-rule_step : (rule : ReuseRule) (id : ℕ) (w : Option Exchange) (event : Event) (o : Outcome) (x y : Option Exchange) → Move id w event o x y →
+rule_step : (rule : ℕ → ReuseRule) (id : ℕ) (w : Option Exchange) (event : Event) (o : Outcome) (x y : Option Exchange) → Move id w event o x y →
     (eqb (id_of event) id && is_arrival event) ≡ false → HasRule rule x → HasRule rule y
 unfolding HasRule
 rule_step rule id w event o x y (apart n h) a i = subst (HasRule rule) (sym h) (rule_marked rule (key_by_step (asked_of w) event o) x i)
-rule_step rule id w event o x y (opens es now asked line ev x_is f h) a i = absurd (fresh_arrival id now asked event ev a)
+rule_step rule id w event o x y (opens table es now asked line ev x_is f h) a i = absurd (fresh_arrival id now asked event ev a)
 rule_step rule id w event o x y (passes t ev x_is f h) a i = subst (HasRule rule) (sym h) tt
 rule_step rule id w event o x y (again z now t ev x_is c f h) a i =
     let was : HasRule rule (Some z) = subst (HasRule rule) x_is i in
@@ -133,17 +139,17 @@ rule_step rule id w event o x y (again z now t ev x_is c f h) a i =
 rule_step rule id w event o x y (closes z t ev x_is f h) a i = subst (HasRule rule) (sym h) tt
 
 -- at the arrival
-rule_first : (es : List Stored) (xs : List Exchange) (now id : ℕ) (asked : Asked) (o : Outcome) → find_exchange id xs ≡ None →
-    HasRule (rule_of (decision_of es asked now)) (find_exchange id (open_after es xs (Arrive now id asked) o))
+rule_first : (table : Table) (es : List Stored) (xs : List Exchange) (now id : ℕ) (asked : Asked) (o : Outcome) → find_exchange id xs ≡ None →
+    HasRule (rule_for table es asked now) (find_exchange id (open_after table es xs (Arrive now id asked) o))
 unfolding HasRule
-rule_first es xs now id asked (Forward line bytes) f =
-    let rule = rule_of (decision_of es asked now) in
-    let here : find_exchange id (xs ++ opened es now id asked line ∷ []) ≡ Some (opened es now id asked line) =
-    find-push id xs (opened es now id asked line) f ∙ ap (λ b. cond b (Some (opened es now id asked line)) (find_exchange id xs)) (eq-eqb id id refl)
+rule_first table es xs now id asked (Forward line bytes) f =
+    let rule = rule_for table es asked now in
+    let here : find_exchange id (xs ++ opened table es now id asked line ∷ []) ≡ Some (opened table es now id asked line) =
+    find-push id xs (opened table es now id asked line) f ∙ ap (λ b. cond b (Some (opened table es now id asked line)) (find_exchange id xs)) (eq-eqb id id refl)
     in
     subst (HasRule rule) (sym here) refl
-rule_first es xs now id asked (Reply r) f = subst (HasRule (rule_of (decision_of es asked now))) (sym f) tt
-rule_first es xs now id asked Ended f = subst (HasRule (rule_of (decision_of es asked now))) (sym f) tt
+rule_first table es xs now id asked (Reply r) f = subst (HasRule (rule_for table es asked now)) (sym f) tt
+rule_first table es xs now id asked Ended f = subst (HasRule (rule_for table es asked now)) (sym f) tt
 
 -- what arrives has an id that is free
 id_was_free : (w : Option Exchange) (now id : ℕ) (asked : Asked) → fault_of w (Arrive now id asked) ≡ None → w ≡ None
@@ -158,24 +164,25 @@ module _ (table : Table) (limit first now id : ℕ) (asked : Asked) (before : Li
   start = begun table limit first
 
   rule_plain : (items : List Item) → IsGood start (items ++ arrival ∷ before) → NoneArrives id items →
-      HasRule (rule_of (decision_of (left start before).entries asked now)) (find_exchange id (left start (items ++ arrival ∷ before)).exchanges)
+      HasRule (rule_for table (left start before).entries asked now) (find_exchange id (left start (items ++ arrival ∷ before)).exchanges)
   rule_plain [] g n =
       let s = left start before in
-      rule_first s.entries s.exchanges now id asked o (id_was_free (find_exchange id s.exchanges) now id asked g.0.allowed)
+      subst (λ (t : Table). HasRule (rule_for table s.entries asked now) (find_exchange id (open_after t s.entries s.exchanges (Arrive now id asked) o))) (sym (same_table start before))
+      (rule_first table s.entries s.exchanges now id asked o (id_was_free (find_exchange id s.exchanges) now id asked g.0.allowed))
   rule_plain (i ∷ items) g n =
-      rule_step (rule_of (decision_of (left start before).entries asked now)) id _ _ _ _ _
-      (move_of table (left start (items ++ arrival ∷ before)) i id g.0) n.0 (rule_plain items g.1 n.1)
+      rule_step (rule_for table (left start before).entries asked now) id _ _ _ _ _
+      (move_of table (left start (items ++ arrival ∷ before)) i id (same_table start (items ++ arrival ∷ before)) g.0) n.0 (rule_plain items g.1 n.1)
 
   rule_held : (items : List Item) (x : Exchange) → IsGood start (items ++ arrival ∷ before) → NoneArrives id items →
-      find_exchange id (open_exchanges limit (items ++ arrival ∷ before)) ≡ Some x → x.rule ≡ rule_of (decision_of (held_entries limit before) asked now)
+      find_exchange id (open_exchanges table limit (items ++ arrival ∷ before)) ≡ Some x → x.rule ≡ rule_of (decision_of (caches_of table.lines x.line) (held_entries table limit before) asked now)
   unfolding HasRule
   rule_held items x p n h =
       let here = ap (find_exchange id) (exchanges_are_open table limit first (items ++ arrival ∷ before) p) ∙ h in
       let es_is = entries_are_held table limit first before (part start (items ++ arrival ∷ []) before (subst (IsGood start) (split items) p)) in
-      let has : HasRule (rule_of (decision_of (left start before).entries asked now)) (Some x) =
-      subst (HasRule (rule_of (decision_of (left start before).entries asked now))) here (rule_plain items p n)
+      let has : HasRule (rule_for table (left start before).entries asked now) (Some x) =
+      subst (HasRule (rule_for table (left start before).entries asked now)) here (rule_plain items p n)
       in
-      has ∙ ap (λ es. rule_of (decision_of es asked now)) es_is
+      has ∙ ap (λ es. rule_for table es asked now x.line) es_is
     where
       split : (items : List Item) → (items ++ arrival ∷ before) ≡ ((items ++ arrival ∷ []) ++ before)
       split [] = refl
@@ -186,4 +193,4 @@ keeps_its_rule table limit first now id asked items before arrival x g e n h =
     let same : arrival ≡ record { event = Arrive now id asked; outcome = arrival.outcome } = ap (λ (v : Event). record { event = v; outcome = arrival.outcome }) e in
     let p = subst (λ (a : Item). IsGood (begun table limit first) (items ++ a ∷ before)) same (good_plain table limit first (items ++ arrival ∷ before) g) in
     rule_held table limit first now id asked before arrival.outcome items x p n
-    (subst (λ (a : Item). find_exchange id (open_exchanges limit (items ++ a ∷ before)) ≡ Some x) same h)
+    (subst (λ (a : Item). find_exchange id (open_exchanges table limit (items ++ a ∷ before)) ≡ Some x) same h)

@@ -4,7 +4,7 @@ use Rattle.std.proofs.lemmas.Option.{same_Some}
 use Rattle.hx_framing.specs.declared.responses.Response.{Response}
 use Rattle.hx_hop.specs.declared.asked_for.Asked.{Asked}
 use Rattle.hx_allow.specs.Lines.{Table}
-use Rattle.hx_allow.specs.Matching.{verdict_of}
+use Rattle.hx_allow.specs.Matching.{verdict_of, caches_of}
 use Rattle.hx_allow.specs.declared.verdicts.Verdict.{Verdict}
 use Rattle.hx_allow.specs.declared.verdicts.Verdict.TheVariants as verdict
 use Rattle.hx_store.specs.Stored.{Stored}
@@ -48,22 +48,22 @@ abbrev IsFound : List Stored → ℕ → Type 0
 IsFound es s = (e : Stored) × (find_entry s es ≡ Some e)
 
 module _ (table : Table) (es : List Stored) (distinct : Distinct (serials es)) where
-  found_hit : (asked : Asked) (now s : ℕ) → decision_of es asked now ≡ decision.Hit s → IsFound es s
-  found_hit asked now s h =
-      let hit = is_held es asked now s h in
+  found_hit : (caches : Bool) (asked : Asked) (now s : ℕ) → decision_of caches es asked now ≡ decision.Hit s → IsFound es s
+  found_hit caches asked now s h =
+      let hit = is_held caches es asked now s h in
       let chosen = latest_is_the_chosen es asked hit.0 distinct hit.1 in
       (hit.0, ap (λ z. find_entry z es) (sym hit.2) ∙ found_by_serial es distinct hit.0 (chosen_is_held es asked hit.0 chosen))
 
-  found_fallback : (asked : Asked) (now s : ℕ) (detail : Detail) (d : Decision) → decision_of es asked now ≡ d → fallback_for es asked now d ≡ Sends s detail → IsFound es s
-  found_fallback asked now s detail (decision.Hit t) d_is h =
+  found_fallback : (caches : Bool) (asked : Asked) (now s : ℕ) (detail : Detail) (d : Decision) → decision_of caches es asked now ≡ d → fallback_for es asked now d ≡ Sends s detail → IsFound es s
+  found_fallback caches asked now s detail (decision.Hit t) d_is h =
       let same : t ≡ s = cc in
-      subst (IsFound es) same (found_hit asked now t d_is)
-  found_fallback asked now s detail (decision.Forward rule None) d_is h = absurd (cc)
-  found_fallback asked now s detail (decision.Forward rule (Some t)) d_is h = by_rule (error_rule_at es t asked now) h
+      subst (IsFound es) same (found_hit caches asked now t d_is)
+  found_fallback caches asked now s detail (decision.Forward rule None) d_is h = absurd (cc)
+  found_fallback caches asked now s detail (decision.Forward rule (Some t)) d_is h = by_rule (error_rule_at es t asked now) h
     where
       by_rule : (o : Option ErrorRule) → fallback_by rule t o ≡ Sends s detail → IsFound es s
       by_rule None h =
-          let n = named_is es distinct asked now rule t d_is in
+          let n = named_is caches es distinct asked now rule t d_is in
           let same : t ≡ s = cc in
           subst (IsFound es) same (n.response, n.found)
       by_rule (Some e) h = absurd (cc)
@@ -94,17 +94,17 @@ module _ (table : Table) (es : List Stored) (distinct : Distinct (serials es)) w
 
   arrival_sends : (x : Option Exchange) (now id : ℕ) (asked : Asked) (s : ℕ) (v : Verdict) → used_in (arrived table es now asked v) ≡ Some s →
       IsThatResponse table es x (Arrive now id asked) (arrived table es now asked v) s
-  arrival_sends x now id asked s (verdict.Allowed line) h = by_decision (decision_of es asked now) refl h
+  arrival_sends x now id asked s (verdict.Allowed line) h = by_decision (decision_of (caches_of table.lines line) es asked now) refl h
     where
       unless : (rule : ReuseRule) (condition : Option Condition) (b : Bool) → used_in (unanswered table line now asked rule condition b) ≡ Some s →
           IsThatResponse table es x (Arrive now id asked) (unanswered table line now asked rule condition b) s
       unless rule condition true h = absurd (never_one s h)
       unless rule condition false h = absurd (never_one s h)
 
-      by_decision : (d : Decision) → decision_of es asked now ≡ d → used_in (allowed table es line now asked d) ≡ Some s →
+      by_decision : (d : Decision) → decision_of (caches_of table.lines line) es asked now ≡ d → used_in (allowed table es line now asked d) ≡ Some s →
           IsThatResponse table es x (Arrive now id asked) (allowed table es line now asked d) s
       by_decision (decision.Hit t) k h =
-          let f = found_hit asked now t k in
+          let f = found_hit (caches_of table.lines line) asked now t k in
           at_serial x (Arrive now id asked) (sent table es t now as_hit asked) t s (same_Some t s h)
           (as_held x (Arrive now id asked) t now as_hit asked f (as_arrived x now id asked f.0) (refl, refl) refl)
       by_decision (decision.Forward rule against) k h = unless rule (condition_at es against) (is_only_if_cached asked) h
@@ -113,11 +113,11 @@ module _ (table : Table) (es : List Stored) (distinct : Distinct (serials es)) w
 
   -- after an error
   fallback_sends : (x : Exchange) (event : Event) (now : ℕ) (kind : FailKind) (came : Option ℕ) (s : ℕ) (fallback : Fallback) →
-      fallback_for es x.asked now (decision_of es x.asked now) ≡ fallback → ((e : Stored) → used_form (Some x) event e ≡ e) → IsAbout (Some x) event now x.asked →
+      fallback_for es x.asked now (decision_of (caches_of table.lines x.line) es x.asked now) ≡ fallback → ((e : Stored) → used_form (Some x) event e ≡ e) → IsAbout (Some x) event now x.asked →
       ((detail : Option Detail) → TellsHow (Some x) event (forwarded_as x came detail)) →
       used_in (failed table es now x kind came fallback) ≡ Some s → IsThatResponse table es (Some x) event (failed table es now x kind came fallback) s
   fallback_sends x event now kind came s (Sends t detail) k same about how h =
-      let f = found_fallback x.asked now t detail (decision_of es x.asked now) refl k in
+      let f = found_fallback (caches_of table.lines x.line) x.asked now t detail (decision_of (caches_of table.lines x.line) es x.asked now) refl k in
       at_serial (Some x) event (sent table es t now (forwarded_as x came (Some detail)) x.asked) t s (same_Some t s h)
       (as_held (Some x) event t now (forwarded_as x came (Some detail)) x.asked f (same f.0) about (how (Some detail)))
   fallback_sends x event now kind came s (Refuses rule error) k same about how h = absurd (never_one s h)
@@ -126,16 +126,16 @@ module _ (table : Table) (es : List Stored) (distinct : Distinct (serials es)) w
     abbrev Is : Outcome → Type 0
     Is o = used_in o ≡ Some s → IsThatResponse table es (Some x) (Answer now id r) o s
 
-    passes : (b : Bool) (fallback : Fallback) → fallback_for es x.asked now (decision_of es x.asked now) ≡ fallback → is_validation x r ≡ false → Is (passed_unless table es now x r next b fallback)
+    passes : (b : Bool) (fallback : Fallback) → fallback_for es x.asked now (decision_of (caches_of table.lines x.line) es x.asked now) ≡ fallback → is_validation x r ≡ false → Is (passed_unless table es now x r next b fallback)
     passes true (Sends t detail) k n =
-        let f = found_fallback x.asked now t detail (decision_of es x.asked now) refl k in
+        let f = found_fallback (caches_of table.lines x.line) x.asked now t detail (decision_of (caches_of table.lines x.line) es x.asked now) refl k in
         λ h. at_serial (Some x) (Answer now id r) (sent table es t now (forwarded_as x (Some r.status) (Some detail)) x.asked) t s (same_Some t s h)
         (as_held (Some x) (Answer now id r) t now (forwarded_as x (Some r.status) (Some detail)) x.asked f
         (ap (λ b. cond b (refreshed x r now f.0) f.0) (never_answered x r now f.0 n)) (refl, refl) (Some detail, refl))
     passes true (Refuses rule error) k n = λ h. absurd (never_one s h)
     passes false fallback k n = λ h. absurd (never_one s h)
 
-    validates : (o : Option Stored) (d : Decision) → validated es x r now ≡ o → decision_of es x.asked now ≡ d → Is (revalidated table es now x r o d)
+    validates : (o : Option Stored) (d : Decision) → validated es x r now ≡ o → decision_of (caches_of table.lines x.line) es x.asked now ≡ d → Is (revalidated table es now x r o d)
     validates (Some e) d v k =
         let valid = validated_is es x r now e v in
         let serial : e.serial ≡ (refreshed x r now e).serial = sym (serial_stays x r now e) in
@@ -158,26 +158,26 @@ module _ (table : Table) (es : List Stored) (distinct : Distinct (serials es)) w
           bytes_are = ap (λ b. stored_text table.name (cond b (refreshed x r now e) e) now (forwarded_as x (Some r.status) None) x.asked) (sym valid.answered);
         }
     validates None (decision.Hit t) v k =
-        let f = found_hit x.asked now t k in
+        let f = found_hit (caches_of table.lines x.line) x.asked now t k in
         λ h. at_serial (Some x) (Answer now id r) (sent table es t now (forwarded_as x (Some r.status) (Some ReuseAfter304)) x.asked) t s (same_Some t s h)
         (as_held (Some x) (Answer now id r) t now (forwarded_as x (Some r.status) (Some ReuseAfter304)) x.asked f (same_at 0 es x now id r v t f.0 f.1) (refl, refl) (Some ReuseAfter304, refl))
     validates None (decision.Forward rule against) v k = λ h. absurd (never_one s h)
 
-    answer_sends : Is (answered table es now x r next (decision_of es x.asked now))
+    answer_sends : Is (answered table es now x r next (decision_of (caches_of table.lines x.line) es x.asked now))
     answer_sends = by_304 (is_validation x r) refl
       where
         by_unasked : (b : Bool) → is_validation x r ≡ false →
-            Is (cond b (failed table es now x BadAnswer (Some r.status) (fallback_for es x.asked now (decision_of es x.asked now)))
-            (passed_unless table es now x r next (is_error_status r.status) (fallback_for es x.asked now (decision_of es x.asked now))))
+            Is (cond b (failed table es now x BadAnswer (Some r.status) (fallback_for es x.asked now (decision_of (caches_of table.lines x.line) es x.asked now)))
+            (passed_unless table es now x r next (is_error_status r.status) (fallback_for es x.asked now (decision_of (caches_of table.lines x.line) es x.asked now))))
         by_unasked true n =
-            fallback_sends x (Answer now id r) now BadAnswer (Some r.status) s (fallback_for es x.asked now (decision_of es x.asked now)) refl
+            fallback_sends x (Answer now id r) now BadAnswer (Some r.status) s (fallback_for es x.asked now (decision_of (caches_of table.lines x.line) es x.asked now)) refl
             (λ e. ap (λ b. cond b (refreshed x r now e) e) (never_answered x r now e n)) (refl, refl) (λ detail. (detail, refl))
-        by_unasked false n = passes (is_error_status r.status) (fallback_for es x.asked now (decision_of es x.asked now)) refl n
+        by_unasked false n = passes (is_error_status r.status) (fallback_for es x.asked now (decision_of (caches_of table.lines x.line) es x.asked now)) refl n
 
-        by_304 : (b : Bool) → is_validation x r ≡ b → Is (cond b (revalidated table es now x r (validated es x r now) (decision_of es x.asked now))
-            (cond (is_unasked x.asked r) (failed table es now x BadAnswer (Some r.status) (fallback_for es x.asked now (decision_of es x.asked now)))
-            (passed_unless table es now x r next (is_error_status r.status) (fallback_for es x.asked now (decision_of es x.asked now)))))
-        by_304 true k = validates (validated es x r now) (decision_of es x.asked now) refl refl
+        by_304 : (b : Bool) → is_validation x r ≡ b → Is (cond b (revalidated table es now x r (validated es x r now) (decision_of (caches_of table.lines x.line) es x.asked now))
+            (cond (is_unasked x.asked r) (failed table es now x BadAnswer (Some r.status) (fallback_for es x.asked now (decision_of (caches_of table.lines x.line) es x.asked now)))
+            (passed_unless table es now x r next (is_error_status r.status) (fallback_for es x.asked now (decision_of (caches_of table.lines x.line) es x.asked now)))))
+        by_304 true k = validates (validated es x r now) (decision_of (caches_of table.lines x.line) es x.asked now) refl refl
         by_304 false k = by_unasked (is_unasked x.asked r) k
 
   sends_by_event : (xs : List Exchange) (x : Option Exchange) (next : Option ℕ) (event : Event) (s : ℕ) → used_in (outcome_of table es xs x next event) ≡ Some s →
@@ -186,14 +186,14 @@ module _ (table : Table) (es : List Stored) (distinct : Distinct (serials es)) w
   sends_by_event xs (Some x) next (Answer now id r) s h = answer_sends x now id r next s h
   sends_by_event xs None next (Answer now id r) s h = absurd (never_one s h)
   sends_by_event xs (Some x) next (Fail now id kind) s h =
-      fallback_sends x (Fail now id kind) now kind None s (fallback_for es x.asked now (decision_of es x.asked now)) refl (λ e. refl) (refl, refl) (λ detail. (detail, refl)) h
+      fallback_sends x (Fail now id kind) now kind None s (fallback_for es x.asked now (decision_of (caches_of table.lines x.line) es x.asked now)) refl (λ e. refl) (refl, refl) (λ detail. (detail, refl)) h
   sends_by_event xs None next (Fail now id kind) s h = absurd (never_one s h)
   sends_by_event xs x next (Abandon id) s h = absurd (never_one s h)
 
 pub sends_what_is_held : SendsWhatIsHeld
 sends_what_is_held table limit first s item past g h =
-    let es = held_entries limit past in
-    let xs = open_exchanges limit past in
+    let es = held_entries table limit past in
+    let xs = open_exchanges table limit past in
     let x = find_exchange (id_of item.event) xs in
     subst (λ (o : Outcome). used_in o ≡ Some s → IsThatResponse table es x item.event o s) (sym g.0.outcome_is)
     (sends_by_event table es (held_distinct table limit first past g.1) xs x (next_serial first past) item.event s) h

@@ -5,7 +5,7 @@ use Rattle.std.proofs.lemmas.Bool.{eq-eqb}
 use Rattle.hx_framing.specs.declared.responses.Response.{Response}
 use Rattle.hx_hop.specs.declared.asked_for.Asked.{Asked}
 use Rattle.hx_allow.specs.Lines.{Table}
-use Rattle.hx_allow.specs.Matching.{verdict_of}
+use Rattle.hx_allow.specs.Matching.{verdict_of, caches_of}
 use Rattle.hx_allow.specs.declared.verdicts.Verdict.{Verdict}
 use Rattle.hx_allow.specs.declared.verdicts.Verdict.TheVariants as verdict
 use Rattle.hx_store.specs.Stored.{Stored}
@@ -68,12 +68,12 @@ member_holds (x ∷ es) e (inr m) = ap (λ b. eqb x.serial e.serial || b) (membe
 contained_found : (es : List Stored) (e : Stored) (s : ℕ) → Contains es e → e.serial ≡ s → IsFound es s
 contained_found es e s c k = held_found s es (ap (λ z. holds z es) (sym k) ∙ member_holds es e (member_contained es e c))
 
-hit_found : (es : List Stored) (asked : Asked) (now s : ℕ) → decision_of es asked now ≡ decision.Hit s → IsFound es s
-hit_found es asked now s h =
-    let r = is_held es asked now s h in contained_found es r.0 s r.1.is_candidate.is_held r.2
+hit_found : (caches : Bool) (es : List Stored) (asked : Asked) (now s : ℕ) → decision_of caches es asked now ≡ decision.Hit s → IsFound es s
+hit_found caches es asked now s h =
+    let r = is_held caches es asked now s h in contained_found es r.0 s r.1.is_candidate.is_held r.2
 
-named_found : (es : List Stored) (asked : Asked) (now s : ℕ) (rule : ReuseRule) → decision_of es asked now ≡ decision.Forward rule (Some s) → IsFound es s
-named_found es asked now s rule h = go ((names_the_least es asked now rule (Some s) h).1)
+named_found : (caches : Bool) (es : List Stored) (asked : Asked) (now s : ℕ) (rule : ReuseRule) → decision_of caches es asked now ≡ decision.Forward rule (Some s) → IsFound es s
+named_found caches es asked now s rule h = go ((names_the_least caches es asked now rule (Some s) h).1)
   where
     go : NamesTheResponse es asked rule (Some s) → IsFound es s
     go (inl low) = absurd (cc_of low.1)
@@ -109,18 +109,18 @@ module _ (table : Table) (es : List Stored) (x : Option Exchange) (event : Event
 
   kind_arrived : (now : ℕ) (asked : Asked) (v : Verdict) → KindOf es x event next (arrived table es now asked v)
   unfolding KindOf
-  kind_arrived now asked (verdict.Allowed line) = kind_allowed line now asked (decision_of es asked now) (λ s h. hit_found es asked now s h)
+  kind_arrived now asked (verdict.Allowed line) = kind_allowed line now asked (decision_of (caches_of table.lines line) es asked now) (λ s h. hit_found (caches_of table.lines line) es asked now s h)
   kind_arrived now asked (verdict.DeniedBy line) = idle refl refl
   kind_arrived now asked verdict.NoLine = idle refl refl
 
   -- what is sent after a failure is held
-  fallback_found : (asked : Asked) (now s : ℕ) (detail : Detail) (d : Decision) → decision_of es asked now ≡ d → fallback_for es asked now d ≡ Sends s detail → IsFound es s
-  fallback_found asked now s detail (decision.Hit t) k h = subst (IsFound es) (same_sent t s ReuseAfterError detail h) (hit_found es asked now t k)
-  fallback_found asked now s detail (decision.Forward rule None) k h = absurd (cc)
-  fallback_found asked now s detail (decision.Forward rule (Some t)) k h = by_rule (error_rule_at es t asked now) h
+  fallback_found : (caches : Bool) (asked : Asked) (now s : ℕ) (detail : Detail) (d : Decision) → decision_of caches es asked now ≡ d → fallback_for es asked now d ≡ Sends s detail → IsFound es s
+  fallback_found caches asked now s detail (decision.Hit t) k h = subst (IsFound es) (same_sent t s ReuseAfterError detail h) (hit_found caches es asked now t k)
+  fallback_found caches asked now s detail (decision.Forward rule None) k h = absurd (cc)
+  fallback_found caches asked now s detail (decision.Forward rule (Some t)) k h = by_rule (error_rule_at es t asked now) h
     where
       by_rule : (o : Option ErrorRule) → fallback_by rule t o ≡ Sends s detail → IsFound es s
-      by_rule None h = subst (IsFound es) (same_sent t s StaleIfError detail h) (named_found es asked now t rule k)
+      by_rule None h = subst (IsFound es) (same_sent t s StaleIfError detail h) (named_found caches es asked now t rule k)
       by_rule (Some error) h = absurd (cc)
 
   kind_failed : (now : ℕ) (z : Exchange) (kind : FailKind) (came : Option ℕ) (fallback : Fallback) → ((s : ℕ) (detail : Detail) → fallback ≡ Sends s detail → IsFound es s) →
@@ -150,35 +150,35 @@ module _ (table : Table) (es : List Stored) (now id : ℕ) (x : Exchange) (r : R
       KindOf es (Some x) (Answer now id r) next (passed_unless table es now x r next b fallback)
   unfolding KindOf
   kind_unless true (Sends s detail) g f = let r = f s detail refl in uses s r.0 refl refl r.1
-  kind_unless true (Refuses rule error) g f = kind_passed (is_storable table.max_stored x r now next) next refl g
-  kind_unless false fallback g f = kind_passed (is_storable table.max_stored x r now next) next refl g
+  kind_unless true (Refuses rule error) g f = kind_passed (is_storable table x r now next) next refl g
+  kind_unless false fallback g f = kind_passed (is_storable table x r now next) next refl g
 
-  kind_revalidated : (o : Option Stored) (d : Decision) → validated es x r now ≡ o → decision_of es x.asked now ≡ d →
+  kind_revalidated : (o : Option Stored) (d : Decision) → validated es x r now ≡ o → decision_of (caches_of table.lines x.line) es x.asked now ≡ d →
       KindOf es (Some x) (Answer now id r) next (revalidated table es now x r o d)
   unfolding KindOf
   kind_revalidated (Some e) d v k =
       uses (refreshed x r now e).serial e refl refl (ap (λ s. find_entry s es) (serial_stays x r now e) ∙ (validated_is es x r now e v).found)
-  kind_revalidated None (decision.Hit s) v k = let f = hit_found es x.asked now s k in uses s f.0 refl refl f.1
+  kind_revalidated None (decision.Hit s) v k = let f = hit_found (caches_of table.lines x.line) es x.asked now s k in uses s f.0 refl refl f.1
   kind_revalidated None (decision.Forward rule against) v k = idle refl refl
 
-  kind_answered : NoneFrom next es → KindOf es (Some x) (Answer now id r) next (answered table es now x r next (decision_of es x.asked now))
+  kind_answered : NoneFrom next es → KindOf es (Some x) (Answer now id r) next (answered table es now x r next (decision_of (caches_of table.lines x.line) es x.asked now))
   kind_answered g = by_304 (is_validation x r)
     where
       d : Decision
-      d = decision_of es x.asked now
+      d = decision_of (caches_of table.lines x.line) es x.asked now
 
-      found : (s : ℕ) (detail : Detail) → fallback_for es x.asked now (decision_of es x.asked now) ≡ Sends s detail → IsFound es s
-      found s detail h = fallback_found table es (Some x) (Answer now id r) next x.asked now s detail (decision_of es x.asked now) refl h
+      found : (s : ℕ) (detail : Detail) → fallback_for es x.asked now (decision_of (caches_of table.lines x.line) es x.asked now) ≡ Sends s detail → IsFound es s
+      found s detail h = fallback_found table es (Some x) (Answer now id r) next (caches_of table.lines x.line) x.asked now s detail (decision_of (caches_of table.lines x.line) es x.asked now) refl h
 
-      by_unasked : (b : Bool) → KindOf es (Some x) (Answer now id r) next (cond b (failed table es now x BadAnswer (Some r.status) (fallback_for es x.asked now (decision_of es x.asked now)))
-          (passed_unless table es now x r next (is_error_status r.status) (fallback_for es x.asked now (decision_of es x.asked now))))
-      by_unasked true = kind_failed table es (Some x) (Answer now id r) next now x BadAnswer (Some r.status) (fallback_for es x.asked now (decision_of es x.asked now)) found
-      by_unasked false = kind_unless (is_error_status r.status) (fallback_for es x.asked now (decision_of es x.asked now)) g found
+      by_unasked : (b : Bool) → KindOf es (Some x) (Answer now id r) next (cond b (failed table es now x BadAnswer (Some r.status) (fallback_for es x.asked now (decision_of (caches_of table.lines x.line) es x.asked now)))
+          (passed_unless table es now x r next (is_error_status r.status) (fallback_for es x.asked now (decision_of (caches_of table.lines x.line) es x.asked now))))
+      by_unasked true = kind_failed table es (Some x) (Answer now id r) next now x BadAnswer (Some r.status) (fallback_for es x.asked now (decision_of (caches_of table.lines x.line) es x.asked now)) found
+      by_unasked false = kind_unless (is_error_status r.status) (fallback_for es x.asked now (decision_of (caches_of table.lines x.line) es x.asked now)) g found
 
-      by_304 : (b : Bool) → KindOf es (Some x) (Answer now id r) next (cond b (revalidated table es now x r (validated es x r now) (decision_of es x.asked now))
-          (cond (is_unasked x.asked r) (failed table es now x BadAnswer (Some r.status) (fallback_for es x.asked now (decision_of es x.asked now)))
-          (passed_unless table es now x r next (is_error_status r.status) (fallback_for es x.asked now (decision_of es x.asked now)))))
-      by_304 true = kind_revalidated (validated es x r now) (decision_of es x.asked now) refl refl
+      by_304 : (b : Bool) → KindOf es (Some x) (Answer now id r) next (cond b (revalidated table es now x r (validated es x r now) (decision_of (caches_of table.lines x.line) es x.asked now))
+          (cond (is_unasked x.asked r) (failed table es now x BadAnswer (Some r.status) (fallback_for es x.asked now (decision_of (caches_of table.lines x.line) es x.asked now)))
+          (passed_unless table es now x r next (is_error_status r.status) (fallback_for es x.asked now (decision_of (caches_of table.lines x.line) es x.asked now)))))
+      by_304 true = kind_revalidated (validated es x r now) (decision_of (caches_of table.lines x.line) es x.asked now) refl refl
       by_304 false = by_unasked (is_unasked x.asked r)
 
 kind_of : (table : Table) (es : List Stored) (xs : List Exchange) (x : Option Exchange) (event : Event) (next : Option ℕ) → NoneFrom next es →
@@ -188,8 +188,8 @@ kind_of table es xs x (Arrive now id asked) next h = kind_arrived table es x (Ar
 kind_of table es xs (Some x) (Answer now id r) next h = kind_answered table es now id x r next h
 kind_of table es xs None (Answer now id r) next h = idle refl refl
 kind_of table es xs (Some x) (Fail now id kind) next h =
-    kind_failed table es (Some x) (Fail now id kind) next now x kind None (fallback_for es x.asked now (decision_of es x.asked now))
-    (λ s detail k. fallback_found table es (Some x) (Fail now id kind) next x.asked now s detail (decision_of es x.asked now) refl k)
+    kind_failed table es (Some x) (Fail now id kind) next now x kind None (fallback_for es x.asked now (decision_of (caches_of table.lines x.line) es x.asked now))
+    (λ s detail k. fallback_found table es (Some x) (Fail now id kind) next (caches_of table.lines x.line) x.asked now s detail (decision_of (caches_of table.lines x.line) es x.asked now) refl k)
 kind_of table es xs None (Fail now id kind) next h = idle refl refl
 kind_of table es xs x (Abandon id) next h = idle refl refl
 

@@ -7,7 +7,7 @@ use Rattle.hx_framing.specs.declared.responses.Response.{Response}
 use Rattle.hx_target.specs.declared.keys.Key.{Key}
 use Rattle.hx_hop.specs.declared.asked_for.Asked.{Asked}
 use Rattle.hx_allow.specs.Lines.{Table}
-use Rattle.hx_allow.specs.Matching.{verdict_of}
+use Rattle.hx_allow.specs.Matching.{verdict_of, caches_of}
 use Rattle.hx_allow.specs.declared.verdicts.Verdict.{Verdict}
 use Rattle.hx_store.specs.Stored.{Stored}
 use Rattle.hx_store.specs.Serials.{is_in}
@@ -65,7 +65,7 @@ module _ (s : State) (now id : ℕ) (early : too_late now ≡ None) where
 
   -- an exchange that an answer ends
   pub answer_done : (x : Exchange) (r : Response) (pending : PendingReply) (gone : Option Key) (o : Outcome) (t : State) → find_exchange id s.exchanges ≡ Some x
-      → reply_of pending ≡ answered s.table s.entries now x r s.next (decision_of s.entries x.asked now) → Leaves s.limit s.entries x (Answer now x.id r) pending
+      → reply_of pending ≡ answered s.table s.entries now x r s.next (decision_of (caches_of s.table.lines x.line) s.entries x.asked now) → Leaves s.limit s.entries x (Answer now x.id r) pending
       → gone ≡ key_invalidated x r → o ≡ reply_of pending → t ≡ finished s id pending gone → Steps s (Answer now id r) o t
   answer_done x r pending gone o t here reply leaves gone_is is t_is =
       let next = next_after s.next (stored_by pending.change) in
@@ -84,7 +84,7 @@ module _ (s : State) (now id : ℕ) (early : too_late now ≡ None) where
 
   -- one whose request goes forward once more
   pub answer_again : (x : Exchange) (r : Response) (bytes : List ℕ) (o : Outcome) (t : State) → find_exchange id s.exchanges ≡ Some x
-      → Forward x.line bytes ≡ answered s.table s.entries now x r s.next (decision_of s.entries x.asked now)
+      → Forward x.line bytes ≡ answered s.table s.entries now x r s.next (decision_of (caches_of s.table.lines x.line) s.entries x.asked now)
       → o ≡ Forward x.line bytes → t ≡ st s.table s.limit s.entries (map (gone_out id now) s.exchanges) s.next → Steps s (Answer now id r) o t
   answer_again x r bytes o t here forward is t_is =
       let event : Event = Answer now id r in
@@ -96,7 +96,7 @@ module _ (s : State) (now id : ℕ) (early : too_late now ≡ None) where
 
   -- and one that failed
   pub fail_done : (x : Exchange) (kind : FailKind) (pending : PendingReply) (o : Outcome) (t : State) → find_exchange id s.exchanges ≡ Some x
-      → reply_of pending ≡ failed s.table s.entries now x kind None (fallback_for s.entries x.asked now (decision_of s.entries x.asked now)) → IsPlain pending.change
+      → reply_of pending ≡ failed s.table s.entries now x kind None (fallback_for s.entries x.asked now (decision_of (caches_of s.table.lines x.line) s.entries x.asked now)) → IsPlain pending.change
       → o ≡ reply_of pending → t ≡ finished s id pending None → Steps s (Fail now id kind) o t
   fail_done x kind pending o t here reply plain is t_is =
       let event : Event = Fail now id kind in

@@ -4,6 +4,7 @@ use Rattle.std.specs.Prelude.{Result, IfOk}
 use Rattle.hx_framing.specs.declared.responses.Response.{Response}
 use Rattle.hx_vary.specs.Vary.{is_star}
 use Rattle.hx_hop.specs.Answering.{answered_of}
+use Rattle.hx_allow.specs.Lines.{Table}
 use Rattle.hx_storable.specs.Rules.{storage_rule_of}
 use Rattle.hx_storable.specs.Storable.{StoresWhereNoneStands}
 use Rattle.hx_storable.specs.declared.rule.StoreRule.{StoreRule}
@@ -18,11 +19,11 @@ none_of None h = refl
 none_of (Some rule) h = cc
 
 -- what nominates nothing that can be compared isn't stored
-pub no_star : StoresWhereNoneStands → (max_stored : ℕ) (x : Exchange) (r : Response) (now : ℕ) (next : Option ℕ) → is_storable max_stored x r now next ≡ true
+pub no_star : StoresWhereNoneStands → (table : Table) (x : Exchange) (r : Response) (now : ℕ) (next : Option ℕ) → is_storable table x r now next ≡ true
     → is_star (answered_of r now).fields ≡ true → ⊥
-no_star law max_stored x r now next storable star =
+no_star law table x r now next storable star =
     let a = answered_of r now in
-    let facts = facts_of max_stored x r now next in
+    let facts = facts_of table x r now next in
     let unstarred : is_star a.fields ≡ false = law x.asked a facts VaryStar (none_of (storage_rule_of x.asked a facts) storable) in
     cc
 

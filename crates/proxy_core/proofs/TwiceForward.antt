@@ -15,6 +15,7 @@ use Rattle.proxy_core.specs.Traces.{Item, left, IsGood}
 use Rattle.proxy_core.specs.Promises.{goes_forward, is_reply, is_arrival, key_by_step, times, NoneArrives, TwiceForwardOneReply}
 use Rattle.proxy_core.proofs.ExchangeLists.{overtaken_by}
 use Rattle.proxy_core.proofs.Moves.{Move, apart, opens, passes, again, closes, asked_of, move_of, and_none}
+use Rattle.proxy_core.proofs.Tracing.{same_table}
 
 -- a part of a good trace
 pub part : (start : State) (later past : List Item) → IsGood start (later ++ past) → IsGood start past
@@ -79,7 +80,7 @@ budget id w event o x y (apart n h) a =
     let f1 : forwards_left y ≡ forwards_left x = ap forwards_left h ∙ m.0 in
     let r1 : replies_left y ≡ replies_left x = ap replies_left h ∙ m.1 in
     record { forwards = omega arith; replies = omega arith }
-budget id w event o x y (opens es now asked line e x_is f h) a = absurd (fresh_arrival id now asked event e a)
+budget id w event o x y (opens table es now asked line e x_is f h) a = absurd (fresh_arrival id now asked event e a)
 budget id w event o x y (passes t e x_is g h) a = absurd (not_both _ _ t e a)
 budget id w event o x y (again z now t e f c k h) a =
     let f0 = one_most (eqb (id_of event) id && goes_forward o) in
@@ -106,11 +107,11 @@ opening : (id : ℕ) (w : Option Exchange) (event : Event) (o : Outcome) (x y : 
     eqb (id_of event) id ≡ true → is_arrival event ≡ true → Opening o y
 unfolding one forwards_left replies_left
 opening id w event o x y (apart n h) t a = absurd (false≢true (sym n ∙ t))
-opening id w event o x y (opens es now asked line e x_is f h) t a =
+opening id w event o x y (opens table es now asked line e x_is f h) t a =
     let f0 = one_most (goes_forward o) in
     let r0 : one (is_reply o) ≡ 0 = ap one (forward_only o f) in
-    let f1 : forwards_left y ≡ one (is_some (opened es now id asked line).condition) = ap forwards_left h in
-    let f2 = one_most (is_some (opened es now id asked line).condition) in
+    let f1 : forwards_left y ≡ one (is_some (opened table es now id asked line).condition) = ap forwards_left h in
+    let f2 = one_most (is_some (opened table es now id asked line).condition) in
     let r1 : replies_left y ≡ 1 = ap replies_left h in
     record { forwards = omega arith; replies = omega arith }
 opening id w event o x y (passes u e x_is g h) t a =
@@ -142,7 +143,7 @@ module _ (start : State) (arrival : Item) (before : List Item) where
   counted [] g a n =
       let s = left start before in
       let here : eqb (id_of arrival.event) (id_of arrival.event) ≡ true = eq-eqb (id_of arrival.event) (id_of arrival.event) refl in
-      let k = opening _ _ _ _ _ _ (move_of start.table s arrival (id_of arrival.event) g.0) here a in
+      let k = opening _ _ _ _ _ _ (move_of start.table s arrival (id_of arrival.event) (same_table start before) g.0) here a in
       let f : so_far goes_forward [] ≡ one (goes_forward arrival.outcome) + 0 = one_more _ 0 ∙ ap (λ b. one (b && goes_forward arrival.outcome) + 0) here in
       let r : so_far is_reply [] ≡ one (is_reply arrival.outcome) + 0 = one_more _ 0 ∙ ap (λ b. one (b && is_reply arrival.outcome) + 0) here in
       let kf = k.forwards in
@@ -151,7 +152,7 @@ module _ (start : State) (arrival : Item) (before : List Item) where
   counted (h ∷ items) g a n =
       let i = counted items g.1 a n.1 in
       let s = left start (items ++ arrival ∷ before) in
-      let k = budget _ _ _ _ _ _ (move_of start.table s h (id_of arrival.event) g.0) n.0 in
+      let k = budget _ _ _ _ _ _ (move_of start.table s h (id_of arrival.event) (same_table start (items ++ arrival ∷ before)) g.0) n.0 in
       let f = one_more (eqb (id_of h.event) (id_of arrival.event) && goes_forward h.outcome) (so_far goes_forward items) in
       let r = one_more (eqb (id_of h.event) (id_of arrival.event) && is_reply h.outcome) (so_far is_reply items) in
       let kf = k.forwards in

@@ -11,7 +11,7 @@ use Rattle.hx_framing.specs.declared.responses.Response.{Response}
 use Rattle.hx_hop.specs.Answering.{answered_of}
 use Rattle.hx_hop.specs.declared.asked_for.Asked.{Asked}
 use Rattle.hx_allow.specs.Lines.{Table}
-use Rattle.hx_allow.specs.Matching.{verdict_of}
+use Rattle.hx_allow.specs.Matching.{verdict_of, caches_of}
 use Rattle.hx_allow.specs.declared.verdicts.Verdict.{Verdict}
 use Rattle.hx_allow.specs.declared.verdicts.Verdict.TheVariants as verdict
 use Rattle.hx_store.specs.Stored.{Stored}
@@ -20,7 +20,7 @@ use Rattle.hx_store.specs.Shelf.{holds, serials_of}
 use Rattle.hx_store.specs.Recency.{is_the, touches, recent_after}
 use Rattle.hx_store.proofs.Recency.{held_more, is_in-take, is_in-after}
 use Rattle.hx_store.proofs.EntryLists.{find-serial, find_holds}
-use Rattle.hx_storable.specs.declared.rule.StoreRule.TheVariants.{Method, Overtaken}
+use Rattle.hx_storable.specs.declared.rule.StoreRule.TheVariants.{Operator, Method, Overtaken}
 use Rattle.hx_storable.specs.Rules.{storage_rule_of}
 use Rattle.hx_storable.proofs.LeastRule.{no_rule_stands}
 use Rattle.hx_reuse.specs.Rules.{decision_of}
@@ -70,36 +70,38 @@ not_false false h = absurd (false≢true (sym h))
 
 -- ---- what is stored
 
--- what is stored was asked for by a GET, and wasn't overtaken
-record IsPlainGet (x : Exchange) : Type 0 where
-  safe : is_among safe_methods x.asked.method ≡ true
-  in_time : x.overtaken ≡ false
+-- what is stored was asked for by a GET over a line with cache, and wasn't overtaken
+pub record IsPlainGet (table : Table) (x : Exchange) : Type 0 where
+  pub safe : is_among safe_methods x.asked.method ≡ true
+  pub in_time : x.overtaken ≡ false
+  pub cached : caches_of table.lines x.line ≡ true
 
-storable_is : (max_stored : ℕ) (x : Exchange) (r : Response) (now : ℕ) (next : Option ℕ) → is_storable max_stored x r now next ≡ true → IsPlainGet x
-storable_is max_stored x r now next h =
+storable_is : (table : Table) (x : Exchange) (r : Response) (now : ℕ) (next : Option ℕ) → is_storable table x r now next ≡ true → IsPlainGet table x
+storable_is table x r now next h =
     let a = answered_of r now in
-    let facts = facts_of max_stored x r now next in
+    let facts = facts_of table x r now next in
     let none : storage_rule_of x.asked a facts ≡ None = none_of (storage_rule_of x.asked a facts) h in
     record {
       safe = or_left (bytes_eq x.asked.method (codes "GET")) _ (not_false (bytes_eq x.asked.method (codes "GET")) (no_rule_stands x.asked a facts Method none));
       in_time = no_rule_stands x.asked a facts Overtaken none;
+      cached = not_false (caches_of table.lines x.line) (no_rule_stands x.asked a facts Operator none);
     }
 
-record Storing (w : Option Exchange) (event : Event) (next : Option ℕ) (s : ℕ) : Type 0 where
-  z : Exchange
-  now : ℕ
-  i : ℕ
-  r : Response
-  w_is : w ≡ Some z
-  event_is : event ≡ Answer now i r
-  plain : IsPlainGet z
-  next_is : next ≡ Some s
+pub record Storing (table : Table) (w : Option Exchange) (event : Event) (next : Option ℕ) (s : ℕ) : Type 0 where
+  pub z : Exchange
+  pub now : ℕ
+  pub i : ℕ
+  pub r : Response
+  pub w_is : w ≡ Some z
+  pub event_is : event ≡ Answer now i r
+  pub plain : IsPlainGet table z
+  pub next_is : next ≡ Some s
 
 none_stored : (s : ℕ) → ◌≡◌ {A = Option ℕ} None (Some s) → ⊥
 none_stored s h = cc
 
 stored_arrival : (table : Table) (es : List Stored) (now : ℕ) (asked : Asked) (v : Verdict) (s : ℕ) → stored_in (arrived table es now asked v) ≡ Some s → ⊥
-stored_arrival table es now asked (verdict.Allowed line) s h = by_decision (decision_of es asked now) h
+stored_arrival table es now asked (verdict.Allowed line) s h = by_decision (decision_of (caches_of table.lines line) es asked now) h
   where
     unless : (rule : ReuseRule) (condition : Option Condition) (b : Bool) → stored_in (unanswered table line now asked rule condition b) ≡ Some s → ⊥
     unless rule condition true h = none_stored s h
@@ -121,36 +123,36 @@ stored_304 table es now x r None (decision.Hit t) s h = none_stored s h
 stored_304 table es now x r None (decision.Forward rule against) s h = none_stored s h
 
 module _ (table : Table) (es : List Stored) (now i : ℕ) (x : Exchange) (r : Response) (next : Option ℕ) (s : ℕ) where
-  stored_by_test : (b : Bool) → is_storable table.max_stored x r now next ≡ b → cond b next None ≡ Some s → Storing (Some x) (Answer now i r) next s
-  stored_by_test true k h = record { z = x; now = now; i = i; r = r; w_is = refl; event_is = refl; plain = storable_is table.max_stored x r now next k; next_is = h }
+  stored_by_test : (b : Bool) → is_storable table x r now next ≡ b → cond b next None ≡ Some s → Storing table (Some x) (Answer now i r) next s
+  stored_by_test true k h = record { z = x; now = now; i = i; r = r; w_is = refl; event_is = refl; plain = storable_is table x r now next k; next_is = h }
   stored_by_test false k h = absurd (none_stored s h)
 
-  stored_unless : (b : Bool) (fallback : Fallback) → stored_in (passed_unless table es now x r next b fallback) ≡ Some s → Storing (Some x) (Answer now i r) next s
+  stored_unless : (b : Bool) (fallback : Fallback) → stored_in (passed_unless table es now x r next b fallback) ≡ Some s → Storing table (Some x) (Answer now i r) next s
   stored_unless true (Sends serial detail) h = absurd (none_stored s h)
-  stored_unless true (Refuses rule error) h = stored_by_test (is_storable table.max_stored x r now next) refl h
-  stored_unless false fallback h = stored_by_test (is_storable table.max_stored x r now next) refl h
+  stored_unless true (Refuses rule error) h = stored_by_test (is_storable table x r now next) refl h
+  stored_unless false fallback h = stored_by_test (is_storable table x r now next) refl h
 
-  stored_answer : (d : Decision) → stored_in (answered table es now x r next d) ≡ Some s → Storing (Some x) (Answer now i r) next s
+  stored_answer : (d : Decision) → stored_in (answered table es now x r next d) ≡ Some s → Storing table (Some x) (Answer now i r) next s
   stored_answer d h = by_304 (is_validation x r) h
     where
       by_unasked : (b : Bool) → stored_in (cond b (failed table es now x BadAnswer (Some r.status) (fallback_for es x.asked now d))
-          (passed_unless table es now x r next (is_error_status r.status) (fallback_for es x.asked now d))) ≡ Some s → Storing (Some x) (Answer now i r) next s
+          (passed_unless table es now x r next (is_error_status r.status) (fallback_for es x.asked now d))) ≡ Some s → Storing table (Some x) (Answer now i r) next s
       by_unasked true h = absurd (stored_failure table es now x BadAnswer (Some r.status) (fallback_for es x.asked now d) s h)
       by_unasked false h = stored_unless (is_error_status r.status) (fallback_for es x.asked now d) h
 
       by_304 : (b : Bool) → stored_in (cond b (revalidated table es now x r (validated es x r now) d)
           (cond (is_unasked x.asked r) (failed table es now x BadAnswer (Some r.status) (fallback_for es x.asked now d))
-          (passed_unless table es now x r next (is_error_status r.status) (fallback_for es x.asked now d)))) ≡ Some s → Storing (Some x) (Answer now i r) next s
+          (passed_unless table es now x r next (is_error_status r.status) (fallback_for es x.asked now d)))) ≡ Some s → Storing table (Some x) (Answer now i r) next s
       by_304 true h = absurd (stored_304 table es now x r (validated es x r now) d s h)
       by_304 false h = by_unasked (is_unasked x.asked r) h
 
-storing_of : (table : Table) (es : List Stored) (xs : List Exchange) (w : Option Exchange) (next : Option ℕ) (event : Event) (s : ℕ) →
-    stored_in (outcome_of table es xs w next event) ≡ Some s → Storing w event next s
+pub storing_of : (table : Table) (es : List Stored) (xs : List Exchange) (w : Option Exchange) (next : Option ℕ) (event : Event) (s : ℕ) →
+    stored_in (outcome_of table es xs w next event) ≡ Some s → Storing table w event next s
 storing_of table es xs w next (Arrive now i asked) s h = absurd (stored_arrival table es now asked (verdict_of table.lines asked.method asked.target) s h)
 storing_of table es xs None next (Answer now i r) s h = absurd (none_stored s h)
-storing_of table es xs (Some z) next (Answer now i r) s h = stored_answer table es now i z r next s (decision_of es z.asked now) h
+storing_of table es xs (Some z) next (Answer now i r) s h = stored_answer table es now i z r next s (decision_of (caches_of table.lines z.line) es z.asked now) h
 storing_of table es xs None next (Fail now i kind) s h = absurd (none_stored s h)
-storing_of table es xs (Some z) next (Fail now i kind) s h = absurd (stored_failure table es now z kind None (fallback_for es z.asked now (decision_of es z.asked now)) s h)
+storing_of table es xs (Some z) next (Fail now i kind) s h = absurd (stored_failure table es now z kind None (fallback_for es z.asked now (decision_of (caches_of table.lines z.line) es z.asked now)) s h)
 storing_of table es xs w next (Abandon i) s h = absurd (none_stored s h)
 
 -- ---- what an item that invalidates removes
@@ -192,8 +194,8 @@ answer_removes table es now x r next d k h =
     let p = key_parts x r k h in
     let t = tested (not (is_among safe_methods x.asked.method)) (nat_le 200 r.status && nat_le r.status 399) (is_validation x r) (is_unasked x.asked r) p.0 in
     let fine : is_error_status r.status ≡ false = false_from_ne_true _ (λ e. false≢true (sym (error_is_none r.status e) ∙ t.no_error)) in
-    let unstored : is_storable table.max_stored x r now next ≡ false = false_from_ne_true _ (λ e.
-    let plain = storable_is table.max_stored x r now next e in
+    let unstored : is_storable table x r now next ≡ false = false_from_ne_true _ (λ e.
+    let plain = storable_is table x r now next e in
     false≢true (sym (ap not plain.safe) ∙ t.unsafe)) in
     ap removed_in (passed_at table es now x r next d (is_validation x r) (is_unasked x.asked r) (is_error_status r.status) t.no_validation t.no_unasked fine)
     ∙ ap (λ b. removed_by es x r (cond b next None)) unstored
@@ -205,7 +207,7 @@ removes_key : (table : Table) (es : List Stored) (xs : List Exchange) (w : Optio
 removes_key table es xs None next event o k e h = absurd (cc)
 removes_key table es xs (Some z) next (Arrive now i asked) o k e h = absurd (cc)
 removes_key table es xs (Some z) next (Answer now i r) o k e h =
-    let d = decision_of es z.asked now in
+    let d = decision_of (caches_of table.lines z.line) es z.asked now in
     ap removed_in e
     ∙ answer_removes table es now z r next d k (same_key_invalidated table es now z r next d ∙ ap (key_by_answer z.asked r) (sym e) ∙ h)
 removes_key table es xs (Some z) next (Fail now i kind) o k e h = absurd (cc)
@@ -288,7 +290,7 @@ module _ (table : Table) (limit first : ℕ) where
     clean : invalidates_key k i past ≡ false
 
   lives : (s : ℕ) (k : Key) (i : Item) (past : List Item) → IsGood (begun table limit first) (i ∷ past) → Below s (left (begun table limit first) past).next →
-      key_of (held_entry limit past s) ≡ Some k → is_in s (held_serials limit (i ∷ past)) ≡ true → Lives s k i past
+      key_of (held_entry table limit past s) ≡ Some k → is_in s (held_serials limit (i ∷ past)) ≡ true → Lives s k i past
   unfolding key_of
   lives s k i past g l q m =
       let p = stands_for table limit first past g.1 in
@@ -310,7 +312,7 @@ module _ (table : Table) (limit first : ℕ) where
       ]
       in
       let f = held_found s es (ap (is_in s) p.serials_are ∙ was) in
-      let its_key : f.0.key ≡ k = same_Some f.0.key k (ap key_of (sym (EachIs-find (held_entry limit past) s es f.0 f.1 p.entries_are)) ∙ q) in
+      let its_key : f.0.key ≡ k = same_Some f.0.key k (ap key_of (sym (EachIs-find (held_entry table limit past) s es f.0 f.1 p.entries_are)) ∙ q) in
       record {
         held_before = was;
         clean = ap (λ o. is_key o k) (same_key_of_step table limit first i past g)
@@ -327,7 +329,7 @@ module _ (table : Table) (limit first : ℕ) where
 
   record Since (s : ℕ) (k : Key) (storing : Item) (past items : List Item) : Type 0 where
     below : Below s (left (begun table limit first) (items ++ storing ∷ past)).next
-    key : key_of (held_entry limit (items ++ storing ∷ past) s) ≡ Some k
+    key : key_of (held_entry table limit (items ++ storing ∷ past) s) ≡ Some k
     clean : is_in s (held_serials limit (items ++ storing ∷ past)) ≡ true → NoneInvalidates k items (storing ∷ past)
 
   since : (s : ℕ) (k : Key) (storing : Item) (past : List Item) (items : List Item) → IsGood (begun table limit first) (items ++ storing ∷ past) →
@@ -340,10 +342,10 @@ module _ (table : Table) (limit first : ℕ) where
       let st = left (begun table limit first) all in
       let w = find_exchange (id_of i.event) st.exchanges in
       let d = older s st.entries w i.event st.next (stored_in i.outcome) (used_in i.outcome) (removed_in i.outcome) (kind_in table st i p.fresh g.0) so.below in
-      let v = find_exchange (id_of i.event) (seen limit all).exchanges in
+      let v = find_exchange (id_of i.event) (seen table limit all).exchanges in
       record {
         below = d.below;
-        key = key_kept v i.event (stored_in i.outcome) (used_in i.outcome) (held_entry limit all) s d.not_stored ∙ so.key;
+        key = key_kept v i.event (stored_in i.outcome) (used_in i.outcome) (held_entry table limit all) s d.not_stored ∙ so.key;
         clean = λ m.
             let r = lives s k i all g so.below so.key m in
             (r.clean, so.clean r.held_before);
@@ -365,11 +367,11 @@ module _ (table : Table) (limit first : ℕ) where
       let w = find_exchange (id_of storing.event) st.exchanges in
       let d = storing_of table st.entries st.exchanges w st.next storing.event s (sym (ap stored_in g.0.outcome_is) ∙ e) in
       let z = d.z in
-      let x_seen : find_exchange (id_of storing.event) (seen limit past).exchanges ≡ Some z =
+      let x_seen : find_exchange (id_of storing.event) (seen table limit past).exchanges ≡ Some z =
       ap (find_exchange (id_of storing.event)) (sym p.exchanges_are) ∙ d.w_is
       in
-      let v = find_exchange (id_of storing.event) (seen limit past).exchanges in
-      let look : ℕ → Option Stored = held_entry limit past in
+      let v = find_exchange (id_of storing.event) (seen table limit past).exchanges in
+      let look : ℕ → Option Stored = held_entry table limit past in
       let safe : not (is_among safe_methods z.asked.method) ≡ false = ap not d.plain.safe in
       record {
         z = z;

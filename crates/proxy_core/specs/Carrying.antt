@@ -8,7 +8,7 @@ use Rattle.std.specs.Prelude.{◌≡◌, ◌⊎◌, ℕ, true, List, [], ◌∷�
 use Rattle.std.specs.List.{AllByRecursion}
 use Rattle.hx_framing.specs.declared.responses.Response.{Response}
 use Rattle.hx_allow.specs.Lines.{Table}
-use Rattle.hx_allow.specs.Matching.{verdict_of}
+use Rattle.hx_allow.specs.Matching.{verdict_of, caches_of}
 use Rattle.hx_allow.specs.declared.verdicts.Verdict.TheVariants.{Allowed}
 use Rattle.hx_reuse.specs.Meaning.{IsLeast, NamesTheResponse}
 use Rattle.proxy_core.specs.declared.exchange.Exchange.{Exchange}
@@ -34,8 +34,8 @@ pub record WentOnce (table : Table) (limit : ℕ) (x : Exchange) (since before :
   pub since_then : times goes_forward x.id since ≡ 0
   pub request_time : x.request_time ≡ now
   pub against : Option ℕ
-  pub names : NamesTheResponse (held_entries limit before) x.asked x.rule against
-  pub condition : x.condition ≡ condition_at (held_entries limit before) against
+  pub names : NamesTheResponse (held_entries table limit before) x.asked x.rule against
+  pub condition : x.condition ≡ condition_at (held_entries table limit before) against
   pub bytes_are : bytes ≡ forward_text table x.asked x.condition
 
 -- it went forward once more, without conditions: its request time is the moment of that
@@ -59,11 +59,11 @@ pub record Arrived (table : Table) (limit : ℕ) (x : Exchange) (past : List Ite
   pub past_is : past ≡ since ++ arrival_of x now bytes ∷ before
   pub none_since : NoneArrives x.id since
   pub line_allows : verdict_of table.lines x.asked.method x.asked.target ≡ Allowed x.line
-  pub rule_is_least : IsLeast (held_entries limit before) x.asked now x.rule
+  pub rule_is_least : IsLeast (caches_of table.lines x.line) (held_entries table limit before) x.asked now x.rule
   pub went : WentOnce table limit x since before now bytes ⊎ WentAgain table x since
 
 -- the rule of an open exchange is the least that stood when its request arrived
-pub record LeastAtItsArrival (limit : ℕ) (x : Exchange) (past : List Item) : Type 0 where
+pub record LeastAtItsArrival (table : Table) (limit : ℕ) (x : Exchange) (past : List Item) : Type 0 where
   pub since : List Item
   pub before : List Item
   pub arrival : Item
@@ -71,7 +71,7 @@ pub record LeastAtItsArrival (limit : ℕ) (x : Exchange) (past : List Item) : T
   pub past_is : past ≡ since ++ arrival ∷ before
   pub arrives : arrival.event ≡ Arrive now x.id x.asked
   pub none_since : NoneArrives x.id since
-  pub least : IsLeast (held_entries limit before) x.asked now x.rule
+  pub least : IsLeast (caches_of table.lines x.line) (held_entries table limit before) x.asked now x.rule
 
 -- of two ids the latest arrival of the one comes before that of the other
 pub record ArrivesBefore (id other : ℕ) (past : List Item) : Type 0 where
@@ -100,8 +100,8 @@ ids_of exchanges = map (λ (x : Exchange). x.id) exchanges
 
 abbrev pub CarriesItsArrival : Type 0
 CarriesItsArrival = (table : Table) (limit first id : ℕ) (trace : List Item) (x : Exchange) → IsGoodHistory table limit first trace →
-    find_exchange id (open_exchanges limit trace) ≡ Some x → Arrived table limit x trace × (x.id ≡ id)
+    find_exchange id (open_exchanges table limit trace) ≡ Some x → Arrived table limit x trace × (x.id ≡ id)
 
 abbrev pub OpenInOrderOfArrival : Type 0
 OpenInOrderOfArrival = (table : Table) (limit first : ℕ) (trace : List Item) → IsGoodHistory table limit first trace →
-    StandInOrder (ids_of (open_exchanges limit trace)) trace
+    StandInOrder (ids_of (open_exchanges table limit trace)) trace

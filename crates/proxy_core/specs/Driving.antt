@@ -19,8 +19,8 @@ HasRun table limit first (item ∷ past) core =
 pub record KeepsThePromises (table : Table) (limit first : ℕ) (trace : List Item) (core : State) : Type 0 where
   pub good : IsGoodHistory table limit first trace
   pub headline : Headline table limit trace
-  pub entries_are : core.entries ≡ held_entries limit trace
-  pub exchanges_are : core.exchanges ≡ open_exchanges limit trace
+  pub entries_are : core.entries ≡ held_entries table limit trace
+  pub exchanges_are : core.exchanges ≡ open_exchanges table limit trace
   pub next_is : core.next ≡ next_serial first trace
 
 abbrev pub PromisesOfADrivenCore : Type 0

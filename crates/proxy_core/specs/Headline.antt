@@ -29,7 +29,7 @@ EachStep P (item ∷ past) = P item past × EachStep P past
 -- is turned away by the line, or because none matches.
 abbrev pub ReachesExactly : Table → ℕ → Item → List Item → Type 0
 ReachesExactly table limit item past = (now id : ℕ) (asked : Asked) → item.event ≡ Arrive now id asked →
-    ((line : ℕ) → verdict_of table.lines asked.method asked.target ≡ Allowed line → IsReached (held_entries limit past) now asked line item.outcome)
+    ((line : ℕ) → verdict_of table.lines asked.method asked.target ≡ Allowed line → IsReached table (held_entries table limit past) now asked line item.outcome)
     × (((line : ℕ) → verdict_of table.lines asked.method asked.target ≢ Allowed line) → IsTurnedAway table now asked item.outcome)
 
 -- whatever goes forward, also a second time, goes to the origin of the line that allows its request
@@ -40,18 +40,18 @@ GoesWhereAllowed table item past = (line : ℕ) (bytes : List ℕ) → item.outc
 -- A stored response is sent exactly where one is held that may be sent at this event (RFC 9111, section 4; RFC 5861, section 4).
 abbrev pub SendsExactly : Table → ℕ → Item → List Item → Type 0
 SendsExactly table limit item past = (s : ℕ) →
-    (MayBeSentAt table (held_entries limit past) (find_exchange (id_of item.event) (open_exchanges limit past)) item.event s → used_in item.outcome ≡ Some s)
-    × (used_in item.outcome ≡ Some s → MayBeSentAt table (held_entries limit past) (find_exchange (id_of item.event) (open_exchanges limit past)) item.event s)
+    (MayBeSentAt table (held_entries table limit past) (find_exchange (id_of item.event) (open_exchanges table limit past)) item.event s → used_in item.outcome ≡ Some s)
+    × (used_in item.outcome ≡ Some s → MayBeSentAt table (held_entries table limit past) (find_exchange (id_of item.event) (open_exchanges table limit past)) item.event s)
 
 -- and what is sent is that response: its content, its head or its 304
 abbrev pub SendsThatResponse : Table → ℕ → Item → List Item → Type 0
 SendsThatResponse table limit item past = (s : ℕ) → used_in item.outcome ≡ Some s →
-    IsThatResponse table (held_entries limit past) (find_exchange (id_of item.event) (open_exchanges limit past)) item.event item.outcome s
+    IsThatResponse table (held_entries table limit past) (find_exchange (id_of item.event) (open_exchanges table limit past)) item.event item.outcome s
 
 -- every other answer names the first rule against it: the line of the table, the least reuse rule with the least error rule, or
 -- where an answer of the origin is passed on the least rule that stood at the arrival
 abbrev pub NamesTheFirst : Table → ℕ → Item → List Item → Type 0
-NamesTheFirst table limit item past = NamesFirst table limit past (find_exchange (id_of item.event) (open_exchanges limit past)) item.event item.outcome
+NamesTheFirst table limit item past = NamesFirst table limit past (find_exchange (id_of item.event) (open_exchanges table limit past)) item.event item.outcome
 
 pub record Headline (table : Table) (limit : ℕ) (trace : List Item) : Type 0 where
   pub reaches_where_allowed : EachStep (ReachesExactly table limit) trace

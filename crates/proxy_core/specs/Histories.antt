@@ -35,23 +35,23 @@ pub record Seen : Type 0 where
   pub exchanges : List Exchange
   pub entry : ℕ → Option Stored
 
-abbrev pub seen : ℕ → List Item → Seen
-seen limit [] = record { exchanges = []; entry = λ s. None }
-seen limit (i ∷ past) = record {
-  exchanges = open_after (filter_map (seen limit past).entry (held_serials limit past)) (seen limit past).exchanges i.event i.outcome;
-  entry = entry_after (find_exchange (id_of i.event) (seen limit past).exchanges) i.event i.outcome (seen limit past).entry;
+abbrev pub seen : Table → ℕ → List Item → Seen
+seen table limit [] = record { exchanges = []; entry = λ s. None }
+seen table limit (i ∷ past) = record {
+  exchanges = open_after table (filter_map (seen table limit past).entry (held_serials limit past)) (seen table limit past).exchanges i.event i.outcome;
+  entry = entry_after (find_exchange (id_of i.event) (seen table limit past).exchanges) i.event i.outcome (seen table limit past).entry;
 }
 
 -- open from the arrival on to the end
-abbrev pub open_exchanges : ℕ → List Item → List Exchange
-open_exchanges limit past = (seen limit past).exchanges
+abbrev pub open_exchanges : Table → ℕ → List Item → List Exchange
+open_exchanges table limit past = (seen table limit past).exchanges
 
-abbrev pub held_entry : ℕ → List Item → ℕ → Option Stored
-held_entry limit past s = (seen limit past).entry s
+abbrev pub held_entry : Table → ℕ → List Item → ℕ → Option Stored
+held_entry table limit past s = (seen table limit past).entry s
 
 -- the responses that are held after a trace, the latest stored or used first
-abbrev pub held_entries : ℕ → List Item → List Stored
-held_entries limit past = filter_map (held_entry limit past) (held_serials limit past)
+abbrev pub held_entries : Table → ℕ → List Item → List Stored
+held_entries table limit past = filter_map (held_entry table limit past) (held_serials limit past)
 
 -- the first, and one more for each that was stored, while one is left
 abbrev pub next_serial : ℕ → List Item → Option ℕ
@@ -63,7 +63,7 @@ next_serial first (i ∷ past) = next_after (next_serial first past) (stored_in 
 abbrev pub IsGoodHistory : Table → ℕ → ℕ → List Item → Type 0
 IsGoodHistory table limit first [] = Unit {0}
 IsGoodHistory table limit first (item ∷ past) =
-    Accepts table (held_entries limit past) (open_exchanges limit past) (next_serial first past) item × IsGoodHistory table limit first past
+    Accepts table (held_entries table limit past) (open_exchanges table limit past) (next_serial first past) item × IsGoodHistory table limit first past
 
 -- the next event is refused: by the least fault that stands at it, or where none does for want of memory
 abbrev pub StopsAt : List Exchange → Option Event → CoreFault → Type 0

@@ -11,6 +11,7 @@ pub mod Meaning
 pub mod Carrying
 pub mod Naming
 pub mod Sending
+pub mod Uncached
 pub mod Headline
 pub mod Driving
 pub mod Pending

@@ -5,6 +5,7 @@
 use Rattle.std.specs.Prelude.{◌≡◌, ℕ, ◌+◌, ◌^◌, ◌==◌, nat_lt, ◌&&◌, ◌||◌, not, Bool, true, false, List, [], ◌∷◌, ◌++◌, map, Some, None, is_some, cond}
 use Rattle.hx_hop.specs.declared.asked_for.Asked.{Asked}
 use Rattle.hx_allow.specs.Lines.{Table}
+use Rattle.hx_allow.specs.Matching.{caches_of}
 use Rattle.hx_reuse.specs.Rules.{decision_of}
 use Rattle.proxy_core.specs.declared.exchange.Exchange.{Exchange}
 use Rattle.proxy_core.specs.declared.event.Event.{Event}
@@ -35,26 +36,26 @@ OpenFromArrivalToEnd = (table : Table) (limit first : ℕ) (items before : List 
     IsGoodHistory table limit first (items ++ arrival ∷ before) →
     is_arrival arrival.event ≡ true →
     NoneArrives (id_of arrival.event) items →
-    is_some (find_exchange (id_of arrival.event) (open_exchanges limit (items ++ arrival ∷ before))) ≡ (goes_forward arrival.outcome && not (has_ended (id_of arrival.event) items))
+    is_some (find_exchange (id_of arrival.event) (open_exchanges table limit (items ++ arrival ∷ before))) ≡ (goes_forward arrival.outcome && not (has_ended (id_of arrival.event) items))
 
 -- none is open of which no request arrived
 abbrev pub OpenByArrivalAlone : Type 0
 OpenByArrivalAlone = (table : Table) (limit first id : ℕ) (trace : List Item) →
-    IsGoodHistory table limit first trace → NoneArrives id trace → find_exchange id (open_exchanges limit trace) ≡ None
+    IsGoodHistory table limit first trace → NoneArrives id trace → find_exchange id (open_exchanges table limit trace) ≡ None
 
 -- an open exchange has the request of the latest arrival of its id
 abbrev pub HasItsRequest : Type 0
 HasItsRequest = (table : Table) (limit first id : ℕ) (trace : List Item) (x : Exchange) →
-    IsGoodHistory table limit first trace → find_exchange id (open_exchanges limit trace) ≡ Some x → asked_by id trace ≡ Some x.asked
+    IsGoodHistory table limit first trace → find_exchange id (open_exchanges table limit trace) ≡ Some x → asked_by id trace ≡ Some x.asked
 
--- and the rule that stood against a stored response when that arrived
+-- and the rule that stood against a stored response when that arrived, by the word of its line
 abbrev pub KeepsItsRule : Type 0
 KeepsItsRule = (table : Table) (limit first now id : ℕ) (asked : Asked) (items before : List Item) (arrival : Item) (x : Exchange) →
     IsGoodHistory table limit first (items ++ arrival ∷ before) →
     arrival.event ≡ Arrive now id asked →
     NoneArrives id items →
-    find_exchange id (open_exchanges limit (items ++ arrival ∷ before)) ≡ Some x →
-    x.rule ≡ rule_of (decision_of (held_entries limit before) asked now)
+    find_exchange id (open_exchanges table limit (items ++ arrival ∷ before)) ≡ Some x →
+    x.rule ≡ rule_of (decision_of (caches_of table.lines x.line) (held_entries table limit before) asked now)
 
 -- An open exchange is overtaken exactly where an item after its latest going forward invalidates its key.
 abbrev pub OvertakenWhereInvalidated : Type 0
@@ -62,7 +63,7 @@ OvertakenWhereInvalidated = (table : Table) (limit first : ℕ) (items before : 
     IsGoodHistory table limit first (items ++ f ∷ before) →
     goes_forward f.outcome ≡ true →
     times goes_forward (id_of f.event) items ≡ 0 →
-    find_exchange (id_of f.event) (open_exchanges limit (items ++ f ∷ before)) ≡ Some x →
+    find_exchange (id_of f.event) (open_exchanges table limit (items ++ f ∷ before)) ≡ Some x →
     x.overtaken ≡ some_invalidates x.asked.target.key items (f ∷ before)
 
 -- The next serial is the first plus the number stored, while there is such a serial.
@@ -91,12 +92,12 @@ GoodOverTheList = (table : Table) (limit first : ℕ) (trace : List Item) → Is
 -- the list has what is held, the latest stored or used first
 abbrev pub KeepsWhatIsHeld : Type 0
 KeepsWhatIsHeld = (table : Table) (limit first : ℕ) (trace : List Item) →
-    IsGood (begun table limit first) trace → (left (begun table limit first) trace).entries ≡ held_entries limit trace
+    IsGood (begun table limit first) trace → (left (begun table limit first) trace).entries ≡ held_entries table limit trace
 
 -- and the core has the exchanges that are open
 abbrev pub KeepsWhatIsOpen : Type 0
 KeepsWhatIsOpen = (table : Table) (limit first : ℕ) (trace : List Item) →
-    IsGood (begun table limit first) trace → (left (begun table limit first) trace).exchanges ≡ open_exchanges limit trace
+    IsGood (begun table limit first) trace → (left (begun table limit first) trace).exchanges ≡ open_exchanges table limit trace
 
 -- and the next serial
 abbrev pub KeepsTheNext : Type 0

@@ -4,17 +4,17 @@
 -- NamesAtArrival: the line of the table that denies, that none allows, or the rule where only-if-cached stands
 -- NamesOnError: why nothing is sent in place of an error          NamesItsRule: of an answer that is passed on, that of its arrival
 -- NamesFirst: of an item                                          NamesFirstRules: of each item of a good trace
-use Rattle.std.specs.Prelude.{◌≡◌, ◌⊎◌, ℕ, ◌<◌, ◌≤◌, true, false, List, ◌∷◌, Option, Some, None, is_some}
+use Rattle.std.specs.Prelude.{◌≡◌, ◌⊎◌, ℕ, true, false, List, ◌∷◌, Option, Some, None, is_some}
 use Rattle.hx_directives.specs.Occurrences.{occurrences_of}
 use Rattle.hx_framing.specs.declared.responses.Response.{Response}
 use Rattle.hx_hop.specs.declared.asked_for.Asked.{Asked}
 use Rattle.hx_hop.specs.Moments.{date_text_of}
 use Rattle.hx_allow.specs.Lines.{Table}
-use Rattle.hx_allow.specs.Matching.{verdict_of}
+use Rattle.hx_allow.specs.Matching.{verdict_of, caches_of}
 use Rattle.hx_allow.specs.declared.verdicts.Verdict.TheVariants.{Allowed, DeniedBy, NoLine as Unmatched}
 use Rattle.hx_store.specs.Stored.{Stored}
 use Rattle.hx_reuse.specs.Chosen.{chosen_of}
-use Rattle.hx_reuse.specs.Words.{number_of}
+use Rattle.hx_reuse.specs.Rules.{names_entry}
 use Rattle.hx_reuse.specs.Meaning.{IsLeast}
 use Rattle.hx_reuse.specs.OnError.{IsLeastOnError}
 use Rattle.hx_reuse.specs.declared.rule.ReuseRule.{ReuseRule}
@@ -41,34 +41,34 @@ abbrev pub NamesAtArrival : Table → List Stored → ℕ → Asked → List ℕ
 NamesAtArrival table held now asked bytes =
     ((line : ℕ) × (verdict_of table.lines asked.method asked.target ≡ DeniedBy line) × (bytes ≡ refused_text (date_text_of now) (Denied line) asked.close (is_head asked)))
     ⊎ (((verdict_of table.lines asked.method asked.target ≡ Unmatched) × (bytes ≡ refused_text (date_text_of now) NoLine asked.close (is_head asked)))
-    ⊎ ((line : ℕ) × (rule : ReuseRule) × (verdict_of table.lines asked.method asked.target ≡ Allowed line) × (is_only_if_cached asked ≡ true) × IsLeast held asked now rule
+    ⊎ ((line : ℕ) × (rule : ReuseRule) × (verdict_of table.lines asked.method asked.target ≡ Allowed line) × (is_only_if_cached asked ≡ true) × IsLeast (caches_of table.lines line) held asked now rule
     × (bytes ≡ refused_text (date_text_of now) (OnlyIfCached rule) asked.close (is_head asked))))
 
 -- beside a reuse rule against the chosen response: the least rule against sending it in place of an error
 abbrev pub NamesErrorRule : List Stored → ℕ → Asked → ReuseRule → Option ErrorRule → Type 0
 NamesErrorRule held now asked rule error =
-    ((number_of rule ≤ 6) × (error ≡ None))
-    ⊎ ((6 < number_of rule) × ((response : Stored) × (least : ErrorRule) × (chosen_of held asked ≡ Some response)
+    ((names_entry rule ≡ false) × (error ≡ None))
+    ⊎ ((names_entry rule ≡ true) × ((response : Stored) × (least : ErrorRule) × (chosen_of held asked ≡ Some response)
     × IsLeastOnError response (occurrences_of asked.fields) now least × (error ≡ Some least)))
 
 -- after a failure: its kind, the least reuse rule that stands now, and that rule
-abbrev pub NamesOnError : List Stored → ℕ → Exchange → FailKind → List ℕ → Type 0
-NamesOnError held now x kind bytes =
-    (rule : ReuseRule) × (error : Option ErrorRule) × IsLeast held x.asked now rule × NamesErrorRule held now x.asked rule error
+abbrev pub NamesOnError : Table → List Stored → ℕ → Exchange → FailKind → List ℕ → Type 0
+NamesOnError table held now x kind bytes =
+    (rule : ReuseRule) × (error : Option ErrorRule) × IsLeast (caches_of table.lines x.line) held x.asked now rule × NamesErrorRule held now x.asked rule error
     × (bytes ≡ refused_text (date_text_of now) (Origin kind rule error) x.asked.close (is_head x.asked))
 
 -- an answer that is passed on: the least rule that stood at the arrival of its exchange, which it has kept, in Cache-Status
 abbrev pub NamesItsRule : Table → ℕ → List Item → ℕ → Exchange → Response → List ℕ → Option ℕ → Type 0
 NamesItsRule table limit past now x r bytes stored =
-    LeastAtItsArrival limit x past × (bytes ≡ passed_text table.name x r now (is_some stored))
+    LeastAtItsArrival table limit x past × (bytes ≡ passed_text table.name x r now (is_some stored))
 
 -- by its event and the exchange that it is of; a 304 that nobody asked for is a failure
 abbrev pub NamesByEvent : Table → ℕ → List Item → Option Exchange → Event → List ℕ → Option ℕ → Type 0
-NamesByEvent table limit past x (Arrive now id asked) bytes stored = NamesAtArrival table (held_entries limit past) now asked bytes
+NamesByEvent table limit past x (Arrive now id asked) bytes stored = NamesAtArrival table (held_entries table limit past) now asked bytes
 NamesByEvent table limit past (Some x) (Answer now id r) bytes stored =
     ((is_unasked x.asked r ≡ false) × NamesItsRule table limit past now x r bytes stored)
-    ⊎ ((is_unasked x.asked r ≡ true) × NamesOnError (held_entries limit past) now x BadAnswer bytes)
-NamesByEvent table limit past (Some x) (Fail now id kind) bytes stored = NamesOnError (held_entries limit past) now x kind bytes
+    ⊎ ((is_unasked x.asked r ≡ true) × NamesOnError table (held_entries table limit past) now x BadAnswer bytes)
+NamesByEvent table limit past (Some x) (Fail now id kind) bytes stored = NamesOnError table (held_entries table limit past) now x kind bytes
 NamesByEvent table limit past None (Answer now id r) bytes stored = ⊥
 NamesByEvent table limit past None (Fail now id kind) bytes stored = ⊥
 NamesByEvent table limit past x (Abandon id) bytes stored = ⊥
@@ -84,4 +84,4 @@ NamesFirst table limit past x event Ended = Unit {0}
 -- Each answer that isn't a stored response names the first rule against one, over what was held and open before it.
 abbrev pub NamesFirstRules : Type 0
 NamesFirstRules = (table : Table) (limit first : ℕ) (item : Item) (past : List Item) → IsGoodHistory table limit first (item ∷ past) →
-    NamesFirst table limit past (find_exchange (id_of item.event) (open_exchanges limit past)) item.event item.outcome
+    NamesFirst table limit past (find_exchange (id_of item.event) (open_exchanges table limit past)) item.event item.outcome

@@ -15,7 +15,7 @@ use Rattle.hx_hop.specs.declared.asked_for.Asked.{Asked}
 use Rattle.hx_hop.specs.Forwarding.{forwarded_of}
 use Rattle.hx_hop.specs.Moments.{date_text_of}
 use Rattle.hx_allow.specs.Lines.{Table}
-use Rattle.hx_allow.specs.Matching.{verdict_of}
+use Rattle.hx_allow.specs.Matching.{verdict_of, caches_of}
 use Rattle.hx_allow.specs.declared.verdicts.Verdict.{Verdict}
 use Rattle.hx_allow.specs.declared.verdicts.Verdict.TheVariants as verdict
 use Rattle.hx_store.specs.Stored.{Stored}
@@ -92,7 +92,7 @@ allowed table es line now asked (decision.Forward rule against) =
     unanswered table line now asked rule (condition_at es against) (is_only_if_cached asked)
 
 abbrev pub arrived : Table → List Stored → ℕ → Asked → Verdict → Outcome
-arrived table es now asked (verdict.Allowed line) = allowed table es line now asked (decision_of es asked now)
+arrived table es now asked (verdict.Allowed line) = allowed table es line now asked (decision_of (caches_of table.lines line) es asked now)
 arrived table es now asked (verdict.DeniedBy line) = refused now (Denied line) asked
 arrived table es now asked verdict.NoLine = refused now NoLine asked
 
@@ -123,7 +123,7 @@ failed table es now x kind came (Refuses rule error) = refused now (Origin kind 
 
 -- the serial under which an answer is stored, if it is
 abbrev pub stored_serial : Table → Exchange → Response → ℕ → Option ℕ → Option ℕ
-stored_serial table x r now next = cond (is_storable table.max_stored x r now next) next None
+stored_serial table x r now next = cond (is_storable table x r now next) next None
 
 -- what is held no longer, ascending: what the stored answer takes the place of, or all of an invalidated key
 abbrev pub removed_by : List Stored → Exchange → Response → Option ℕ → List ℕ
@@ -152,7 +152,7 @@ sent_refreshed table x r now e =
       close = x.asked.close;
       stored = None;
       used = Some e.serial;
-      removed = cond (is_kept table.max_stored x r e) [] (e.serial ∷ []);
+      removed = cond (is_kept table x r e) [] (e.serial ∷ []);
     })
 
 -- a 304 to the proxy's conditions sends the response that it answers, and keeps it where no storing rule stands. Where
@@ -179,9 +179,9 @@ id_of (Abandon id) = id
 -- the outcome of an event, by cases; x is the open exchange of its id
 abbrev pub outcome_of : Table → List Stored → List Exchange → Option Exchange → Option ℕ → Event → Outcome
 outcome_of table es xs x next (Arrive now id asked) = arrived table es now asked (verdict_of table.lines asked.method asked.target)
-outcome_of table es xs (Some x) next (Answer now id r) = answered table es now x r next (decision_of es x.asked now)
+outcome_of table es xs (Some x) next (Answer now id r) = answered table es now x r next (decision_of (caches_of table.lines x.line) es x.asked now)
 outcome_of table es xs None next (Answer now id r) = Ended
-outcome_of table es xs (Some x) next (Fail now id kind) = failed table es now x kind None (fallback_for es x.asked now (decision_of es x.asked now))
+outcome_of table es xs (Some x) next (Fail now id kind) = failed table es now x kind None (fallback_for es x.asked now (decision_of (caches_of table.lines x.line) es x.asked now))
 outcome_of table es xs None next (Fail now id kind) = Ended
 outcome_of table es xs x next (Abandon id) = Ended
 

@@ -5,16 +5,15 @@
 -- MayBeSentAt: what may be sent at an event                IsThatResponse: what is sent is that response
 -- IsReached, IsTurnedAway: what becomes of a request that is allowed, and of one that isn't
 -- Below them are the statements that the laws of `src/laws.rt` prove.
-use Rattle.std.specs.Prelude.{◌≡◌, ◌≢◌, ◌⊎◌, ℕ, ◌≤◌, ◌||◌, true, false, List, ◌∷◌, Option, Some, None}
+use Rattle.std.specs.Prelude.{◌≡◌, ◌≢◌, ◌⊎◌, ℕ, ◌||◌, Bool, true, false, List, ◌∷◌, Option, Some, None}
 use Rattle.hx_directives.specs.Occurrences.{occurrences_of}
 use Rattle.hx_hop.specs.declared.asked_for.Asked.{Asked}
 use Rattle.hx_allow.specs.Lines.{Table}
-use Rattle.hx_allow.specs.Matching.{verdict_of}
+use Rattle.hx_allow.specs.Matching.{verdict_of, caches_of}
 use Rattle.hx_allow.specs.declared.verdicts.Verdict.TheVariants.{Allowed, DeniedBy, NoLine as Unmatched}
 use Rattle.hx_store.specs.Stored.{Stored}
 use Rattle.hx_store.specs.Shelf.{find_entry}
-use Rattle.hx_reuse.specs.Words.{number_of}
-use Rattle.hx_reuse.specs.Rules.{stands}
+use Rattle.hx_reuse.specs.Rules.{stands, names_entry}
 use Rattle.hx_reuse.specs.Meaning.{IsChosen, IsLeast}
 use Rattle.hx_reuse.specs.Reusable.{MayBeReused}
 use Rattle.hx_reuse.specs.OnError.{MayBeSentOnError}
@@ -37,32 +36,33 @@ use Rattle.proxy_core.specs.Traces.{Item}
 use Rattle.proxy_core.specs.Histories.{held_entries, open_exchanges, IsGoodHistory}
 
 -- the serial is that of the held response that may be sent without asking the origin (RFC 9111, section 4)
-abbrev pub IsReusable : List Stored → Asked → ℕ → ℕ → Type 0
-IsReusable held asked now s = (response : Stored) × MayBeReused held asked now response × (response.serial ≡ s)
+abbrev pub IsReusable : Bool → List Stored → Asked → ℕ → ℕ → Type 0
+IsReusable caches held asked now s = (response : Stored) × MayBeReused caches held asked now response × (response.serial ≡ s)
 
--- In place of an error: the response is the chosen one, none of the six rules stands by which a request or what is held
--- has no response to send, and RFC 5861, section 4 lets it be sent.
-pub record MayBeSentInstead (held : List Stored) (asked : Asked) (now : ℕ) (response : Stored) : Type 0 where
+-- In place of an error: the operator lets the request be answered from the store, the response is the chosen one, no rule
+-- stands by which the operator, the request or what is held has no response to send, and RFC 5861, section 4 lets it be sent.
+pub record MayBeSentInstead (caches : Bool) (held : List Stored) (asked : Asked) (now : ℕ) (response : Stored) : Type 0 where
+  pub operator_allows : caches ≡ true
   pub is_chosen : IsChosen held asked response
-  pub is_for_the_cache : (rule : ReuseRule) → number_of rule ≤ 6 → stands rule held asked now ≡ false
+  pub is_for_the_cache : (rule : ReuseRule) → names_entry rule ≡ false → stands rule caches held asked now ≡ false
   pub may_be_sent : MayBeSentOnError response (occurrences_of asked.fields) now
 
 -- after a failure or an error: one that may be sent anyway, or in place of the error
-abbrev pub IsFallback : List Stored → Asked → ℕ → ℕ → Type 0
-IsFallback held asked now s =
-    IsReusable held asked now s ⊎ ((response : Stored) × MayBeSentInstead held asked now response × (response.serial ≡ s))
+abbrev pub IsFallback : Bool → List Stored → Asked → ℕ → ℕ → Type 0
+IsFallback caches held asked now s =
+    IsReusable caches held asked now s ⊎ ((response : Stored) × MayBeSentInstead caches held asked now response × (response.serial ≡ s))
 
 -- At an event, of an exchange that is open, the response of this serial may be sent: at an arrival that the table allows;
 -- at a 304 to the proxy's conditions, the one that it answers, or where it answers none one that may be sent anyway; at a
 -- 304 that nobody asked for, a 500, 502, 503 or 504, and at a failure.
 abbrev pub MayBeSentAt : Table → List Stored → Option Exchange → Event → ℕ → Type 0
 MayBeSentAt table held x (Arrive now id asked) s =
-    ((line : ℕ) × (verdict_of table.lines asked.method asked.target ≡ Allowed line)) × IsReusable held asked now s
+    (line : ℕ) × (verdict_of table.lines asked.method asked.target ≡ Allowed line) × IsReusable (caches_of table.lines line) held asked now s
 MayBeSentAt table held (Some x) (Answer now id r) s =
     ((is_validation x r ≡ true) × ((e : Stored) × (validated held x r now ≡ Some e) × (e.serial ≡ s)))
-    ⊎ (((is_validation x r ≡ true) × (validated held x r now ≡ None) × IsReusable held x.asked now s)
-    ⊎ ((is_validation x r ≡ false) × ((is_unasked x.asked r || is_error_status r.status) ≡ true) × IsFallback held x.asked now s))
-MayBeSentAt table held (Some x) (Fail now id kind) s = IsFallback held x.asked now s
+    ⊎ (((is_validation x r ≡ true) × (validated held x r now ≡ None) × IsReusable (caches_of table.lines x.line) held x.asked now s)
+    ⊎ ((is_validation x r ≡ false) × ((is_unasked x.asked r || is_error_status r.status) ≡ true) × IsFallback (caches_of table.lines x.line) held x.asked now s))
+MayBeSentAt table held (Some x) (Fail now id kind) s = IsFallback (caches_of table.lines x.line) held x.asked now s
 MayBeSentAt table held None (Answer now id r) s = ⊥
 MayBeSentAt table held None (Fail now id kind) s = ⊥
 MayBeSentAt table held x (Abandon id) s = ⊥
@@ -71,11 +71,11 @@ MayBeSentAt table held x (Abandon id) s = ⊥
 
 -- A request that is allowed reaches the cache, which sends a stored response, or the origin of that line; or it takes no
 -- response but a stored one, and is told the rule against that.
-abbrev pub IsReached : List Stored → ℕ → Asked → ℕ → Outcome → Type 0
-IsReached held now asked line outcome =
+abbrev pub IsReached : Table → List Stored → ℕ → Asked → ℕ → Outcome → Type 0
+IsReached table held now asked line outcome =
     ((s : ℕ) × (used_in outcome ≡ Some s))
     ⊎ (((bytes : List ℕ) × (outcome ≡ Forward line bytes))
-    ⊎ ((rule : ReuseRule) × (is_only_if_cached asked ≡ true) × IsLeast held asked now rule × (outcome ≡ refused now (OnlyIfCached rule) asked)))
+    ⊎ ((rule : ReuseRule) × (is_only_if_cached asked ≡ true) × IsLeast (caches_of table.lines line) held asked now rule × (outcome ≡ refused now (OnlyIfCached rule) asked)))
 
 -- any other is turned away, by the line that denies it or because none matches
 abbrev pub IsTurnedAway : Table → ℕ → Asked → Outcome → Type 0
@@ -120,32 +120,32 @@ pub record IsThatResponse (table : Table) (held : List Stored) (x : Option Excha
 -- A stored response is sent exactly where one is held that may be.
 abbrev pub SendsStoredWhereItMay : Type 0
 SendsStoredWhereItMay = (table : Table) (limit first s : ℕ) (item : Item) (past : List Item) → IsGoodHistory table limit first (item ∷ past) →
-    MayBeSentAt table (held_entries limit past) (find_exchange (id_of item.event) (open_exchanges limit past)) item.event s → used_in item.outcome ≡ Some s
+    MayBeSentAt table (held_entries table limit past) (find_exchange (id_of item.event) (open_exchanges table limit past)) item.event s → used_in item.outcome ≡ Some s
 
 abbrev pub SendsStoredNowhereElse : Type 0
 SendsStoredNowhereElse = (table : Table) (limit first s : ℕ) (item : Item) (past : List Item) → IsGoodHistory table limit first (item ∷ past) →
-    used_in item.outcome ≡ Some s → MayBeSentAt table (held_entries limit past) (find_exchange (id_of item.event) (open_exchanges limit past)) item.event s
+    used_in item.outcome ≡ Some s → MayBeSentAt table (held_entries table limit past) (find_exchange (id_of item.event) (open_exchanges table limit past)) item.event s
 
 -- A request reaches the origin of a line exactly where that is the table's first line that matches and it allows, a rule
 -- stands against a stored response, and the request takes others too.
 abbrev pub ForwardsWhereAllowed : Type 0
 ForwardsWhereAllowed = (table : Table) (limit first now id line : ℕ) (asked : Asked) (rule : ReuseRule) (item : Item) (past : List Item) →
     IsGoodHistory table limit first (item ∷ past) → item.event ≡ Arrive now id asked →
-    verdict_of table.lines asked.method asked.target ≡ Allowed line → IsLeast (held_entries limit past) asked now rule → is_only_if_cached asked ≡ false →
+    verdict_of table.lines asked.method asked.target ≡ Allowed line → IsLeast (caches_of table.lines line) (held_entries table limit past) asked now rule → is_only_if_cached asked ≡ false →
     (bytes : List ℕ) × (item.outcome ≡ Forward line bytes)
 
 abbrev pub ForwardsNowhereElse : Type 0
 ForwardsNowhereElse = (table : Table) (limit first now id line : ℕ) (asked : Asked) (bytes : List ℕ) (item : Item) (past : List Item) →
     IsGoodHistory table limit first (item ∷ past) → item.event ≡ Arrive now id asked → item.outcome ≡ Forward line bytes →
     (verdict_of table.lines asked.method asked.target ≡ Allowed line)
-    × ((rule : ReuseRule) × IsLeast (held_entries limit past) asked now rule) × (is_only_if_cached asked ≡ false)
+    × ((rule : ReuseRule) × IsLeast (caches_of table.lines line) (held_entries table limit past) asked now rule) × (is_only_if_cached asked ≡ false)
 
 -- A request that the table allows reaches the cache, which sends a stored response, or the origin of that line; or it takes
 -- no response but a stored one, and is told the rule against that.
 abbrev pub ReachesWhereAllowed : Type 0
 ReachesWhereAllowed = (table : Table) (limit first now id line : ℕ) (asked : Asked) (item : Item) (past : List Item) →
     IsGoodHistory table limit first (item ∷ past) → item.event ≡ Arrive now id asked →
-    verdict_of table.lines asked.method asked.target ≡ Allowed line → IsReached (held_entries limit past) now asked line item.outcome
+    verdict_of table.lines asked.method asked.target ≡ Allowed line → IsReached table (held_entries table limit past) now asked line item.outcome
 
 -- Any other is refused, by the line that denies it or because none matches.
 abbrev pub RefusesWhereNotAllowed : Type 0
@@ -156,4 +156,4 @@ RefusesWhereNotAllowed = (table : Table) (limit first now id : ℕ) (asked : Ask
 -- and what is sent is that response
 abbrev pub SendsWhatIsHeld : Type 0
 SendsWhatIsHeld = (table : Table) (limit first s : ℕ) (item : Item) (past : List Item) → IsGoodHistory table limit first (item ∷ past) → used_in item.outcome ≡ Some s →
-    IsThatResponse table (held_entries limit past) (find_exchange (id_of item.event) (open_exchanges limit past)) item.event item.outcome s
+    IsThatResponse table (held_entries table limit past) (find_exchange (id_of item.event) (open_exchanges table limit past)) item.event item.outcome s

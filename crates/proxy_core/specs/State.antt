@@ -8,6 +8,7 @@ use Rattle.hx_target.specs.Keys.{same_key}
 use Rattle.hx_framing.specs.declared.responses.Response.{Response}
 use Rattle.hx_hop.specs.declared.asked_for.Asked.{Asked}
 use Rattle.hx_allow.specs.Lines.{Table}
+use Rattle.hx_allow.specs.Matching.{caches_of}
 use Rattle.hx_store.specs.Stored.{Stored}
 use Rattle.hx_store.specs.Shelf.{holds, find_entry, without, in_front}
 use Rattle.hx_reuse.specs.Rules.{decision_of}
@@ -112,14 +113,14 @@ abbrev pub named_by : Decision → Option ℕ
 named_by (decision.Hit serial) = None
 named_by (decision.Forward rule against) = against
 
-abbrev pub opened : List Stored → ℕ → ℕ → Asked → ℕ → Exchange
-opened es now id asked line = record {
+abbrev pub opened : Table → List Stored → ℕ → ℕ → Asked → ℕ → Exchange
+opened table es now id asked line = record {
   id = id;
   asked = asked;
   line = line;
-  rule = rule_of (decision_of es asked now);
+  rule = rule_of (decision_of (caches_of table.lines line) es asked now);
   request_time = now;
-  condition = condition_at es (named_by (decision_of es asked now));
+  condition = condition_at es (named_by (decision_of (caches_of table.lines line) es asked now));
   overtaken = false;
 }
 
@@ -132,15 +133,15 @@ abbrev pub gone_out : ℕ → ℕ → Exchange → Exchange
 gone_out id now x = cond (x.id == id) (goes_out now x.rule None x) x
 
 -- the open exchanges after an event, in the order of arrival
-abbrev pub open_after : List Stored → List Exchange → Event → Outcome → List Exchange
-open_after es xs (Arrive now id asked) (Forward line bytes) = xs ++ opened es now id asked line ∷ []
-open_after es xs (Arrive now id asked) (Reply r) = xs
-open_after es xs (Arrive now id asked) Ended = xs
-open_after es xs (Answer now id r) (Forward line bytes) = map (gone_out id now) xs
-open_after es xs (Answer now id r) (Reply reply) = left_open (invalidated_by (find_exchange id xs) r) id xs
-open_after es xs (Answer now id r) Ended = left_open (invalidated_by (find_exchange id xs) r) id xs
-open_after es xs (Fail now id kind) outcome = closed id xs
-open_after es xs (Abandon id) outcome = closed id xs
+abbrev pub open_after : Table → List Stored → List Exchange → Event → Outcome → List Exchange
+open_after table es xs (Arrive now id asked) (Forward line bytes) = xs ++ opened table es now id asked line ∷ []
+open_after table es xs (Arrive now id asked) (Reply r) = xs
+open_after table es xs (Arrive now id asked) Ended = xs
+open_after table es xs (Answer now id r) (Forward line bytes) = map (gone_out id now) xs
+open_after table es xs (Answer now id r) (Reply reply) = left_open (invalidated_by (find_exchange id xs) r) id xs
+open_after table es xs (Answer now id r) Ended = left_open (invalidated_by (find_exchange id xs) r) id xs
+open_after table es xs (Fail now id kind) outcome = closed id xs
+open_after table es xs (Abandon id) outcome = closed id xs
 
 -- the serial after this one, if one is left
 abbrev pub next_of : ℕ → Option ℕ
@@ -155,7 +156,7 @@ after s event outcome = record {
   table = s.table;
   limit = s.limit;
   entries = entries_after s.limit s.entries (find_exchange (id_of event) s.exchanges) event outcome;
-  exchanges = open_after s.entries s.exchanges event outcome;
+  exchanges = open_after s.table s.entries s.exchanges event outcome;
   next = next_after s.next (stored_in outcome);
 }
 

@@ -16,6 +16,8 @@ use Rattle.hx_vary.specs.declared.nominations.Nomination.TheVariants.{Star, Name
 use Rattle.hx_hop.specs.Answering.{answered_of}
 use Rattle.hx_hop.specs.Stripping.{lists_cache_field}
 use Rattle.hx_hop.specs.declared.asked_for.Asked.{Asked}
+use Rattle.hx_allow.specs.Lines.{Table}
+use Rattle.hx_allow.specs.Matching.{caches_of}
 use Rattle.hx_store.specs.Stored.{Stored}
 use Rattle.hx_store.specs.Shelf.{find_entry, serials_of}
 use Rattle.hx_storable.specs.Rules.{storage_rule_of}
@@ -30,20 +32,21 @@ names_nothing Star = true
 names_nothing (Names values) = false
 
 -- what the storing rules ask of an answer beside the heads of request and answer
-abbrev pub facts_of : ℕ → Exchange → Response → ℕ → Option ℕ → Facts
-facts_of max_stored x r now next = record {
+abbrev pub facts_of : Table → Exchange → Response → ℕ → Option ℕ → Facts
+facts_of table x r now next = record {
+  operator = not (caches_of table.lines x.line);
   vary_star = is_star (answered_of r now).fields;
   listed = lists_cache_field r.fields;
   explicit = (lifetime_of (answered_of r now).fields).explicit;
   validator = has_validator (answered_of r now).fields;
-  too_large = nat_lt max_stored (length r.content);
+  too_large = nat_lt table.max_stored (length r.content);
   overtaken = x.overtaken;
   no_serial = is_none next;
 }
 
 -- no storing rule stands
-abbrev pub is_storable : ℕ → Exchange → Response → ℕ → Option ℕ → Bool
-is_storable max_stored x r now next = is_none (storage_rule_of x.asked (answered_of r now) (facts_of max_stored x r now next))
+abbrev pub is_storable : Table → Exchange → Response → ℕ → Option ℕ → Bool
+is_storable table x r now next = is_none (storage_rule_of x.asked (answered_of r now) (facts_of table x r now next))
 
 -- the stored response that an answer to an exchange makes (RFC 9111, sections 3, 3.1 and 4.2.3); its age is told anew
 -- each time that it is sent

@@ -2,7 +2,7 @@
 --
 -- condition_on, condition_at: what a request carries of a held response     is_validation: a 304 to what it carried
 -- is_answered: the 304 answers a held response     refreshed: what that becomes     is_kept: and whether it is kept
-use Rattle.std.specs.Prelude.{ℕ, ◌==◌, nat_lt, ◌&&◌, Bool, false, List, length, codes, Option, Some, None, option_map, is_some, is_none, cond}
+use Rattle.std.specs.Prelude.{ℕ, ◌==◌, nat_lt, ◌&&◌, not, Bool, false, List, length, codes, Option, Some, None, option_map, is_some, is_none, cond}
 use Rattle.std.specs.Option.{option_and_then}
 use Rattle.hx_framing.specs.declared.responses.Response.{Response}
 use Rattle.hx_age.specs.Age.{times_of}
@@ -13,6 +13,8 @@ use Rattle.hx_hop.specs.Stripping.{lists_cache_field}
 use Rattle.hx_hop.specs.declared.answered_with.Answered.{Answered}
 use Rattle.hx_hop.specs.declared.asked_for.Asked.{Asked}
 use Rattle.hx_hop.specs.declared.validators.Conditions.{Conditions}
+use Rattle.hx_allow.specs.Lines.{Table}
+use Rattle.hx_allow.specs.Matching.{caches_of}
 use Rattle.hx_store.specs.Stored.{Stored}
 use Rattle.hx_store.specs.Shelf.{find_entry}
 use Rattle.hx_storable.specs.Rules.{storage_rule_of}
@@ -76,17 +78,18 @@ abbrev pub head_of : Stored → Answered
 head_of e = record { status = e.status; fields = e.fields }
 
 -- what the storing rules ask of a freshened response: it is held already, under its serial
-abbrev pub kept_facts : ℕ → Response → Stored → Facts
-kept_facts max_stored r e = record {
+abbrev pub kept_facts : Table → Exchange → Response → Stored → Facts
+kept_facts table x r e = record {
+  operator = not (caches_of table.lines x.line);
   vary_star = is_star e.fields;
   listed = lists_cache_field r.fields;
   explicit = (lifetime_of e.fields).explicit;
   validator = has_validator e.fields;
-  too_large = nat_lt max_stored (length e.content);
+  too_large = nat_lt table.max_stored (length e.content);
   overtaken = false;
   no_serial = false;
 }
 
 -- no storing rule stands against a freshened response
-abbrev pub is_kept : ℕ → Exchange → Response → Stored → Bool
-is_kept max_stored x r e = is_none (storage_rule_of (as_get x.asked) (head_of e) (kept_facts max_stored r e))
+abbrev pub is_kept : Table → Exchange → Response → Stored → Bool
+is_kept table x r e = is_none (storage_rule_of (as_get x.asked) (head_of e) (kept_facts table x r e))

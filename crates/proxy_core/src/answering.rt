@@ -1,6 +1,7 @@
 //! The origin of an exchange answers.
 ghost use Rattle.std.specs.Prelude.{◌≡◌, ◌<◌, Some, None, IfOk, IfErr, OnErr};
 ghost use Rattle.hx_hop.specs.Answering.{answered_of};
+ghost use Rattle.hx_allow.specs.Matching.{caches_of};
 ghost use Rattle.hx_reuse.specs.Rules.{decision_of};
 ghost use Rattle.hx_vary.specs.Vary.{kept_values};
 ghost use Rattle.proxy_core.specs.Outcomes.{is_error_status, passed, passed_unless, fallback_for, answered, stored_serial};
@@ -97,7 +98,7 @@ impl<S: Shelf> Core<S> {
         answer: &OriginAnswer<'_>,
     ) -> Result<PendingReply, AllocError>
         requires { answer.now.response_time < 253_402_300_800 }
-        ensures outcome { IfOk result (λ pending. reply_of pending ≡ passed_unless self.now.table self.now.entries answer.now.response_time answer.now.exchange.now answer.now.response.now self.now.next (is_error_status answer.now.response.now.status) (fallback_for self.now.entries answer.now.exchange.now.asked answer.now.response_time (decision_of self.now.entries answer.now.exchange.now.asked answer.now.response_time))) }
+        ensures outcome { IfOk result (λ pending. reply_of pending ≡ passed_unless self.now.table self.now.entries answer.now.response_time answer.now.exchange.now answer.now.response.now self.now.next (is_error_status answer.now.response.now.status) (fallback_for self.now.entries answer.now.exchange.now.asked answer.now.response_time (decision_of (caches_of self.now.table.lines answer.now.exchange.now.line) self.now.entries answer.now.exchange.now.asked answer.now.response_time))) }
         ensures next { IfOk result (λ pending. IsNext self.now.next pending.change) }
         ensures makes { IfOk result (λ pending. Makes answer.now.exchange.now answer.now.response.now answer.now.response_time pending.change) }
     {
@@ -108,7 +109,8 @@ impl<S: Shelf> Core<S> {
         let exchange = answer.exchange;
         let asked = &exchange.asked;
         let now = answer.response_time;
-        match fallback_for(alloc, &self.shelf, asked, now)? {
+        let caches = self.config.caches(exchange.line);
+        match fallback_for(alloc, &self.shelf, asked, now, caches)? {
             Fallback::Sends(serial, detail) => {
                 let info = CacheStatusInfo::forwarded(exchange, Some(status), Some(detail));
                 self.send(alloc, serial, now, info, asked)
@@ -124,7 +126,7 @@ impl<S: Shelf> Core<S> {
         answer: &OriginAnswer<'_>,
     ) -> Result<AfterAnswer, AllocError>
         requires { answer.now.response_time < 253_402_300_800 }
-        ensures outcome { IfOk result (λ after. outcome_after answer.now.exchange.now after ≡ answered self.now.table self.now.entries answer.now.response_time answer.now.exchange.now answer.now.response.now self.now.next (decision_of self.now.entries answer.now.exchange.now.asked answer.now.response_time)) }
+        ensures outcome { IfOk result (λ after. outcome_after answer.now.exchange.now after ≡ answered self.now.table self.now.entries answer.now.response_time answer.now.exchange.now answer.now.response.now self.now.next (decision_of (caches_of self.now.table.lines answer.now.exchange.now.line) self.now.entries answer.now.exchange.now.asked answer.now.response_time)) }
         ensures leaves { IfOk result (λ after. AfterLeaves self.now.limit self.now.entries answer.now.exchange.now (Answer answer.now.response_time answer.now.exchange.now.id answer.now.response.now) after) }
         ensures fits { IfOk result (λ after. AfterFits self.now.next self.now.entries after) }
     {

@@ -1,6 +1,7 @@
 //! A request arrives.
 ghost use Rattle.std.specs.Prelude.{◌≡◌, ◌<◌, ◌++◌, ◌∷◌, [], None, IfOk, IfErr, OnOk, OnErr};
 ghost use Rattle.hx_directives.specs.Occurrences.{occurrences_of};
+ghost use Rattle.hx_allow.specs.Matching.{caches_of};
 ghost use Rattle.hx_reuse.specs.Rules.{decision_of};
 ghost use Rattle.proxy_core.specs.Outcomes.{find_exchange, refused, allowed, forward_text, is_only_if_cached};
 ghost use Rattle.proxy_core.specs.declared.event.Event.TheVariants.{Arrive};
@@ -92,12 +93,13 @@ impl<S: Shelf> Core<S> {
     ) -> Result<Outcome, AllocError>
         requires early { now < 253_402_300_800 }
         requires free { find_exchange id self.old.exchanges ≡ None }
-        ensures outcome { IfOk result (λ outcome. outcome ≡ allowed self.old.table self.old.entries line now asked.now (decision_of self.old.entries asked.now now)) }
+        ensures outcome { IfOk result (λ outcome. outcome ≡ allowed self.old.table self.old.entries line now asked.now (decision_of (caches_of self.old.table.lines line) self.old.entries asked.now now)) }
         ensures after { IfOk result (λ outcome. self.new ≡ after self.old (Arrive now id asked.now) outcome) }
         ensures unchanged { OnErr result (self.new ≡ self.old) }
     {
         let directives = Directives::of(alloc, &asked.fields)?;
-        match judge_by(alloc, &self.shelf, asked, &directives, now)? {
+        let caches = self.config.caches(line);
+        match judge_by(alloc, &self.shelf, asked, &directives, now, caches)? {
             Decision::Hit(serial) => {
                 let pending = self.send(alloc, serial, now, AS_HIT, asked)?;
                 self.shelf.promote(serial);

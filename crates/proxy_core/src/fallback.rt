@@ -1,6 +1,7 @@
 //! What is sent in place of an answer that failed (RFC 5861, section 4).
 ghost use Rattle.std.specs.Prelude.{◌≡◌, ◌<◌, Some, None, IfOk};
 ghost use Rattle.hx_directives.specs.Occurrences.{occurrences_of};
+ghost use Rattle.hx_allow.specs.Matching.{caches_of};
 ghost use Rattle.hx_reuse.specs.Rules.{decision_of};
 ghost use Rattle.proxy_core.specs.Outcomes.{error_rule_at, fallback_by, fallback_for, failed};
 ghost use Rattle.proxy_core.specs.Pending.{reply_of, IsPlain};
@@ -23,7 +24,7 @@ use std::alloc::{AllocError, Global};
 pub enum Fallback {
     /// The held response of this serial is sent, and this word tells why.
     Sends(u64, Detail),
-    /// The reuse rule that stands now, and from the seventh on the error rule.
+    /// The reuse rule that stands now, and with one on the chosen response the error rule.
     Refuses(ReuseRule, Option<ErrorRule>),
 }
 
@@ -59,11 +60,12 @@ pub(crate) fn fallback_for<S: Shelf>(
     shelf: &S,
     asked: &Asked,
     now: u64,
+    caches: bool,
 ) -> Result<Fallback, AllocError>
-    ensures { IfOk result (λ fallback. fallback ≡ fallback_for (S.entries shelf.now) asked.now now (decision_of (S.entries shelf.now) asked.now now)) }
+    ensures { IfOk result (λ fallback. fallback ≡ fallback_for (S.entries shelf.now) asked.now now (decision_of caches (S.entries shelf.now) asked.now now)) }
 {
     let directives = Directives::of(alloc, &asked.fields)?;
-    match judge_by(alloc, shelf, asked, &directives, now)? {
+    match judge_by(alloc, shelf, asked, &directives, now, caches)? {
         Decision::Hit(serial) => Ok(Fallback::Sends(serial, Detail::ReuseAfterError)),
         Decision::Forward(rule, None) => Ok(Fallback::Refuses(rule, None)),
         Decision::Forward(rule, Some(serial)) => {
@@ -84,11 +86,12 @@ impl<S: Shelf> Core<S> {
         now: u64,
     ) -> Result<PendingReply, AllocError>
         requires { now < 253_402_300_800 }
-        ensures outcome { IfOk result (λ pending. reply_of pending ≡ failed self.now.table self.now.entries now exchange.now kind came (fallback_for self.now.entries exchange.now.asked now (decision_of self.now.entries exchange.now.asked now))) }
+        ensures outcome { IfOk result (λ pending. reply_of pending ≡ failed self.now.table self.now.entries now exchange.now kind came (fallback_for self.now.entries exchange.now.asked now (decision_of (caches_of self.now.table.lines exchange.now.line) self.now.entries exchange.now.asked now))) }
         ensures plain { IfOk result (λ pending. IsPlain pending.change) }
     {
         let asked = &exchange.asked;
-        match fallback_for(alloc, &self.shelf, asked, now)? {
+        let caches = self.config.caches(exchange.line);
+        match fallback_for(alloc, &self.shelf, asked, now, caches)? {
             Fallback::Sends(serial, detail) => {
                 let info = CacheStatusInfo::forwarded(exchange, came, Some(detail));
                 self.send(alloc, serial, now, info, asked)

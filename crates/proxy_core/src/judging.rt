@@ -9,17 +9,18 @@ use hx_reuse::{Decision, decide};
 use hx_store::Shelf;
 use std::alloc::{AllocError, Global};
 
-/// Whether a held response may be sent, and which, or the first rule against it. The request's directives are
-/// handed in.
+/// Whether a held response may be sent, and which, or the first rule against it. The request's directives and the word
+/// of its line are handed in.
 pub(crate) fn judge_by<S: Shelf>(
     alloc: Global,
     shelf: &S,
     asked: &Asked,
     asked_directives: &Directives,
     now: u64,
+    caches: bool,
 ) -> Result<Decision, AllocError>
     requires { asked_directives.now ≡ occurrences_of asked.now.fields }
-    ensures { IfOk result (λ decision. decision ≡ decision_of (S.entries shelf.now) asked.now now) }
+    ensures { IfOk result (λ decision. decision ≡ decision_of caches (S.entries shelf.now) asked.now now) }
 {
     let serials = shelf.find(alloc, &asked.target.key)?;
     decide(
@@ -29,6 +30,7 @@ pub(crate) fn judge_by<S: Shelf>(
         shelf,
         serials.as_slice(),
         now,
+        caches,
     )
 }
 
@@ -38,9 +40,10 @@ pub(crate) fn judge<S: Shelf>(
     shelf: &S,
     asked: &Asked,
     now: u64,
+    caches: bool,
 ) -> Result<Decision, AllocError>
-    ensures { IfOk result (λ decision. decision ≡ decision_of (S.entries shelf.now) asked.now now) }
+    ensures { IfOk result (λ decision. decision ≡ decision_of caches (S.entries shelf.now) asked.now now) }
 {
     let directives = Directives::of(alloc, &asked.fields)?;
-    judge_by(alloc, shelf, asked, &directives, now)
+    judge_by(alloc, shelf, asked, &directives, now, caches)
 }

@@ -6,6 +6,7 @@ ghost use Rattle.proxy_core.specs.Driving.{PromisesOfADrivenCore};
 ghost use Rattle.proxy_core.specs.Headline.{EveryGoodTraceHasIt};
 ghost use Rattle.proxy_core.specs.Naming.{NamesFirstRules};
 ghost use Rattle.proxy_core.specs.Sending.{SendsStoredWhereItMay, SendsStoredNowhereElse, SendsWhatIsHeld, ForwardsWhereAllowed, ForwardsNowhereElse, ReachesWhereAllowed, RefusesWhereNotAllowed};
+ghost use Rattle.proxy_core.specs.Uncached.{StoresNothingOverIt, SendsNothingOverIt, GoesForwardOverIt};
 
 /// After a good trace an exchange is open from its arrival to its end and not else, with the request and the rule of its
 /// arrival.
@@ -76,6 +77,14 @@ pub fn a_stored_response_is_sent_where_one_may_be()
 /// arrival.
 pub fn each_answer_names_its_first_rule()
     ensures { NamesFirstRules }
+{}
+
+/// In a good trace nothing that goes over a line without cache is stored, and no request over it is answered from the store:
+/// each goes forward, and one that takes no response but a stored one is told the operator's rule.
+pub fn a_line_without_cache_touches_no_stored_response()
+    ensures stores { StoresNothingOverIt }
+    ensures sends { SendsNothingOverIt }
+    ensures forwards { GoesForwardOverIt }
 {}
 
 /// Every good trace has the headline.

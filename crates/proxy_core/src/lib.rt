@@ -41,7 +41,7 @@ pub use crate::fallback::Fallback;
 pub use crate::fault::CoreFault;
 pub use crate::laws::{
     a_core_keeps_what_is_held, a_driven_core_keeps_the_promises, a_good_trace_leaves_no_choice,
-    a_request_goes_forward_where_it_is_allowed,
+    a_line_without_cache_touches_no_stored_response, a_request_goes_forward_where_it_is_allowed,
     a_request_reaches_cache_or_origin_where_it_is_allowed,
     a_stored_response_is_sent_where_one_may_be, an_open_exchange_carries_its_arrival,
     each_answer_names_its_first_rule, every_good_trace_has_the_headline, open_from_arrival_to_end,

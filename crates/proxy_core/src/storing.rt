@@ -80,10 +80,11 @@ impl<S: Shelf> Core<S> {
         requires head { head.now ≡ answered_of answer.now.response.now answer.now.response_time }
         requires directives { directives.now ≡ occurrences_of head.now.fields }
         requires nomination { nomination.now ≡ nominated_of head.now.fields answer.now.exchange.now.asked.fields }
-        ensures { result ≡ facts_of self.now.table.max_stored answer.now.exchange.now answer.now.response.now answer.now.response_time self.now.next }
+        ensures { result ≡ facts_of self.now.table answer.now.exchange.now answer.now.response.now answer.now.response_time self.now.next }
     {
         let response = answer.response;
         Facts {
+            operator: !self.config.caches(answer.exchange.line),
             vary_star: is_star(nomination),
             listed: lists_cache_field(&response.fields),
             explicit: Lifetime::of(&head.fields, directives).explicit,
@@ -104,7 +105,7 @@ impl<S: Shelf> Core<S> {
     ) -> Result<bool, AllocError>
         requires head { head.now ≡ answered_of answer.now.response.now answer.now.response_time }
         requires nomination { nomination.now ≡ nominated_of head.now.fields answer.now.exchange.now.asked.fields }
-        ensures { IfOk result (λ is. is ≡ is_storable self.now.table.max_stored answer.now.exchange.now answer.now.response.now answer.now.response_time self.now.next) }
+        ensures { IfOk result (λ is. is ≡ is_storable self.now.table answer.now.exchange.now answer.now.response.now answer.now.response_time self.now.next) }
     {
         let asked = &answer.exchange.asked;
         let directives = Directives::of(alloc, &head.fields)?;

@@ -2,6 +2,7 @@
 ghost use Rattle.std.specs.Prelude.{◌≡◌, ◌<◌, ◌∷◌, [], None, IfOk, option_copied, cond};
 ghost use Rattle.hx_hop.specs.Answering.{answered_of};
 ghost use Rattle.hx_vary.specs.Vary.{is_star};
+ghost use Rattle.hx_allow.specs.Matching.{caches_of};
 ghost use Rattle.hx_reuse.specs.Rules.{decision_of};
 ghost use Rattle.proxy_core.specs.declared.event.Event.TheVariants.{Answer};
 ghost use Rattle.proxy_core.specs.Outcomes.{sent_refreshed, revalidated};
@@ -17,6 +18,7 @@ use crate::sending::forward_text;
 use crate::stored_reply::{CacheStatusInfo, StoredReply};
 use http::Method;
 use hx_age::{Lifetime, Times};
+use hx_allow::Config;
 use hx_directives::Directives;
 use hx_framing::Response;
 use hx_hop::{Answered, Asked, lists_cache_field};
@@ -104,19 +106,20 @@ fn head_of(alloc: Global, entry: &Entry) -> Result<Answered, AllocError>
 /// What the storing rules ask of a freshened response.
 fn kept_facts(
     alloc: Global,
-    max_stored: u64,
-    asked: &Asked,
+    config: &Config,
+    exchange: &Exchange,
     response: &Response,
     entry: &Entry,
 ) -> Result<Facts, AllocError>
-    ensures { IfOk result (λ facts. facts ≡ kept_facts max_stored response.now entry.now) }
+    ensures { IfOk result (λ facts. facts ≡ kept_facts config.now exchange.now response.now entry.now) }
 {
     Ok(Facts {
-        vary_star: is_star(alloc, asked, entry)?,
+        operator: !config.caches(exchange.line),
+        vary_star: is_star(alloc, &exchange.asked, entry)?,
         listed: lists_cache_field(&response.fields),
         explicit: Lifetime::of(&entry.fields, &entry.directives).explicit,
         validator: has_validator(&entry.fields),
-        too_large: entry.content.len() as u64 > max_stored,
+        too_large: entry.content.len() as u64 > config.max_stored(),
         overtaken: false,
         no_serial: false,
     })
@@ -135,17 +138,17 @@ fn is_star(alloc: Global, asked: &Asked, entry: &Entry) -> Result<bool, AllocErr
 /// Whether no storing rule stands against a freshened response.
 fn is_kept(
     alloc: Global,
-    max_stored: u64,
+    config: &Config,
     exchange: &Exchange,
     response: &Response,
     entry: &Entry,
 ) -> Result<bool, AllocError>
-    ensures { IfOk result (λ is. is ≡ is_kept max_stored exchange.now response.now entry.now) }
+    ensures { IfOk result (λ is. is ≡ is_kept config.now exchange.now response.now entry.now) }
 {
     let asked = as_get(alloc, &exchange.asked)?;
     let asked_directives = Directives::of(alloc, &asked.fields)?;
     let head = head_of(alloc, entry)?;
-    let facts = kept_facts(alloc, max_stored, &asked, response, entry)?;
+    let facts = kept_facts(alloc, config, exchange, response, entry)?;
     let rule = first_rule_against(&asked, &asked_directives, &head, &entry.directives, facts);
     Ok(rule.is_none())
 }
@@ -181,11 +184,11 @@ impl<S: Shelf> Core<S> {
         entry: Entry,
     ) -> Result<PendingReply, AllocError>
         ensures outcome { IfOk result (λ pending. reply_of pending ≡ sent_refreshed self.now.table answer.now.exchange.now answer.now.response.now answer.now.response_time entry) }
-        ensures change { IfOk result (λ pending. IsRefresh (is_kept self.now.table.max_stored answer.now.exchange.now answer.now.response.now entry) entry pending.change) }
+        ensures change { IfOk result (λ pending. IsRefresh (is_kept self.now.table answer.now.exchange.now answer.now.response.now entry) entry pending.change) }
     {
         let exchange = answer.exchange;
         let response = answer.response;
-        let kept = is_kept(alloc, self.config.max_stored(), exchange, response, &entry)?;
+        let kept = is_kept(alloc, &self.config, exchange, response, &entry)?;
         let removed = removed_after(alloc, entry.serial, kept)?;
         let reply = StoredReply {
             name: self.config.name(),
@@ -210,7 +213,7 @@ impl<S: Shelf> Core<S> {
         answer: &OriginAnswer<'_>,
     ) -> Result<AfterAnswer, AllocError>
         requires { answer.now.response_time < 253_402_300_800 }
-        ensures outcome { IfOk result (λ after. outcome_after answer.now.exchange.now after ≡ revalidated self.now.table self.now.entries answer.now.response_time answer.now.exchange.now answer.now.response.now (validated self.now.entries answer.now.exchange.now answer.now.response.now answer.now.response_time) (decision_of self.now.entries answer.now.exchange.now.asked answer.now.response_time)) }
+        ensures outcome { IfOk result (λ after. outcome_after answer.now.exchange.now after ≡ revalidated self.now.table self.now.entries answer.now.response_time answer.now.exchange.now answer.now.response.now (validated self.now.entries answer.now.exchange.now answer.now.response.now answer.now.response_time) (decision_of (caches_of self.now.table.lines answer.now.exchange.now.line) self.now.entries answer.now.exchange.now.asked answer.now.response_time)) }
         ensures leaves { IfOk result (λ after. AfterLeaves self.now.limit self.now.entries answer.now.exchange.now (Answer answer.now.response_time answer.now.exchange.now.id answer.now.response.now) after) }
         ensures fits { IfOk result (λ after. AfterFits self.now.next self.now.entries after) }
     {
@@ -232,13 +235,14 @@ impl<S: Shelf> Core<S> {
         alloc: Global,
         answer: &OriginAnswer<'_>,
     ) -> Result<AfterAnswer, AllocError>
-        ensures outcome { IfOk result (λ after. outcome_after answer.now.exchange.now after ≡ revalidated self.now.table self.now.entries answer.now.response_time answer.now.exchange.now answer.now.response.now None (decision_of self.now.entries answer.now.exchange.now.asked answer.now.response_time)) }
+        ensures outcome { IfOk result (λ after. outcome_after answer.now.exchange.now after ≡ revalidated self.now.table self.now.entries answer.now.response_time answer.now.exchange.now answer.now.response.now None (decision_of (caches_of self.now.table.lines answer.now.exchange.now.line) self.now.entries answer.now.exchange.now.asked answer.now.response_time)) }
         ensures plain { IfOk result IsPlainAfter }
     {
         let exchange = answer.exchange;
         let asked = &exchange.asked;
         let now = answer.response_time;
-        match judge(alloc, &self.shelf, asked, now)? {
+        let caches = self.config.caches(exchange.line);
+        match judge(alloc, &self.shelf, asked, now, caches)? {
             Decision::Hit(serial) => {
                 let came = Some(answer.response.status);
                 let detail = Some(Detail::ReuseAfter304);

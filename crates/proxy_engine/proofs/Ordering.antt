@@ -395,7 +395,7 @@ arrived_order s now i m asked o core to_head told after h inside unshut unclosed
         (orderly (with_connection base i (closing r.close)) (closing_order cs s.links core.exchanges i r.close none_now (subst (λ (xs : List Exchange). Order cs s.links xs) (sym same) passed)))
         (names_reply s (with_connection base i (closing r.close)) i (next_number s) r.bytes r.close unshut (λ shut. shut_there cs i (get_or cs i no_connection) r.close inside_now shut))
     by_outcome (outcomes.Forward line bytes) steps told_is after_is =
-        let x = opened_exchange s.core.entries now (i + 1) asked line in
+        let x = opened_exchange s.core.table s.core.entries now (i + 1) asked line in
         let more : core.exchanges ≡ s.core.exchanges ++ x ∷ [] = ap (λ (k : CoreState). k.exchanges) steps.leaves in
         let behind = after_on i to_head (came s.core.table (outcomes.Forward line bytes)) base in
         both_moved s behind after told (effects_on i (next_number s) (came s.core.table (outcomes.Forward line bytes))) after_is told_is

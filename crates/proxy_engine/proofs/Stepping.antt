@@ -5,17 +5,8 @@ use Rattle.hx_framing.specs.declared.answer.Next.TheVariants as next
 use Rattle.hx_hop.specs.declared.asked_for.Asked.{Asked}
 use Rattle.proxy_engine.specs.Admitted.{IsAdmitted}
 use Rattle.hx_allow.specs.Lines.{Table}
-use Rattle.hx_allow.specs.Matching.{verdict_of}
-use Rattle.hx_allow.specs.declared.verdicts.Verdict.{Verdict}
-use Rattle.hx_allow.specs.declared.verdicts.Verdict.TheVariants as verdict
-use Rattle.hx_reuse.specs.Rules.{decision_of}
-use Rattle.hx_reuse.specs.declared.decision.Decision.{Decision}
-use Rattle.hx_reuse.specs.declared.decision.Decision.TheVariants as decision
 use Rattle.hx_store.specs.Stored.{Stored}
-use Rattle.hx_reuse.specs.declared.rule.ReuseRule.{ReuseRule}
-use Rattle.proxy_core.specs.declared.condition.Condition.{Condition}
-use Rattle.proxy_core.specs.Validating.{condition_at}
-use Rattle.proxy_core.specs.Outcomes.{allowed, unanswered, is_only_if_cached, arrived, outcome_of, find_exchange}
+use Rattle.proxy_core.specs.Outcomes.{outcome_of, find_exchange}
 use Rattle.proxy_core.specs.declared.exchange.Exchange.{Exchange}
 use Rattle.proxy_core.specs.declared.event.Event.{Event}
 use Rattle.proxy_core.specs.Replies.{is_head}
@@ -30,43 +21,19 @@ use Rattle.hx_status.specs.declared.cause.FailKind.{FailKind}
 use Rattle.proxy_engine.specs.Look.{Look, Unknown, Quiet, Due}
 use Rattle.proxy_engine.specs.Story.{Story, link_at, with_connection, with_core}
 use Rattle.proxy_engine.specs.Due.{Abandons, Finish, Gives, Breaks, Finishes, Serves, IsDueFirst}
-use Rattle.proxy_engine.specs.Acts.{Came, Forwards, StepsOn, Finished, address_of, asks_head, came, came_at, passing, freed, effects_on, after_on, next_number}
+use Rattle.proxy_engine.specs.Acts.{Came, StepsOn, Finished, asks_head, came, came_at, passing, freed, effects_on, after_on, next_number}
 use Rattle.proxy_engine.specs.State.{LinkStands, Stands, state, finish_seen, finish_at, finish_load, link_load, Done, Failed}
-use Rattle.proxy_engine.specs.Wishes.{verdict_address, again_address, gives, IsFinishedBy, EndFault}
+use Rattle.proxy_engine.specs.Wishes.{gives, IsFinishedBy, EndFault}
 use Rattle.proxy_engine.specs.declared.happening.EngineFault.TheVariants.{OutOfMemory, Spent}
 use Rattle.proxy_engine.specs.declared.ends.Connection.{Connection}
 use Rattle.proxy_engine.specs.declared.ends.Link.{Link}
 use Rattle.proxy_engine.proofs.Parts.{both_length}
 use Rattle.proxy_engine.proofs.Changes.{changed_core}
-use Rattle.proxy_engine.proofs.Ending.{again_way}
-
-line_of_unanswered : (table : Table) (n now : ℕ) (asked : Asked) (rule : ReuseRule) (condition : Option Condition) (only : Bool) (line : ℕ) (bytes : List ℕ) → unanswered table n now asked rule condition only ≡ outcomes.Forward line bytes → n ≡ line
-line_of_unanswered table n now asked rule condition true line bytes e = absurd (cc)
-line_of_unanswered table n now asked rule condition false line bytes e = cc
-
-line_of_allowed : (table : Table) (es : List Stored) (n now : ℕ) (asked : Asked) (d : Decision) (line : ℕ) (bytes : List ℕ) → allowed table es n now asked d ≡ outcomes.Forward line bytes → n ≡ line
-line_of_allowed table es n now asked (decision.Hit serial) line bytes e = cc
-line_of_allowed table es n now asked (decision.Forward rule against) line bytes e = line_of_unanswered table n now asked rule (condition_at es against) (is_only_if_cached asked) line bytes e
-
--- a request goes forward to the origin of the line that the verdict names
-forward_address : (table : Table) (es : List Stored) (now : ℕ) (asked : Asked) (v : Verdict) (line : ℕ) (bytes : List ℕ) → arrived table es now asked v ≡ outcomes.Forward line bytes → verdict_address table v ≡ address_of table line
-forward_address table es now asked (verdict.Allowed n) line bytes e = ap (address_of table) (line_of_allowed table es n now asked (decision_of es asked now) line bytes e)
-forward_address table es now asked (verdict.DeniedBy n) line bytes e = cc
-forward_address table es now asked verdict.NoLine line bytes e = cc
-
-same_way : (address : List ℕ) (table : Table) (o : Outcome) → ((line : ℕ) (bytes : List ℕ) → o ≡ outcomes.Forward line bytes → address ≡ address_of table line) → came_at address o ≡ came table o
-same_way address table (outcomes.Reply r) h = refl
-same_way address table (outcomes.Forward line bytes) h = ap (λ a. Forwards a bytes) (h line bytes refl)
-same_way address table outcomes.Ended h = refl
-
-arrival_way : (core core1 : CoreState) (now id : ℕ) (asked : Asked) (o : Outcome) (address : List ℕ) → Steps core (events.Arrive now id asked) o core1 → address ≡ verdict_address core.table (verdict_of core.table.lines asked.method asked.target) → came_at address o ≡ came core.table o
-arrival_way core core1 now id asked o address steps e =
-    same_way address core.table o (λ line bytes f. e ∙ forward_address core.table core.entries now asked (verdict_of core.table.lines asked.method asked.target) line bytes (sym steps.outcome_is ∙ f))
 
 -- a request has arrived
 pub arrived_done : (s : Story) (cs1 cs2 : List (Option Connection)) (ks1 ks2 : List (Option Link)) (core core1 : CoreState) (first now i max_body : ℕ) (r : Request) (asked : Asked) (o : Outcome) (address : List ℕ) (to_head : Bool) (told : List Effect)
     → IsAdmitted r (Ok asked) → Steps core (events.Arrive now (i + 1) asked) o core1 → first + length ks1 < 2 ^ 64
-    → address ≡ verdict_address core.table (verdict_of core.table.lines asked.method asked.target) → max_body ≡ core.table.max_body → to_head ≡ is_head asked
+    → came_at address o ≡ came core.table o → max_body ≡ core.table.max_body → to_head ≡ is_head asked
     → told ≡ effects_on i (first + length ks1) (came_at address o)
     → ((t : Story) (k : CoreState) → k.table.max_body ≡ max_body → Stands (state cs1 ks1 k first) t → Stands (state cs2 ks2 k first) (after_on i to_head (came_at address o) t))
     → Stands (state cs1 ks1 core first) (with_connection s i (passing (next.Message r))) → Done s now (Serves i (next.Message r)) told (state cs2 ks2 core1 first)
@@ -74,7 +41,7 @@ arrived_done s cs1 cs2 ks1 ks2 core core1 first now i max_body r asked o address
     let passed = with_connection s i (passing (next.Message r)) in
     let core_is : core ≡ s.core = before.core in
     let stepped : Stands (state cs1 ks1 core1 first) (with_core passed core1) = changed_core cs1 ks1 core first core1 passed before in
-    let coming : came_at address o ≡ came s.core.table o = arrival_way core core1 now (i + 1) asked o address steps way ∙ ap (λ (k : CoreState). came k.table o) core_is in
+    let coming : came_at address o ≡ came s.core.table o = way ∙ ap (λ (k : CoreState). came k.table o) core_is in
     let links : length ks1 ≡ length s.links = both_length LinkStands ks1 s.links before.links in
     let first_is : first ≡ s.first = before.first in
     let number : first + length ks1 ≡ next_number s = omega (arith, links, first_is) in
@@ -140,29 +107,24 @@ finished_by s core core1 first now i j (Gives r) o told left steps is first_is c
 finished_by s core core1 first now i j (Breaks kind) o told left steps is first_is core_is =
     finished_steps s core core1 first now i j (events.Fail now (i + 1) kind) o (asks_head (find_exchange (i + 1) s.core.exchanges)) told steps is first_is core_is
 
--- the way of an exchange that goes forward once more
-finish_way : (core core1 : CoreState) (now id : ℕ) (f : Finish) (o : Outcome) (address : List ℕ) → is_some (find_exchange id core.exchanges) ≡ true → IsFinishedBy core now id f o core1 → address ≡ again_address core.table (find_exchange id core.exchanges) → came_at address o ≡ came core.table o
-finish_way core core1 now id f o address there steps e = same_way address core.table o (λ line bytes is. e ∙ again_way core core1 now id f o line bytes there steps is)
-
-ends_table : (core core1 : CoreState) (now id : ℕ) (f : Finish) (o : Outcome) → IsFinishedBy core now id f o core1 → core1.table ≡ core.table
+pub ends_table : (core core1 : CoreState) (now id : ℕ) (f : Finish) (o : Outcome) → IsFinishedBy core now id f o core1 → core1.table ≡ core.table
 ends_table core core1 now id (Gives r) o h = ap (λ (k : CoreState). k.table) h.leaves
 ends_table core core1 now id (Breaks kind) o h = ap (λ (k : CoreState). k.table) h.leaves
 
 -- an exchange was finished, or goes forward once more
 pub finished_done : (s : Story) (cs1 cs2 : List (Option Connection)) (ks1 ks2 : List (Option Link)) (core core1 : CoreState) (first now i j max_body : ℕ) (f : Finish) (o : Outcome) (address : List ℕ) (to_head : Bool) (told : List Effect)
-    → is_some (find_exchange (i + 1) core.exchanges) ≡ true → (gives f ≡ true → next_number s < 2 ^ 64) → IsFinishedBy core now (i + 1) f o core1 → address ≡ again_address core.table (find_exchange (i + 1) core.exchanges) → max_body ≡ core.table.max_body
+    → is_some (find_exchange (i + 1) core.exchanges) ≡ true → (gives f ≡ true → next_number s < 2 ^ 64) → IsFinishedBy core now (i + 1) f o core1 → came_at address o ≡ came core.table o → max_body ≡ core.table.max_body
     → to_head ≡ asks_head (find_exchange (i + 1) core.exchanges) → first + length ks1 ≡ next_number s → told ≡ effects.Drop (first + j) ∷ effects_on i (first + length ks1) (came_at address o) → first ≡ s.first → core ≡ s.core → i ≡ (link_at s j).connection
     → Stands (state cs1 ks1 core first) (freed s j i) → ((t : Story) (k : CoreState) → k.table.max_body ≡ max_body → Stands (state cs1 ks1 k first) t → Stands (state cs2 ks2 k first) (after_on i to_head (came_at address o) t))
     → Done s now (Finishes j f) told (state cs2 ks2 core1 first)
 finished_done s cs1 cs2 ks1 ks2 core core1 first now i j max_body f o address to_head told there left steps way most head number is first_is core_is owner gone applies =
     let behind = with_core (freed s j i) core1 in
-    let coming : came_at address o ≡ came core.table o = finish_way core core1 now (i + 1) f o address there steps way in
     let tells : told ≡ effects.Drop (first + j) ∷ effects_on i (next_number s) (came core.table o) =
-    is ∙ (ap (λ n. effects.Drop (first + j) ∷ effects_on i n (came_at address o)) number ∙ ap (λ (q : Came). effects.Drop (first + j) ∷ effects_on i (next_number s) q) coming) in
+    is ∙ (ap (λ n. effects.Drop (first + j) ∷ effects_on i n (came_at address o)) number ∙ ap (λ (q : Came). effects.Drop (first + j) ∷ effects_on i (next_number s) q) way) in
     let most_after : core1.table.max_body ≡ max_body = ap (λ (t : Table). t.max_body) (ends_table core core1 now (i + 1) f o steps) ∙ sym most in
     let stepped = applies behind core1 most_after (changed_core cs1 ks1 core first core1 (freed s j i) gone) in
     let told_way : Stands (state cs2 ks2 core1 first) (after_on i to_head (came s.core.table o) behind) =
-    subst (λ (q : Came). Stands (state cs2 ks2 core1 first) (after_on i to_head q behind)) (coming ∙ ap (λ (k : CoreState). came k.table o) core_is) stepped in
+    subst (λ (q : Came). Stands (state cs2 ks2 core1 first) (after_on i to_head q behind)) (way ∙ ap (λ (k : CoreState). came k.table o) core_is) stepped in
     let told_head : Stands (state cs2 ks2 core1 first) (after_on i (asks_head (find_exchange (i + 1) s.core.exchanges)) (came s.core.table o) behind) =
     subst (λ (b : Bool). Stands (state cs2 ks2 core1 first) (after_on i b (came s.core.table o) behind)) (head ∙ ap (λ (k : CoreState). asks_head (find_exchange (i + 1) k.exchanges)) core_is) told_way in
     let after = after_on i (asks_head (find_exchange (i + 1) s.core.exchanges)) (came s.core.table o) behind in

@@ -10,6 +10,7 @@ use Rattle.proxy_core.specs.Outcomes.{find_exchange, fault_of, fault_by}
 use Rattle.proxy_core.specs.declared.fault.CoreFault.{CoreFault}
 use Rattle.proxy_core.specs.declared.fault.CoreFault.TheVariants.{MomentTooLate, OutOfMemory}
 use Rattle.hx_hop.specs.declared.asked_for.Asked.{Asked}
+use Rattle.hx_allow.specs.Lines.{Table}
 use Rattle.hx_store.specs.Stored.{Stored}
 use Rattle.hx_target.specs.declared.keys.Key.{Key}
 use Rattle.hx_target.specs.Keys.{same_key}
@@ -268,16 +269,16 @@ wired_again links owners xs i j now here there h =
         ∙ (sym (ap is_some (find_kept (i + 1) (k + 1) xs (λ q. other (omega (arith, q))))) ∙ sym (find_before (k + 1) (closed (i + 1) xs) x (λ q. other (omega (arith, q)))))
 
 -- a request has arrived: it goes forward, or not
-pub wired_arrived : (cs cs1 cs2 : List (Option Connection)) (ks ks2 : List (Option Link)) (held : List Stored) (xs : List Exchange) (now i : ℕ) (asked : Asked) (o : Outcome) → i < length cs → links_of cs1 ≡ links_of cs → at (links_of cs) i ≡ None
-    → links_of cs2 ≡ wires_after i (length ks) o (links_of cs1) → owners_of ks2 ≡ owners_after i o (owners_of ks) → Wired (links_of cs) (owners_of ks) xs → Wired (links_of cs2) (owners_of ks2) (open_after held xs (Arrive now (i + 1) asked) o)
-wired_arrived cs cs1 cs2 ks ks2 held xs now i asked (Reply r) inside same free links owners h = wired_same _ _ _ _ xs (links ∙ same) owners h
-wired_arrived cs cs1 cs2 ks ks2 held xs now i asked (Forward line bytes) inside same free links owners h =
+pub wired_arrived : (table : Table) (cs cs1 cs2 : List (Option Connection)) (ks ks2 : List (Option Link)) (held : List Stored) (xs : List Exchange) (now i : ℕ) (asked : Asked) (o : Outcome) → i < length cs → links_of cs1 ≡ links_of cs → at (links_of cs) i ≡ None
+    → links_of cs2 ≡ wires_after i (length ks) o (links_of cs1) → owners_of ks2 ≡ owners_after i o (owners_of ks) → Wired (links_of cs) (owners_of ks) xs → Wired (links_of cs2) (owners_of ks2) (open_after table held xs (Arrive now (i + 1) asked) o)
+wired_arrived table cs cs1 cs2 ks ks2 held xs now i asked (Reply r) inside same free links owners h = wired_same _ _ _ _ xs (links ∙ same) owners h
+wired_arrived table cs cs1 cs2 ks ks2 held xs now i asked (Forward line bytes) inside same free links owners h =
     let size : length (owners_of ks) ≡ length ks = length-map ks owner_of in
     let wires : length (links_of cs) ≡ length cs = length-map cs link_of in
-    let ys = xs ++ opened held now (i + 1) asked line ∷ [] in
-    let opens = wired_opened (links_of cs) (owners_of ks) xs (opened held now (i + 1) asked line) i (omega (arith, inside, wires)) free refl h in
+    let ys = xs ++ opened table held now (i + 1) asked line ∷ [] in
+    let opens = wired_opened (links_of cs) (owners_of ks) xs (opened table held now (i + 1) asked line) i (omega (arith, inside, wires)) free refl h in
     wired_same _ _ _ _ ys (links ∙ (ap (λ (ls : List (Option ℕ)). set ls i (Some (length ks))) same ∙ ap (λ n. set (links_of cs) i (Some n)) (sym size))) owners opens
-wired_arrived cs cs1 cs2 ks ks2 held xs now i asked Ended inside same free links owners h = wired_same _ _ _ _ xs (links ∙ same) owners h
+wired_arrived table cs cs1 cs2 ks ks2 held xs now i asked Ended inside same free links owners h = wired_same _ _ _ _ xs (links ∙ same) owners h
 
 -- ---- on both sides
 

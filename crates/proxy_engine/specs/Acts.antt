@@ -2,7 +2,7 @@
 --
 -- Came: an outcome of the core, on a connection     effects_on, after_on: its effects there, and the story behind it
 -- Does: an act was done                             MayForward: an act that may need a link
-use Rattle.std.specs.Prelude.{◌≡◌, ℕ, ◌+◌, ◌<◌, ◌^◌, List, [], ◌∷◌, ◌++◌, length, Bool, true, false, ◌||◌, Option, None, Some, if◌then◌else◌, slice_set, codes, Result, Ok, Err, unwrap_or}
+use Rattle.std.specs.Prelude.{◌≤◌, ◌≡◌, ℕ, ◌+◌, ◌<◌, ◌^◌, List, [], ◌∷◌, ◌++◌, length, Bool, true, false, ◌||◌, Option, None, Some, if◌then◌else◌, slice_set, codes, Result, Ok, Err, unwrap_or}
 use Rattle.hx_framing.specs.declared.requests.Request.{Request}
 use Rattle.hx_framing.specs.declared.fault.FrameFault.TheVariants as frame
 use Rattle.hx_framing.specs.declared.answer.Next.{Next}
@@ -37,6 +37,10 @@ pub data Came : Type 0 where
 -- the address of the origin of a line
 abbrev pub address_of : Table → ℕ → List ℕ
 address_of table line = unwrap_or (origin_of table.lines line) []
+
+-- as many bytes hold the address of each line's origin
+abbrev pub HasRoomFor : Table → ℕ → Type 0
+HasRoomFor table bytes = (line : ℕ) → length (address_of table line) ≤ bytes
 
 -- an outcome, where a request goes forward to that address
 abbrev pub came_at : List ℕ → Outcome → Came

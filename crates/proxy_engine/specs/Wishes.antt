@@ -1,25 +1,19 @@
 -- What is to be done where something is due, between the readers and the core.
 --
 -- IsWish: what a client's stream asks for, read as a request or refused
--- verdict_address, again_address: the address that a verdict leads to, and that of an open exchange
 -- IsFinishedBy: the core's step that finishes an exchange     gives: it may go forward once more     EndFault: why it isn't done
-use Rattle.std.specs.Prelude.{◌≡◌, ℕ, List, [], Bool, true, false, Option, None, Some, is_some, if◌then◌else◌, Ok, Err}
+use Rattle.std.specs.Prelude.{◌≡◌, ℕ, Bool, true, false, Ok, Err}
 use Rattle.hx_framing.specs.declared.requests.Request.{Request}
 use Rattle.hx_framing.specs.declared.fault.FrameFault.{FrameFault}
 use Rattle.hx_framing.specs.declared.fault.FrameFault.TheVariants as frame
 use Rattle.hx_framing.specs.declared.answer.Next.{Next}
 use Rattle.hx_framing.specs.declared.answer.Next.TheVariants as next
-use Rattle.hx_allow.specs.Lines.{Table}
-use Rattle.hx_allow.specs.declared.verdicts.Verdict.{Verdict}
-use Rattle.hx_allow.specs.declared.verdicts.Verdict.TheVariants as verdict
 use Rattle.hx_status.specs.declared.cause.Cause.TheVariants as cause
 use Rattle.proxy_core.specs.State.{State as CoreState, Steps}
-use Rattle.proxy_core.specs.declared.exchange.Exchange.{Exchange}
 use Rattle.proxy_core.specs.declared.outcome.Outcome.{Outcome}
 use Rattle.proxy_core.specs.declared.outcome.Outcome.TheVariants as outcomes
 use Rattle.proxy_core.specs.declared.event.Event.TheVariants as events
 use Rattle.proxy_engine.specs.Admitted.{IsAdmitted}
-use Rattle.proxy_engine.specs.Acts.{address_of}
 use Rattle.proxy_engine.specs.Due.{Finish, Gives, Breaks}
 use Rattle.proxy_engine.specs.declared.happening.EngineFault.{EngineFault}
 use Rattle.proxy_engine.specs.declared.happening.EngineFault.TheVariants.{WrongNumber, NotAccepted, OutOfMemory, Spent}
@@ -52,17 +46,6 @@ IsWish next.NeedsContinue w = w ≡ wish.Continue
 IsWish (next.Message r) w = IsMessageWish r w
 IsWish (next.Refused fault) w = w ≡ wish_by fault
 IsWish next.End w = w ≡ wish.Close
-
--- the address that a verdict leads to
-abbrev pub verdict_address : Table → Verdict → List ℕ
-verdict_address table (verdict.Allowed line) = address_of table line
-verdict_address table (verdict.DeniedBy line) = []
-verdict_address table verdict.NoLine = []
-
--- the address to which an open exchange may go forward once more: it does so only behind the proxy's own conditions
-abbrev pub again_address : Table → Option Exchange → List ℕ
-again_address table None = []
-again_address table (Some x) = if is_some x.condition then address_of table x.line else []
 
 -- the core's step that finishes the exchange of an id
 abbrev pub IsFinishedBy : CoreState → ℕ → ℕ → Finish → Outcome → CoreState → Type 0

@@ -1,5 +1,5 @@
 //! An exchange ends: its origin has answered or failed, or its client is gone.
-ghost use Rattle.std.specs.Prelude.{◌≡◌, ℕ, ◌+◌, ◌<◌, ◌≤◌, ◌^◌, nat_le, List, length, true, false, Some, is_some, IfOk, IfErr, OnOk, OnErr, slice_index_or};
+ghost use Rattle.std.specs.Prelude.{◌≡◌, ℕ, ◌+◌, ◌<◌, ◌≤◌, ◌^◌, nat_le, List, [], length, vec_len, vec_capacity, true, false, Some, is_some, IfOk, IfErr, OnOk, OnErr, slice_index_or};
 ghost use Rattle.hx_framing.specs.declared.responses.Response.{Response as Told};
 ghost use Rattle.hx_framing.specs.declared.answer.Next.{Next as Answer};
 ghost use Rattle.proxy_core.specs.declared.event.Event.TheVariants.{Fail};
@@ -9,19 +9,18 @@ ghost use Rattle.proxy_engine.specs.Due.{Abandons, Finish, Finishes, kind_of, Is
 ghost use Rattle.proxy_engine.specs.State.{Stands, finish_at, gone_at, NoneLost, load_at, Done, Failed};
 ghost use Rattle.proxy_core.specs.Outcomes.{find_exchange};
 ghost use Rattle.proxy_engine.specs.Wiring.{at, links_of};
-ghost use Rattle.proxy_engine.specs.Acts.{asks_head};
-ghost use Rattle.proxy_engine.specs.Wishes.{IsFinishedBy, gives, EndFault, again_address};
+ghost use Rattle.proxy_engine.specs.Acts.{asks_head, HasRoomFor};
+ghost use Rattle.proxy_engine.specs.Wishes.{IsFinishedBy, gives, EndFault};
 ghost use Rattle.proxy_engine.specs.declared.ends.Connection.{Connection};
 
 use crate::ends::Link;
 use crate::engine::Engine;
 use crate::happening::EngineFault;
-use crate::outcomes::{Way, free, free_lost, lacks_memory, put, room, way_to};
-use hx_allow::Config;
+use crate::outcomes::{Way, free, free_lost, lacks_memory, put, room};
 use hx_framing::{FrameFault, Next};
 use hx_status::FailKind;
 use hx_store::Shelf;
-use proxy_core::{Core, Exchange, Outcome};
+use proxy_core::{Core, Outcome};
 use proxy_script::Effect;
 use std::alloc::{AllocError, Global};
 
@@ -36,34 +35,18 @@ fn kind_of(fault: FrameFault) -> FailKind
     }
 }
 
-/// The address to which an open exchange may go forward once more, behind an answer to the proxy's own conditions.
-fn address_again<'a>(config: &'a Config, exchange: &Exchange) -> &'a str
-    ensures { result.now ≡ again_address config.now (Some exchange.now) }
-{
-    if exchange.condition.is_some() {
-        config.origin(exchange.line)
-    } else {
-        ""
-    }
-}
-
 /// How the request of an open exchange goes forward once more, if it does.
 fn way_again<S: Shelf>(core: &Core<S>, alloc: Global, id: u64) -> Result<Way, AllocError>
     requires { is_some (find_exchange id core.now.exchanges) ≡ true }
-    ensures address { IfOk result (λ way. way.address ≡ again_address core.now.table (find_exchange id core.now.exchanges)) }
+    ensures empty { IfOk result (λ way. (way.address.items ≡ []) × (vec_len way.address ≡ 0)) }
+    ensures room { IfOk result (λ way. HasRoomFor core.now.table (vec_capacity way.address)) }
     ensures max_body { IfOk result (λ way. way.max_body ≡ core.now.table.max_body) }
     ensures to_head { IfOk result (λ way. way.to_head ≡ asks_head (find_exchange id core.now.exchanges)) }
 {
     let Some(exchange) = core.exchange(id) else {
         unreachable!()
     };
-    let config = core.config();
-    way_to(
-        alloc,
-        address_again(config, exchange),
-        config,
-        &exchange.asked,
-    )
+    Way::new(alloc, core.config(), &exchange.asked)
 }
 
 /// The origin failed.
@@ -178,8 +161,9 @@ impl<S: Shelf> Engine<S> {
         let i = self.ends.links.at(j).connection;
         let count = self.ends.connections.len();
         prove!(i < count);
-        let way = way_again(&self.core, alloc, i + 1)?;
+        let mut way = way_again(&self.core, alloc, i + 1)?;
         let outcome = end(self.ends.links.at(j), &mut self.core, alloc, now, i + 1)?;
+        way.set_address(self.core.config(), &outcome);
         free(&mut self.ends.connections, &mut self.ends.links, j, i);
         put(&mut effects, Effect::Drop(self.ends.number_at(j)));
         self.ends.carry_out(&mut effects, alloc, i, way, outcome);

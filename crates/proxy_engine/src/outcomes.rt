@@ -3,7 +3,7 @@ ghost use Rattle.std.specs.Prelude.{◌≡◌, ℕ, ◌+◌, ◌<◌, ◌≤◌,
 ghost use Rattle.proxy_core.specs.Replies.{is_head};
 ghost use Rattle.proxy_core.specs.State.{State as CoreState};
 ghost use Rattle.proxy_engine.specs.Story.{Story, ConnStory, with_connection};
-ghost use Rattle.proxy_engine.specs.Acts.{closing, linked, came_at, effects_on, after_on, freed, with_opened};
+ghost use Rattle.proxy_engine.specs.Acts.{closing, linked, came_at, came, HasRoomFor, effects_on, after_on, freed, with_opened};
 ghost use Rattle.proxy_engine.specs.Acts.Came.{Replies};
 ghost use Rattle.proxy_engine.specs.Wiring.{links_of, owners_of, wires_after, owners_after};
 ghost use Rattle.proxy_engine.specs.Wishes.{goes_forward};
@@ -112,31 +112,45 @@ fn is_head(asked: &Asked) -> bool
     asked.method.as_str().as_bytes() == b"HEAD".as_slice()
 }
 
-/// How a request goes forward, if it does: to which address, and what its link reads.
+/// Where a request goes, if it goes forward, and what its link reads. Room for the address is made before the core's step, whose
+/// outcome names the line.
 #[derive(Drop)]
 pub(crate) struct Way {
-    pub(crate) address: Bytes,
+    pub(crate) address: Vec<u8>,
     /// The most bytes of the answer's content.
     pub(crate) max_body: u64,
     pub(crate) to_head: bool,
 }
 
-/// The way of a request to an address.
-pub(crate) fn way_to(
-    alloc: Global,
-    address: &str,
-    config: &Config,
-    asked: &Asked,
-) -> Result<Way, AllocError>
-    ensures address { IfOk result (λ way. way.address ≡ address.now) }
-    ensures max_body { IfOk result (λ way. way.max_body ≡ config.now.max_body) }
-    ensures to_head { IfOk result (λ way. way.to_head ≡ is_head asked.now) }
-{
-    Ok(Way {
-        address: Bytes::copy_of(alloc, address.as_bytes())?,
-        max_body: config.max_body(),
-        to_head: is_head(asked),
-    })
+impl Way {
+    /// With room for the address of each line's origin.
+    pub(crate) fn new(alloc: Global, config: &Config, asked: &Asked) -> Result<Way, AllocError>
+        ensures empty { IfOk result (λ way. (way.address.items ≡ []) × (vec_len way.address ≡ 0)) }
+        ensures room { IfOk result (λ way. HasRoomFor config.now (vec_capacity way.address)) }
+        ensures max_body { IfOk result (λ way. way.max_body ≡ config.now.max_body) }
+        ensures to_head { IfOk result (λ way. way.to_head ≡ is_head asked.now) }
+    {
+        Ok(Way {
+            address: Vec::with_capacity(alloc, config.longest_origin())?,
+            max_body: config.max_body(),
+            to_head: is_head(asked),
+        })
+    }
+
+    /// Puts down the address of the line that an outcome names, if it names one. No memory is taken.
+    pub(crate) fn set_address(&mut self, config: &Config, outcome: &Outcome)
+        requires empty { (self.old.address.items ≡ []) × (vec_len self.old.address ≡ 0) }
+        requires room { HasRoomFor config.now (vec_capacity self.old.address) }
+        ensures came { came_at self.new.address.items outcome.now ≡ came config.now outcome.now }
+        ensures max_body { self.new.max_body ≡ self.old.max_body }
+        ensures to_head { self.new.to_head ≡ self.old.to_head }
+    {
+        if let Outcome::Forward(line, _) = outcome {
+            let _ = self
+                .address
+                .extend_from_slice(config.origin(*line).as_bytes());
+        }
+    }
 }
 
 /// The exchange of a link is over, and its connection goes on.
@@ -198,9 +212,9 @@ impl Ends {
         requires room_for_link { self.old.links.has_room ≡ true }
         requires room { vec_len effects.old + 2 ≤ vec_capacity effects.old }
         requires left { goes_forward outcome ≡ true → self.old.first_link + length self.old.links.items < 2 ^ 64 }
-        ensures effects { effects.new.items ≡ effects.old.items ++ effects_on i (self.old.first_link + length self.old.links.items) (came_at way.address outcome) }
+        ensures effects { effects.new.items ≡ effects.old.items ++ effects_on i (self.old.first_link + length self.old.links.items) (came_at way.address.items outcome) }
         ensures stands { (s : Story) → (core : CoreState) → core.table.max_body ≡ way.max_body → Stands (state_of self.old core) s
-            → Stands (state_of self.new core) (after_on i way.to_head (came_at way.address outcome) s) }
+            → Stands (state_of self.new core) (after_on i way.to_head (came_at way.address.items outcome) s) }
         ensures first { self.new.first_link ≡ self.old.first_link }
         ensures links { links_of self.new.connections.items ≡ wires_after i (length self.old.links.items) outcome (links_of self.old.connections.items) }
         ensures owners { owners_of self.new.links.items ≡ owners_after i outcome (owners_of self.old.links.items) }
@@ -224,7 +238,8 @@ impl Ends {
                     way.to_head,
                     i,
                 );
-                put(effects, Effect::Forward(number, way.address, bytes));
+                let address = Bytes::from_vec(way.address);
+                put(effects, Effect::Forward(number, address, bytes));
             }
             Outcome::Ended => {}
         }

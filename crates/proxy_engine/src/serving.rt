@@ -4,7 +4,6 @@ ghost use Rattle.hx_framing.specs.declared.requests.Request.{Request};
 ghost use Rattle.hx_framing.specs.declared.answer.Next.{Next};
 ghost use Rattle.hx_framing.specs.declared.answer.Next.TheVariants as next;
 ghost use Rattle.proxy_engine.specs.Admitted.{IsAdmitted};
-ghost use Rattle.hx_allow.specs.Matching.{verdict_of};
 ghost use Rattle.hx_hop.specs.Moments.{date_text_of};
 ghost use Rattle.proxy_core.specs.Replies.{refused_text, is_head};
 ghost use Rattle.proxy_core.specs.State.{State as CoreState};
@@ -13,7 +12,7 @@ ghost use Rattle.proxy_engine.specs.Story.{Story};
 ghost use Rattle.proxy_engine.specs.Due.{Serves, IsDueFirst};
 ghost use Rattle.proxy_engine.specs.State.{Stands, state, wish_at, is_free, connection_load, load_at, Done, Failed};
 ghost use Rattle.proxy_engine.specs.Wiring.{links_of};
-ghost use Rattle.proxy_engine.specs.Wishes.{verdict_address, IsWish};
+ghost use Rattle.proxy_engine.specs.Wishes.{IsWish};
 ghost use Rattle.proxy_engine.specs.declared.ends.Connection.{Connection};
 ghost use Rattle.proxy_engine.specs.declared.ends.Link.{Link};
 
@@ -21,9 +20,8 @@ use crate::connections::Connections;
 use crate::engine::Engine;
 use crate::happening::EngineFault;
 use crate::marks;
-use crate::outcomes::{Way, lacks_memory, put, room, send_reply, way_to};
+use crate::outcomes::{Way, lacks_memory, put, room, send_reply};
 use crate::wishes::{Wish, wish_of};
-use hx_allow::{Config, Verdict};
 use hx_fields::Bytes;
 use hx_hop::Asked;
 use hx_status::Cause;
@@ -102,26 +100,6 @@ fn shut(connections: &mut Connections, alloc: Global, i: u64) -> Result<Vec<Effe
     Ok(effects)
 }
 
-/// The address to which a request goes forward, if the table allows it.
-fn address_for<'a>(config: &'a Config, asked: &Asked) -> &'a str
-    ensures { result.now ≡ verdict_address config.now (verdict_of config.now.lines asked.now.method asked.now.target) }
-{
-    match config.judge(&asked.method, &asked.target) {
-        Verdict::Allowed(line) => config.origin(line),
-        Verdict::DeniedBy(_) => "",
-        Verdict::NoLine => "",
-    }
-}
-
-/// How a request goes forward, if it does.
-fn way_for(alloc: Global, config: &Config, asked: &Asked) -> Result<Way, AllocError>
-    ensures address { IfOk result (λ way. way.address ≡ verdict_address config.now (verdict_of config.now.lines asked.now.method asked.now.target)) }
-    ensures max_body { IfOk result (λ way. way.max_body ≡ config.now.max_body) }
-    ensures to_head { IfOk result (λ way. way.to_head ≡ is_head asked.now) }
-{
-    way_to(alloc, address_for(config, asked), config, asked)
-}
-
 impl<S: Shelf> Engine<S> {
     /// A request arrives at the core, where a link number is left for it. All that can fail comes before the core's step, or is
     /// that step.
@@ -143,13 +121,14 @@ impl<S: Shelf> Engine<S> {
     {
         let mut effects = room(alloc)?;
         self.ends.links.reserve_one(alloc)?;
-        let way = way_for(alloc, self.core.config(), asked)?;
+        let mut way = Way::new(alloc, self.core.config(), asked)?;
         let count = self.ends.connections.len();
         prove!(i < count);
         let outcome = match self.core.arrive(alloc, now, i + 1, asked) {
             Ok(outcome) => outcome,
             Err(fault) => return Err(lacks_memory(fault)),
         };
+        way.set_address(self.core.config(), &outcome);
         marks::pass_at(&mut self.ends.connections, i);
         self.ends.carry_out(&mut effects, alloc, i, way, outcome);
         Ok(effects)

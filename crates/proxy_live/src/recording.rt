@@ -74,19 +74,6 @@ fn note<W: Write + Drop>(
     true
 }
 
-/// Records that an end is lost, which is taken in any case.
-fn note_loss<W: Write + Drop>(
-    record: &mut Option<Recorder<W>>,
-    fault: &mut Option<RecordFault>,
-    now: u64,
-    end: End,
-    kind: FailKind,
-) {
-    if let Some(happening) = loss(end, kind) {
-        let _ = note(record, fault, now, happening);
-    }
-}
-
 impl<K: Sockets + Drop, W: Write + Drop> Recording<K, W> {
     pub fn new(sockets: K, record: Option<Recorder<W>>) -> Recording<K, W> {
         Recording {
@@ -169,6 +156,27 @@ impl<K: Sockets + Drop, W: Write + Drop> Recording<K, W> {
             _ => false,
         }
     }
+
+    /// Passes on what a call answered. One that failed is counted, and its end recorded as lost, which is taken in any case.
+    fn pass_on(
+        &mut self,
+        done: Result<(), SocketFailed>,
+        end: End,
+        kind: FailKind,
+    ) -> Result<(), SocketFailed>
+        ensures value { result ≡ done }
+        ensures accepts { self.new.accepts ≡ self.old.accepts }
+        ensures reads { self.new.reads ≡ self.old.reads }
+        ensures failures { IsRise self.old.failures self.new.failures (failed done) }
+    {
+        if done.is_err() {
+            self.failures = self.failures.saturating_add(1);
+            if let Some(happening) = loss(end, kind) {
+                let _ = note(&mut self.record, &mut self.fault, self.now, happening);
+            }
+        }
+        done
+    }
 }
 
 impl<K: Sockets + Drop, W: Write + Drop> Sockets for Recording<K, W> {
@@ -221,46 +229,16 @@ impl<K: Sockets + Drop, W: Write + Drop> Sockets for Recording<K, W> {
 
     fn write(&mut self, end: End, bytes: &[u8]) -> Result<(), SocketFailed> {
         let written = self.sockets.write(end, bytes);
-        if written.is_err() {
-            self.failures = self.failures.saturating_add(1);
-            note_loss(
-                &mut self.record,
-                &mut self.fault,
-                self.now,
-                end,
-                FailKind::Closed,
-            );
-        }
-        written
+        self.pass_on(written, end, FailKind::Closed)
     }
 
     fn connect(&mut self, link: u64, address: &[u8]) -> Result<(), SocketFailed> {
         let connected = self.sockets.connect(link, address);
-        if connected.is_err() {
-            self.failures = self.failures.saturating_add(1);
-            note_loss(
-                &mut self.record,
-                &mut self.fault,
-                self.now,
-                End::Link(link),
-                FailKind::Refused,
-            );
-        }
-        connected
+        self.pass_on(connected, End::Link(link), FailKind::Refused)
     }
 
     fn shut(&mut self, end: End) -> Result<(), SocketFailed> {
         let shut = self.sockets.shut(end);
-        if shut.is_err() {
-            self.failures = self.failures.saturating_add(1);
-            note_loss(
-                &mut self.record,
-                &mut self.fault,
-                self.now,
-                end,
-                FailKind::Closed,
-            );
-        }
-        shut
+        self.pass_on(shut, end, FailKind::Closed)
     }
 }

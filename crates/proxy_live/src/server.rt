@@ -1,6 +1,7 @@
 //! A server: a wait, what failed or was silent since the last turn, and a turn, again and again.
-ghost use Rattle.std.specs.Prelude.{◌≡◌, ◌<◌, [], IfOk};
-ghost use Rattle.proxy_turn.specs.Served.{HasLived, IsServing};
+ghost use Rattle.std.specs.Prelude.{◌≡◌, ◌<◌, [], Some, IfOk};
+ghost use Rattle.proxy_engine.specs.State.{Stands, begun};
+ghost use Rattle.proxy_turn.specs.Served.{HasLived, IsServing, GoesOn};
 
 use crate::live_sockets::LiveSockets;
 use crate::recorder::{RecordFault, Recorder};
@@ -88,16 +89,17 @@ impl<'a, S: Shelf + Drop, R: Net, W: Write + Drop> Server<'a, S, R, W> {
         config: Config,
         shelf: S,
         sockets: LiveSockets<'a, R>,
-        record: Option<Recorder<W>>,
+        recorder: Option<Recorder<W>>,
     ) -> Server<'a, S, R, W>
         requires { S.entries shelf ≡ [] }
-        ensures { result.core.table ≡ config }
+        ensures table { result.core.table ≡ config }
+        ensures begins { Stands result (begun (record { table = config; limit = S.limit shelf; entries = []; exchanges = []; next = Some 1 }) 1) }
     {
         engines_live_on();
         Server {
             alloc,
             engine: Engine::new(alloc, config, shelf, 1, 1),
-            ends: Recording::new(sockets, record),
+            ends: Recording::new(sockets, recorder),
             busy: true,
             settled: true,
             sweeping: false,
@@ -111,9 +113,11 @@ impl<'a, S: Shelf + Drop, R: Net, W: Write + Drop> Server<'a, S, R, W> {
 
     /// Waits until something is ready, for a second at most, and serves a turn.
     ///
-    /// After it, also after an `Err`, the steps of the engine's core are a good run by its table, with the headline.
+    /// After it, also after an `Err`, what the engine had lived through has gone on, and the steps of its core are a good run by
+    /// its table, with the headline.
     pub fn serve_turn<C: Clock>(&mut self, clock: &C) -> Result<(), ServeFault>
-        ensures { IsServing self.new }
+        ensures goes_on { GoesOn self.old self.new }
+        ensures serves { IsServing self.new }
     {
         engines_live_on();
         let served = self.serve_next(clock);
@@ -122,7 +126,10 @@ impl<'a, S: Shelf + Drop, R: Net, W: Write + Drop> Server<'a, S, R, W> {
     }
 
     /// Waits, and serves a turn.
-    fn serve_next<C: Clock>(&mut self, clock: &C) -> Result<(), ServeFault> {
+    fn serve_next<C: Clock>(&mut self, clock: &C) -> Result<(), ServeFault>
+        ensures { GoesOn self.old self.new }
+    {
+        engines_live_on();
         if self.ends.sockets.wait(self.busy).is_err() {
             return Err(ServeFault::Socket);
         }
@@ -134,6 +141,7 @@ impl<'a, S: Shelf + Drop, R: Net, W: Write + Drop> Server<'a, S, R, W> {
     /// Serves a turn at a second of the clock that never goes back, and a moment.
     fn serve_at(&mut self, second: u64, now: u64) -> Result<(), ServeFault>
         requires { now < 253402300800 }
+        ensures { GoesOn self.old self.new }
     {
         engines_live_on();
         if self.ends.sockets.refresh(second) {
@@ -144,19 +152,30 @@ impl<'a, S: Shelf + Drop, R: Net, W: Write + Drop> Server<'a, S, R, W> {
             self.sweeping = true;
         }
         let now = self.ends.begin(now, self.settled).min(LATEST);
-        self.hand_in_lost();
-        if self.sweeping {
-            self.hand_in_silent();
-        }
-        let told = turn(&mut self.engine, &mut self.ends, self.alloc, now);
+        let told = self.turn_at(now);
         if let Some(fault) = self.ends.fault() {
             return Err(ServeFault::Record(fault));
         }
         self.look_ahead(told)
     }
 
+    /// Hands in what happened since the last turn, and then takes one at a moment.
+    fn turn_at(&mut self, now: u64) -> Result<Report, TurnFault>
+        requires { now < 253402300800 }
+        ensures { GoesOn self.old self.new }
+    {
+        engines_live_on();
+        self.hand_in_lost();
+        if self.sweeping {
+            self.hand_in_silent();
+        }
+        turn(&mut self.engine, &mut self.ends, self.alloc, now)
+    }
+
     /// Whether the next turn has to wait, by what this one told.
-    fn look_ahead(&mut self, told: Result<Report, TurnFault>) -> Result<(), ServeFault> {
+    fn look_ahead(&mut self, told: Result<Report, TurnFault>) -> Result<(), ServeFault>
+        ensures { self.new ≡ self.old }
+    {
         match told {
             Ok(report) => {
                 let freed = report.works > 0 || report.faults > 0;
@@ -180,7 +199,9 @@ impl<'a, S: Shelf + Drop, R: Net, W: Write + Drop> Server<'a, S, R, W> {
     }
 
     /// The engine takes that an end is lost.
-    fn lose(&mut self, end: End, kind: FailKind) {
+    fn lose(&mut self, end: End, kind: FailKind)
+        ensures { GoesOn self.old self.new }
+    {
         engines_live_on();
         if let Some(happening) = loss(end, kind) {
             if self.ends.note_between(happening) {
@@ -191,7 +212,10 @@ impl<'a, S: Shelf + Drop, R: Net, W: Write + Drop> Server<'a, S, R, W> {
     }
 
     /// Hands in the ends that failed since the last turn.
-    fn hand_in_lost(&mut self) {
+    fn hand_in_lost(&mut self)
+        ensures { GoesOn self.old self.new }
+    {
+        engines_live_on();
         for _ in 0..self.ends.sockets.lost_count() {
             if !self.ends.may_happen() {
                 return;
@@ -203,7 +227,10 @@ impl<'a, S: Shelf + Drop, R: Net, W: Write + Drop> Server<'a, S, R, W> {
     }
 
     /// Hands in the ends that were silent for too long: links as timed out, clients without an exchange as gone.
-    fn hand_in_silent(&mut self) {
+    fn hand_in_silent(&mut self)
+        ensures { GoesOn self.old self.new }
+    {
+        engines_live_on();
         // Where there is no memory for the list, they are looked for again.
         let Ok(ends) = self.engine.readable_ends(self.alloc) else {
             return;

@@ -4,8 +4,9 @@ use hx_allow::ConfigFault;
 use proxy_live::{RecordFault, ServeFault};
 use proxy_server::ReplayFault;
 use std::alloc::AllocError;
-use std::fmt;
 use std::fmt::Formatter;
+use std::io::ErrorKind;
+use std::{fmt, io};
 
 /// Why the program ends early.
 #[derive(Drop)]
@@ -24,6 +25,15 @@ pub(crate) enum Fault {
     Spent,
     /// Memory ran out.
     NoMemory,
+}
+
+/// What a call of the system that failed is told as: want of memory for what it is, else as this fault.
+pub(crate) fn fault_of(error: &io::Error, other: Fault) -> Fault {
+    if error.kind() == ErrorKind::OutOfMemory {
+        Fault::NoMemory
+    } else {
+        other
+    }
 }
 
 impl From<ConfigFault> for Fault {

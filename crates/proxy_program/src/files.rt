@@ -1,7 +1,7 @@
 //! The operator's table, from its file.
 
-use crate::fault::Fault;
-use std::io::{ErrorKind, Read};
+use crate::fault::{Fault, fault_of};
+use std::io::Read;
 use std::rt::Files;
 use std::{fs, io};
 
@@ -18,7 +18,6 @@ fn read_some<R: Files + AllocGlobal>(rt: &R, path: &str) -> io::Result<Vec<u8>> 
 pub(crate) fn read_table<R: Files + AllocGlobal>(rt: &R, path: &str) -> Result<Vec<u8>, Fault> {
     match read_some(rt, path) {
         Ok(text) => Ok(text),
-        Err(e) if e.kind() == ErrorKind::OutOfMemory => Err(Fault::NoMemory),
-        Err(_) => Err(Fault::Read),
+        Err(e) => Err(fault_of(&e, Fault::Read)),
     }
 }

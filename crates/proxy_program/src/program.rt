@@ -1,7 +1,7 @@
 //! What the command line asks for, done.
 
 use crate::command_line::{Form, form_of, read};
-use crate::fault::Fault;
+use crate::fault::{Fault, fault_of};
 use crate::files::read_table;
 use crate::serving::serve;
 use clap::Error;
@@ -57,10 +57,10 @@ where
 
 /// The words of the command line.
 fn words<R: Env + AllocGlobal>(rt: &R) -> Result<Vec<String>, Fault> {
-    let Ok(args) = env::args(rt) else {
-        return Err(Fault::Usage);
-    };
-    Ok(args.collect(rt.alloc())?)
+    match env::args(rt) {
+        Ok(args) => Ok(args.collect(rt.alloc())?),
+        Err(e) => Err(fault_of(&e, Fault::Usage)),
+    }
 }
 
 fn run_or_fail<R>(rt: &R) -> Result<ExitCode, Fault>

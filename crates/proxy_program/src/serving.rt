@@ -1,7 +1,7 @@
 //! Serving: the table, the listener and the record, and then turn after turn.
 
 use crate::command_line::Service;
-use crate::fault::Fault;
+use crate::fault::{Fault, fault_of};
 use crate::files::read_table;
 use hx_allow::Config;
 use hx_store::ListShelf;
@@ -21,7 +21,7 @@ fn record_of<R: Files + AllocGlobal>(
     };
     match fs::create(rt, path) {
         Ok(file) => Ok(Some(Recorder::begin(rt.alloc(), file, table)?)),
-        Err(_) => Err(Fault::Write),
+        Err(e) => Err(fault_of(&e, Fault::Write)),
     }
 }
 
@@ -44,8 +44,9 @@ pub(crate) fn serve<R: Net + Clock + Files + Eprint + AllocGlobal>(
 ) -> Result<(), Fault> {
     let table = read_table(rt, service.table)?;
     let config = Config::read(rt.alloc(), table.as_slice())?;
-    let Ok(sockets) = LiveSockets::bind(rt, rt.alloc(), service.listen, service.silence) else {
-        return Err(Fault::Socket);
+    let sockets = match LiveSockets::bind(rt, rt.alloc(), service.listen, service.silence) {
+        Ok(sockets) => sockets,
+        Err(e) => return Err(fault_of(&e, Fault::Socket)),
     };
     let record = record_of(rt, service.record, table.as_slice())?;
     announce(rt, &sockets)?;

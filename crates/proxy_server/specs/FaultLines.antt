@@ -2,7 +2,7 @@
 use Rattle.std.specs.Prelude.{ℕ, List, ◌++◌, map, ◌&&◌, nat_le, if◌then◌else◌, codes, decimal}
 use Rattle.hx_allow.specs.Keys.{key_text}
 use Rattle.hx_allow.specs.declared.faults.ConfigFault.{ConfigFault}
-use Rattle.hx_allow.specs.declared.faults.ConfigFault.TheVariants.{NotToml, UnknownKey, BadName, BadNumber, BadHost, BadMethod, BadPath, BadOrigin, NoLines, OutOfMemory}
+use Rattle.hx_allow.specs.declared.faults.ConfigFault.TheVariants.{NotToml, UnknownKey, BadName, BadNumber, BadHost, BadMethod, BadPath, BadOrigin, NoLines, OutOfMemory, BadCache}
 use Rattle.proxy_engine.specs.declared.happening.EngineFault.{EngineFault}
 use Rattle.proxy_engine.specs.declared.happening.EngineFault.TheVariants as engine
 use Rattle.proxy_server.specs.declared.faults.ReplayFault.{ReplayFault}
@@ -27,6 +27,7 @@ config_line (BadPath line) = codes "config fault 7 line " ++ decimal line
 config_line (BadOrigin line) = codes "config fault 8 line " ++ decimal line
 config_line NoLines = codes "config fault 9"
 config_line OutOfMemory = codes "no memory"
+config_line (BadCache line) = codes "config fault 11 line " ++ decimal line
 
 -- an engine's fault; want of memory isn't named as one
 abbrev pub engine_line : EngineFault → List ℕ

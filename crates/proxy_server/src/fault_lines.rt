@@ -49,6 +49,7 @@ fn write_config_fault<W: fmt::Write>(f: &mut Formatter<W>, fault: &ConfigFault) 
         ConfigFault::BadOrigin(line) => write!(f, "config fault 8 line {line}"),
         ConfigFault::NoLines => f.write_str("config fault 9"),
         ConfigFault::OutOfMemory => f.write_str("no memory"),
+        ConfigFault::BadCache(line) => write!(f, "config fault 11 line {line}"),
     }
 }
 

@@ -18,9 +18,9 @@ use Rattle.proxy_engine.specs.Due.{Act, Abandons, Finishes, Serves, Gives, Break
 use Rattle.proxy_engine.specs.Acts.{Does, StepsOn, Refuses, Closes, Served, Arrives, Came, Replies, Forwards, Nothing, came, after_on}
 use Rattle.proxy_engine.specs.Orderly.{IsOrderly, BeginsOrderly, TakesInOrder, ActsInOrder}
 use Rattle.proxy_engine.specs.Lives.{Step, Took, Worked, Lives, LivesAreRuns}
-use Rattle.proxy_engine.specs.State.{State, Stands, begun}
+use Rattle.proxy_engine.specs.State.{begun}
 use Rattle.proxy_turn.specs.Turn.{TurnsAreLived}
-use Rattle.proxy_turn.specs.Served.{HasLived, BeginsLived, TakesLive, TurnsLive, LivedAreServing}
+use Rattle.proxy_turn.specs.Served.{BeginsLived, StaysOn, GoesOnAndOn, TakesGoOn, TurnsGoOn, LivedGoesOn, LivedAreServing}
 use Rattle.proxy_turn.proofs.Turning.{lives_on}
 
 -- ---- the table stays
@@ -83,54 +83,66 @@ lives_table s (Worked now act told ∷ past) t lives = does_table lives.0 now ac
 
 -- ---- it goes on
 
-module _ (begins : BeginsOrderly) (takes : TakesInOrder) (acts : ActsInOrder) where
+pub begins_lived : BeginsLived
+begins_lived e table limit first link stands =
+    let same : table ≡ e.core.table = sym (ap (λ (k : CoreState). k.table) stands.core) in
+    record {
+      limit = limit;
+      first = first;
+      link = link;
+      steps = [];
+      last = begun (core_begun table limit first) link;
+      lives = ap (λ (table : Table). begun (core_begun table limit first) link) same;
+      stands = stands;
+    }
+
+pub stays_on : StaysOn
+stays_on e s stands orderly = record { steps = []; last = s; lives = refl; stands = stands }
+
+pub takes_go_on : TakesGoOn
+takes_go_on e new h taken s stands orderly =
+    let took = taken s stands in
+    record { steps = Took h ∷ []; last = heard s h; lives = (s, refl, (took.free, refl)); stands = took.stands }
+
+pub turns_go_on : TurnsAreLived → TurnsGoOn
+turns_go_on lived e new now before after result turned s stands orderly =
+    let turn = turned s stands orderly in
+    let more = lived now s turn.asked turn.reads turn.rest turn.rounds turn.last turn.turn in
+    record { steps = more.0; last = turn.last; lives = more.1; stands = turn.stands }
+
+module _ (takes : TakesInOrder) (acts : ActsInOrder) where
   lives_orderly : (s : Story) (steps : List Step) (t : Story) → IsOrderly s → Lives s steps t → IsOrderly t
   lives_orderly s [] t h here = subst IsOrderly (sym here) h
   lives_orderly s (Took said ∷ past) t h lives = subst IsOrderly (sym lives.2.1) (takes lives.0 said (lives_orderly s past lives.0 h lives.1))
   lives_orderly s (Worked now act told ∷ past) t h lives = (acts lives.0 now act told t (lives_orderly s past lives.0 h lives.1) lives.2.0 lives.2.1).0
 
-  lived_orderly : (e : State) → (lived : HasLived e) → IsOrderly lived.last
-  lived_orderly e lived =
-      lives_orderly (begun (core_begun e.core.table lived.limit lived.first) lived.link) lived.steps lived.last (begins (core_begun e.core.table lived.limit lived.first) lived.link refl) lived.lives
+  pub goes_on_and_on : GoesOnAndOn
+  goes_on_and_on e mid new first rest s stands orderly =
+      let one = first s stands orderly in
+      let other = rest one.last one.stands (lives_orderly s one.steps one.last orderly one.lives) in
+      record {
+        steps = other.steps ++ one.steps;
+        last = other.last;
+        lives = lives_on other.steps s one.steps one.last other.last one.lives other.lives;
+        stands = other.stands;
+      }
 
-  lives_later : (e new : State) (lived : HasLived e) (steps : List Step) (t : Story) → Lives lived.last steps t → Stands new t → HasLived new
-  lives_later e new lived steps t more stands =
+  pub lived_goes_on : BeginsOrderly → LivedGoesOn
+  lived_goes_on begins e new goes lived =
       let start : Table → Story = λ table. begun (core_begun table lived.limit lived.first) lived.link in
-      let whole = lives_on steps (start e.core.table) lived.steps lived.last t lived.lives more in
-      let same : e.core.table ≡ new.core.table = sym (lives_table (start e.core.table) (steps ++ lived.steps) t whole) ∙ sym (ap (λ (k : CoreState). k.table) stands.core) in
+      let orderly = lives_orderly (start e.core.table) lived.steps lived.last (begins (core_begun e.core.table lived.limit lived.first) lived.link refl) lived.lives in
+      let more = goes lived.last lived.stands orderly in
+      let whole = lives_on more.steps (start e.core.table) lived.steps lived.last more.last lived.lives more.lives in
+      let same : e.core.table ≡ new.core.table = sym (lives_table (start e.core.table) (more.steps ++ lived.steps) more.last whole) ∙ sym (ap (λ (k : CoreState). k.table) more.stands.core) in
       record {
         limit = lived.limit;
         first = lived.first;
         link = lived.link;
-        steps = steps ++ lived.steps;
-        last = t;
-        lives = subst (λ (table : Table). Lives (start table) (steps ++ lived.steps) t) same whole;
-        stands = stands;
+        steps = more.steps ++ lived.steps;
+        last = more.last;
+        lives = subst (λ (table : Table). Lives (start table) (more.steps ++ lived.steps) more.last) same whole;
+        stands = more.stands;
       }
-
-  pub begins_lived : BeginsLived
-  begins_lived e table limit first link stands =
-      let same : table ≡ e.core.table = sym (ap (λ (k : CoreState). k.table) stands.core) in
-      record {
-        limit = limit;
-        first = first;
-        link = link;
-        steps = [];
-        last = begun (core_begun table limit first) link;
-        lives = ap (λ (table : Table). begun (core_begun table limit first) link) same;
-        stands = stands;
-      }
-
-  pub takes_live : TakesLive
-  takes_live e new h taken lived =
-      let took = taken lived.last lived.stands in
-      lives_later e new lived (Took h ∷ []) (heard lived.last h) (lived.last, refl, (took.free, refl)) took.stands
-
-  pub turns_live : TurnsAreLived → TurnsLive
-  turns_live lived_turns e new now before after result turned lived =
-      let turn = turned lived.last lived.stands (lived_orderly e lived) in
-      let more = lived_turns now lived.last turn.asked turn.reads turn.rest turn.rounds turn.last turn.turn in
-      lives_later e new lived more.0 turn.last more.1 turn.stands
 
 pub lived_are_serving : LivesAreRuns → LivedAreServing
 lived_are_serving runs e lived = record {

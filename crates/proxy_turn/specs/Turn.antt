@@ -4,7 +4,7 @@
 -- Fate, CarriesOne, CarriesOut: what became of the effects of an act       Round, Works: acts with their effects
 -- IsTurn: a turn, whole or as far as it came    Tells: what it answers      Turns: both
 -- TurnsAreLived: the law
-use Rattle.std.specs.Prelude.{◌≡◌, ℕ, ◌+◌, ◌≤◌, List, [], ◌∷◌, ◌++◌, length, sum_by, map, Bool, true, false, ◌&&◌, ◌==◌, nat_lt, Option, None, Some, is_some, Result, Ok, Err, ◌⊎◌}
+use Rattle.std.specs.Prelude.{◌≡◌, ℕ, ◌+◌, ◌≤◌, List, [], ◌∷◌, ◌++◌, length, sum_by, map, Bool, true, false, ◌&&◌, ◌==◌, nat_lt, Option, None, Some, is_some, cond, Result, Ok, Err, ◌⊎◌}
 use Rattle.std.specs.List.{list_any}
 use Rattle.hx_status.specs.declared.cause.FailKind.{FailKind}
 use Rattle.hx_status.specs.declared.cause.FailKind.TheVariants as kinds
@@ -162,10 +162,7 @@ Works now s gone (r ∷ rs) t more =
 -- ---- counts
 
 abbrev pub asked_calls : Asked → ℕ
-asked_calls NotAsked = 0
-asked_calls Failed = 1
-asked_calls NoneCame = 1
-asked_calls Came = 1
+asked_calls asked = cond (was_asked asked) 1 0
 
 abbrev pub came : Asked → ℕ
 came NotAsked = 0

@@ -1,6 +1,6 @@
 //! Laws on the definitions that the contracts cite.
 ghost use Rattle.proxy_turn.specs.Turn.{TurnsAreLived};
-ghost use Rattle.proxy_turn.specs.Served.{BeginsLived, TakesLive, TurnsLive, LivedAreServing};
+ghost use Rattle.proxy_turn.specs.Served.{BeginsLived, StaysOn, GoesOnAndOn, TakesGoOn, TurnsGoOn, LivedGoesOn, LivedAreServing};
 
 use proxy_engine::{effects_name_open_ends, lives_are_runs};
 
@@ -10,12 +10,15 @@ pub fn turns_are_lived()
     ensures { TurnsAreLived }
 {}
 
-/// Whatever happens to an engine, and whatever its sockets do in its turns: the steps of its core are a good run, by its table
-/// and with the headline, of the requests that its clients' bytes spell.
+/// Whatever happens to an engine, and whatever its sockets do in its turns: what it has lived through goes on, and the steps of
+/// its core are a good run, by its table and with the headline, of the requests that its clients' bytes spell.
 pub fn engines_live_on()
     ensures begins { BeginsLived }
-    ensures takes { TakesLive }
-    ensures turns { TurnsLive }
+    ensures stays { StaysOn }
+    ensures on { GoesOnAndOn }
+    ensures takes { TakesGoOn }
+    ensures turns { TurnsGoOn }
+    ensures lived { LivedGoesOn }
     ensures serves { LivedAreServing }
 {
     turns_are_lived();

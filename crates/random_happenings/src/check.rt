@@ -8,11 +8,16 @@
 //! - Replies come in the order of a connection's requests: what came of an origin has the fields of that very request,
 //!   what came of the store those of an earlier one for its target, whose answer was stored. A reply is a whole message.
 //! - Nothing goes to a connection that isn't accepted, or is closed, or gone; a client that goes leaves no link.
+//! - Behind an unsafe request that went well nothing is sent of what was stored for its target before.
+//! - A request that the table sends past the store goes to the origin of its line, and its answer says so, and is kept for
+//!   nobody. No other request goes there, and no other answer says so.
 
 use crate::effects::{Effect, read_effect};
 use crate::fields::{last_value, number_of, parts};
 use crate::log::{Log, Step, Told};
+use crate::past_store::{is_claimed, is_told};
 use crate::requests::Asked;
+use crate::tables::is_past_the_store;
 use bstr::ByteSlice;
 use std::alloc::{AllocError, Global};
 use std::fmt;
@@ -41,6 +46,12 @@ pub struct Counts {
     pub hits: u64,
     pub validated: u64,
     pub refused: u64,
+    /// Requests that went past the store.
+    pub past: u64,
+    /// Of them those that asked for what was fresh by the last answer for their target that was stored or sent.
+    pub past_fresh: u64,
+    /// Of them those that took away what was stored.
+    pub past_taking: u64,
 }
 
 impl fmt::Display for Counts {
@@ -91,7 +102,12 @@ struct Check<'a> {
     clients: Vec<Client<'a>>,
     links: Vec<Link>,
     /// The requests whose answers may have been kept.
-    kept: Vec<(u64, u64)>,
+    kept: Vec<Asked>,
+    /// Until when the last answer that was stored or sent for a target is fresh, the latest behind the others.
+    fresh: Vec<(Asked, u64)>,
+    /// Whether the table has lines without cache.
+    is_partly_without: bool,
+    now: u64,
     counts: Counts,
 }
 
@@ -102,6 +118,9 @@ impl Drop for Check<'_> {
             clients: _,
             links: _,
             kept: _,
+            fresh: _,
+            is_partly_without: _,
+            now: _,
             counts: _,
         } = self;
     }
@@ -135,8 +154,27 @@ fn id_of_request(request: &[u8]) -> Option<(u64, u64)> {
     }
 }
 
-fn is_address(address: &[u8]) -> bool {
+/// Whether a line has this address, one of those without cache or one of the others.
+fn is_address(address: &[u8], is_past: bool) -> bool {
+    if is_past {
+        return address == b"127.0.0.1:8083".as_slice();
+    }
     address == b"127.0.0.1:8081".as_slice() || address == b"127.0.0.1:8082".as_slice()
+}
+
+/// Whether the head of an answer has a status from 200 to 399.
+fn went_well(head: &[u8]) -> bool {
+    head.starts_with(b"HTTP/1.1 2") || head.starts_with(b"HTTP/1.1 3")
+}
+
+/// For how many seconds an answer is fresh, by its member of Cache-Status; 0 where it is stale.
+fn seconds_left(head: &[u8]) -> Option<u64> {
+    let (_, told) = last_value(head, b"Cache-Status")?.split_once_str(b";ttl=")?;
+    let seconds = match told.split_once_str(b";") {
+        Some((seconds, _)) => seconds,
+        None => told,
+    };
+    Some(number_of(seconds).unwrap_or(0))
 }
 
 /// Whether a content has the length that its head states; to a HEAD there is none.
@@ -256,6 +294,9 @@ impl<'a> Check<'a> {
             clients,
             links: Vec::new(alloc),
             kept: Vec::new(alloc),
+            fresh: Vec::new(alloc),
+            is_partly_without: log.is_partly_without,
+            now: 0,
             counts: Counts::default(),
         })
     }
@@ -297,6 +338,48 @@ impl<'a> Check<'a> {
         Ok(())
     }
 
+    /// Whether the table sends this request past the store.
+    fn is_past(&self, asked: &Asked) -> bool {
+        self.is_partly_without && is_past_the_store(asked.method, asked.host, asked.path)
+    }
+
+    /// Whether the last answer that was stored or sent for the target of this request is fresh still.
+    fn is_fresh(&self, asked: &Asked) -> bool {
+        let mut until = 0;
+        for (known, end) in &self.fresh {
+            if known.has_target_of(asked) {
+                until = *end;
+            }
+        }
+        self.now < until
+    }
+
+    /// The request of a connection that waits for an answer.
+    fn waiting(&self, connection: u64) -> Option<Asked> {
+        let client = self.clients.get(place(connection))?;
+        let asked = client.asked.get(client.replies)?;
+        Some(**asked)
+    }
+
+    /// A request goes forward to an address of the table.
+    fn send_on(&mut self, asked: &Asked, number: u64, address: &[u8]) -> Result<(), Wrong> {
+        let is_past = self.is_past(asked);
+        if !is_address(address, is_past) {
+            return Err(Wrong::Rule(
+                "no line of the request has the address of a forward",
+                number,
+            ));
+        }
+        one_more(&mut self.counts.forwards);
+        if is_past {
+            one_more(&mut self.counts.past);
+            if !asked.is_unsafe() && self.is_fresh(asked) {
+                one_more(&mut self.counts.past_fresh);
+            }
+        }
+        Ok(())
+    }
+
     /// A request of a connection goes forward on a link.
     fn begin(&mut self, connection: u64, ordinal: u64, number: u64) -> Result<(), Wrong> {
         let client = self.client(connection)?;
@@ -317,14 +400,14 @@ impl<'a> Check<'a> {
         if place(number) != self.links.len() {
             return Err(Wrong::Rule("a forward is on a link that isn't the next", number));
         }
-        if !is_address(address) {
-            return Err(Wrong::Rule("no line has the address of a forward", number));
-        }
         let Some((connection, ordinal)) = id_of_request(request) else {
             return Err(Wrong::Rule("a forward is of no request", number));
         };
         self.begin(connection, ordinal, number)?;
-        one_more(&mut self.counts.forwards);
+        let Some(asked) = self.waiting(connection) else {
+            return Err(Wrong::Rule("a forward is of no request", number));
+        };
+        self.send_on(&asked, number, address)?;
         let link = Link {
             connection,
             is_dropped: false,
@@ -367,7 +450,10 @@ impl<'a> Check<'a> {
             Source::Validated => Ok(is_own && has_target(self.alloc, head, asked)?),
             Source::Hit | Source::Store if head.starts_with(b"HTTP/1.1 304 ") => Ok(true),
             Source::Hit | Source::Store => {
-                let was_kept = self.kept.iter().any(|kept| Some(*kept) == id);
+                let was_kept = self
+                    .kept
+                    .iter()
+                    .any(|kept| Some((kept.connection, kept.ordinal)) == id);
                 Ok(was_kept && has_target(self.alloc, head, asked)?)
             }
         }
@@ -409,8 +495,41 @@ impl<'a> Check<'a> {
     /// The answer to this request may have been kept, where it comes from there.
     fn keep(&mut self, source: Source, asked: Asked) -> Result<(), Wrong> {
         if matches!(source, Source::Stored | Source::Validated | Source::Store) {
-            let own = (asked.connection, asked.ordinal);
-            self.kept.push(own).map_err(AllocError::from)?;
+            self.kept.push(asked).map_err(AllocError::from)?;
+        }
+        Ok(())
+    }
+
+    /// An unsafe request went well: what was stored for its target is sent no more.
+    fn take_away(&mut self, asked: &Asked) {
+        let before = self.kept.len();
+        self.kept.retain(|kept| !kept.has_target_of(asked));
+        self.fresh.retain(|(known, _)| !known.has_target_of(asked));
+        if self.is_past(asked) && self.kept.len() < before {
+            one_more(&mut self.counts.past_taking);
+        }
+    }
+
+    /// What an answer says of its target in the store.
+    fn note(&mut self, head: &[u8], source: Source, asked: &Asked) -> Result<(), Wrong> {
+        if let Some(seconds) = seconds_left(head) {
+            let until = self.now.saturating_add(seconds);
+            self.fresh.push((*asked, until)).map_err(AllocError::from)?;
+        }
+        if matches!(source, Source::Origin) && asked.is_unsafe() && went_well(head) {
+            self.take_away(asked);
+        }
+        Ok(())
+    }
+
+    /// An answer is told to be one past the store where its request went there, and nowhere else.
+    fn ask_past(&self, number: u64, head: &[u8], asked: &Asked) -> Result<(), Wrong> {
+        if !self.is_past(asked) {
+            if is_claimed(head) {
+                return Err(Wrong::Rule("an answer claims to be past the store", number));
+            }
+        } else if !is_told(head) {
+            return Err(Wrong::Rule("an answer past the store doesn't say so", number));
         }
         Ok(())
     }
@@ -422,7 +541,9 @@ impl<'a> Check<'a> {
         if !self.answers(head, source, &asked)? {
             return Err(Wrong::Rule("a reply is to another request", number));
         }
+        self.ask_past(number, head, &asked)?;
         self.count(source);
+        self.note(head, source, &asked)?;
         self.keep(source, asked)
     }
 
@@ -468,7 +589,8 @@ impl<'a> Check<'a> {
 
     /// A happening with its effects, which stand at the front of a text. Gives what is behind them.
     fn step<'t>(&mut self, step: Step, text: &'t [u8]) -> Result<&'t [u8], Wrong> {
-        let Step { told, length } = step;
+        let Step { told, now, length } = step;
+        self.now = now;
         let (Some(own), Some(rest)) = (text.get(..length), text.get(length..)) else {
             return Err(Wrong::Rule("effects are missing", 0));
         };

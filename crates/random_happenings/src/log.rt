@@ -14,10 +14,11 @@ pub enum Told {
     Other,
 }
 
-/// A happening, and how many bytes the text of its effects has.
+/// A happening, its moment, and how many bytes the text of its effects has.
 #[derive(Clone, Copy)]
 pub struct Step {
     pub told: Told,
+    pub now: u64,
     pub length: usize,
 }
 
@@ -28,6 +29,8 @@ pub struct Log {
     pub steps: Vec<Step>,
     /// The requests of all connections, those of each in their order.
     pub asked: Vec<Asked>,
+    /// Whether the table has lines without cache.
+    pub is_partly_without: bool,
 }
 
 // By hand, so that a scope that ends is one call to the prover and not the drop of each part.
@@ -38,17 +41,19 @@ impl Drop for Log {
             effects: _,
             steps: _,
             asked: _,
+            is_partly_without: _,
         } = self;
     }
 }
 
 impl Log {
-    pub fn new(alloc: Global) -> Self {
+    pub fn new(alloc: Global, is_partly_without: bool) -> Self {
         Log {
             script: Vec::new(alloc),
             effects: Vec::new(alloc),
             steps: Vec::new(alloc),
             asked: Vec::new(alloc),
+            is_partly_without,
         }
     }
 }

@@ -1,4 +1,5 @@
-//! Plays 10,000 random happenings, and checks what the proxy does of them.
+//! Plays 10,000 random happenings by a table whose lines all have a cache, and 10,000 by one with lines without, and checks
+//! what the proxy does of them.
 //!
 //! A `World` of clients and origins makes happenings, the same in each run, one after another: requests and answers, whole,
 //! cut, faulty and too late, failures, ends, and moments that go forward and back. An engine beside it tells which links
@@ -12,7 +13,9 @@ mod dice;
 mod effects;
 mod fields;
 mod log;
+mod past_store;
 mod requests;
+mod tables;
 mod trial;
 mod world;
 

@@ -75,17 +75,28 @@ pub struct Asked {
     pub ordinal: u64,
     pub host: &'static str,
     pub path: &'static str,
+    pub method: &'static str,
 }
 
 impl Asked {
-    /// A request for one of few targets, so that requests meet.
+    /// A request for one of few targets, so that requests meet, in most cases a GET.
     pub fn random(dice: &mut Dice, connection: u64, ordinal: u64) -> Self {
         Asked {
             connection,
             ordinal,
             host: dice.pick(HOSTS),
             path: dice.pick(PATHS),
+            method: one_of(dice, "GET", 5, UNUSUAL_METHODS),
         }
+    }
+
+    pub fn has_target_of(&self, other: &Asked) -> bool {
+        self.host == other.host && self.path == other.path
+    }
+
+    /// Whether it may change what the origin has (RFC 9110, section 9.2.1).
+    pub fn is_unsafe(&self) -> bool {
+        !matches!(self.method, "GET" | "HEAD" | "OPTIONS" | "TRACE")
     }
 
     /// What its field X-Target says.
@@ -162,13 +173,8 @@ fn push_content(text: &mut String, dice: &mut Dice, is_usual: bool) -> Result<()
 }
 
 /// The head up to the fields that the answer is known by.
-fn push_front(
-    text: &mut String,
-    method: &str,
-    version: &str,
-    asked: &Asked,
-) -> Result<(), AllocError> {
-    let (host, path) = (asked.host, asked.path);
+fn push_front(text: &mut String, version: &str, asked: &Asked) -> Result<(), AllocError> {
+    let (method, host, path) = (asked.method, asked.host, asked.path);
     let (connection, ordinal) = (asked.connection, asked.ordinal);
     write!(text, "{method} {path} {version}\r\nHost: {host}\r\n")?;
     write!(
@@ -202,9 +208,8 @@ fn one_of(
 
 /// The whole of a request, with fields that its answer is known by.
 pub fn push_request(text: &mut String, dice: &mut Dice, asked: &Asked) -> Result<(), AllocError> {
-    let method = one_of(dice, "GET", 5, UNUSUAL_METHODS);
     let version = one_of(dice, "HTTP/1.1", 30, OTHER_VERSIONS);
-    push_front(text, method, version, asked)?;
+    push_front(text, version, asked)?;
     push_fields(text, dice)?;
-    push_content(text, dice, matches!(method, "POST" | "PUT" | "FOO"))
+    push_content(text, dice, matches!(asked.method, "POST" | "PUT" | "FOO"))
 }

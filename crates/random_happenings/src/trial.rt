@@ -1,4 +1,4 @@
-//! The trial: a script is made, replayed and checked.
+//! The trials: scripts are made, replayed and checked.
 
 use crate::check::{Counts, Wrong, check_run};
 use crate::log::Log;
@@ -12,12 +12,23 @@ const BEGINNING: u64 = 20_261_123;
 
 const HAPPENINGS: usize = 10_000;
 
-fn make(alloc: Global) -> Result<Log, Stopped> {
-    let mut world = World::new(alloc, BEGINNING)?;
+fn make(alloc: Global, is_partly_without: bool) -> Result<Log, Stopped> {
+    let mut world = World::new(alloc, is_partly_without, BEGINNING)?;
     for _ in 0..HAPPENINGS {
         world.step()?;
     }
     Ok(world.into_log())
+}
+
+/// Prints how much went past the store, where something did.
+fn tell_past<R: Print>(rt: &R, counts: &Counts) -> io::Result<()> {
+    let (past, fresh, taking) = (counts.past, counts.past_fresh, counts.past_taking);
+    if past == 0 {
+        return Ok(());
+    }
+    println!(rt;
+        "{past} forwards past the store: {fresh} for what was fresh by the last answer, {taking} took away what was stored"
+    )
 }
 
 /// Prints what the check came to.
@@ -30,6 +41,7 @@ fn tell<R: Print + Eprint>(
         Ok(counts) => {
             println!(rt; "{happenings} happenings: the property holds")?;
             println!(rt; "{counts}")?;
+            tell_past(rt, &counts)?;
             Ok(true)
         }
         Err(Wrong::OutOfMemory) => {
@@ -58,13 +70,19 @@ fn judge<R: Print + Eprint + AllocGlobal>(rt: &R, log: &Log) -> io::Result<bool>
     )
 }
 
-/// Prints whether the property holds, or what doesn't, and tells whether it does.
-pub fn run<R: Print + Eprint + AllocGlobal>(rt: &R) -> io::Result<bool> {
-    match make(rt.alloc()) {
+fn play<R: Print + Eprint + AllocGlobal>(rt: &R, is_partly_without: bool) -> io::Result<bool> {
+    match make(rt.alloc(), is_partly_without) {
         Ok(log) => judge(rt, &log),
         Err(stopped) => {
             eprintln!(rt; "no script: {stopped}")?;
             Ok(false)
         }
     }
+}
+
+/// Prints of each trial whether the property holds, or what doesn't, and tells whether it does in both.
+pub fn run<R: Print + Eprint + AllocGlobal>(rt: &R) -> io::Result<bool> {
+    let holds_with = play(rt, false)?;
+    let holds_without = play(rt, true)?;
+    Ok(holds_with && holds_without)
 }

@@ -5,6 +5,7 @@ use crate::answers::{Question, push_answer};
 use crate::dice::Dice;
 use crate::log::{Log, Step, Told};
 use crate::requests::{Asked, push_request};
+use crate::tables::{PARTLY_WITHOUT, WITH_CACHE};
 use case_text::push_item;
 use hx_allow::Config;
 use hx_status::FailKind;
@@ -13,32 +14,6 @@ use proxy_engine::{Engine, EngineFault, Work};
 use proxy_script::{Effect, Happening, Item, effects_text};
 use std::alloc::{AllocError, Global};
 use std::{fmt, mem};
-
-/// The table of the trial: few entries, so that some are evicted, and contents of 1,000 bytes at most.
-pub const TABLE: &[u8] = b"version = 1
-name = \"edge\"
-capacity = 4
-max_body = 1000
-max_stored = 500
-
-[[line]]
-host = \"*\"
-methods = [\"*\"]
-path = \"/denied\"
-origin = \"deny\"
-
-[[line]]
-host = \"i\"
-methods = [\"*\"]
-path = \"/\"
-origin = \"127.0.0.1:8082\"
-
-[[line]]
-host = \"*\"
-methods = [\"*\"]
-path = \"/\"
-origin = \"127.0.0.1:8081\"
-";
 
 /// The most connections that are open at a time.
 const MOST_OPEN: usize = 16;
@@ -206,15 +181,20 @@ fn late(
 }
 
 impl World {
-    /// Nothing has happened yet; the script has its table.
-    pub fn new(alloc: Global, beginning: u64) -> Result<Self, Stopped> {
-        let config = match Config::read(alloc, TABLE) {
+    /// Nothing has happened yet; the script has its table, which may have lines without cache.
+    pub fn new(alloc: Global, is_partly_without: bool, beginning: u64) -> Result<Self, Stopped> {
+        let table = if is_partly_without {
+            PARTLY_WITHOUT
+        } else {
+            WITH_CACHE
+        };
+        let config = match Config::read(alloc, table) {
             Ok(config) => config,
             Err(_) => return Err(Stopped::Refused),
         };
         let shelf = ListShelf::new(alloc, config.capacity());
-        let mut log = Log::new(alloc);
-        push_item(&mut log.script, Item::Config(TABLE))?;
+        let mut log = Log::new(alloc, is_partly_without);
+        push_item(&mut log.script, Item::Config(table))?;
         Ok(World {
             alloc,
             dice: Dice::new(beginning),
@@ -374,9 +354,10 @@ impl World {
         self.engine.take(self.alloc, happening)?;
         self.settle()?;
         let length = self.log.effects.len().saturating_sub(before);
+        let now = self.moment();
         self.log
             .steps
-            .push(Step { told, length })
+            .push(Step { told, now, length })
             .map_err(AllocError::from)?;
         Ok(())
     }

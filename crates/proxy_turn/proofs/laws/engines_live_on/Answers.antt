@@ -1,14 +1,23 @@
-use Rattle.proxy_turn.proofs.Serving.{begins_lived, takes_live, turns_live, lived_are_serving}
+use Rattle.proxy_turn.proofs.Serving.{begins_lived, stays_on, goes_on_and_on, takes_go_on, turns_go_on, lived_goes_on, lived_are_serving}
 use Rattle.proxy_turn.proofs.laws.engines_live_on.Goals as goal
 
 pub returns-clause-begins : goal.returns-clause-begins
-returns-clause-begins c = begins_lived c.effects_name_open_ends.ensures.first c.effects_name_open_ends.ensures.takes c.effects_name_open_ends.ensures.acts
+returns-clause-begins c = begins_lived
+
+pub returns-clause-stays : goal.returns-clause-stays
+returns-clause-stays c = stays_on
+
+pub returns-clause-on : goal.returns-clause-on
+returns-clause-on c = goes_on_and_on c.effects_name_open_ends.ensures.takes c.effects_name_open_ends.ensures.acts
 
 pub returns-clause-takes : goal.returns-clause-takes
-returns-clause-takes c = takes_live c.effects_name_open_ends.ensures.first c.effects_name_open_ends.ensures.takes c.effects_name_open_ends.ensures.acts
+returns-clause-takes c = takes_go_on
 
 pub returns-clause-turns : goal.returns-clause-turns
-returns-clause-turns c = turns_live c.effects_name_open_ends.ensures.first c.effects_name_open_ends.ensures.takes c.effects_name_open_ends.ensures.acts c.turns_are_lived.ensures
+returns-clause-turns c = turns_go_on c.turns_are_lived.ensures
+
+pub returns-clause-lived : goal.returns-clause-lived
+returns-clause-lived c = lived_goes_on c.effects_name_open_ends.ensures.takes c.effects_name_open_ends.ensures.acts c.effects_name_open_ends.ensures.first
 
 pub returns-clause-serves : goal.returns-clause-serves
 returns-clause-serves c = lived_are_serving c.lives_are_runs.ensures

@@ -12,6 +12,6 @@ returns-in-Star-clause-serial g c =
     let x = c.args.answer.now.exchange.now in
     let r = c.args.answer.now.response.now in
     let now = c.args.answer.now.response_time in
-    let storable : is_storable s.table.max_stored x r now s.next ≡ true = search rules in
+    let storable : is_storable s.table x r now s.next ≡ true = search rules in
     let star : is_star (answered_of r now).fields ≡ true = search rules in
-    absurd (no_star c.the_least_storage_rule_is_named.ensures.none s.table.max_stored x r now s.next storable star)
+    absurd (no_star c.the_least_storage_rule_is_named.ensures.none s.table x r now s.next storable star)

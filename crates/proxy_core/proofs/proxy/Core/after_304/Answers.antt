@@ -12,7 +12,7 @@ returns-in-Some-clause-leaves g c =
     let now = c.args.answer.now.response_time in
     let e = c.in-Some.entry.now in
     let f = c.in_ok-fresh-in-Some.fresh in
-    let kept = is_kept s.table.max_stored x r f in
+    let kept = is_kept s.table x r f in
     let here : validated s.entries x r now ≡ Some e = sym (c.in-Some.ensures ∙ ap (λ (z : State). validated z.entries x r now) c.self.view_is) in
     refresh_leaves s.limit s.entries x now x.id r e (validated_is s.entries x r now e here) kept f c.in_ok-pending-in-Some.pending
     c.in_ok-fresh-in-Some.ensures c.in_ok-pending-in-Some.ensures.change (ap removed_in c.in_ok-pending-in-Some.ensures.outcome)
@@ -25,7 +25,7 @@ returns-in-Some-clause-fits g c =
     let now = c.args.answer.now.response_time in
     let e = c.in-Some.entry.now in
     let f = c.in_ok-fresh-in-Some.fresh in
-    let kept = is_kept s.table.max_stored x r f in
+    let kept = is_kept s.table x r f in
     let here : validated s.entries x r now ≡ Some e = sym (c.in-Some.ensures ∙ ap (λ (z : State). validated z.entries x r now) c.self.view_is) in
     refresh_fits s.limit s.entries x now x.id r e (validated_is s.entries x r now e here) c.equal_keys_are_one.ensures.itself s.next kept f c.in_ok-pending-in-Some.pending
     c.in_ok-fresh-in-Some.ensures c.in_ok-pending-in-Some.ensures.change

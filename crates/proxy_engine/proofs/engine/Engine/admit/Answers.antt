@@ -1,12 +1,10 @@
-use Rattle.std.proofs.Common.{ℕ, sum_by, ◌+◌, ◌∙◌, ◌++◌, List, Option, length, sym, ap, subst, arith}
+use Rattle.std.proofs.Common.{◌≡◌, ℕ, sum_by, ◌+◌, ◌∙◌, ◌++◌, List, Option, length, sym, ap, subst, arith}
 use Rattle.proxy_script.specs.declared.effect_list.Effect.{Effect}
 use Rattle.hx_framing.specs.declared.answer.Next.TheVariants.{Message}
 use Rattle.hx_allow.specs.Lines.{Table}
-use Rattle.hx_allow.specs.Matching.{verdict_of}
 use Rattle.proxy_core.specs.State.{State as CoreState}
 use Rattle.proxy_core.specs.declared.exchange.Exchange.{Exchange}
-use Rattle.proxy_engine.specs.Acts.{effects_on, came_at, after_on}
-use Rattle.proxy_engine.specs.Wishes.{verdict_address}
+use Rattle.proxy_engine.specs.Acts.{effects_on, came_at, came, after_on}
 use Rattle.proxy_engine.specs.State.{Stands, Done, state, wish_load, link_load}
 use Rattle.proxy_engine.specs.Due.{Serves}
 use Rattle.proxy_engine.specs.Wiring.{Wired, links_of, owners_of}
@@ -34,15 +32,17 @@ returns-clause-ok g c = rw (← c.self.view_is) (
     let ks = c.reserve_one.new.self.items in
     let same = c.reserve_one.ensures.items in
     let core = c.self.inside.core in
-    let way = c.in_ok-way.way in
+    let way = c.set_address.new.self in
+    let led : came_at way.address.items c.in-Ok.outcome ≡ came core.table c.in-Ok.outcome =
+    c.set_address.ensures.came ∙ ap (λ (t : Table). came t c.in-Ok.outcome) (c.config-2.ensures ∙ ap (λ (k : CoreState). k.table) c.in-Ok.ensures.ok.leaves) in
     let here = subst (λ (ls : List (Option Link)). Stands (state c.self.inside.ends.connections.items ls core c.self.inside.ends.first_link) s) (sym same) h in
     subst (λ (n : ℕ). Done s c.args.now (Serves c.args.i (Message r)) c.carry_out.new.effects.items (state c.carry_out.new.self.connections.items c.carry_out.new.self.links.items c.arrive.new.self n)) (sym c.carry_out.ensures.first)
     (arrived_done s c.pass_at.new.connections.items c.carry_out.new.self.connections.items ks c.carry_out.new.self.links.items core c.arrive.new.self c.self.inside.ends.first_link c.args.now c.args.i way.max_body r c.args.asked.now c.in-Ok.outcome
-    way.address way.to_head c.carry_out.new.effects.items asked c.in-Ok.ensures.ok (omega (arith, (rw (← c.self.view_is) at c.requires.left), ap length same))
-    (c.in_ok-way.ensures.address ∙ ap (λ (t : Table). verdict_address t (verdict_of t.lines c.args.asked.now.method c.args.asked.now.target)) c.config.ensures)
-    (c.in_ok-way.ensures.max_body ∙ ap (λ (t : Table). t.max_body) c.config.ensures) c.in_ok-way.ensures.to_head
-    (c.carry_out.ensures.effects ∙ ap (λ (b : List Effect). b ++ effects_on c.args.i (c.self.inside.ends.first_link + length ks) (came_at way.address c.in-Ok.outcome)) c.in_ok-effects.ensures.items)
-    (λ t k most stands. subst (λ (n : ℕ). Stands (state c.carry_out.new.self.connections.items c.carry_out.new.self.links.items k n) (after_on c.args.i way.to_head (came_at way.address c.in-Ok.outcome) t)) c.carry_out.ensures.first (c.carry_out.ensures.stands t k most stands))
+    way.address.items way.to_head c.carry_out.new.effects.items asked c.in-Ok.ensures.ok (omega (arith, (rw (← c.self.view_is) at c.requires.left), ap length same))
+    led
+    (c.set_address.ensures.max_body ∙ c.in_ok-way.ensures.max_body ∙ ap (λ (t : Table). t.max_body) c.config.ensures) (c.set_address.ensures.to_head ∙ c.in_ok-way.ensures.to_head)
+    (c.carry_out.ensures.effects ∙ ap (λ (b : List Effect). b ++ effects_on c.args.i (c.self.inside.ends.first_link + length ks) (came_at way.address.items c.in-Ok.outcome)) c.in_ok-effects.ensures.items)
+    (λ t k most stands. subst (λ (n : ℕ). Stands (state c.carry_out.new.self.connections.items c.carry_out.new.self.links.items k n) (after_on c.args.i way.to_head (came_at way.address.items c.in-Ok.outcome) t)) c.carry_out.ensures.first (c.carry_out.ensures.stands t k most stands))
     (c.pass_at.ensures.stands s (Message r) ks core c.self.inside.ends.first_link due here))
     )
 
@@ -58,6 +58,6 @@ invariant_of-self-2 g c = let cs = c.self.inside.ends.connections.items in
     let idle = wish_free _ (rw (← c.self.view_is) at c.requires.due) in
     let free = no_link cs c.self.inside.ends.links.items core.exchanges i idle c.self.invariant in
     subst (λ (xs : List Exchange). Wired (links_of c.carry_out.new.self.connections.items) (owners_of c.carry_out.new.self.links.items) xs) (sym (ap (λ (k : CoreState). k.exchanges) c.in-Ok.ensures.ok.leaves))
-    (wired_arrived cs c.pass_at.new.connections.items c.carry_out.new.self.connections.items c.reserve_one.new.self.items c.carry_out.new.self.links.items core.entries core.exchanges c.args.now i c.args.asked.now c.in-Ok.outcome
+    (wired_arrived core.table cs c.pass_at.new.connections.items c.carry_out.new.self.connections.items c.reserve_one.new.self.items c.carry_out.new.self.links.items core.entries core.exchanges c.args.now i c.args.asked.now c.in-Ok.outcome
     (inside cs i (free_there _ idle)) c.pass_at.ensures.links free.0 c.carry_out.ensures.links c.carry_out.ensures.owners
     (subst (λ (ls : List (Option Link)). Wired (links_of cs) (owners_of ls) core.exchanges) (sym c.reserve_one.ensures.items) c.self.invariant))

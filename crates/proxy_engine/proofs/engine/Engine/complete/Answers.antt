@@ -1,9 +1,10 @@
 use Rattle.std.proofs.Common.{◌≡◌, ◌+◌, ◌≤◌, ◌^◌, ◌∙◌, ◌++◌, ◌∷◌, [], ℕ, List, Option, None, Some, is_some, length, get_or, set, sym, ap, subst, arith, sum_by}
 use Rattle.proxy_script.specs.declared.effect_list.Effect.{Effect}
 use Rattle.proxy_script.specs.declared.effect_list.Effect.TheVariants.{Drop}
+use Rattle.hx_allow.specs.Lines.{Table}
 use Rattle.proxy_engine.specs.Story.{no_link}
 use Rattle.proxy_engine.specs.Due.{Finish, Finishes}
-use Rattle.proxy_engine.specs.Acts.{came_at, effects_on, after_on}
+use Rattle.proxy_engine.specs.Acts.{came_at, came, effects_on, after_on}
 use Rattle.proxy_engine.specs.State.{LinkStands, Stands, state, Done, finish_at, link_load}
 use Rattle.proxy_engine.specs.Wiring.{owners_of}
 use Rattle.proxy_engine.specs.declared.ends.Link.{Link}
@@ -13,7 +14,7 @@ use Rattle.proxy_engine.proofs.Changes.{finish_there}
 use Rattle.proxy_engine.proofs.Wishing.{one_finish, told_one}
 use Rattle.proxy_engine.proofs.Ending.{goes_given, remains}
 use Rattle.proxy_engine.proofs.Wires.{within_connections, owned_link, is_open, still_here, wired_finished}
-use Rattle.proxy_engine.proofs.Stepping.{finished_done, link_counts}
+use Rattle.proxy_engine.proofs.Stepping.{finished_done, ends_table, link_counts}
 use Rattle.proxy_engine.proofs.engine.Engine.complete.Goals as goal
 
 pub at-requires : goal.at-requires
@@ -124,14 +125,16 @@ returns-clause-ok g c = rw (← c.self.view_is) (
     let link = owned_link cs ks core.exchanges j x there c.self.invariant in
     let is_there = is_open cs ks core.exchanges i j link c.self.invariant in
     let told : c.put.new.effects.items ≡ Drop (c.self.inside.ends.first_link + j) ∷ [] = told_one c.in_ok-effects.effects.items c.put.new.effects.items _ c.put.ensures.items c.in_ok-effects.ensures.items ∙ ap (λ (n : ℕ). Drop n ∷ []) number in
-    let way = c.in_ok-way.way in
+    let way = c.set_address.new.self in
+    let led : came_at way.address.items c.in_ok-outcome.outcome ≡ came core.table c.in_ok-outcome.outcome =
+    c.set_address.ensures.came ∙ ap (λ (t : Table). came t c.in_ok-outcome.outcome) (c.config.ensures ∙ ends_table core c.end.new.core c.args.now (i + 1) ended.0 c.in_ok-outcome.outcome ended.2) in
     let free = c.free.ensures.stands s core c.self.inside.ends.first_link (subst (λ (ls : List (Option Link)). Stands (state cs ls core c.self.inside.ends.first_link) s) (sym items) h) in
     let fresh = c.free.ensures.links in
     subst (λ (n : ℕ). Done s c.args.now (Finishes j f) c.carry_out.new.effects.items (state c.carry_out.new.self.connections.items c.carry_out.new.self.links.items c.end.new.core n)) (sym c.carry_out.ensures.first)
     (subst (λ (x : Finish). Done s c.args.now (Finishes j x) c.carry_out.new.effects.items (state c.carry_out.new.self.connections.items c.carry_out.new.self.links.items c.end.new.core c.self.inside.ends.first_link)) (sym same)
     (finished_done s c.free.new.connections.items c.carry_out.new.self.connections.items c.free.new.links.items c.carry_out.new.self.links.items core c.end.new.core c.self.inside.ends.first_link c.args.now i j way.max_body ended.0 c.in_ok-outcome.outcome
-    way.address way.to_head c.carry_out.new.effects.items is_there (λ t. let few = (rw (← c.self.view_is) at c.requires.left) ended.0 due t in omega (arith, few, links)) ended.2 c.in_ok-way.ensures.address c.in_ok-way.ensures.max_body
-    c.in_ok-way.ensures.to_head (omega (arith, fresh, sizes, links, first_is))
-    (c.carry_out.ensures.effects ∙ ap (λ (b : List Effect). b ++ effects_on i (c.self.inside.ends.first_link + length c.free.new.links.items) (came_at way.address c.in_ok-outcome.outcome)) told)
-    first_is h.core owner.connection free (λ t k most stands. subst (λ (n : ℕ). Stands (state c.carry_out.new.self.connections.items c.carry_out.new.self.links.items k n) (after_on i way.to_head (came_at way.address c.in_ok-outcome.outcome) t)) c.carry_out.ensures.first (c.carry_out.ensures.stands t k most stands))))
+    way.address.items way.to_head c.carry_out.new.effects.items is_there (λ t. let few = (rw (← c.self.view_is) at c.requires.left) ended.0 due t in omega (arith, few, links)) ended.2 led (c.set_address.ensures.max_body ∙ c.in_ok-way.ensures.max_body)
+    (c.set_address.ensures.to_head ∙ c.in_ok-way.ensures.to_head) (omega (arith, fresh, sizes, links, first_is))
+    (c.carry_out.ensures.effects ∙ ap (λ (b : List Effect). b ++ effects_on i (c.self.inside.ends.first_link + length c.free.new.links.items) (came_at way.address.items c.in_ok-outcome.outcome)) told)
+    first_is h.core owner.connection free (λ t k most stands. subst (λ (n : ℕ). Stands (state c.carry_out.new.self.connections.items c.carry_out.new.self.links.items k n) (after_on i way.to_head (came_at way.address.items c.in_ok-outcome.outcome) t)) c.carry_out.ensures.first (c.carry_out.ensures.stands t k most stands))))
     )

@@ -1,0 +1,64 @@
+-- What holds of each line without fault holds of all the lines of a table that is read.
+use Rattle.std.proofs.Common.{◌≡◌, ℕ, ◌+◌, Bool, true, false, cond, List, codes, Option, Some, None, refl, sym, ◌∙◌, subst}
+use Rattle.std.specs.Prelude.{Ok, not, unwrap_or, is_none}
+use Rattle.std.specs.List.{All}
+use Rattle.std.proofs.lemmas.List.Elements.{All-nil, All-cons}
+use Rattle.toml.specs.Data.{Items, no_items, item, Members, as_table}
+use Rattle.hx_allow.specs.Lines.{Line, Table}
+use Rattle.hx_allow.specs.LineTables.{line_fault, line_of, lines_fault, lines_of, or_later, item_fault, with_line}
+use Rattle.hx_allow.specs.Tables.{is_name, number_fault, lines_at, version_of, table_fault, table_of, judge_table, fault_or_table}
+use Rattle.hx_allow.specs.Values.{first_unknown, text_at, is_some_and}
+use Rattle.hx_allow.specs.declared.faults.ConfigFault.{ConfigFault}
+use Rattle.hx_allow.specs.declared.faults.ConfigFault.TheVariants.{UnknownKey, BadName, BadNumber, NoLines}
+use Rattle.hx_allow.specs.declared.faults.NumberKey.{NumberKey}
+use Rattle.hx_allow.specs.declared.values.Scope.TheVariants.{Top}
+use Rattle.hx_allow.specs.declared.values.TableVersion.{TableVersion}
+
+-- a fault that stands is not passed over
+pub none_stands : {A : Type 0} (b : Bool) (o : Option A) (x : A) → cond b (Some x) o ≡ None → (b ≡ false) × (o ≡ None)
+none_stands true o x e = cc
+none_stands false o x e = (refl, e)
+
+or_later_none : (a b : Option ConfigFault) → or_later a b ≡ None → (a ≡ None) × (b ≡ None)
+or_later_none None b e = (refl, e)
+or_later_none (Some fault) b e = cc
+
+module _ (P : Line → Type 0) (version : TableVersion) (line_is : (n : ℕ) (ms : Members) → line_fault version n ms ≡ None → P (line_of ms)) where
+  with_line_is : (n : ℕ) (o : Option Members) (lines : List Line) → item_fault version n o ≡ None → All P lines → All P (with_line o lines)
+  with_line_is n None lines none all = all
+  with_line_is n (Some ms) lines none all = All-cons P (line_of ms) lines (line_is n ms none) all
+
+  pub each_line : (n : ℕ) (ds : Items) → lines_fault version n ds ≡ None → All P (lines_of ds)
+  each_line n no_items none = All-nil P
+  each_line n (item d ds) none =
+      let parts = or_later_none (item_fault version n (as_table d)) (lines_fault version (n + 1) ds) none in
+      with_line_is n (as_table d) (lines_of ds) parts.0 (each_line (n + 1) ds parts.1)
+
+no_line_fault : (t : Members) → table_fault t ≡ None → lines_fault (version_of t) 1 (unwrap_or (lines_at t) no_items) ≡ None
+unfolding table_fault
+no_line_fault t none = by_keys (first_unknown Top t) refl (number_fault t) refl
+  where
+    by_keys : (o : Option (List ℕ)) → first_unknown Top t ≡ o → (p : Option NumberKey) → number_fault t ≡ p → lines_fault (version_of t) 1 (unwrap_or (lines_at t) no_items) ≡ None
+    by_keys (Some key) e p f = let bad : table_fault t ≡ Some (UnknownKey key) = rw e refl in cc
+    by_keys None e (Some key) f =
+        let is : table_fault t ≡ cond (not (is_some_and is_name (text_at (codes "name") t))) (Some BadName) (Some (BadNumber key)) = rw e (rw f refl) in
+        let name_is = none_stands (not (is_some_and is_name (text_at (codes "name") t))) (Some (BadNumber key)) BadName (sym is ∙ none) in
+        let bad = name_is.1 in
+        cc
+    by_keys None e None f =
+        let lines = cond (is_none (lines_at t)) (Some NoLines) (lines_fault (version_of t) 1 (unwrap_or (lines_at t) no_items)) in
+        let is : table_fault t ≡ cond (not (is_some_and is_name (text_at (codes "name") t))) (Some BadName) lines = rw e (rw f refl) in
+        let name_is = none_stands (not (is_some_and is_name (text_at (codes "name") t))) lines BadName (sym is ∙ none) in
+        (none_stands (is_none (lines_at t)) (lines_fault (version_of t) 1 (unwrap_or (lines_at t) no_items)) NoLines name_is.1).1
+
+module _ (P : Line → Type 0) (t : Members) (table : Table) (line_is : (n : ℕ) (ms : Members) → line_fault (version_of t) n ms ≡ None → P (line_of ms)) where
+  by_fault : (o : Option ConfigFault) → table_fault t ≡ o → Ok table ≡ fault_or_table o t → All P table.lines
+  unfolding table_of
+  by_fault (Some fault) is e = cc
+  by_fault None is e =
+      let same : table_of t ≡ table = cc in
+      subst (λ (read : Table). All P read.lines) same (each_line P (version_of t) line_is 1 (unwrap_or (lines_at t) no_items) (no_line_fault t is))
+
+  pub each_line_read : Ok table ≡ judge_table t → All P table.lines
+  unfolding judge_table
+  each_line_read e = by_fault (table_fault t) refl e
