@@ -28,12 +28,13 @@ def table_of(lines, max_body=1000000, max_stored=100000, capacity=64):
 class Proxy:
     """A running program. Its clients are numbered in the order in which they connect, as the program numbers them."""
 
-    def __init__(self, program, folder, table, turns=MOST_TURNS, options=(), listen="127.0.0.1:0", record_to=None):
+    def __init__(self, program, folder, table, turns=MOST_TURNS, options=(), listen="127.0.0.1:0", record_to=None, records=True):
         self.program, self.folder, self.clients, self.connecting = program, folder, [], threading.Lock()
         self.record = record_to or f"{folder}/record"
         with open(f"{folder}/table.toml", "w", encoding="utf-8") as it:
             it.write(table)
-        words = ["serve", f"{folder}/table.toml", "--listen", listen, "--turns", str(turns), "--record", self.record]
+        words = ["serve", f"{folder}/table.toml", "--listen", listen, "--turns", str(turns)]
+        words += ["--record", self.record] if records else []
         how = {"stdin": subprocess.DEVNULL, "stdout": subprocess.PIPE, "stderr": subprocess.PIPE}
         self.process = subprocess.Popen([program, *words, *options], **how)
         self.port = self.read_port()
