@@ -8,13 +8,17 @@ use Rattle.hx_framing.specs.declared.answer.Next.TheVariants as next
 use Rattle.hx_framing.specs.declared.requests.Request.{Request}
 use Rattle.proxy_engine.specs.Look.{Look, Unknown, Quiet, Due, known}
 use Rattle.proxy_engine.specs.Due.{is_busy}
-use Rattle.proxy_engine.specs.Acts.{linked, with_opened, closing}
+use Rattle.proxy_engine.specs.Activities.{has_exchange}
+use Rattle.proxy_engine.specs.Acts.{doing, with_opened, closing}
 use Rattle.proxy_engine.specs.ResponseWatch.{Watched, Stands as WatchStands}
 use Rattle.proxy_engine.specs.Story.{Story, ConnStory, LinkStory, opened, no_connection, no_link, connection_at, link_at, with_connection, with_link, with_core}
-use Rattle.proxy_engine.specs.Wiring.{link_of}
+use Rattle.proxy_engine.specs.Wiring.{activity_of}
 use Rattle.proxy_engine.specs.State.{Both, ConnStands, LinkStands, Stands, state, wish_at, wish_seen, wish_load, is_free, gone_at, finish_at, connection_load}
+use Rattle.proxy_engine.specs.declared.activities.Activity.{Activity}
+use Rattle.proxy_engine.specs.declared.activities.Activity.TheVariants.{Free, Forwarded}
 use Rattle.proxy_engine.specs.declared.ends.Connection.{Connection}
 use Rattle.proxy_engine.specs.declared.ends.Link.{Link}
+use Rattle.proxy_engine.proofs.ActivityCases.{free_from, not_so}
 use Rattle.proxy_engine.proofs.Parts.{both_length, both_at, both_set, both_push}
 
 -- at i stands o then, which f tells of
@@ -43,13 +47,13 @@ changed_core cs ks core first new s h = record { connections = h.connections; li
 
 -- a link is opened for the connection at i, which has it already
 pub opened_link : (cs : List (Option Connection)) (ks : List (Option Link)) (core : CoreState) (first max_body place : ℕ) (to_head : Bool) (s : Story) (i : ℕ) (w : Watched)
-    → place ≡ length ks → core.table.max_body ≡ max_body → WatchStands w (start max_body to_head) → first + length ks < 2 ^ 64 → Stands (state cs ks core first) (with_connection s i (linked (Some place)))
+    → place ≡ length ks → core.table.max_body ≡ max_body → WatchStands w (start max_body to_head) → first + length ks < 2 ^ 64 → Stands (state cs ks core first) (with_connection s i (doing (Forwarded place)))
     → Stands (state cs (ks ++ Some (record { watch = w; ended = false; failed = None; connection = i }) ∷ []) core first) (with_opened s i to_head)
 opened_link cs ks core first max_body place to_head s i w at most fresh small h =
     let same = both_length LinkStands ks s.links h.links in
     let watch : WatchStands w (start s.core.table.max_body to_head) = subst (λ (n : ℕ). WatchStands w (start n to_head)) (sym most ∙ ap (λ (k : CoreState). k.table.max_body) h.core) fresh in
     record {
-      connections = subst (λ (n : ℕ). Both ConnStands cs (set s.connections i (linked (Some n) (connection_at s i)))) (at ∙ same) h.connections;
+      connections = subst (λ (n : ℕ). Both ConnStands cs (set s.connections i (doing (Forwarded n) (connection_at s i)))) (at ∙ same) h.connections;
       links = both_push LinkStands ks s.links (Some (record { watch = w; ended = false; failed = None; connection = i })) (opened s.core.table.max_body to_head i) h.links record { watch = watch; ended = refl; failed = refl; still = refl; connection = refl };
       core = h.core;
       first = h.first;
@@ -68,19 +72,18 @@ looked_links cs ks ls core first s b h = record { connections = h.connections; l
 some_same : {B : Type 0} {x y : B} → Some x ≡ Some y → x ≡ y
 some_same h = cc
 
-free_by : (gone : Bool) (link : Option ℕ) → not (is_busy gone false link) ≡ true → (gone ≡ false) × (link ≡ None)
-free_by true link e = absurd (cc)
-free_by false None e = (refl, refl)
-free_by false (Some l) e = absurd (cc)
+free_by : (gone : Bool) (a : Activity) → not (is_busy gone false a) ≡ true → (gone ≡ false) × (a ≡ Free)
+free_by true a e = absurd (cc)
+free_by false a e = (refl, free_from a (not_so (has_exchange a) e))
 
--- a free connection is there, isn't gone, and has no link
+-- a free connection is there, isn't gone, and has no open exchange
 pub free_there : (o : Option Connection) → is_free o ≡ true → is_some o ≡ true
 free_there None e = absurd (cc)
 free_there (Some c) e = refl
 
-pub free_link : (o : Option Connection) → is_free o ≡ true → link_of o ≡ None
-free_link None e = absurd (cc)
-free_link (Some c) e = (free_by c.gone c.link e).1
+pub free_activity : (o : Option Connection) → is_free o ≡ true → activity_of o ≡ Free
+free_activity None e = absurd (cc)
+free_activity (Some c) e = (free_by c.gone c.activity e).1
 
 wish_by : (busy : Bool) (o : Option (Next Request)) → is_some (cond busy None o) ≡ true → not busy ≡ true
 wish_by true o e = absurd (cc)
@@ -89,7 +92,7 @@ wish_by false o e = refl
 -- one on which something is due is free
 pub wish_free : (o : Option Connection) → is_some (wish_at o) ≡ true → is_free o ≡ true
 wish_free None e = absurd (cc)
-wish_free (Some c) e = wish_by (is_busy c.gone false c.link) (wish_seen c.watch.look) e
+wish_free (Some c) e = wish_by (is_busy c.gone false c.activity) (wish_seen c.watch.look) e
 
 or_true : (a b : Bool) → a || (b || true) ≡ true
 or_true true b = refl
@@ -101,12 +104,12 @@ or_false true = refl
 or_false false = refl
 
 -- a closed connection without an open exchange is over
-pub closed_over : (o : Option Connection) (c : ConnStory) → link_of o ≡ None → ConnStands o c → ConnStands None (closing true c)
+pub closed_over : (o : Option Connection) (c : ConnStory) → activity_of o ≡ Free → ConnStands o c → ConnStands None (closing true c)
 closed_over None c none h = (or_true c.gone c.closed, h.1)
-closed_over (Some x) c none h = (or_true c.gone c.closed, sym h.link ∙ none)
+closed_over (Some x) c none h = (or_true c.gone c.closed, sym h.activity ∙ none)
 
 -- a gone one whose exchange is over
-pub lost_over : (o : Option Connection) (c : ConnStory) → gone_at o ≡ Some true → ConnStands o c → ConnStands None (linked None c)
+pub lost_over : (o : Option Connection) (c : ConnStory) → gone_at o ≡ Some true → ConnStands o c → ConnStands None (doing Free c)
 lost_over None c g h = (h.0, refl)
 lost_over (Some x) c g h = (ap (λ (b : Bool). b || c.closed) (sym h.gone ∙ some_same g), refl)
 
@@ -126,7 +129,7 @@ finish_there (Some k) e = refl
 -- where it isn't closed
 pub left_open : (o : Option Connection) (c : ConnStory) → ConnStands o c → ConnStands o (closing false c)
 left_open None c h = (ap (λ (b : Bool). c.gone || b) (or_false c.closed) ∙ h.0, h.1)
-left_open (Some x) c h = record { watch = h.watch; ended = h.ended; gone = h.gone; link = h.link; still = ap (λ (b : Bool). b || false) h.still; used = h.used }
+left_open (Some x) c h = record { watch = h.watch; ended = h.ended; gone = h.gone; activity = h.activity; still = ap (λ (b : Bool). b || false) h.still; used = h.used }
 
 -- what a look shows to be due, and how much that counts
 wish_due : (busy : Bool) (l : Look Request) (a : Next Request) → cond busy None (wish_seen l) ≡ Some a → l ≡ Due a
@@ -140,7 +143,7 @@ wish_due false (Due (next.Refused f)) a e = ap (λ (b : Next Request). Due b) (s
 wish_due false (Due next.End) a e = ap (λ (b : Next Request). Due b) (some_same e)
 
 pub due_at : (c : Connection) (a : Next Request) → wish_at (Some c) ≡ Some a → c.watch.look ≡ Due a
-due_at c a e = wish_due (is_busy c.gone false c.link) c.watch.look a e
+due_at c a e = wish_due (is_busy c.gone false c.activity) c.watch.look a e
 
 known_by : (busy : Bool) (l : Look Request) → wish_load (cond busy None (wish_seen l)) ≤ known l
 known_by true l = omega arith
@@ -153,4 +156,4 @@ known_by false (Due (next.Refused f)) = omega arith
 known_by false (Due next.End) = omega arith
 
 pub wish_known : (c : Connection) → wish_load (wish_at (Some c)) ≤ known c.watch.look
-wish_known c = known_by (is_busy c.gone false c.link) c.watch.look
+wish_known c = known_by (is_busy c.gone false c.activity) c.watch.look

@@ -6,9 +6,11 @@ use Rattle.std.proofs.lemmas.List.{get_or-map}
 use Rattle.proxy_engine.specs.Story.{ConnStory, no_connection, no_link}
 use Rattle.proxy_engine.specs.Due.{IsFirst, Lost, Stood, Wanted}
 use Rattle.proxy_engine.specs.State.{Both, ConnStands, LinkStands, NoneLost, FoundLinks, FoundConnections, finish_at, wish_at, gone_at}
-use Rattle.proxy_engine.specs.Wiring.{at, link_of, links_of}
+use Rattle.proxy_engine.specs.Activities.{link_of}
+use Rattle.proxy_engine.specs.Wiring.{activity_at, activity_of, activities_of}
 use Rattle.proxy_engine.specs.Places.{listed, AllBelow}
 use Rattle.proxy_engine.specs.Marked.{may_be_lost, may_want, may_stand, NoneBelow, NoneAtAll, lost_at, StandsThere, WantsThere}
+use Rattle.proxy_engine.specs.declared.activities.Activity.TheVariants.{Free}
 use Rattle.proxy_engine.specs.declared.ends.Connection.{Connection}
 use Rattle.proxy_engine.specs.declared.ends.Link.{Link}
 use Rattle.proxy_engine.proofs.Keeping.{listed_length, listed_at, seen_at, inside}
@@ -39,12 +41,12 @@ module _ (m : BTreeMap ℕ Connection) (n : ℕ) (places : List ℕ) (below : Al
   at_place : (i : ℕ) → i < n → get_or xs i None ≡ get nat_cmp m i
   at_place i l = ap (λ (ys : List (Option Connection)). get_or ys i None) (sym view) ∙ listed_at m n i None l
 
-  pub lost_linked : (r : Option (ℕ × ℕ)) → IfSome r (LostThere m places) → IfSome r (λ p. at (links_of xs) p.0 ≡ Some p.1)
+  pub lost_linked : (r : Option (ℕ × ℕ)) → IfSome r (LostThere m places) → IfSome r (λ p. link_of (activity_at (activities_of xs) p.0) ≡ Some p.1)
   lost_linked None some = tt
   lost_linked (Some p) some =
       let within : p.0 < n = below p.0 some.2 in
-      get_or-map link_of xs p.0 None None (subst (λ k. p.0 < k) (sym (listed_length m n) ∙ ap length view) within)
-      ∙ (ap link_of (at_place p.0 within) ∙ (lost_link (get nat_cmp m p.0) p.1 some.0).1)
+      ap link_of (get_or-map activity_of xs p.0 None Free (subst (λ k. p.0 < k) (sym (listed_length m n) ∙ ap length view) within) ∙ ap activity_of (at_place p.0 within))
+      ∙ (lost_link (get nat_cmp m p.0) p.1 some.0).1
 
   pub lost_gone : (r : Option (ℕ × ℕ)) → IfSome r (LostThere m places) → IfSome r (λ p. gone_at (get_or xs p.0 None) ≡ Some true)
   lost_gone None some = tt

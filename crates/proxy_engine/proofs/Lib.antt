@@ -1,6 +1,7 @@
 pub mod RequestWatching
 pub mod ResponseWatching
 pub mod Parts
+pub mod ActivityCases
 pub mod Keeping
 pub mod Shown
 pub mod Changes

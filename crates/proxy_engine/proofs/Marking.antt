@@ -10,6 +10,7 @@ use Rattle.hx_framing.specs.declared.responses.Response.{Response}
 use Rattle.hx_framing.specs.declared.answer.Next.{Next}
 use Rattle.hx_framing.specs.declared.answer.Next.TheVariants as next
 use Rattle.hx_status.specs.declared.cause.FailKind.{FailKind}
+use Rattle.proxy_engine.specs.Activities.{link_of, has_exchange}
 use Rattle.proxy_engine.specs.Look.{Look, Unknown, Quiet, Due, Shows, is_due, may_show}
 use Rattle.proxy_engine.specs.Story.{ConnStory, LinkStory}
 use Rattle.proxy_engine.specs.Due.{Breaks, Lost, Stood, Wanted, WishBy, FinishBy, is_busy}
@@ -17,8 +18,10 @@ use Rattle.proxy_engine.specs.State.{ConnStands, LinkStands, wish_seen}
 use Rattle.proxy_engine.specs.Places.{Kept, Falls, AllBelow, IsLeast, IsMarked}
 use Rattle.proxy_engine.specs.Held.{GrowsConnection, GrowsLink}
 use Rattle.proxy_engine.specs.Marked.{ConnectionList, LinkList, may_be_lost, may_want, may_stand, LooksLikeConnection, LooksLikeLink, Alike, AtEach, NoneBelow, NoneAtAll, lost_at}
+use Rattle.proxy_engine.specs.declared.activities.Activity.{Activity}
 use Rattle.proxy_engine.specs.declared.ends.Connection.{Connection}
 use Rattle.proxy_engine.specs.declared.ends.Link.{Link}
+use Rattle.proxy_engine.proofs.ActivityCases.{free_from, none_from}
 use Rattle.proxy_engine.proofs.Keeping.{fits}
 use Rattle.proxy_engine.proofs.Falling.{falls_none}
 use Rattle.proxy_engine.proofs.Shown.{stood, wanted, wanted_busy, finish_by, wish_by}
@@ -212,12 +215,12 @@ same_connections xs ys a b e f = ap {B = ConnectionList} (λ (zs : List (Option 
 
 -- room is made for bytes: what may be due is what might before
 pub grown_lost : (x y : Connection) → GrowsConnection x y → may_be_lost y ≡ true → may_be_lost x ≡ true
-grown_lost x y r f = sym (ap (λ (b : Bool). b && is_some y.link) r.alike.gone ∙ ap (λ (o : Option ℕ). x.gone && is_some o) r.alike.link) ∙ f
+grown_lost x y r f = sym (ap (λ (b : Bool). b && has_exchange y.activity) r.alike.gone ∙ ap (λ (a : Activity). x.gone && has_exchange a) r.alike.activity) ∙ f
 
 pub grown_want : (x y : Connection) → GrowsConnection x y → may_want y ≡ true → may_want x ≡ true
 grown_want x y r f =
-    sym (ap (λ (b : Bool). not (is_busy b false y.link) && may_show y.watch.look) r.alike.gone ∙ (ap (λ (o : Option ℕ). not (is_busy x.gone false o) && may_show y.watch.look) r.alike.link
-    ∙ ap (λ (l : Look Request). not (is_busy x.gone false x.link) && may_show l) r.look)) ∙ f
+    sym (ap (λ (b : Bool). not (is_busy b false y.activity) && may_show y.watch.look) r.alike.gone ∙ (ap (λ (a : Activity). not (is_busy x.gone false a) && may_show y.watch.look) r.alike.activity
+    ∙ ap (λ (l : Look Request). not (is_busy x.gone false x.activity) && may_show l) r.look)) ∙ f
 
 pub grown_stand : (x y : Link) → GrowsLink x y → may_stand y ≡ true → may_stand x ≡ true
 grown_stand x y r f = sym (ap (λ (l : Look Response). may_show l || is_some y.failed) r.look ∙ ap (λ (o : Option FailKind). may_show x.watch.look || is_some o) r.failed) ∙ f
@@ -249,10 +252,10 @@ alike_at {A} R same m k i here others j = elim (cases_eq j i) [
 ]
 
 pub same_connection : (c : Connection) → LooksLikeConnection c c
-same_connection c = record { stands = λ s h. h; gone = refl; link = refl; load = omega arith }
+same_connection c = record { stands = λ s h. h; gone = refl; activity = refl; load = omega arith }
 
 pub next_connection : (x y z : Connection) → LooksLikeConnection x y → LooksLikeConnection y z → LooksLikeConnection x z
-next_connection x y z r q = record { stands = λ s h. q.stands s (r.stands s h); gone = q.gone ∙ r.gone; link = q.link ∙ r.link; load = omega (arith, r.load, q.load) }
+next_connection x y z r q = record { stands = λ s h. q.stands s (r.stands s h); gone = q.gone ∙ r.gone; activity = q.activity ∙ r.activity; load = omega (arith, r.load, q.load) }
 
 pub same_link : (k : Link) → LooksLikeLink k k
 same_link k = record { stands = λ s h. h; connection = refl; load = omega arith }
@@ -279,24 +282,23 @@ settled (Due b) a shows e = e
 -- ---- what has no flag
 
 pub unlost : (c : Connection) (s : ConnStory) → may_be_lost c ≡ false → ConnStands (Some c) s → Lost s None
-unlost c s e h = subst (λ (b : Bool). None ≡ cond b s.link None) h.gone (subst (λ (o : Option ℕ). None ≡ cond c.gone o None) h.link (by_mark c.gone c.link e))
+unlost c s e h = subst (λ (b : Bool). None ≡ cond b (link_of s.activity) None) h.gone (subst (λ (a : Activity). None ≡ cond c.gone (link_of a) None) h.activity (by_mark c.gone c.activity e))
   where
-    by_mark : (b : Bool) (o : Option ℕ) → b && is_some o ≡ false → None ≡ cond b o None
-    by_mark true None e = refl
-    by_mark true (Some l) e = absurd cc
-    by_mark false o e = refl
+    by_mark : (b : Bool) (a : Activity) → b && has_exchange a ≡ false → None ≡ cond b (link_of a) None
+    by_mark true a e = sym (ap link_of (free_from a e))
+    by_mark false a e = refl
 
 pub unlost_over : (s : ConnStory) → ConnStands None s → Lost s None
 unlost_over s h = by_gone s.gone
   where
-    by_gone : (b : Bool) → None ≡ cond b s.link None
-    by_gone true = sym h.1
+    by_gone : (b : Bool) → None ≡ cond b (link_of s.activity) None
+    by_gone true = sym (ap link_of h.1)
     by_gone false = refl
 
 pub unwanted : (c : Connection) (s : ConnStory) → may_want c ≡ false → ConnStands (Some c) s → Wanted s None
-unwanted c s e h = by_busy (is_busy c.gone false c.link) refl e
+unwanted c s e h = by_busy (is_busy c.gone false c.activity) refl e
   where
-    by_busy : (b : Bool) → is_busy c.gone false c.link ≡ b → not b && may_show c.watch.look ≡ false → Wanted s None
+    by_busy : (b : Bool) → is_busy c.gone false c.activity ≡ b → not b && may_show c.watch.look ≡ false → Wanted s None
     by_busy true busy e = subst (λ o. Wanted s o) (ap (λ (b : Bool). cond b None (wish_seen c.watch.look)) busy) (wanted_busy c s busy h)
     by_busy false idle e =
         let shows = quiet_shows c.watch.look e in
@@ -305,7 +307,7 @@ unwanted c s e h = by_busy (is_busy c.gone false c.link) refl e
 pub unwanted_over : (s : ConnStory) → ConnStands None s → Wanted s None
 unwanted_over s h = subst (λ (b : Bool). WishBy b s None) (sym (by_over s.gone s.closed h.0)) refl
   where
-    by_over : (gone closed : Bool) → gone || closed ≡ true → is_busy gone closed s.link ≡ true
+    by_over : (gone closed : Bool) → gone || closed ≡ true → is_busy gone closed s.activity ≡ true
     by_over true closed e = refl
     by_over false true e = refl
     by_over false false e = absurd (cc)
@@ -326,9 +328,8 @@ unstood_over s h = subst (λ (b : Bool). FinishBy b s None) (sym h) refl
 
 -- the link that was read of a gone connection
 pub no_mark : (c : Connection) → None ≡ lost_at (Some c) → may_be_lost c ≡ false
-no_mark c e = by_mark c.gone c.link e
+no_mark c e = by_mark c.gone c.activity e
   where
-    by_mark : (b : Bool) (o : Option ℕ) → None ≡ cond b o None → b && is_some o ≡ false
-    by_mark true None e = refl
-    by_mark true (Some l) e = absurd cc
-    by_mark false o e = refl
+    by_mark : (b : Bool) (a : Activity) → None ≡ cond b (link_of a) None → b && has_exchange a ≡ false
+    by_mark true a e = none_from a (sym e)
+    by_mark false a e = refl

@@ -43,7 +43,7 @@ wanted_by true x o p h k = h ∙ sym k
 wanted_by false x o p h k = h.2 ∙ (ap wish_of (requests_once x.progress h.0 k.0 h.1 k.1) ∙ sym k.2)
 
 wanted_once : (x : ConnStory) (o p : Option (Next Request)) → Wanted x o → Wanted x p → o ≡ p
-wanted_once x o p h k = wanted_by (is_busy x.gone x.closed x.link) x o p h k
+wanted_once x o p h k = wanted_by (is_busy x.gone x.closed x.activity) x o p h k
 
 lost_same : (s : Story) (a b : Option (ℕ × ℕ)) → IsFirst Lost no_connection s.connections a → IsFirst Lost no_connection s.connections b → a ≡ b
 lost_same s a b h k = first_once Lost no_connection s.connections a b lost_once h k

@@ -24,17 +24,21 @@ use Rattle.proxy_script.specs.declared.effect_list.Effect.TheVariants as effects
 use Rattle.proxy_engine.specs.Happenings.{Accepts, Sends, Hears, Ends, Leaves, Shuts, Fails}
 use Rattle.proxy_engine.specs.Story.{Story, ConnStory, LinkStory, no_connection, no_link, accepted, opened, connection_at, link_at, with_connection, with_core, heard}
 use Rattle.proxy_engine.specs.Due.{Abandons, Finishes, Serves, Finish, Gives, Breaks, FinishBy, WishBy, is_busy, IsDueFirst}
-use Rattle.proxy_engine.specs.Acts.{Does, Served, Finished, Arrives, Refuses, Closes, Replies, came, asks_head, effects_on, after_on, freed, linked, closing, dropping, passing, next_number}
-use Rattle.proxy_engine.specs.Wiring.{Wired, at}
-use Rattle.proxy_engine.specs.Orderly.{IsOrderly, IsOpen, Drops, NamesOpen, link_told, owner_told, BeginsOrderly, TakesInOrder, ActsInOrder}
+use Rattle.proxy_engine.specs.Acts.{Does, Served, Finished, Arrives, Refuses, Closes, Replies, came, asks_head, effects_on, after_on, freed, doing, closing, dropping, passing, next_number}
+use Rattle.proxy_engine.specs.Activities.{link_of}
+use Rattle.proxy_engine.specs.Wiring.{Wired, activity_at, at}
+use Rattle.proxy_engine.specs.Orderly.{IsOrderly, IsOpen, Drops, NamesOpen, activity_told, owner_told, BeginsOrderly, TakesInOrder, ActsInOrder}
+use Rattle.proxy_engine.specs.declared.activities.Activity.{Activity}
+use Rattle.proxy_engine.specs.declared.activities.Activity.TheVariants.{Free, Forwarded}
+use Rattle.proxy_engine.proofs.ActivityCases.{free_from, open_from}
 use Rattle.proxy_engine.proofs.Ending.{Remains, remains}
-use Rattle.proxy_engine.proofs.Wires.{within, wired_more, wired_freed, wired_opened, wired_left, wired_again}
+use Rattle.proxy_engine.proofs.Wires.{within, has_place, wired_more, wired_freed, wired_opened, wired_left, wired_again}
 
 -- what stands at a place of either list
-links_here : (cs : List ConnStory) (i : ℕ) → at (map link_told cs) i ≡ (get_or cs i no_connection).link
-links_here [] i = refl
-links_here (c ∷ cs) zero = refl
-links_here (c ∷ cs) (suc i) = links_here cs i
+doing_here : (cs : List ConnStory) (i : ℕ) → activity_at (map activity_told cs) i ≡ (get_or cs i no_connection).activity
+doing_here [] i = refl
+doing_here (c ∷ cs) zero = refl
+doing_here (c ∷ cs) (suc i) = doing_here cs i
 
 owners_here : (ks : List LinkStory) (j : ℕ) → at (map owner_told ks) j ≡ owner_told (get_or ks j no_link)
 owners_here [] j = refl
@@ -60,19 +64,19 @@ map_more f (x ∷ xs) y = ap (λ ys. f x ∷ ys) (map_more f xs y)
 
 -- a connection that is closed has no unshut exchange
 abbrev IsFree : ConnStory → Type 0
-IsFree c = c.closed ≡ true → c.link ≡ None
+IsFree c = c.closed ≡ true → c.activity ≡ Free
 
-abbrev Free : List ConnStory → Type 0
-Free cs = (i : ℕ) → IsFree (get_or cs i no_connection)
+abbrev AllFree : List ConnStory → Type 0
+AllFree cs = (i : ℕ) → IsFree (get_or cs i no_connection)
 
-free_set : (cs : List ConnStory) (i : ℕ) (y : ConnStory) → IsFree y → Free cs → Free (set cs i y)
+free_set : (cs : List ConnStory) (i : ℕ) (y : ConnStory) → IsFree y → AllFree cs → AllFree (set cs i y)
 free_set cs i y fine h k = by_case (at_set cs i y k no_connection)
   where
     by_case : (get_or (set cs i y) k no_connection ≡ y) ⊎ (get_or (set cs i y) k no_connection ≡ get_or cs k no_connection) → IsFree (get_or (set cs i y) k no_connection)
     by_case (inl e) = subst (λ (c : ConnStory). IsFree c) (sym e) fine
     by_case (inr e) = subst (λ (c : ConnStory). IsFree c) (sym e) (h k)
 
-free_more : (cs : List ConnStory) (y : ConnStory) → IsFree y → Free cs → Free (cs ++ y ∷ [])
+free_more : (cs : List ConnStory) (y : ConnStory) → IsFree y → AllFree cs → AllFree (cs ++ y ∷ [])
 free_more cs y fine h k = by_case (at_pushed cs y k no_connection)
   where
     by_case : (get_or (cs ++ y ∷ []) k no_connection ≡ y) ⊎ (get_or (cs ++ y ∷ []) k no_connection ≡ get_or cs k no_connection) → IsFree (get_or (cs ++ y ∷ []) k no_connection)
@@ -80,7 +84,7 @@ free_more cs y fine h k = by_case (at_pushed cs y k no_connection)
     by_case (inr e) = subst (λ (c : ConnStory). IsFree c) (sym e) (h k)
 
 abbrev Order : List ConnStory → List LinkStory → List Exchange → Type 0
-Order cs ks xs = Wired (map link_told cs) (map owner_told ks) xs × Free cs
+Order cs ks xs = Wired (map activity_told cs) (map owner_told ks) xs × AllFree cs
 
 order_of : (s : Story) → IsOrderly s → Order s.connections s.links s.core.exchanges
 order_of s h = (h.wired, h.free)
@@ -89,17 +93,17 @@ orderly : (s : Story) → Order s.connections s.links s.core.exchanges → IsOrd
 orderly s h = record { wired = h.0; free = h.1 }
 
 -- a connection or a link that changes and names the same
-connection_changed : (cs : List ConnStory) (ks : List LinkStory) (xs : List Exchange) (i : ℕ) (y : ConnStory) → y.link ≡ (get_or cs i no_connection).link → IsFree y → Order cs ks xs → Order (set cs i y) ks xs
+connection_changed : (cs : List ConnStory) (ks : List LinkStory) (xs : List Exchange) (i : ℕ) (y : ConnStory) → y.activity ≡ (get_or cs i no_connection).activity → IsFree y → Order cs ks xs → Order (set cs i y) ks xs
 connection_changed cs ks xs i y same fine h =
-    (subst (λ (ls : List (Option ℕ)). Wired ls (map owner_told ks) xs) (sym (map-set_same link_told cs i y no_connection same)) h.0, free_set cs i y fine h.1)
+    (subst (λ (ds : List Activity). Wired ds (map owner_told ks) xs) (sym (map-set_same activity_told cs i y no_connection same)) h.0, free_set cs i y fine h.1)
 
 link_changed : (cs : List ConnStory) (ks : List LinkStory) (xs : List Exchange) (j : ℕ) (y : LinkStory) → owner_told y ≡ owner_told (get_or ks j no_link) → Order cs ks xs → Order cs (set ks j y) xs
 link_changed cs ks xs j y same h =
-    (subst (λ (os : List (Option ℕ)). Wired (map link_told cs) os xs) (sym (map-set_same owner_told ks j y no_link same)) h.0, h.1)
+    (subst (λ (os : List (Option ℕ)). Wired (map activity_told cs) os xs) (sym (map-set_same owner_told ks j y no_link same)) h.0, h.1)
 
-link_by : (b : Bool) (c d : ConnStory) → d.link ≡ c.link → (cond b c d).link ≡ c.link
-link_by true c d e = refl
-link_by false c d e = e
+doing_by : (b : Bool) (c d : ConnStory) → d.activity ≡ c.activity → (cond b c d).activity ≡ c.activity
+doing_by true c d e = refl
+doing_by false c d e = e
 
 closed_by : (b : Bool) (c d : ConnStory) → d.closed ≡ c.closed → (cond b c d).closed ≡ c.closed
 closed_by true c d e = refl
@@ -109,11 +113,11 @@ owner_by : (b : Bool) (k d : LinkStory) → owner_told d ≡ owner_told k → ow
 owner_by true k d e = refl
 owner_by false k d e = e
 
-marked : (s : Story) (i : ℕ) (b : Bool) (d : ConnStory) → d.link ≡ (connection_at s i).link → d.closed ≡ (connection_at s i).closed → IsOrderly s
+marked : (s : Story) (i : ℕ) (b : Bool) (d : ConnStory) → d.activity ≡ (connection_at s i).activity → d.closed ≡ (connection_at s i).closed → IsOrderly s
     → Order (set s.connections i (cond b (connection_at s i) d)) s.links s.core.exchanges
 marked s i b d l k h =
     let c = connection_at s i in
-    connection_changed s.connections s.links s.core.exchanges i (cond b c d) (link_by b c d l) (λ e. link_by b c d l ∙ h.free i (sym (closed_by b c d k) ∙ e)) (order_of s h)
+    connection_changed s.connections s.links s.core.exchanges i (cond b c d) (doing_by b c d l) (λ e. doing_by b c d l ∙ h.free i (sym (closed_by b c d k) ∙ e)) (order_of s h)
 
 marked_link : (s : Story) (j : ℕ) (b : Bool) (d : LinkStory) → owner_told d ≡ owner_told (link_at s j) → IsOrderly s → Order s.connections (set s.links j (cond b (link_at s j) d)) s.core.exchanges
 marked_link s j b d e h = link_changed s.connections s.links s.core.exchanges j (cond b (link_at s j) d) (owner_by b (link_at s j) d e) (order_of s h)
@@ -126,7 +130,7 @@ begins_orderly core first none = record {
 
 pub takes_in_order : TakesInOrder
 takes_in_order s (Accepts n) h = record {
-  wired = subst (λ (ls : List (Option ℕ)). Wired ls (map owner_told s.links) s.core.exchanges) (sym (map_more link_told s.connections (accepted s.core.table.max_body))) (wired_more (map link_told s.connections) (map owner_told s.links) s.core.exchanges h.wired);
+  wired = subst (λ (ds : List Activity). Wired ds (map owner_told s.links) s.core.exchanges) (sym (map_more activity_told s.connections (accepted s.core.table.max_body))) (wired_more (map activity_told s.connections) (map owner_told s.links) s.core.exchanges h.wired);
   free = free_more s.connections (accepted s.core.table.max_body) (λ e. refl) h.free;
 }
 takes_in_order s (Sends n bytes) h = orderly (heard s (Sends n bytes)) (let c = connection_at s (n - 1) in marked s (n - 1) (c.gone || (c.closed || c.progress.ended)) (record c { progress = fed c.progress bytes }) refl refl h)
@@ -138,30 +142,30 @@ takes_in_order s (Fails l kind) h = orderly (heard s (Fails l kind)) (let k = li
 
 -- ---- acts
 
-freed_order : (cs : List ConnStory) (ks : List LinkStory) (xs : List Exchange) (i j : ℕ) (c : ConnStory) (k : LinkStory) → at (map link_told cs) i ≡ Some j → Order cs ks xs → Order (set cs i (linked None c)) (set ks j (dropping k)) (closed (i + 1) xs)
+freed_order : (cs : List ConnStory) (ks : List LinkStory) (xs : List Exchange) (i j : ℕ) (c : ConnStory) (k : LinkStory) → link_of (activity_at (map activity_told cs) i) ≡ Some j → Order cs ks xs → Order (set cs i (doing Free c)) (set ks j (dropping k)) (closed (i + 1) xs)
 freed_order cs ks xs i j c k here h = (
-  subst (λ (ls : List (Option ℕ)). Wired ls (map owner_told (set ks j (dropping k))) (closed (i + 1) xs)) (sym (map-set link_told cs i (linked None c)))
-      (subst (λ (os : List (Option ℕ)). Wired (set (map link_told cs) i None) os (closed (i + 1) xs)) (sym (map-set owner_told ks j (dropping k))) (wired_freed (map link_told cs) (map owner_told ks) xs i j here h.0)),
-  free_set cs i (linked None c) (λ e. refl) h.1,
+  subst (λ (ds : List Activity). Wired ds (map owner_told (set ks j (dropping k))) (closed (i + 1) xs)) (sym (map-set activity_told cs i (doing Free c)))
+      (subst (λ (os : List (Option ℕ)). Wired (set (map activity_told cs) i Free) os (closed (i + 1) xs)) (sym (map-set owner_told ks j (dropping k))) (wired_freed (map activity_told cs) (map owner_told ks) xs i j here h.0)),
+  free_set cs i (doing Free c) (λ e. refl) h.1,
 )
 
 -- the exchanges that an invalidation marks stay open
 left_order : (cs : List ConnStory) (ks : List LinkStory) (xs : List Exchange) (key : Option Key) (id : ℕ) → Order cs ks (closed id xs) → Order cs ks (left_open key id xs)
-left_order cs ks xs key id h = (wired_left (map link_told cs) (map owner_told ks) xs key id h.0, h.1)
+left_order cs ks xs key id h = (wired_left (map activity_told cs) (map owner_told ks) xs key id h.0, h.1)
 
-closing_order : (cs : List ConnStory) (ks : List LinkStory) (xs : List Exchange) (i : ℕ) (close : Bool) → (get_or cs i no_connection).link ≡ None → Order cs ks xs → Order (set cs i (closing close (get_or cs i no_connection))) ks xs
+closing_order : (cs : List ConnStory) (ks : List LinkStory) (xs : List Exchange) (i : ℕ) (close : Bool) → (get_or cs i no_connection).activity ≡ Free → Order cs ks xs → Order (set cs i (closing close (get_or cs i no_connection))) ks xs
 closing_order cs ks xs i close none h = connection_changed cs ks xs i (closing close (get_or cs i no_connection)) refl (λ e. none) h
 
-opened_order : (cs : List ConnStory) (ks : List LinkStory) (xs : List Exchange) (x : Exchange) (i max_body : ℕ) (to_head : Bool) → i < length cs → (get_or cs i no_connection).link ≡ None → (get_or cs i no_connection).closed ≡ false → x.id ≡ i + 1 → Order cs ks xs
-    → Order (set cs i (linked (Some (length ks)) (get_or cs i no_connection))) (ks ++ opened max_body to_head i ∷ []) (xs ++ x ∷ [])
+opened_order : (cs : List ConnStory) (ks : List LinkStory) (xs : List Exchange) (x : Exchange) (i max_body : ℕ) (to_head : Bool) → i < length cs → (get_or cs i no_connection).activity ≡ Free → (get_or cs i no_connection).closed ≡ false → x.id ≡ i + 1 → Order cs ks xs
+    → Order (set cs i (doing (Forwarded (length ks)) (get_or cs i no_connection))) (ks ++ opened max_body to_head i ∷ []) (xs ++ x ∷ [])
 opened_order cs ks xs x i max_body to_head here none unshut id h =
-    let y = linked (Some (length ks)) (get_or cs i no_connection) in
+    let y = doing (Forwarded (length ks)) (get_or cs i no_connection) in
     let size : length (map owner_told ks) ≡ length ks = length-map ks owner_told in
-    let most : length (map link_told cs) ≡ length cs = length-map cs link_told in
-    let opens = wired_opened (map link_told cs) (map owner_told ks) xs x i (omega (arith, here, most)) (links_here cs i ∙ none) id h.0 in
-    let sized = subst (λ (n : ℕ). Wired (set (map link_told cs) i (Some n)) (map owner_told ks ++ Some i ∷ []) (xs ++ x ∷ [])) size opens in (
-      subst (λ (ls : List (Option ℕ)). Wired ls (map owner_told (ks ++ opened max_body to_head i ∷ [])) (xs ++ x ∷ [])) (sym (map-set link_told cs i y))
-          (subst (λ (os : List (Option ℕ)). Wired (set (map link_told cs) i (Some (length ks))) os (xs ++ x ∷ [])) (sym (map_more owner_told ks (opened max_body to_head i))) sized),
+    let most : length (map activity_told cs) ≡ length cs = length-map cs activity_told in
+    let opens = wired_opened (map activity_told cs) (map owner_told ks) xs x i (omega (arith, here, most)) (doing_here cs i ∙ none) id h.0 in
+    let sized = subst (λ (n : ℕ). Wired (set (map activity_told cs) i (Forwarded n)) (map owner_told ks ++ Some i ∷ []) (xs ++ x ∷ [])) size opens in (
+      subst (λ (ds : List Activity). Wired ds (map owner_told (ks ++ opened max_body to_head i ∷ [])) (xs ++ x ∷ [])) (sym (map-set activity_told cs i y))
+          (subst (λ (os : List (Option ℕ)). Wired (set (map activity_told cs) i (Forwarded (length ks))) os (xs ++ x ∷ [])) (sym (map_more owner_told ks (opened max_body to_head i))) sized),
       free_set cs i y (λ e. let shut = sym unshut ∙ e in cc) h.1,
     )
 
@@ -182,12 +186,12 @@ both_moved s now after told said a t h names =
     (subst (λ (x : Story). IsOrderly x) (sym a) h, subst (λ (x : Story). NamesOpen s x told) (sym a) (subst (λ (es : List Effect). NamesOpen s now es) (sym t) names))
 
 -- the connection at i has a new link for its exchange
-again_order : (cs : List ConnStory) (ks : List LinkStory) (xs : List Exchange) (i j now max_body : ℕ) (to_head : Bool) (c : ConnStory) (k : LinkStory) → at (map link_told cs) i ≡ Some j → c.closed ≡ false → is_some (find_exchange (i + 1) xs) ≡ true → Order cs ks xs
-    → Order (set (set cs i (linked None c)) i (linked (Some (length (set ks j (dropping k)))) (get_or (set cs i (linked None c)) i no_connection))) (set ks j (dropping k) ++ opened max_body to_head i ∷ []) (map (gone_out (i + 1) now) xs)
+again_order : (cs : List ConnStory) (ks : List LinkStory) (xs : List Exchange) (i j now max_body : ℕ) (to_head : Bool) (c : ConnStory) (k : LinkStory) → link_of (activity_at (map activity_told cs) i) ≡ Some j → c.closed ≡ false → is_some (find_exchange (i + 1) xs) ≡ true → Order cs ks xs
+    → Order (set (set cs i (doing Free c)) i (doing (Forwarded (length (set ks j (dropping k)))) (get_or (set cs i (doing Free c)) i no_connection))) (set ks j (dropping k) ++ opened max_body to_head i ∷ []) (map (gone_out (i + 1) now) xs)
 again_order cs ks xs i j now max_body to_head c k here unshut there h = (
-  subst (λ (ls : List (Option ℕ)). Wired ls (map owner_told (free ++ opened max_body to_head i ∷ [])) ys) (sym wires)
-      (subst (λ (os : List (Option ℕ)). Wired (set (set (map link_told cs) i None) i (Some (length free))) os ys) (sym owners) sized),
-  free_set (set cs i (linked None c)) i y (λ e. let shut = sym (still ∙ unshut) ∙ e in cc) (free_set cs i (linked None c) (λ e. refl) h.1),
+  subst (λ (ds : List Activity). Wired ds (map owner_told (free ++ opened max_body to_head i ∷ [])) ys) (sym wires)
+      (subst (λ (os : List (Option ℕ)). Wired (set (set (map activity_told cs) i Free) i (Forwarded (length free))) os ys) (sym owners) sized),
+  free_set (set cs i (doing Free c)) i y (λ e. let shut = sym (still ∙ unshut) ∙ e in cc) (free_set cs i (doing Free c) (λ e. refl) h.1),
 )
   where
     ys : List Exchange
@@ -197,13 +201,13 @@ again_order cs ks xs i j now max_body to_head c k here unshut there h = (
     free = set ks j (dropping k)
 
     y : ConnStory
-    y = linked (Some (length free)) (get_or (set cs i (linked None c)) i no_connection)
+    y = doing (Forwarded (length free)) (get_or (set cs i (doing Free c)) i no_connection)
 
     inside : i < length cs
-    inside = subst (λ n. i < n) (length-map cs link_told) (within (map link_told cs) i j here)
+    inside = subst (λ n. i < n) (length-map cs activity_told) (has_place (map activity_told cs) i j here)
 
     still : y.closed ≡ c.closed
-    still = ap (λ (d : ConnStory). d.closed) (get_or-set_same cs i (linked None c) no_connection inside)
+    still = ap (λ (d : ConnStory). d.closed) (get_or-set_same cs i (doing Free c) no_connection inside)
 
     dropped : map owner_told free ≡ set (map owner_told ks) j None
     dropped = map-set owner_told ks j (dropping k)
@@ -211,35 +215,35 @@ again_order cs ks xs i j now max_body to_head c k here unshut there h = (
     size : length (set (map owner_told ks) j None) ≡ length free
     size = sym (ap length dropped) ∙ length-map free owner_told
 
-    sized : Wired (set (set (map link_told cs) i None) i (Some (length free))) (set (map owner_told ks) j None ++ Some i ∷ []) ys
-    sized = subst (λ (n : ℕ). Wired (set (set (map link_told cs) i None) i (Some n)) (set (map owner_told ks) j None ++ Some i ∷ []) ys) size
-        (wired_again (map link_told cs) (map owner_told ks) xs i j now here there h.0)
+    sized : Wired (set (set (map activity_told cs) i Free) i (Forwarded (length free))) (set (map owner_told ks) j None ++ Some i ∷ []) ys
+    sized = subst (λ (n : ℕ). Wired (set (set (map activity_told cs) i Free) i (Forwarded n)) (set (map owner_told ks) j None ++ Some i ∷ []) ys) size
+        (wired_again (map activity_told cs) (map owner_told ks) xs i j now here there h.0)
 
-    wires : map link_told (set (set cs i (linked None c)) i y) ≡ set (set (map link_told cs) i None) i (Some (length free))
-    wires = map-set link_told (set cs i (linked None c)) i y ∙ ap (λ (ls : List (Option ℕ)). set ls i (Some (length free))) (map-set link_told cs i (linked None c))
+    wires : map activity_told (set (set cs i (doing Free c)) i y) ≡ set (set (map activity_told cs) i Free) i (Forwarded (length free))
+    wires = map-set activity_told (set cs i (doing Free c)) i y ∙ ap (λ (ds : List Activity). set ds i (Forwarded (length free))) (map-set activity_told cs i (doing Free c))
 
     owners : map owner_told (free ++ opened max_body to_head i ∷ []) ≡ set (map owner_told ks) j None ++ Some i ∷ []
     owners = map_more owner_told free (opened max_body to_head i) ∙ ap (λ (os : List (Option ℕ)). os ++ Some i ∷ []) dropped
 
-finished_order : (s : Story) (i j : ℕ) (o : Outcome) (core : CoreState) (to_head : Bool) (told : List Effect) (after : Story) → IsOrderly s → j < length s.links → at (map link_told s.connections) i ≡ Some j → (link_at s j).dropped ≡ false → IsOpen s (i + 1) → (connection_at s i).closed ≡ false
+finished_order : (s : Story) (i j : ℕ) (o : Outcome) (core : CoreState) (to_head : Bool) (told : List Effect) (after : Story) → IsOrderly s → j < length s.links → link_of (activity_at (map activity_told s.connections) i) ≡ Some j → (link_at s j).dropped ≡ false → IsOpen s (i + 1) → (connection_at s i).closed ≡ false
     → is_some (find_exchange (i + 1) s.core.exchanges) ≡ true → Remains o (i + 1) s.core.exchanges core.exchanges → told ≡ effects.Drop (s.first + j) ∷ effects_on i (next_number s) (came s.core.table o) → after ≡ after_on i to_head (came s.core.table o) (with_core (freed s j i) core)
     → IsOrderly after × NamesOpen s after told
 finished_order s i j o core to_head told after h within_links here link_open unshut unclosed there left told_is after_is = by_outcome o left told_is after_is
   where
     cs : List ConnStory
-    cs = set s.connections i (linked None (connection_at s i))
+    cs = set s.connections i (doing Free (connection_at s i))
 
     ks : List LinkStory
     ks = set s.links j (dropping (link_at s j))
 
     inside : i < length s.connections
-    inside = subst (λ n. i < n) (length-map s.connections link_told) (within (map link_told s.connections) i j here)
+    inside = subst (λ n. i < n) (length-map s.connections activity_told) (has_place (map activity_told s.connections) i j here)
 
     inside_now : i < length cs
-    inside_now = subst (λ n. i < n) (sym (length-set s.connections i (linked None (connection_at s i)))) inside
+    inside_now = subst (λ n. i < n) (sym (length-set s.connections i (doing Free (connection_at s i)))) inside
 
-    none : (get_or cs i no_connection).link ≡ None
-    none = ap (λ (c : ConnStory). c.link) (get_or-set_same s.connections i (linked None (connection_at s i)) no_connection inside)
+    none : (get_or cs i no_connection).activity ≡ Free
+    none = ap (λ (c : ConnStory). c.activity) (get_or-set_same s.connections i (doing Free (connection_at s i)) no_connection inside)
 
     base : Story
     base = with_core (freed s j i) core
@@ -273,9 +277,9 @@ gone_by : (b : Bool) (o : Option ℕ) (j : ℕ) → None ≡ cond b o None → o
 gone_by true o j e l = let none : None ≡ Some j = e ∙ l in cc
 gone_by false o j e l = refl
 
-closed_of : (b : Bool) (o : Option ℕ) (j : ℕ) → (b ≡ true → o ≡ None) → o ≡ Some j → b ≡ false
-closed_of true o j f l = let none : None ≡ Some j = sym (f refl) ∙ l in cc
-closed_of false o j f l = refl
+closed_of : (b : Bool) (a : Activity) (j : ℕ) → (b ≡ true → a ≡ Free) → link_of a ≡ Some j → b ≡ false
+closed_of true a j f l = let none : None ≡ Some j = sym (ap link_of (f refl)) ∙ l in cc
+closed_of false a j f l = refl
 
 dropped_of : (b : Bool) (n i : ℕ) → ◌≡◌ {A = Option ℕ} (cond b None (Some n)) (Some i) → b ≡ false
 dropped_of true n i e = cc
@@ -293,11 +297,10 @@ not_busy : (b : Bool) (c : ConnStory) (w : Next Request) → WishBy b c (Some w)
 not_busy true c w h = cc
 not_busy false c w h = refl
 
-busy_parts : (gone shut : Bool) (l : Option ℕ) → is_busy gone shut l ≡ false → (gone ≡ false) × (shut ≡ false) × (l ≡ None)
-busy_parts true shut l e = cc
-busy_parts false true l e = cc
-busy_parts false false (Some n) e = cc
-busy_parts false false None e = (refl, refl, refl)
+busy_parts : (gone shut : Bool) (a : Activity) → is_busy gone shut a ≡ false → (gone ≡ false) × (shut ≡ false) × (a ≡ Free)
+busy_parts true shut a e = cc
+busy_parts false true a e = cc
+busy_parts false false a e = (refl, refl, free_from a e)
 
 lost_parts : (gone : Bool) (o : Option ℕ) (l : ℕ) → Some l ≡ cond gone o None → o ≡ Some l
 lost_parts true o l e = sym e
@@ -316,23 +319,23 @@ finishes_order s now j f told after h due done = by_finish f done
     link_open : (link_at s j).dropped ≡ false
     link_open = stands_open (link_at s j).dropped (link_at s j) f due.1.1
 
-    here : at (map link_told s.connections) i ≡ Some j
+    here : link_of (activity_at (map activity_told s.connections) i) ≡ Some j
     here = h.wired.linked i j (owners_here s.links j ∙ owner_is (link_at s j).dropped i link_open)
 
-    linked_here : (connection_at s i).link ≡ Some j
-    linked_here = sym (links_here s.connections i) ∙ here
+    linked_here : link_of (connection_at s i).activity ≡ Some j
+    linked_here = sym (ap link_of (doing_here s.connections i)) ∙ here
 
     inside : i < length s.connections
-    inside = subst (λ n. i < n) (length-map s.connections link_told) (within (map link_told s.connections) i j here)
+    inside = subst (λ n. i < n) (length-map s.connections activity_told) (has_place (map activity_told s.connections) i j here)
 
     unclosed : (connection_at s i).closed ≡ false
-    unclosed = closed_of (connection_at s i).closed (connection_at s i).link j (h.free i) linked_here
+    unclosed = closed_of (connection_at s i).closed (connection_at s i).activity j (h.free i) linked_here
 
     unshut : IsOpen s (i + 1)
-    unshut = record { place = i; number = refl; closed = unclosed; gone = gone_by (connection_at s i).gone (connection_at s i).link j (due.0 i inside) linked_here }
+    unshut = record { place = i; number = refl; closed = unclosed; gone = gone_by (connection_at s i).gone (link_of (connection_at s i).activity) j (due.0 i inside) linked_here }
 
     is_there : is_some (find_exchange (i + 1) xs) ≡ true
-    is_there = h.wired.opened i ∙ ap is_some here
+    is_there = h.wired.opened i ∙ open_from (activity_at (map activity_told s.connections) i) j here
 
     by_finish : (f : Finish) → Finished s now j i f told after → IsOrderly after × NamesOpen s after told
     by_finish (Gives r) d =
@@ -345,12 +348,12 @@ finishes_order s now j f told after h due done = by_finish f done
 -- the exchange of the connection at i is abandoned
 abandons_order : (s : Story) (now i l : ℕ) (told : List Effect) (after : Story) → IsOrderly s → IsDueFirst s (Some (Abandons i l)) → Does s now (Abandons i l) told after → IsOrderly after × NamesOpen s after told
 abandons_order s now i l told after h due done =
-    let linked_here : (connection_at s i).link ≡ Some l = lost_parts (connection_at s i).gone (connection_at s i).link l due.1 in
-    let here : at (map link_told s.connections) i ≡ Some l = links_here s.connections i ∙ linked_here in
+    let linked_here : link_of (connection_at s i).activity ≡ Some l = lost_parts (connection_at s i).gone (link_of (connection_at s i).activity) l due.1 in
+    let here : link_of (activity_at (map activity_told s.connections) i) ≡ Some l = ap link_of (doing_here s.connections i) ∙ linked_here in
     let owner : at (map owner_told s.links) l ≡ Some i = h.wired.owned i l here in
     let link_open : (link_at s l).dropped ≡ false = dropped_of (link_at s l).dropped (link_at s l).connection i (sym (owners_here s.links l) ∙ owner) in
     let inside : l < length s.links = subst (λ n. l < n) (length-map s.links owner_told) (within (map owner_told s.links) l i owner) in
-    let cs = set s.connections i (linked None (connection_at s i)) in
+    let cs = set s.connections i (doing Free (connection_at s i)) in
     let ks = set s.links l (dropping (link_at s l)) in
     let free : Order cs ks done.core.exchanges = subst (λ (xs : List Exchange). Order cs ks xs) (sym (ap (λ (k : CoreState). k.exchanges) done.steps.leaves))
     (freed_order s.connections s.links s.core.exchanges i l (connection_at s i) (link_at s l) here (order_of s h)) in
@@ -363,7 +366,7 @@ abandons_order s now i l told after h due done =
     (record { place = l; number = refl; still = link_open; dropped = ap (λ (k : LinkStory). k.dropped) (get_or-set_same s.links l (dropping (link_at s l)) no_link inside) }, tt)
 
 -- a request arrived on the connection at i
-arrived_order : (s : Story) (now i : ℕ) (m : Next Request) (asked : Asked) (o : Outcome) (core : CoreState) (to_head : Bool) (told : List Effect) (after : Story) → IsOrderly s → i < length s.connections → IsOpen s (i + 1) → (connection_at s i).closed ≡ false → (connection_at s i).link ≡ None
+arrived_order : (s : Story) (now i : ℕ) (m : Next Request) (asked : Asked) (o : Outcome) (core : CoreState) (to_head : Bool) (told : List Effect) (after : Story) → IsOrderly s → i < length s.connections → IsOpen s (i + 1) → (connection_at s i).closed ≡ false → (connection_at s i).activity ≡ Free
     → Steps s.core (events.Arrive now (i + 1) asked) o core → told ≡ effects_on i (next_number s) (came s.core.table o) → after ≡ after_on i to_head (came s.core.table o) (with_core (with_connection s i (passing m)) core) → IsOrderly after × NamesOpen s after told
 arrived_order s now i m asked o core to_head told after h inside unshut unclosed none steps told_is after_is = by_outcome o steps told_is after_is
   where
@@ -373,8 +376,8 @@ arrived_order s now i m asked o core to_head told after h inside unshut unclosed
     here : get_or cs i no_connection ≡ passing m (connection_at s i)
     here = get_or-set_same s.connections i (passing m (connection_at s i)) no_connection inside
 
-    none_now : (get_or cs i no_connection).link ≡ None
-    none_now = ap (λ (c : ConnStory). c.link) here ∙ none
+    none_now : (get_or cs i no_connection).activity ≡ Free
+    none_now = ap (λ (c : ConnStory). c.activity) here ∙ none
 
     unclosed_now : (get_or cs i no_connection).closed ≡ false
     unclosed_now = ap (λ (c : ConnStory). c.closed) here ∙ unclosed
@@ -406,7 +409,7 @@ arrived_order s now i m asked o core to_head told after h inside unshut unclosed
         both_moved s base after told [] after_is told_is (orderly base (subst (λ (xs : List Exchange). Order cs s.links xs) (sym same) passed)) tt
 
 -- the connection at i is closed, behind an answer of the proxy or without one
-shuts_order : (s : Story) (i : ℕ) (told said : List Effect) (after : Story) → IsOrderly s → i < length s.connections → (connection_at s i).link ≡ None → told ≡ said → after ≡ with_connection s i (closing true)
+shuts_order : (s : Story) (i : ℕ) (told said : List Effect) (after : Story) → IsOrderly s → i < length s.connections → (connection_at s i).activity ≡ Free → told ≡ said → after ≡ with_connection s i (closing true)
     → ((t : Story) → (connection_at t i).closed ≡ true → NamesOpen s t said) → IsOrderly after × NamesOpen s after told
 shuts_order s i told said after h inside none told_is after_is names =
     let now = with_connection s i (closing true) in
@@ -416,8 +419,8 @@ shuts_order s i told said after h inside none told_is after_is names =
 serves_order : (s : Story) (now i : ℕ) (w : Next Request) (told : List Effect) (after : Story) → IsOrderly s → IsDueFirst s (Some (Serves i w)) → Served s now i w told after → IsOrderly after × NamesOpen s after told
 serves_order s now i w told after h due done = by_wish w done
   where
-    parts : ((connection_at s i).gone ≡ false) × ((connection_at s i).closed ≡ false) × ((connection_at s i).link ≡ None)
-    parts = busy_parts (connection_at s i).gone (connection_at s i).closed (connection_at s i).link (not_busy (is_busy (connection_at s i).gone (connection_at s i).closed (connection_at s i).link) (connection_at s i) w due.2.1)
+    parts : ((connection_at s i).gone ≡ false) × ((connection_at s i).closed ≡ false) × ((connection_at s i).activity ≡ Free)
+    parts = busy_parts (connection_at s i).gone (connection_at s i).closed (connection_at s i).activity (not_busy (is_busy (connection_at s i).gone (connection_at s i).closed (connection_at s i).activity) (connection_at s i) w due.2.1)
 
     inside : i < length s.connections
     inside = due.2.0

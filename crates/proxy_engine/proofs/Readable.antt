@@ -11,6 +11,7 @@ use Rattle.std.specs.BTreeMap.{BTreeMap, get, is_at, IsOrdered}
 use Rattle.std.proofs.lemmas.Bool.{cases_eq, cases_order}
 use Rattle.hx_status.specs.declared.cause.FailKind.{FailKind}
 use Rattle.proxy_core.specs.State.{State as CoreState}
+use Rattle.proxy_engine.specs.Activities.{has_exchange}
 use Rattle.proxy_engine.specs.Story.{Story, ConnStory, LinkStory, keeps_answer}
 use Rattle.proxy_engine.specs.State.{State, Both, ConnStands, LinkStands, Stands, state}
 use Rattle.proxy_engine.specs.Happenings.{said}
@@ -19,6 +20,7 @@ use Rattle.proxy_script.specs.declared.happening.Happening.{Happening}
 use Rattle.proxy_engine.specs.Places.{listed}
 use Rattle.proxy_engine.specs.Held.{held, flagged, connection_is_open, connection_reads, link_failed, link_reads}
 use Rattle.proxy_engine.specs.Reading.{places_with, is_open, is_read, has_failed, link_end}
+use Rattle.proxy_engine.specs.declared.activities.Activity.{Activity}
 use Rattle.proxy_engine.specs.declared.ends.Connection.{Connection}
 use Rattle.proxy_engine.specs.declared.ends.Link.{Link}
 use Rattle.proxy_engine.specs.declared.happening.End.{End}
@@ -123,17 +125,17 @@ open_same (Some c) s h = by_gone c.gone s.gone s.closed h.gone h.still
     by_gone false false closed e still = sym (ap not still)
 
 read_same : (o : Option Connection) (s : ConnStory) → ConnStands o s → flagged connection_reads o ≡ is_read s
-read_same None s h = over s.gone s.closed s.progress.ended (is_some s.link) h.0
+read_same None s h = over s.gone s.closed s.progress.ended (has_exchange s.activity) h.0
   where
     over : (gone closed ended linked : Bool) → gone || closed ≡ true → false ≡ not (gone || (closed || ended)) && not linked
     over true closed ended linked e = refl
     over false true ended linked e = refl
     over false false ended linked e = absurd cc
 read_same (Some c) s h =
-    ap (λ (b : Bool). not b && (not c.ended && not (is_some c.link))) h.gone
-    ∙ (ap (λ (b : Bool). not s.gone && (not b && not (is_some c.link))) h.ended
-    ∙ (ap (λ (o : Option ℕ). not s.gone && (not s.progress.ended && not (is_some o))) h.link
-    ∙ here s.gone s.closed s.progress.ended (is_some s.link) h.still))
+    ap (λ (b : Bool). not b && (not c.ended && not (has_exchange c.activity))) h.gone
+    ∙ (ap (λ (b : Bool). not s.gone && (not b && not (has_exchange c.activity))) h.ended
+    ∙ (ap (λ (a : Activity). not s.gone && (not s.progress.ended && not (has_exchange a))) h.activity
+    ∙ here s.gone s.closed s.progress.ended (has_exchange s.activity) h.still))
   where
     here : (gone closed ended linked : Bool) → closed ≡ false → not gone && (not ended && not linked) ≡ not (gone || (closed || ended)) && not linked
     here true closed ended linked e = refl

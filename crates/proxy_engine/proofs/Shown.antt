@@ -10,8 +10,10 @@ use Rattle.proxy_engine.proofs.ResponseWatching.{answers_shown as response_shown
 use Rattle.proxy_engine.specs.Story.{LinkStory, ConnStory}
 use Rattle.proxy_engine.specs.Due.{Stood, FinishBy, Wanted, WishBy, finish_of, wish_of, is_busy}
 use Rattle.proxy_engine.specs.State.{LinkStands, ConnStands, finish_seen, finish_at, wish_seen, wish_at, gone_at}
-use Rattle.proxy_engine.specs.Wiring.{link_of}
+use Rattle.proxy_engine.specs.Activities.{link_of, has_exchange}
+use Rattle.proxy_engine.specs.Wiring.{activity_of}
 use Rattle.proxy_engine.specs.Marked.{lost_at}
+use Rattle.proxy_engine.specs.declared.activities.Activity.{Activity}
 use Rattle.proxy_engine.specs.declared.ends.Connection.{Connection}
 use Rattle.proxy_engine.specs.declared.ends.Link.{Link}
 use Rattle.hx_status.specs.declared.cause.FailKind.{FailKind}
@@ -57,10 +59,10 @@ stood k s a h shows =
       finish_by k.watch.look k.failed a shows ∙ ap (finish_of a) h.failed,
     )
 
-busy_same : (c : Connection) (s : ConnStory) → ConnStands (Some c) s → is_busy c.gone false c.link ≡ is_busy s.gone s.closed s.link
-busy_same c s h = ap (λ (b : Bool). is_busy b false c.link) h.gone ∙ (ap (λ (b : Bool). is_busy s.gone b c.link) (sym h.still) ∙ ap (λ (o : Option ℕ). is_busy s.gone s.closed o) h.link)
+busy_same : (c : Connection) (s : ConnStory) → ConnStands (Some c) s → is_busy c.gone false c.activity ≡ is_busy s.gone s.closed s.activity
+busy_same c s h = ap (λ (b : Bool). is_busy b false c.activity) h.gone ∙ (ap (λ (b : Bool). is_busy s.gone b c.activity) (sym h.still) ∙ ap (λ (a : Activity). is_busy s.gone s.closed a) h.activity)
 
-pub wanted : (c : Connection) (s : ConnStory) (a : Next Request) → is_busy c.gone false c.link ≡ false → ConnStands (Some c) s → Shows c.watch.look a → Wanted s (wish_at (Some c))
+pub wanted : (c : Connection) (s : ConnStory) (a : Next Request) → is_busy c.gone false c.activity ≡ false → ConnStands (Some c) s → Shows c.watch.look a → Wanted s (wish_at (Some c))
 wanted c s a idle h shows =
     subst (λ (b : Bool). WishBy b s (wish_at (Some c))) (sym idle ∙ busy_same c s h) (
       a,
@@ -68,28 +70,28 @@ wanted c s a idle h shows =
       ap (λ (b : Bool). cond b None (wish_seen c.watch.look)) idle ∙ wish_by c.watch.look a shows,
     )
 
-pub wanted_busy : (c : Connection) (s : ConnStory) → is_busy c.gone false c.link ≡ true → ConnStands (Some c) s → Wanted s (wish_at (Some c))
+pub wanted_busy : (c : Connection) (s : ConnStory) → is_busy c.gone false c.activity ≡ true → ConnStands (Some c) s → Wanted s (wish_at (Some c))
 wanted_busy c s busy h =
     subst (λ (b : Bool). WishBy b s (wish_at (Some c))) (sym busy ∙ busy_same c s h) (ap (λ (b : Bool). cond b None (wish_seen c.watch.look)) busy)
 
 -- it isn't gone, and no exchange is open
-pub idle : (gone : Bool) (link : Option ℕ) → gone ≡ false → is_some link ≡ false → is_busy gone false link ≡ false
-idle gone link here none = ap (λ (b : Bool). is_busy b false link) here ∙ none
+pub idle : (gone : Bool) (a : Activity) → gone ≡ false → has_exchange a ≡ false → is_busy gone false a ≡ false
+idle gone a here none = ap (λ (b : Bool). is_busy b false a) here ∙ none
 
 pub none_from : {A : Type 0} (o : Option A) → false ≡ is_some o → o ≡ None
 none_from None h = refl
 none_from (Some a) h = cc
 
 -- a connection that is gone, or not
-pub lost : (c : Option Connection) (s : ConnStory) (l : ℕ) → ConnStands c s → lost_at c ≡ Some l → Some l ≡ cond s.gone s.link None
+pub lost : (c : Option Connection) (s : ConnStory) (l : ℕ) → ConnStands c s → lost_at c ≡ Some l → Some l ≡ cond s.gone (link_of s.activity) None
 lost None s l h e = absurd (cc)
-lost (Some c) s l h e = sym e ∙ (ap (λ (b : Bool). cond b c.link None) h.gone ∙ ap (λ (o : Option ℕ). cond s.gone o None) h.link)
+lost (Some c) s l h e = sym e ∙ (ap (λ (b : Bool). cond b (link_of c.activity) None) h.gone ∙ ap (λ (a : Activity). cond s.gone (link_of a) None) h.activity)
 
 gone_by : (gone : Bool) (link : Option ℕ) (l : ℕ) → cond gone link None ≡ Some l → (gone ≡ true) × (link ≡ Some l)
 gone_by true link l e = (refl, e)
 gone_by false link l e = absurd (cc)
 
 -- it is gone, and has that link
-pub lost_link : (o : Option Connection) (l : ℕ) → lost_at o ≡ Some l → (gone_at o ≡ Some true) × (link_of o ≡ Some l)
+pub lost_link : (o : Option Connection) (l : ℕ) → lost_at o ≡ Some l → (gone_at o ≡ Some true) × (link_of (activity_of o) ≡ Some l)
 lost_link None l e = absurd (cc)
-lost_link (Some c) l e = let both = gone_by c.gone c.link l e in (ap (λ (b : Bool). Some b) both.0, both.1)
+lost_link (Some c) l e = let both = gone_by c.gone (link_of c.activity) l e in (ap (λ (b : Bool). Some b) both.0, both.1)

@@ -15,8 +15,9 @@ use Rattle.proxy_script.specs.declared.effect_list.Effect.{Effect}
 use Rattle.proxy_engine.specs.Happenings.{Accepts, Sends, Hears, Ends, Leaves, Shuts, Fails}
 use Rattle.proxy_engine.specs.Story.{Story, ConnStory, LinkStory, no_connection, no_link, accepted, opened, connection_at, with_connection, with_link, with_core, sent, ended, left, heard_by, shut, failed_by}
 use Rattle.proxy_engine.specs.Due.{Abandons, Finishes, Serves, Gives, Breaks}
-use Rattle.proxy_engine.specs.Acts.{Came, Replies, Forwards, Nothing, Served, Arrives, StepsOn, came, after_on, freed, linked, closing, dropping, passing, with_opened}
+use Rattle.proxy_engine.specs.Acts.{Came, Replies, Forwards, Nothing, Served, Arrives, StepsOn, came, after_on, freed, doing, closing, dropping, passing, with_opened}
 use Rattle.proxy_engine.specs.Orderly.{Stays, TakesStay, ActsStay}
+use Rattle.proxy_engine.specs.declared.activities.Activity.TheVariants.{Free, Forwarded}
 
 stays_set : {A : Type 0} (P : A → Type 0) (d : A) (xs : List A) (i : ℕ) (y : A) (k : ℕ) → (P (get_or xs i d) → P y) → P (get_or xs k d) → P (get_or (set xs i y) k d)
 stays_set P d [] i y k keep e = e
@@ -112,7 +113,7 @@ stays_closing s i close = stays_connection s i (closing close) (λ c e. shut_or 
 
 stays_opened : (s : Story) (i : ℕ) (to_head : Bool) → Stays s (with_opened s i to_head)
 stays_opened s i to_head =
-    let y = linked (Some (length s.links)) (connection_at s i) in
+    let y = doing (Forwarded (length s.links)) (connection_at s i) in
     record {
       closed = λ k l e. stays_set IsShut no_connection s.connections i y k (λ e. e) e;
       gone = λ k l e. stays_set IsGone no_connection s.connections i y k (λ e. e) e;
@@ -128,7 +129,7 @@ stays_after s i to_head (Forwards address bytes) = stays_opened s i to_head
 stays_after s i to_head Nothing = stays_here s s.core
 
 stays_freed : (s : Story) (j i : ℕ) → Stays s (freed s j i)
-stays_freed s j i = stays_on s (with_link s j dropping) (freed s j i) (stays_link s j dropping (λ k e. refl)) (stays_connection (with_link s j dropping) i (linked None) (λ c e. e) (λ c e. e))
+stays_freed s j i = stays_on s (with_link s j dropping) (freed s j i) (stays_link s j dropping (λ k e. refl)) (stays_connection (with_link s j dropping) i (doing Free) (λ c e. e) (λ c e. e))
 
 stays_equal : (s t after : Story) → after ≡ t → Stays s t → Stays s after
 stays_equal s t after e h = subst (λ (x : Story). Stays s x) (sym e) h

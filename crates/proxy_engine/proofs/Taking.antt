@@ -3,15 +3,18 @@ use Rattle.std.proofs.Common.{◌≡◌, ℕ, ◌+◌, ◌-◌, ◌<◌, ◌&&�
 use Rattle.hx_framing.specs.Progress.{start, fed, finished}
 use Rattle.hx_status.specs.declared.cause.FailKind.{FailKind}
 use Rattle.proxy_core.specs.State.{State as CoreState}
+use Rattle.proxy_engine.specs.Activities.{has_exchange}
 use Rattle.proxy_engine.specs.Happenings.{Accepts}
 use Rattle.proxy_engine.specs.RequestWatch.{Watched, Stands as WatchStands}
 use Rattle.proxy_engine.specs.Story.{Story, ConnStory, LinkStory, accepted, no_connection, no_link, connection_at, link_at, with_connection, with_link, connection_fault, link_fault, heard, fault_of, sent, ended, left, heard_by, shut, failed_by, keeps_bytes, keeps_answer}
 use Rattle.proxy_engine.specs.State.{ConnStands, LinkStands, Stands, state, IsRefusal}
-use Rattle.proxy_engine.specs.Wiring.{link_of}
+use Rattle.proxy_engine.specs.Wiring.{activity_of}
 use Rattle.proxy_engine.specs.declared.happening.EngineFault.{EngineFault}
 use Rattle.proxy_engine.specs.declared.happening.EngineFault.TheVariants.{WrongNumber, NotAccepted, OutOfMemory}
+use Rattle.proxy_engine.specs.declared.activities.Activity.TheVariants.{Free}
 use Rattle.proxy_engine.specs.declared.ends.Connection.{Connection}
 use Rattle.proxy_engine.specs.declared.ends.Link.{Link}
+use Rattle.proxy_engine.proofs.ActivityCases.{free_from}
 use Rattle.proxy_engine.proofs.Parts.{both_length, both_at, both_push}
 use Rattle.proxy_engine.proofs.Keeping.{set_none}
 use Rattle.proxy_engine.proofs.Changes.{changed_connection, changed_link}
@@ -79,14 +82,10 @@ left_by : (b : Bool) (c : ConnStory) → ConnStands None c → ConnStands None (
 left_by true c h = h
 left_by false c h = (refl, h.1)
 
-pub link_none : (o : Option ℕ) → is_some o ≡ false → o ≡ None
-link_none None e = refl
-link_none (Some l) e = absurd (cc)
-
 -- a client without an open exchange is over when it goes
-pub left_gone : (o : Option Connection) (c : ConnStory) → is_some (link_of o) ≡ false → ConnStands o c → ConnStands None (left c)
+pub left_gone : (o : Option Connection) (c : ConnStory) → has_exchange (activity_of o) ≡ false → ConnStands o c → ConnStands None (left c)
 left_gone None c e h = left_by c.closed c h
-left_gone (Some x) c e h = subst (λ (b : Bool). ConnStands None (cond b c (record c { gone = true }))) (sym h.still) (refl, sym h.link ∙ link_none x.link e)
+left_gone (Some x) c e h = subst (λ (b : Bool). ConnStands None (cond b c (record c { gone = true }))) (sym h.still) (refl, sym h.activity ∙ free_from x.activity e)
 
 pub heard_over : (bytes : List ℕ) (k : LinkStory) → LinkStands None k → LinkStands None (heard_by bytes k)
 heard_over bytes k h = subst (λ (b : Bool). LinkStands None (cond (b || (is_some k.failed || k.progress.ended)) k (record k { progress = fed k.progress bytes }))) (sym h) h
@@ -117,10 +116,10 @@ link_keeps cs ks core first s l j x place within e read h =
 
 -- a connection more
 pub accepted_more : (cs : List (Option Connection)) (ks : List (Option Link)) (core : CoreState) (first : ℕ) (s : Story) (max_body : ℕ) (w : Watched) → core.table.max_body ≡ max_body → WatchStands w (start max_body false) → Stands (state cs ks core first) s
-    → Stands (state (cs ++ Some (record { watch = w; ended = false; gone = false; link = None }) ∷ []) ks core first) (heard s (Accepts 0))
+    → Stands (state (cs ++ Some (record { watch = w; ended = false; gone = false; activity = Free }) ∷ []) ks core first) (heard s (Accepts 0))
 accepted_more cs ks core first s max_body w most fresh h = record {
-  connections = both_push ConnStands cs s.connections (Some (record { watch = w; ended = false; gone = false; link = None })) (accepted s.core.table.max_body) h.connections
-      record { watch = subst (λ (n : ℕ). WatchStands w (start n false)) (sym most ∙ ap (λ (k : CoreState). k.table.max_body) h.core) fresh; ended = refl; gone = refl; link = refl; still = refl; used = λ e. absurd (cc) };
+  connections = both_push ConnStands cs s.connections (Some (record { watch = w; ended = false; gone = false; activity = Free })) (accepted s.core.table.max_body) h.connections
+      record { watch = subst (λ (n : ℕ). WatchStands w (start n false)) (sym most ∙ ap (λ (k : CoreState). k.table.max_body) h.core) fresh; ended = refl; gone = refl; activity = refl; still = refl; used = λ e. absurd (cc) };
   links = h.links;
   core = h.core;
   first = h.first;

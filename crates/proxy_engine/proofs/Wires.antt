@@ -20,11 +20,15 @@ use Rattle.proxy_core.specs.declared.outcome.Outcome.{Outcome}
 use Rattle.proxy_core.specs.declared.event.Event.TheVariants.{Arrive}
 use Rattle.proxy_core.specs.declared.outcome.Outcome.TheVariants.{Reply, Forward, Ended}
 use Rattle.proxy_core.specs.declared.exchange.Exchange.{Exchange}
-use Rattle.proxy_engine.specs.Wiring.{Wired, at, link_of, owner_of, links_of, owners_of, wires_after, owners_after}
+use Rattle.proxy_engine.specs.Activities.{link_of, has_exchange}
+use Rattle.proxy_engine.specs.Wiring.{Wired, activity_at, at, activity_of, owner_of, activities_of, owners_of, activities_after, owners_after}
 use Rattle.proxy_engine.specs.State.{NoneLost, gone_at, is_free}
+use Rattle.proxy_engine.proofs.ActivityCases.{open_from}
 use Rattle.proxy_engine.proofs.Keeping.{inside}
-use Rattle.proxy_engine.proofs.Changes.{free_there, free_link}
+use Rattle.proxy_engine.proofs.Changes.{free_there, free_activity}
 use Rattle.proxy_engine.proofs.Searching.{some_from}
+use Rattle.proxy_engine.specs.declared.activities.Activity.{Activity}
+use Rattle.proxy_engine.specs.declared.activities.Activity.TheVariants.{Free, Forwarded}
 use Rattle.proxy_engine.specs.declared.ends.Connection.{Connection}
 use Rattle.proxy_engine.specs.declared.ends.Link.{Link}
 
@@ -37,6 +41,11 @@ beyond [] i l = refl
 beyond (x ∷ xs) zero l = absurd (omega (arith, l))
 beyond (x ∷ xs) (suc i) l = beyond xs i (omega (arith, l))
 
+beyond_all : (activities : List Activity) (i : ℕ) → length activities ≤ i → activity_at activities i ≡ Free
+beyond_all [] i l = refl
+beyond_all (a ∷ activities) zero l = absurd (omega (arith, l))
+beyond_all (a ∷ activities) (suc i) l = beyond_all activities i (omega (arith, l))
+
 -- what stands, stands within
 pub within : (xs : List (Option ℕ)) (i j : ℕ) → at xs i ≡ Some j → i < length xs
 within xs i j e = by_order (cases_lt i (length xs))
@@ -44,6 +53,13 @@ within xs i j e = by_order (cases_lt i (length xs))
     by_order : (i < length xs) ⊎ (length xs ≤ i) → i < length xs
     by_order (inl l) = l
     by_order (inr l) = let none = beyond xs i l in cc
+
+pub has_place : (activities : List Activity) (i j : ℕ) → link_of (activity_at activities i) ≡ Some j → i < length activities
+has_place activities i j e = by_order (cases_lt i (length activities))
+  where
+    by_order : (i < length activities) ⊎ (length activities ≤ i) → i < length activities
+    by_order (inl l) = l
+    by_order (inr l) = let none : link_of (activity_at activities i) ≡ None = ap link_of (beyond_all activities i l) in cc
 
 same_or_not : (i j : ℕ) → (i ≡ j) ⊎ (i ≢ j)
 same_or_not i j = by_order (cases_lt i j) (cases_lt j i)
@@ -53,19 +69,19 @@ same_or_not i j = by_order (cases_lt i j) (cases_lt j i)
     by_order (inr l) (inl m) = inr (λ e. absurd (omega (arith, m, e)))
     by_order (inr l) (inr m) = inl (omega (arith, l, m))
 
--- one more place where nothing stands
-pub at_more : (xs : List (Option ℕ)) (i : ℕ) → at (xs ++ None ∷ []) i ≡ at xs i
+-- one more place, which is free
+pub at_more : (activities : List Activity) (i : ℕ) → activity_at (activities ++ Free ∷ []) i ≡ activity_at activities i
 at_more [] zero = refl
 at_more [] (suc i) = refl
-at_more (x ∷ xs) zero = refl
-at_more (x ∷ xs) (suc i) = at_more xs i
+at_more (a ∷ activities) zero = refl
+at_more (a ∷ activities) (suc i) = at_more activities i
 
 -- a connection more
-pub wired_more : (links owners : List (Option ℕ)) (xs : List Exchange) → Wired links owners xs → Wired (links ++ None ∷ []) owners xs
-wired_more links owners xs h = record {
-  owned = λ i j e. h.owned i j (sym (at_more links i) ∙ e);
-  linked = λ i j e. at_more links i ∙ h.linked i j e;
-  opened = λ i. h.opened i ∙ sym (ap is_some (at_more links i));
+pub wired_more : (activities : List Activity) (owners : List (Option ℕ)) (xs : List Exchange) → Wired activities owners xs → Wired (activities ++ Free ∷ []) owners xs
+wired_more activities owners xs h = record {
+  owned = λ i j e. h.owned i j (sym (ap link_of (at_more activities i)) ∙ e);
+  linked = λ i j e. ap link_of (at_more activities i) ∙ h.linked i j e;
+  opened = λ i. h.opened i ∙ sym (ap has_exchange (at_more activities i));
 }
 
 other_number : (a b : ℕ) → a ≢ b → (a == b) ≡ false
@@ -113,13 +129,13 @@ find_before id [] x n = ap (λ (b : Bool). is_some (cond b (Some x) None)) (othe
 find_before id (y ∷ xs) x n = is_some_by (y.id == id) y (find_exchange id (xs ++ x ∷ [])) (find_exchange id xs) (find_before id xs x n)
 
 -- links and connections that read the same
-pub wired_same : (ls ls1 os os1 : List (Option ℕ)) (xs : List Exchange) → ls1 ≡ ls → os1 ≡ os → Wired ls os xs → Wired ls1 os1 xs
-wired_same ls ls1 os os1 xs l o w = subst (λ (ls : List (Option ℕ)). Wired ls os1 xs) (sym l) (subst (λ (os : List (Option ℕ)). Wired ls os xs) (sym o) w)
+pub wired_same : (ds ds1 : List Activity) (os os1 : List (Option ℕ)) (xs : List Exchange) → ds1 ≡ ds → os1 ≡ os → Wired ds os xs → Wired ds1 os1 xs
+wired_same ds ds1 os os1 xs d o w = subst (λ (ds : List Activity). Wired ds os1 xs) (sym d) (subst (λ (os : List (Option ℕ)). Wired ds os xs) (sym o) w)
 
 -- ---- an exchange ends
 
-pub wired_freed : (links owners : List (Option ℕ)) (xs : List Exchange) (i j : ℕ) → at links i ≡ Some j → Wired links owners xs → Wired (set links i None) (set owners j None) (closed (i + 1) xs)
-wired_freed links owners xs i j here h = record {
+pub wired_freed : (activities : List Activity) (owners : List (Option ℕ)) (xs : List Exchange) (i j : ℕ) → link_of (activity_at activities i) ≡ Some j → Wired activities owners xs → Wired (set activities i Free) (set owners j None) (closed (i + 1) xs)
+wired_freed activities owners xs i j here h = record {
   owned = λ k l e. owned_by k l e (same_or_not k i);
   linked = λ k l e. linked_by k l e (same_or_not l j);
   opened = λ k. opened_by k (same_or_not k i);
@@ -128,34 +144,34 @@ wired_freed links owners xs i j here h = record {
     there : at owners j ≡ Some i
     there = h.owned i j here
 
-    owned_by : (k l : ℕ) → at (set links i None) k ≡ Some l → (k ≡ i) ⊎ (k ≢ i) → at (set owners j None) l ≡ Some k
+    owned_by : (k l : ℕ) → link_of (activity_at (set activities i Free) k) ≡ Some l → (k ≡ i) ⊎ (k ≢ i) → at (set owners j None) l ≡ Some k
     owned_by k l e (inl same) =
-        let none : at (set links i None) i ≡ None = get_or-set_same links i None None (within links i j here) in
-        let none_there : at (set links i None) k ≡ None = ap (at (set links i None)) same ∙ none in
+        let free : activity_at (set activities i Free) i ≡ Free = get_or-set_same activities i Free Free (has_place activities i j here) in
+        let none_there : link_of (activity_at (set activities i Free) k) ≡ None = ap link_of (ap (activity_at (set activities i Free)) same ∙ free) in
         cc
     owned_by k l e (inr other) =
-        let was : at links k ≡ Some l = sym (get_or-set_other links i k None None other) ∙ e in
+        let was : link_of (activity_at activities k) ≡ Some l = sym (ap link_of (get_or-set_other activities i k Free Free other)) ∙ e in
         let owner : at owners l ≡ Some k = h.owned k l was in
         let apart : l ≢ j = λ q. other (some_same (sym owner ∙ (ap (at owners) q ∙ there))) in
         get_or-set_other owners j l None None apart ∙ owner
 
-    linked_by : (k l : ℕ) → at (set owners j None) l ≡ Some k → (l ≡ j) ⊎ (l ≢ j) → at (set links i None) k ≡ Some l
+    linked_by : (k l : ℕ) → at (set owners j None) l ≡ Some k → (l ≡ j) ⊎ (l ≢ j) → link_of (activity_at (set activities i Free) k) ≡ Some l
     linked_by k l e (inl same) =
         let none : at (set owners j None) j ≡ None = get_or-set_same owners j None None (within owners j i there) in
         let none_there : at (set owners j None) l ≡ None = ap (at (set owners j None)) same ∙ none in
         cc
     linked_by k l e (inr other) =
         let was : at owners l ≡ Some k = sym (get_or-set_other owners j l None None other) ∙ e in
-        let link : at links k ≡ Some l = h.linked k l was in
-        let apart : k ≢ i = λ q. other (some_same (sym link ∙ (ap (at links) q ∙ here))) in
-        get_or-set_other links i k None None apart ∙ link
+        let link : link_of (activity_at activities k) ≡ Some l = h.linked k l was in
+        let apart : k ≢ i = λ q. other (some_same (sym link ∙ (ap (λ n. link_of (activity_at activities n)) q ∙ here))) in
+        ap link_of (get_or-set_other activities i k Free Free apart) ∙ link
 
-    opened_by : (k : ℕ) → (k ≡ i) ⊎ (k ≢ i) → is_some (find_exchange (k + 1) (closed (i + 1) xs)) ≡ is_some (at (set links i None) k)
+    opened_by : (k : ℕ) → (k ≡ i) ⊎ (k ≢ i) → is_some (find_exchange (k + 1) (closed (i + 1) xs)) ≡ has_exchange (activity_at (set activities i Free) k)
     opened_by k (inl same) =
-        subst (λ n. is_some (find_exchange (n + 1) (closed (i + 1) xs)) ≡ is_some (at (set links i None) n)) (sym same)
-        (ap is_some (find_closed (i + 1) xs) ∙ sym (ap is_some (get_or-set_same links i None None (within links i j here))))
+        subst (λ n. is_some (find_exchange (n + 1) (closed (i + 1) xs)) ≡ has_exchange (activity_at (set activities i Free) n)) (sym same)
+        (ap is_some (find_closed (i + 1) xs) ∙ sym (ap has_exchange (get_or-set_same activities i Free Free (has_place activities i j here))))
     opened_by k (inr other) =
-        ap is_some (find_kept (i + 1) (k + 1) xs (λ q. other (omega (arith, q)))) ∙ (h.opened k ∙ sym (ap is_some (get_or-set_other links i k None None other)))
+        ap is_some (find_kept (i + 1) (k + 1) xs (λ q. other (omega (arith, q)))) ∙ (h.opened k ∙ sym (ap has_exchange (get_or-set_other activities i k Free Free other)))
 
 -- ---- others are overtaken
 
@@ -177,8 +193,8 @@ find_left : (key : Option Key) (id other : ℕ) (xs : List Exchange) → is_some
 find_left None id other xs = refl
 find_left (Some key) id other xs = find_overtaken key other (closed id xs)
 
-pub wired_left : (links owners : List (Option ℕ)) (xs : List Exchange) (key : Option Key) (id : ℕ) → Wired links owners (closed id xs) → Wired links owners (left_open key id xs)
-wired_left links owners xs key id h = record {
+pub wired_left : (activities : List Activity) (owners : List (Option ℕ)) (xs : List Exchange) (key : Option Key) (id : ℕ) → Wired activities owners (closed id xs) → Wired activities owners (left_open key id xs)
+wired_left activities owners xs key id h = record {
   owned = h.owned;
   linked = h.linked;
   opened = λ i. find_left key id (i + 1) xs ∙ h.opened i;
@@ -186,42 +202,42 @@ wired_left links owners xs key id h = record {
 
 -- ---- one opens
 
-pub wired_opened : (links owners : List (Option ℕ)) (xs : List Exchange) (x : Exchange) (i : ℕ) → i < length links → at links i ≡ None → x.id ≡ i + 1 → Wired links owners xs
-    → Wired (set links i (Some (length owners))) (owners ++ Some i ∷ []) (xs ++ x ∷ [])
-wired_opened links owners xs x i here free id h = record {
+pub wired_opened : (activities : List Activity) (owners : List (Option ℕ)) (xs : List Exchange) (x : Exchange) (i : ℕ) → i < length activities → activity_at activities i ≡ Free → x.id ≡ i + 1 → Wired activities owners xs
+    → Wired (set activities i (Forwarded (length owners))) (owners ++ Some i ∷ []) (xs ++ x ∷ [])
+wired_opened activities owners xs x i here free id h = record {
   owned = λ k l e. owned_by k l e (same_or_not k i);
   linked = λ k l e. linked_by k l e (cases_lt l (length owners));
   opened = λ k. opened_by k (same_or_not k i);
 }
   where
-    next : at (set links i (Some (length owners))) i ≡ Some (length owners)
-    next = get_or-set_same links i (Some (length owners)) None here
+    next : activity_at (set activities i (Forwarded (length owners))) i ≡ Forwarded (length owners)
+    next = get_or-set_same activities i (Forwarded (length owners)) Free here
 
-    owned_by : (k l : ℕ) → at (set links i (Some (length owners))) k ≡ Some l → (k ≡ i) ⊎ (k ≢ i) → at (owners ++ Some i ∷ []) l ≡ Some k
+    owned_by : (k l : ℕ) → link_of (activity_at (set activities i (Forwarded (length owners))) k) ≡ Some l → (k ≡ i) ⊎ (k ≢ i) → at (owners ++ Some i ∷ []) l ≡ Some k
     owned_by k l e (inl same) =
-        let place : length owners ≡ l = some_same (sym next ∙ (ap (at (set links i (Some (length owners)))) (sym same) ∙ e)) in
+        let place : length owners ≡ l = some_same (sym (ap link_of next) ∙ (ap (λ n. link_of (activity_at (set activities i (Forwarded (length owners))) n)) (sym same) ∙ e)) in
         ap (at (owners ++ Some i ∷ [])) (sym place) ∙ (get_or-append_seam owners (Some i) [] None ∙ ap Some (sym same))
     owned_by k l e (inr other) =
-        let owner : at owners l ≡ Some k = h.owned k l (sym (get_or-set_other links i k (Some (length owners)) None other) ∙ e) in
+        let owner : at owners l ≡ Some k = h.owned k l (sym (ap link_of (get_or-set_other activities i k (Forwarded (length owners)) Free other)) ∙ e) in
         get_or-append owners (Some i ∷ []) None l (within owners l k owner) ∙ owner
 
-    linked_by : (k l : ℕ) → at (owners ++ Some i ∷ []) l ≡ Some k → (l < length owners) ⊎ (length owners ≤ l) → at (set links i (Some (length owners))) k ≡ Some l
+    linked_by : (k l : ℕ) → at (owners ++ Some i ∷ []) l ≡ Some k → (l < length owners) ⊎ (length owners ≤ l) → link_of (activity_at (set activities i (Forwarded (length owners))) k) ≡ Some l
     linked_by k l e (inl before) =
-        let link : at links k ≡ Some l = h.linked k l (sym (get_or-append owners (Some i ∷ []) None l before) ∙ e) in
-        let apart : k ≢ i = λ q. let none : at links k ≡ None = ap (at links) q ∙ free in cc in
-        get_or-set_other links i k (Some (length owners)) None apart ∙ link
+        let link : link_of (activity_at activities k) ≡ Some l = h.linked k l (sym (get_or-append owners (Some i ∷ []) None l before) ∙ e) in
+        let apart : k ≢ i = λ q. let none : link_of (activity_at activities k) ≡ None = ap link_of (ap (activity_at activities) q ∙ free) in cc in
+        ap link_of (get_or-set_other activities i k (Forwarded (length owners)) Free apart) ∙ link
     linked_by k l e (inr behind) =
         let last : l < length (owners ++ Some i ∷ []) = within (owners ++ Some i ∷ []) l k e in
         let place : l ≡ length owners = omega (arith, last, behind, length_push owners (Some i)) in
         let same : i ≡ k = some_same (sym (get_or-append_seam owners (Some i) [] None) ∙ (ap (at (owners ++ Some i ∷ [])) (sym place) ∙ e)) in
-        ap (at (set links i (Some (length owners)))) (sym same) ∙ (next ∙ ap Some (sym place))
+        ap link_of (ap (activity_at (set activities i (Forwarded (length owners)))) (sym same) ∙ next) ∙ ap Some (sym place)
 
-    opened_by : (k : ℕ) → (k ≡ i) ⊎ (k ≢ i) → is_some (find_exchange (k + 1) (xs ++ x ∷ [])) ≡ is_some (at (set links i (Some (length owners))) k)
+    opened_by : (k : ℕ) → (k ≡ i) ⊎ (k ≢ i) → is_some (find_exchange (k + 1) (xs ++ x ∷ [])) ≡ has_exchange (activity_at (set activities i (Forwarded (length owners))) k)
     opened_by k (inl same) =
-        subst (λ n. is_some (find_exchange (n + 1) (xs ++ x ∷ [])) ≡ is_some (at (set links i (Some (length owners))) n)) (sym same)
-        (find_pushed (i + 1) xs x id ∙ sym (ap is_some next))
+        subst (λ n. is_some (find_exchange (n + 1) (xs ++ x ∷ [])) ≡ has_exchange (activity_at (set activities i (Forwarded (length owners))) n)) (sym same)
+        (find_pushed (i + 1) xs x id ∙ sym (ap has_exchange next))
     opened_by k (inr other) =
-        find_before (k + 1) xs x (λ q. other (omega (arith, q, id))) ∙ (h.opened k ∙ sym (ap is_some (get_or-set_other links i k (Some (length owners)) None other)))
+        find_before (k + 1) xs x (λ q. other (omega (arith, q, id))) ∙ (h.opened k ∙ sym (ap has_exchange (get_or-set_other activities i k (Forwarded (length owners)) Free other)))
 
 -- ---- one goes forward once more
 
@@ -240,9 +256,9 @@ find_renewed id now other (x ∷ xs) =
     renewed_by (x.id == id) x (record x { request_time = now; condition = None; overtaken = false }) other (find_exchange other (map (gone_out id now) xs)) (find_exchange other xs) refl (find_renewed id now other xs)
 
 -- the exchange of a connection that lost its link has a new one
-pub wired_again : (links owners : List (Option ℕ)) (xs : List Exchange) (i j now : ℕ) → at links i ≡ Some j → is_some (find_exchange (i + 1) xs) ≡ true → Wired links owners xs
-    → Wired (set (set links i None) i (Some (length (set owners j None)))) (set owners j None ++ Some i ∷ []) (map (gone_out (i + 1) now) xs)
-wired_again links owners xs i j now here there h =
+pub wired_again : (activities : List Activity) (owners : List (Option ℕ)) (xs : List Exchange) (i j now : ℕ) → link_of (activity_at activities i) ≡ Some j → is_some (find_exchange (i + 1) xs) ≡ true → Wired activities owners xs
+    → Wired (set (set activities i Free) i (Forwarded (length (set owners j None)))) (set owners j None ++ Some i ∷ []) (map (gone_out (i + 1) now) xs)
+wired_again activities owners xs i j now here there h =
     record { owned = opens.owned; linked = opens.linked; opened = λ k. open_still k (same_or_not k i) ∙ opens.opened k }
   where
     found : (y : Exchange) × (find_exchange (i + 1) xs ≡ Some y)
@@ -251,14 +267,14 @@ wired_again links owners xs i j now here there h =
     x : Exchange
     x = record found.0 { id = i + 1 }
 
-    less : List (Option ℕ)
-    less = set links i None
+    less : List Activity
+    less = set activities i Free
 
     inside : i < length less
-    inside = subst (λ n. i < n) (sym (length-set links i None)) (within links i j here)
+    inside = subst (λ n. i < n) (sym (length-set activities i Free)) (has_place activities i j here)
 
-    opens : Wired (set less i (Some (length (set owners j None)))) (set owners j None ++ Some i ∷ []) (closed (i + 1) xs ++ x ∷ [])
-    opens = wired_opened less (set owners j None) (closed (i + 1) xs) x i inside (get_or-set_same links i None None (within links i j here)) refl (wired_freed links owners xs i j here h)
+    opens : Wired (set less i (Forwarded (length (set owners j None)))) (set owners j None ++ Some i ∷ []) (closed (i + 1) xs ++ x ∷ [])
+    opens = wired_opened less (set owners j None) (closed (i + 1) xs) x i inside (get_or-set_same activities i Free Free (has_place activities i j here)) refl (wired_freed activities owners xs i j here h)
 
     open_still : (k : ℕ) → (k ≡ i) ⊎ (k ≢ i) → is_some (find_exchange (k + 1) (map (gone_out (i + 1) now) xs)) ≡ is_some (find_exchange (k + 1) (closed (i + 1) xs ++ x ∷ []))
     open_still k (inl same) =
@@ -269,15 +285,15 @@ wired_again links owners xs i j now here there h =
         ∙ (sym (ap is_some (find_kept (i + 1) (k + 1) xs (λ q. other (omega (arith, q))))) ∙ sym (find_before (k + 1) (closed (i + 1) xs) x (λ q. other (omega (arith, q)))))
 
 -- a request has arrived: it goes forward, or not
-pub wired_arrived : (table : Table) (cs cs1 cs2 : List (Option Connection)) (ks ks2 : List (Option Link)) (held : List Stored) (xs : List Exchange) (now i : ℕ) (asked : Asked) (o : Outcome) → i < length cs → links_of cs1 ≡ links_of cs → at (links_of cs) i ≡ None
-    → links_of cs2 ≡ wires_after i (length ks) o (links_of cs1) → owners_of ks2 ≡ owners_after i o (owners_of ks) → Wired (links_of cs) (owners_of ks) xs → Wired (links_of cs2) (owners_of ks2) (open_after table held xs (Arrive now (i + 1) asked) o)
+pub wired_arrived : (table : Table) (cs cs1 cs2 : List (Option Connection)) (ks ks2 : List (Option Link)) (held : List Stored) (xs : List Exchange) (now i : ℕ) (asked : Asked) (o : Outcome) → i < length cs → activities_of cs1 ≡ activities_of cs → activity_at (activities_of cs) i ≡ Free
+    → activities_of cs2 ≡ activities_after i (length ks) o (activities_of cs1) → owners_of ks2 ≡ owners_after i o (owners_of ks) → Wired (activities_of cs) (owners_of ks) xs → Wired (activities_of cs2) (owners_of ks2) (open_after table held xs (Arrive now (i + 1) asked) o)
 wired_arrived table cs cs1 cs2 ks ks2 held xs now i asked (Reply r) inside same free links owners h = wired_same _ _ _ _ xs (links ∙ same) owners h
 wired_arrived table cs cs1 cs2 ks ks2 held xs now i asked (Forward line bytes) inside same free links owners h =
     let size : length (owners_of ks) ≡ length ks = length-map ks owner_of in
-    let wires : length (links_of cs) ≡ length cs = length-map cs link_of in
+    let wires : length (activities_of cs) ≡ length cs = length-map cs activity_of in
     let ys = xs ++ opened table held now (i + 1) asked line ∷ [] in
-    let opens = wired_opened (links_of cs) (owners_of ks) xs (opened table held now (i + 1) asked line) i (omega (arith, inside, wires)) free refl h in
-    wired_same _ _ _ _ ys (links ∙ (ap (λ (ls : List (Option ℕ)). set ls i (Some (length ks))) same ∙ ap (λ n. set (links_of cs) i (Some n)) (sym size))) owners opens
+    let opens = wired_opened (activities_of cs) (owners_of ks) xs (opened table held now (i + 1) asked line) i (omega (arith, inside, wires)) free refl h in
+    wired_same _ _ _ _ ys (links ∙ (ap (λ (ds : List Activity). set ds i (Forwarded (length ks))) same ∙ ap (λ n. set (activities_of cs) i (Forwarded n)) (sym size))) owners opens
 wired_arrived table cs cs1 cs2 ks ks2 held xs now i asked Ended inside same free links owners h = wired_same _ _ _ _ xs (links ∙ same) owners h
 
 -- ---- on both sides
@@ -286,79 +302,81 @@ wired_arrived table cs cs1 cs2 ks ks2 held xs now i asked Ended inside same free
 pub mapped_at : {A : Type 0} (f : A → Option ℕ) (xs : List A) (i : ℕ) (d : A) → i < length xs → at (map f xs) i ≡ f (get_or xs i d)
 mapped_at f xs i d l = get_or-map f xs i d None l
 
+pub doing_at : (cs : List (Option Connection)) (i : ℕ) → i < length cs → activity_at (activities_of cs) i ≡ activity_of (get_or cs i None)
+doing_at cs i l = get_or-map activity_of cs i None Free l
+
 -- a link that is open belongs to a connection that has it
-pub owned_link : (cs : List (Option Connection)) (ks : List (Option Link)) (xs : List Exchange) (j : ℕ) (x : Link) → get_or ks j None ≡ Some x → Wired (links_of cs) (owners_of ks) xs → at (links_of cs) x.connection ≡ Some j
+pub owned_link : (cs : List (Option Connection)) (ks : List (Option Link)) (xs : List Exchange) (j : ℕ) (x : Link) → get_or ks j None ≡ Some x → Wired (activities_of cs) (owners_of ks) xs → link_of (activity_at (activities_of cs) x.connection) ≡ Some j
 owned_link cs ks xs j x e w = w.linked x.connection j (mapped_at owner_of ks j None (inside ks j (ap is_some e)) ∙ ap owner_of e)
 
 -- the place of a connection that has a link, and that of its link
-pub within_connections : (cs : List (Option Connection)) (i j : ℕ) → at (links_of cs) i ≡ Some j → i < length cs
-within_connections cs i j h = subst (λ n. i < n) (length-map cs link_of) (within (links_of cs) i j h)
+pub within_connections : (cs : List (Option Connection)) (i j : ℕ) → link_of (activity_at (activities_of cs) i) ≡ Some j → i < length cs
+within_connections cs i j h = subst (λ n. i < n) (length-map cs activity_of) (has_place (activities_of cs) i j h)
 
-pub within_links : (cs : List (Option Connection)) (ks : List (Option Link)) (xs : List Exchange) (i j : ℕ) → at (links_of cs) i ≡ Some j → Wired (links_of cs) (owners_of ks) xs → j < length ks
+pub within_links : (cs : List (Option Connection)) (ks : List (Option Link)) (xs : List Exchange) (i j : ℕ) → link_of (activity_at (activities_of cs) i) ≡ Some j → Wired (activities_of cs) (owners_of ks) xs → j < length ks
 within_links cs ks xs i j h w = subst (λ n. j < n) (length-map ks owner_of) (within (owners_of ks) j i (w.owned i j h))
 
 -- its exchange is open
-pub is_open : (cs : List (Option Connection)) (ks : List (Option Link)) (xs : List Exchange) (i j : ℕ) → at (links_of cs) i ≡ Some j → Wired (links_of cs) (owners_of ks) xs → is_some (find_exchange (i + 1) xs) ≡ true
-is_open cs ks xs i j h w = w.opened i ∙ ap is_some h
+pub is_open : (cs : List (Option Connection)) (ks : List (Option Link)) (xs : List Exchange) (i j : ℕ) → link_of (activity_at (activities_of cs) i) ≡ Some j → Wired (activities_of cs) (owners_of ks) xs → is_some (find_exchange (i + 1) xs) ≡ true
+is_open cs ks xs i j h w = w.opened i ∙ open_from (activity_at (activities_of cs) i) j h
 
--- that of a connection without a link isn't
-pub no_link : (cs : List (Option Connection)) (ks : List (Option Link)) (xs : List Exchange) (i : ℕ) → is_free (get_or cs i None) ≡ true → Wired (links_of cs) (owners_of ks) xs → (at (links_of cs) i ≡ None) × (is_some (find_exchange (i + 1) xs) ≡ false)
-no_link cs ks xs i free w =
-    let none : at (links_of cs) i ≡ None = mapped_at link_of cs i None (inside cs i (free_there (get_or cs i None) free)) ∙ free_link (get_or cs i None) free in
-    (none, w.opened i ∙ ap is_some none)
+-- that of a free connection isn't
+pub not_open : (cs : List (Option Connection)) (ks : List (Option Link)) (xs : List Exchange) (i : ℕ) → is_free (get_or cs i None) ≡ true → Wired (activities_of cs) (owners_of ks) xs → (activity_at (activities_of cs) i ≡ Free) × (is_some (find_exchange (i + 1) xs) ≡ false)
+not_open cs ks xs i free w =
+    let idle : activity_at (activities_of cs) i ≡ Free = doing_at cs i (inside cs i (free_there (get_or cs i None) free)) ∙ free_activity (get_or cs i None) free in
+    (idle, w.opened i ∙ ap has_exchange idle)
 
 -- what has a link is open
-linked_there : (o : Option Connection) (j : ℕ) → link_of o ≡ Some j → (c : Connection) × (o ≡ Some c) × (c.link ≡ Some j)
+linked_there : (o : Option Connection) (j : ℕ) → link_of (activity_of o) ≡ Some j → (c : Connection) × (o ≡ Some c) × (link_of c.activity ≡ Some j)
 linked_there None j e = absurd (cc)
 linked_there (Some c) j e = (c, refl, e)
 
-pub linked_at : (cs : List (Option Connection)) (i j : ℕ) → at (links_of cs) i ≡ Some j → (c : Connection) × (get_or cs i None ≡ Some c) × (c.link ≡ Some j)
-linked_at cs i j e = linked_there (get_or cs i None) j (sym (mapped_at link_of cs i None (within_connections cs i j e)) ∙ e)
+pub linked_at : (cs : List (Option Connection)) (i j : ℕ) → link_of (activity_at (activities_of cs) i) ≡ Some j → (c : Connection) × (get_or cs i None ≡ Some c) × (link_of c.activity ≡ Some j)
+linked_at cs i j e = linked_there (get_or cs i None) j (sym (ap link_of (doing_at cs i (within_connections cs i j e))) ∙ e)
 
 owned_there : (o : Option Link) (i : ℕ) → owner_of o ≡ Some i → is_some o ≡ true
 owned_there None i e = absurd (cc)
 owned_there (Some k) i e = refl
 
 -- the link of a connection is open
-pub link_there : (cs : List (Option Connection)) (ks : List (Option Link)) (xs : List Exchange) (i j : ℕ) → at (links_of cs) i ≡ Some j → Wired (links_of cs) (owners_of ks) xs → is_some (get_or ks j None) ≡ true
+pub link_there : (cs : List (Option Connection)) (ks : List (Option Link)) (xs : List Exchange) (i j : ℕ) → link_of (activity_at (activities_of cs) i) ≡ Some j → Wired (activities_of cs) (owners_of ks) xs → is_some (get_or ks j None) ≡ true
 link_there cs ks xs i j e w = owned_there (get_or ks j None) i (sym (mapped_at owner_of ks j None (within_links cs ks xs i j e w)) ∙ w.owned i j e)
 
-here_by : (gone : Bool) (link : Option ℕ) (j : ℕ) → link ≡ Some j → gone && is_some link ≡ false → gone ≡ false
-here_by true None j l e = absurd (cc)
-here_by true (Some k) j l e = absurd (cc)
-here_by false link j l e = refl
+here_by : (gone : Bool) (a : Activity) (j : ℕ) → link_of a ≡ Some j → gone && has_exchange a ≡ false → gone ≡ false
+here_by true a j l e = sym (open_from a j l) ∙ e
+here_by false a j l e = refl
 
 -- where none is lost, a connection that has a link isn't gone
-pub still_here : (cs : List (Option Connection)) (i j : ℕ) → NoneLost cs → at (links_of cs) i ≡ Some j → gone_at (get_or cs i None) ≡ Some false
+pub still_here : (cs : List (Option Connection)) (i j : ℕ) → NoneLost cs → link_of (activity_at (activities_of cs) i) ≡ Some j → gone_at (get_or cs i None) ≡ Some false
 still_here cs i j none e =
     let c = linked_at cs i j e in
-    ap gone_at c.1 ∙ ap (λ (b : Bool). Some b) (here_by c.0.gone c.0.link j c.2 (none i c.0 c.1))
+    ap gone_at c.1 ∙ ap (λ (b : Bool). Some b) (here_by c.0.gone c.0.activity j c.2 (none i c.0 c.1))
 
 -- an exchange has ended, on all sides
-pub wired_ended : (cs cs1 : List (Option Connection)) (ks ks1 : List (Option Link)) (xs xs1 : List Exchange) (i j : ℕ) → at (links_of cs) i ≡ Some j → links_of cs1 ≡ set (links_of cs) i None → owners_of ks1 ≡ set (owners_of ks) j None → (key : Option Key) → xs1 ≡ left_open key (i + 1) xs
-    → Wired (links_of cs) (owners_of ks) xs → Wired (links_of cs1) (owners_of ks1) xs1
+pub wired_ended : (cs cs1 : List (Option Connection)) (ks ks1 : List (Option Link)) (xs xs1 : List Exchange) (i j : ℕ) → link_of (activity_at (activities_of cs) i) ≡ Some j → activities_of cs1 ≡ set (activities_of cs) i Free → owners_of ks1 ≡ set (owners_of ks) j None → (key : Option Key) → xs1 ≡ left_open key (i + 1) xs
+    → Wired (activities_of cs) (owners_of ks) xs → Wired (activities_of cs1) (owners_of ks1) xs1
 wired_ended cs cs1 ks ks1 xs xs1 i j h links owners key exchanges w =
-    subst (λ (ls : List (Option ℕ)). Wired ls (owners_of ks1) xs1) (sym links)
-    (subst (λ (os : List (Option ℕ)). Wired (set (links_of cs) i None) os xs1) (sym owners)
-    (subst (λ (es : List Exchange). Wired (set (links_of cs) i None) (set (owners_of ks) j None) es) (sym exchanges) (wired_left (set (links_of cs) i None) (set (owners_of ks) j None) xs key (i + 1) (wired_freed (links_of cs) (owners_of ks) xs i j h w))))
+    subst (λ (ds : List Activity). Wired ds (owners_of ks1) xs1) (sym links)
+    (subst (λ (os : List (Option ℕ)). Wired (set (activities_of cs) i Free) os xs1) (sym owners)
+    (subst (λ (es : List Exchange). Wired (set (activities_of cs) i Free) (set (owners_of ks) j None) es) (sym exchanges) (wired_left (set (activities_of cs) i Free) (set (owners_of ks) j None) xs key (i + 1) (wired_freed (activities_of cs) (owners_of ks) xs i j h w))))
 
 -- an exchange was finished, or goes forward once more
-pub wired_finished : (cs cs1 cs2 : List (Option Connection)) (ks ks1 ks2 : List (Option Link)) (xs ys : List Exchange) (i j : ℕ) (o : Outcome) → at (links_of cs) i ≡ Some j → links_of cs1 ≡ set (links_of cs) i None → owners_of ks1 ≡ set (owners_of ks) j None
-    → links_of cs2 ≡ wires_after i (length ks1) o (links_of cs1) → owners_of ks2 ≡ owners_after i o (owners_of ks1) → is_some (find_exchange (i + 1) xs) ≡ true → Remains o (i + 1) xs ys → Wired (links_of cs) (owners_of ks) xs → Wired (links_of cs2) (owners_of ks2) ys
+pub wired_finished : (cs cs1 cs2 : List (Option Connection)) (ks ks1 ks2 : List (Option Link)) (xs ys : List Exchange) (i j : ℕ) (o : Outcome) → link_of (activity_at (activities_of cs) i) ≡ Some j → activities_of cs1 ≡ set (activities_of cs) i Free → owners_of ks1 ≡ set (owners_of ks) j None
+    → activities_of cs2 ≡ activities_after i (length ks1) o (activities_of cs1) → owners_of ks2 ≡ owners_after i o (owners_of ks1) → is_some (find_exchange (i + 1) xs) ≡ true → Remains o (i + 1) xs ys → Wired (activities_of cs) (owners_of ks) xs → Wired (activities_of cs2) (owners_of ks2) ys
 wired_finished cs cs1 cs2 ks ks1 ks2 xs ys i j (Reply r) here links owners links2 owners2 there left h = wired_ended cs cs2 ks ks2 xs ys i j here (links2 ∙ links) (owners2 ∙ owners) left.0 left.1 h
 wired_finished cs cs1 cs2 ks ks1 ks2 xs ys i j (Forward line bytes) here links owners links2 owners2 there left h =
     let free = set (owners_of ks) j None in
     let size : length ks1 ≡ length free = sym (length-map ks1 owner_of) ∙ ap length owners in
-    subst (λ (es : List Exchange). Wired (links_of cs2) (owners_of ks2) es) (sym left.1)
+    subst (λ (es : List Exchange). Wired (activities_of cs2) (owners_of ks2) es) (sym left.1)
     (wired_same _ _ _ _ (map (gone_out (i + 1) left.0) xs)
-    (links2 ∙ (ap (λ (ls : List (Option ℕ)). set ls i (Some (length ks1))) links ∙ ap (λ n. set (set (links_of cs) i None) i (Some n)) size))
-    (owners2 ∙ ap (λ (os : List (Option ℕ)). os ++ Some i ∷ []) owners) (wired_again (links_of cs) (owners_of ks) xs i j left.0 here there h))
+    (links2 ∙ (ap (λ (ds : List Activity). set ds i (Forwarded (length ks1))) links ∙ ap (λ n. set (set (activities_of cs) i Free) i (Forwarded n)) size))
+    (owners2 ∙ ap (λ (os : List (Option ℕ)). os ++ Some i ∷ []) owners) (wired_again (activities_of cs) (owners_of ks) xs i j left.0 here there h))
 wired_finished cs cs1 cs2 ks ks1 ks2 xs ys i j Ended here links owners links2 owners2 there left h = wired_ended cs cs2 ks ks2 xs ys i j here (links2 ∙ links) (owners2 ∙ owners) left.0 left.1 h
 
 -- a connection was accepted, or wasn't
-pub wired_accepted : {E : Type 0} (r : Result (Unit {0}) E) (cs cs1 : List (Option Connection)) (os : List (Option ℕ)) (xs : List Exchange) → OnOk r (links_of cs1 ≡ links_of cs ++ None ∷ []) → OnErr r (cs1 ≡ cs) → Wired (links_of cs) os xs → Wired (links_of cs1) os xs
-wired_accepted (Ok u) cs cs1 os xs more same w = subst (λ (ls : List (Option ℕ)). Wired ls os xs) (sym more) (wired_more (links_of cs) os xs w)
-wired_accepted (Err e) cs cs1 os xs more same w = subst (λ (ds : List (Option Connection)). Wired (links_of ds) os xs) (sym same) w
+pub wired_accepted : {E : Type 0} (r : Result (Unit {0}) E) (cs cs1 : List (Option Connection)) (os : List (Option ℕ)) (xs : List Exchange) → OnOk r (activities_of cs1 ≡ activities_of cs ++ Free ∷ []) → OnErr r (cs1 ≡ cs) → Wired (activities_of cs) os xs → Wired (activities_of cs1) os xs
+wired_accepted (Ok u) cs cs1 os xs more same w = subst (λ (ds : List Activity). Wired ds os xs) (sym more) (wired_more (activities_of cs) os xs w)
+wired_accepted (Err e) cs cs1 os xs more same w = subst (λ (ds : List (Option Connection)). Wired (activities_of ds) os xs) (sym same) w
 
 early_by : (now : ℕ) → now < 253402300800 → too_late now ≡ None
 early_by now l = ap (λ (b : Bool). cond b None (Some MomentTooLate)) (lt-ltb now 253402300800 l)

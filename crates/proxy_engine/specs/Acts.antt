@@ -27,6 +27,8 @@ use Rattle.proxy_script.specs.declared.effect_list.Effect.TheVariants as effects
 use Rattle.proxy_engine.specs.Admitted.{Refusal, IsAdmitted}
 use Rattle.proxy_engine.specs.Story.{Story, ConnStory, LinkStory, opened, connection_at, link_at, with_connection, with_link, with_core}
 use Rattle.proxy_engine.specs.Due.{Finish, Gives, Breaks, Act, Abandons, Finishes, Serves}
+use Rattle.proxy_engine.specs.declared.activities.Activity.{Activity}
+use Rattle.proxy_engine.specs.declared.activities.Activity.TheVariants.{Free, Forwarded}
 
 -- an answer to the client, a request to the origin at an address, or nothing
 pub data Came : Type 0 where
@@ -57,8 +59,8 @@ came table outcomes.Ended = Nothing
 abbrev pub closing : Bool → ConnStory → ConnStory
 closing close c = record c { closed = c.closed || close }
 
-abbrev pub linked : Option ℕ → ConnStory → ConnStory
-linked link c = record c { link = link }
+abbrev pub doing : Activity → ConnStory → ConnStory
+doing activity c = record c { activity = activity }
 
 abbrev pub passing : Next Request → ConnStory → ConnStory
 passing a c = record c { progress = moved c.progress a }
@@ -66,14 +68,14 @@ passing a c = record c { progress = moved c.progress a }
 abbrev pub dropping : LinkStory → LinkStory
 dropping k = record k { dropped = true }
 
--- the link at j is dropped, and the connection at i has none
+-- the link at j is dropped, and the connection at i is free
 abbrev pub freed : Story → ℕ → ℕ → Story
-freed s j i = with_connection (with_link s j dropping) i (linked None)
+freed s j i = with_connection (with_link s j dropping) i (doing Free)
 
 -- a link is opened for the connection at i; it answers a HEAD or not
 abbrev pub with_opened : Story → ℕ → Bool → Story
 with_opened s i to_head = record {
-  connections = slice_set s.connections i (linked (Some (length s.links)) (connection_at s i));
+  connections = slice_set s.connections i (doing (Forwarded (length s.links)) (connection_at s i));
   links = s.links ++ opened s.core.table.max_body to_head i ∷ [];
   core = s.core;
   first = s.first;

@@ -14,7 +14,9 @@ use Rattle.hx_framing.specs.RequestStream.{Answers as RequestAnswers}
 use Rattle.hx_framing.specs.ResponseStream.{Answers as ResponseAnswers}
 use Rattle.hx_status.specs.declared.cause.FailKind.{FailKind}
 use Rattle.hx_status.specs.declared.cause.FailKind.TheVariants as kinds
+use Rattle.proxy_engine.specs.Activities.{link_of, has_exchange}
 use Rattle.proxy_engine.specs.Story.{Story, ConnStory, LinkStory, no_connection, no_link}
+use Rattle.proxy_engine.specs.declared.activities.Activity.{Activity}
 
 -- a whole answer, or a failure
 pub data Finish : Type 0 where
@@ -50,9 +52,9 @@ wish_of (next.Message m) = Some (next.Message m)
 wish_of (next.Refused fault) = Some (next.Refused fault)
 wish_of next.End = Some next.End
 
--- a gone connection with an open exchange
+-- the link of a gone connection with an open exchange
 abbrev pub Lost : ConnStory → Option ℕ → Type 0
-Lost c o = o ≡ (if c.gone then c.link else None)
+Lost c o = o ≡ (if c.gone then link_of c.activity else None)
 
 abbrev pub FinishBy : Bool → LinkStory → Option Finish → Type 0
 FinishBy true k o = o ≡ None
@@ -62,8 +64,9 @@ FinishBy false k o = (a : Next Response) × ResponseAnswers k.progress a × (o �
 abbrev pub Stood : LinkStory → Option Finish → Type 0
 Stood k o = FinishBy k.dropped k o
 
-abbrev pub is_busy : Bool → Bool → Option ℕ → Bool
-is_busy gone closed link = gone || (closed || is_some link)
+-- it is gone or closed, or has an open exchange
+abbrev pub is_busy : Bool → Bool → Activity → Bool
+is_busy gone closed activity = gone || (closed || has_exchange activity)
 
 abbrev pub WishBy : Bool → ConnStory → Option (Next Request) → Type 0
 WishBy true c o = o ≡ None
@@ -71,7 +74,7 @@ WishBy false c o = (a : Next Request) × RequestAnswers c.progress a × (o ≡ w
 
 -- what stands on a connection that is neither closed nor gone and has no open exchange
 abbrev pub Wanted : ConnStory → Option (Next Request) → Type 0
-Wanted c o = WishBy (is_busy c.gone c.closed c.link) c o
+Wanted c o = WishBy (is_busy c.gone c.closed c.activity) c o
 
 -- the first place of a list at which something stands, and what; or that nothing stands anywhere
 abbrev pub IsFirst : {A B : Type 0} → (A → Option B → Type 0) → A → List A → Option (ℕ × B) → Type 0

@@ -2,6 +2,7 @@
 --
 -- held: the places below a count at which something has the flag     GrowsConnection, GrowsLink: room was made
 use Rattle.std.specs.Prelude.{◌≡◌, ℕ, List, [], ◌∷◌, Bool, false, ◌&&◌, not, nat_lt, is_some, Option, None, Some, if◌then◌else◌}
+use Rattle.proxy_engine.specs.Activities.{has_exchange}
 use Rattle.proxy_engine.specs.Marked.{LooksLikeConnection, LooksLikeLink}
 use Rattle.proxy_engine.specs.declared.ends.Connection.{Connection}
 use Rattle.proxy_engine.specs.declared.ends.Link.{Link}
@@ -10,7 +11,7 @@ abbrev pub connection_is_open : Connection → Bool
 connection_is_open c = not c.gone
 
 abbrev pub connection_reads : Connection → Bool
-connection_reads c = not c.gone && (not c.ended && not (is_some c.link))
+connection_reads c = not c.gone && (not c.ended && not (has_exchange c.activity))
 
 abbrev pub link_failed : Link → Bool
 link_failed k = is_some k.failed

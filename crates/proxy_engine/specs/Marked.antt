@@ -7,6 +7,7 @@
 use Rattle.std.specs.Prelude.{◌≡◌, ℕ, ◌<◌, ◌≤◌, List, Bool, true, false, ◌&&◌, ◌||◌, not, Option, None, Some, is_some, if◌then◌else◌}
 use Rattle.std.specs.Ordering.{nat_cmp}
 use Rattle.std.specs.BTreeMap.{BTreeMap, get}
+use Rattle.proxy_engine.specs.Activities.{link_of, has_exchange}
 use Rattle.proxy_engine.specs.Look.{may_show}
 use Rattle.proxy_engine.specs.Story.{ConnStory, LinkStory}
 use Rattle.proxy_engine.specs.Due.{is_busy, Stood, Wanted}
@@ -27,11 +28,11 @@ pub record LinkList : Type 0 where
 
 -- it is gone with an open exchange
 abbrev pub may_be_lost : Connection → Bool
-may_be_lost c = c.gone && is_some c.link
+may_be_lost c = c.gone && has_exchange c.activity
 
 -- no look has found that its stream asks for nothing
 abbrev pub may_want : Connection → Bool
-may_want c = not (is_busy c.gone false c.link) && may_show c.watch.look
+may_want c = not (is_busy c.gone false c.activity) && may_show c.watch.look
 
 -- it has failed, or no look has found that no answer stands on it
 abbrev pub may_stand : Link → Bool
@@ -41,7 +42,7 @@ may_stand k = may_show k.watch.look || is_some k.failed
 pub record LooksLikeConnection (old new : Connection) : Type 0 where
   pub stands : (s : ConnStory) → ConnStands (Some old) s → ConnStands (Some new) s
   pub gone : new.gone ≡ old.gone
-  pub link : new.link ≡ old.link
+  pub activity : new.activity ≡ old.activity
   pub load : connection_load (Some new) ≤ connection_load (Some old)
 
 pub record LooksLikeLink (old new : Link) : Type 0 where
@@ -71,7 +72,7 @@ NoneAtAll {A} flag open_ends = (j : ℕ) (x : A) → get nat_cmp open_ends j ≡
 -- the link of a connection that is gone
 abbrev pub lost_at : Option Connection → Option ℕ
 lost_at None = None
-lost_at (Some c) = if c.gone then c.link else None
+lost_at (Some c) = if c.gone then link_of c.activity else None
 
 -- a look has found something, and that is what stands there
 abbrev pub StandsThere : Option Link → Type 0

@@ -9,23 +9,25 @@ use Rattle.proxy_core.specs.State.{State as CoreState}
 use Rattle.proxy_script.specs.declared.effect_list.Effect.{Effect}
 use Rattle.proxy_script.specs.declared.effect_list.Effect.TheVariants as effects
 use Rattle.proxy_engine.specs.Happenings.{Said}
+use Rattle.proxy_engine.specs.declared.activities.Activity.{Activity}
+use Rattle.proxy_engine.specs.declared.activities.Activity.TheVariants.{Free}
 use Rattle.proxy_engine.specs.Story.{Story, ConnStory, LinkStory, connection_at, link_at, heard}
 use Rattle.proxy_engine.specs.Due.{Act, IsDueFirst}
 use Rattle.proxy_engine.specs.Acts.{Does, next_number}
 use Rattle.proxy_engine.specs.State.{begun}
 use Rattle.proxy_engine.specs.Wiring.{Wired}
 
--- the link on which a connection's request went forward
-abbrev pub link_told : ConnStory → Option ℕ
-link_told c = c.link
+-- what a connection does
+abbrev pub activity_told : ConnStory → Activity
+activity_told c = c.activity
 
 -- the connection whose request went forward on a link that isn't dropped
 abbrev pub owner_told : LinkStory → Option ℕ
 owner_told k = if k.dropped then None else Some k.connection
 
 pub record IsOrderly (s : Story) : Type 0 where
-  pub wired : Wired (map link_told s.connections) (map owner_told s.links) s.core.exchanges
-  pub free : (i : ℕ) → (connection_at s i).closed ≡ true → (connection_at s i).link ≡ None
+  pub wired : Wired (map activity_told s.connections) (map owner_told s.links) s.core.exchanges
+  pub free : (i : ℕ) → (connection_at s i).closed ≡ true → (connection_at s i).activity ≡ Free
 
 -- the connection of this number is neither closed nor gone
 pub record IsOpen (s : Story) (n : ℕ) : Type 0 where

@@ -3,6 +3,7 @@
 -- is_open, is_read: of a connection    places_with: where a list has what is asked for
 -- ends_read, failed_links, open_count, next_connection: of a story
 use Rattle.std.specs.Prelude.{ℕ, ◌+◌, ◌^◌, List, [], ◌∷◌, ◌++◌, map, length, Bool, ◌&&◌, ◌||◌, not, nat_lt, Option, None, Some, is_some, if◌then◌else◌}
+use Rattle.proxy_engine.specs.Activities.{has_exchange}
 use Rattle.proxy_engine.specs.Story.{Story, ConnStory, LinkStory, keeps_bytes, keeps_answer}
 use Rattle.proxy_engine.specs.declared.happening.End.{End}
 use Rattle.proxy_engine.specs.declared.happening.End.TheVariants as ends
@@ -18,7 +19,7 @@ is_open c = not (c.gone || c.closed)
 
 -- it is open, has no open exchange, and its input hasn't ended
 abbrev pub is_read : ConnStory → Bool
-is_read c = keeps_bytes c && not (is_some c.link)
+is_read c = keeps_bytes c && not (has_exchange c.activity)
 
 -- it isn't dropped, and has failed
 abbrev pub has_failed : LinkStory → Bool

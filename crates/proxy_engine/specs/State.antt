@@ -12,12 +12,14 @@ use Rattle.hx_framing.specs.declared.answer.Next.{Next}
 use Rattle.hx_framing.specs.declared.answer.Next.TheVariants as next
 use Rattle.hx_status.specs.declared.cause.FailKind.{FailKind}
 use Rattle.proxy_core.specs.State.{State as CoreState}
+use Rattle.proxy_engine.specs.Activities.{has_exchange}
 use Rattle.proxy_engine.specs.Happenings.{Said}
 use Rattle.proxy_engine.specs.Look.{Look, Unknown, Quiet, Due, unsettled}
 use Rattle.proxy_engine.specs.RequestWatch.{Stands as RequestStands, load}
 use Rattle.proxy_engine.specs.ResponseWatch.{Stands as ResponseStands}
 use Rattle.proxy_engine.specs.Story.{Story, ConnStory, LinkStory, no_connection, no_link, fault_of, heard}
 use Rattle.proxy_engine.specs.Due.{Finish, Breaks, finish_of, wish_of, is_busy, IsFirst, Stood, Wanted, Act, IsDueFirst}
+use Rattle.proxy_engine.specs.declared.activities.Activity.TheVariants.{Free}
 use Rattle.proxy_engine.specs.declared.ends.Connection.{Connection}
 use Rattle.proxy_engine.specs.declared.ends.Link.{Link}
 use Rattle.proxy_engine.specs.declared.happening.EngineFault.{EngineFault}
@@ -48,13 +50,13 @@ pub record ConnHolds (c : Connection) (s : ConnStory) : Type 0 where
   pub watch : RequestStands c.watch s.progress
   pub ended : c.ended ≡ s.progress.ended
   pub gone : c.gone ≡ s.gone
-  pub link : c.link ≡ s.link
+  pub activity : c.activity ≡ s.activity
   pub still : s.closed ≡ false
-  pub used : s.gone ≡ true → is_some s.link ≡ true
+  pub used : s.gone ≡ true → has_exchange s.activity ≡ true
 
 -- one that is over was closed by the proxy, or is gone, and has no open exchange: nothing is kept of it
 abbrev pub ConnStands : Option Connection → ConnStory → Type 0
-ConnStands None s = (s.gone || s.closed ≡ true) × (s.link ≡ None)
+ConnStands None s = (s.gone || s.closed ≡ true) × (s.activity ≡ Free)
 ConnStands (Some c) s = ConnHolds c s
 
 pub record LinkHolds (k : Link) (s : LinkStory) : Type 0 where
@@ -118,12 +120,12 @@ wish_seen (Due a) = wish_of a
 
 abbrev pub wish_at : Option Connection → Option (Next Request)
 wish_at None = None
-wish_at (Some c) = if is_busy c.gone false c.link then None else wish_seen c.watch.look
+wish_at (Some c) = if is_busy c.gone false c.activity then None else wish_seen c.watch.look
 
 -- it isn't gone, and has no open exchange
 abbrev pub is_free : Option Connection → Bool
 is_free None = false
-is_free (Some c) = not (is_busy c.gone false c.link)
+is_free (Some c) = not (is_busy c.gone false c.activity)
 
 -- whether it is gone, where it isn't over
 abbrev pub gone_at : Option Connection → Option Bool
@@ -132,7 +134,7 @@ gone_at (Some c) = Some c.gone
 
 -- no connection is gone with an open exchange
 abbrev pub NoneLost : List (Option Connection) → Type 0
-NoneLost cs = (i : ℕ) (c : Connection) → slice_index_or cs i None ≡ Some c → c.gone && is_some c.link ≡ false
+NoneLost cs = (i : ℕ) (c : Connection) → slice_index_or cs i None ≡ Some c → c.gone && has_exchange c.activity ≡ false
 
 -- something is shown at that place, and it is the first of what stands
 pub record FoundLink (ks : List (Option Link)) (j : ℕ) : Type 0 where

@@ -10,6 +10,8 @@ use Rattle.hx_framing.specs.Progress.{Progress, start, fed, finished}
 use Rattle.hx_status.specs.declared.cause.FailKind.{FailKind}
 use Rattle.proxy_core.specs.State.{State as CoreState}
 use Rattle.proxy_engine.specs.Happenings.{Said, Accepts, Sends, Hears, Ends, Leaves, Shuts, Fails}
+use Rattle.proxy_engine.specs.declared.activities.Activity.{Activity}
+use Rattle.proxy_engine.specs.declared.activities.Activity.TheVariants.{Free}
 use Rattle.proxy_engine.specs.declared.happening.EngineFault.{EngineFault}
 use Rattle.proxy_engine.specs.declared.happening.EngineFault.TheVariants.{WrongNumber, NotAccepted}
 
@@ -17,7 +19,7 @@ pub record ConnStory : Type 0 where
   pub progress : Progress Request
   pub gone : Bool
   pub closed : Bool
-  pub link : Option ℕ
+  pub activity : Activity
 
 pub record LinkStory : Type 0 where
   pub progress : Progress Response
@@ -33,14 +35,14 @@ pub record Story : Type 0 where
   pub first : ℕ
 
 abbrev pub accepted : ℕ → ConnStory
-accepted max_body = record { progress = start max_body false; gone = false; closed = false; link = None }
+accepted max_body = record { progress = start max_body false; gone = false; closed = false; activity = Free }
 
 abbrev pub opened : ℕ → Bool → ℕ → LinkStory
 opened max_body to_head i = record { progress = start max_body to_head; failed = None; dropped = false; connection = i }
 
 -- stand-ins beyond the lists
 abbrev pub no_connection : ConnStory
-no_connection = record { progress = start 0 false; gone = true; closed = true; link = None }
+no_connection = record { progress = start 0 false; gone = true; closed = true; activity = Free }
 
 abbrev pub no_link : LinkStory
 no_link = record { progress = start 0 false; failed = None; dropped = true; connection = 0 }

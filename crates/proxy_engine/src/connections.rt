@@ -6,9 +6,11 @@ ghost use Rattle.proxy_engine.specs.Story.{ConnStory, no_connection};
 ghost use Rattle.proxy_engine.specs.Due.{IsFirst, Lost};
 ghost use Rattle.proxy_engine.specs.Reading.{places_with, is_open, is_read, client_end};
 ghost use Rattle.proxy_engine.specs.Room.{IsRoomy, piece};
-ghost use Rattle.proxy_engine.specs.Wiring.{at, link_of, links_of};
+ghost use Rattle.proxy_engine.specs.Activities.{link_of, has_exchange};
+ghost use Rattle.proxy_engine.specs.Wiring.{activity_at, activity_of, activities_of};
 ghost use Rattle.proxy_engine.specs.State.{Both, ConnStands, gone_at, NoneLost, FoundConnections, connection_load};
 
+use crate::activities::Activity;
 use crate::ends::Connection;
 use crate::finds::{first_due, first_lost};
 use crate::happening::End;
@@ -77,10 +79,10 @@ impl Connections {
     /// Whether the connection at a place has an open exchange.
     pub(crate) fn has_exchange(&self, i: u64) -> bool
         requires { i < length self.now.items }
-        ensures { result ≡ is_some (link_of (slice_index_or self.now.items i None)) }
+        ensures { result ≡ has_exchange (activity_of (slice_index_or self.now.items i None)) }
     {
         match self.ends.get(&i) {
-            Some(connection) => connection.link.is_some(),
+            Some(connection) => connection.activity.has_exchange(),
             None => false,
         }
     }
@@ -118,7 +120,7 @@ impl Connections {
             watch: RequestWatch::new(alloc, 0),
             ended: false,
             gone: true,
-            link: None,
+            activity: Activity::Free,
         };
         self.ends.insert(place, empty)?;
         Ok(())
@@ -173,7 +175,7 @@ impl Connections {
     pub(crate) fn reserve_piece(&mut self, i: u64) -> Result<(), AllocError>
         ensures ok { OnOk result (IsRoomy (slice_index_or self.new.items i None) piece) }
         ensures stands { (ss : List ConnStory) → Both ConnStands self.old.items ss → Both ConnStands self.new.items ss }
-        ensures links { links_of self.new.items ≡ links_of self.old.items }
+        ensures activities { activities_of self.new.items ≡ activities_of self.old.items }
         ensures err { OnErr result (self.new ≡ self.old) }
     {
         if i >= self.count {
@@ -197,7 +199,7 @@ impl Connections {
         ensures same { self.new.items ≡ self.old.items }
         ensures first { (ss : List ConnStory) → Both ConnStands self.old.items ss → IsFirst Lost no_connection ss result }
         ensures none { IfNone result (NoneLost self.old.items) }
-        ensures linked { IfSome result (λ p. at (links_of self.old.items) p.0 ≡ Some p.1) }
+        ensures linked { IfSome result (λ p. link_of (activity_at (activities_of self.old.items) p.0) ≡ Some p.1) }
         ensures gone { IfSome result (λ p. gone_at (slice_index_or self.old.items p.0 None) ≡ Some true) }
     {
         first_lost(&self.ends, &mut self.lost)
@@ -207,7 +209,7 @@ impl Connections {
     pub(crate) fn find_due(&mut self, alloc: Global) -> Result<Option<u64>, AllocError>
         ensures stands { (ss : List ConnStory) → Both ConnStands self.old.items ss → Both ConnStands self.new.items ss }
         ensures found { IfOk result (λ found. FoundConnections self.new.items found) }
-        ensures links { links_of self.new.items ≡ links_of self.old.items }
+        ensures activities { activities_of self.new.items ≡ activities_of self.old.items }
         ensures load { sum_by connection_load self.new.items ≤ sum_by connection_load self.old.items }
     {
         first_due(&mut self.ends, &mut self.waiting, alloc)

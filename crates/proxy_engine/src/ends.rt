@@ -1,5 +1,6 @@
 //! The proxy's ends: connections of clients, and links to origins. Only those that aren't over are kept.
 
+use crate::activities::Activity;
 use crate::request_watch::RequestWatch;
 use crate::response_watch::ResponseWatch;
 use hx_status::FailKind;
@@ -11,8 +12,8 @@ pub(crate) struct Connection {
     pub(crate) ended: bool,
     /// The client went away.
     pub(crate) gone: bool,
-    /// The place of the link on which its request went forward.
-    pub(crate) link: Option<u64>,
+    /// Whether its exchange is open, and on which link.
+    pub(crate) activity: Activity,
 }
 
 /// One call drops it, wherever that is.
@@ -22,7 +23,7 @@ impl Drop for Connection {
             watch: _,
             ended: _,
             gone: _,
-            link: _,
+            activity: _,
         } = self;
     }
 }

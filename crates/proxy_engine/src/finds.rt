@@ -20,7 +20,7 @@ fn lost_link(ends: &BTreeMap<u64, Connection>, i: u64) -> Option<u64>
     match ends.get(&i) {
         Some(connection) => {
             if connection.gone {
-                connection.link
+                connection.activity.link()
             } else {
                 None
             }
@@ -78,7 +78,7 @@ fn wants(connection: &mut Connection, alloc: Global) -> Result<bool, AllocError>
     ensures meaning { OnOk result ((s : ConnStory) → ConnStands (Some connection.new) s → Wanted s (wish_at (Some connection.new))) }
     ensures settled { IfOk result (λ b. b ≡ false → may_want connection.new ≡ false) }
 {
-    if connection.gone || connection.link.is_some() {
+    if connection.gone || connection.activity.has_exchange() {
         return Ok(false);
     }
     connection.watch.look(alloc)?;

@@ -8,7 +8,8 @@ ghost use Rattle.proxy_engine.specs.Story.{Story};
 ghost use Rattle.proxy_engine.specs.Due.{Abandons, Finish, Finishes, kind_of, IsDueFirst};
 ghost use Rattle.proxy_engine.specs.State.{Stands, finish_at, gone_at, NoneLost, load_at, Done, Failed};
 ghost use Rattle.proxy_core.specs.Outcomes.{find_exchange};
-ghost use Rattle.proxy_engine.specs.Wiring.{at, links_of};
+ghost use Rattle.proxy_engine.specs.Activities.{link_of};
+ghost use Rattle.proxy_engine.specs.Wiring.{activity_at, activities_of};
 ghost use Rattle.proxy_engine.specs.Acts.{asks_head, HasRoomFor};
 ghost use Rattle.proxy_engine.specs.Wishes.{IsFinishedBy, gives, EndFault};
 ghost use Rattle.proxy_engine.specs.declared.ends.Connection.{Connection};
@@ -125,7 +126,7 @@ impl<S: Shelf> Engine<S> {
         i: u64,
         l: u64,
     ) -> Result<Vec<Effect>, AllocError>
-        requires linked { at (links_of self.old.connections) i ≡ Some l }
+        requires linked { link_of (activity_at (activities_of self.old.connections) i) ≡ Some l }
         requires gone { gone_at (slice_index_or self.old.connections i None) ≡ Some true }
         ensures ok { IfOk result (λ effects. (s : Story) → (now : ℕ) → Stands self.old s
             → Done s now (Abandons i l) effects.items self.new) }

@@ -6,6 +6,7 @@
 //! `specs/ResponseWatch.antt` say for which streams it stands. Nothing here opens a socket.
 #![tactic(auto)]
 
+mod activities;
 mod acts;
 mod connections;
 mod ends;

@@ -5,38 +5,39 @@ ghost use Rattle.hx_framing.specs.declared.answer.Next.{Next};
 ghost use Rattle.proxy_core.specs.State.{State as CoreState};
 ghost use Rattle.proxy_engine.specs.Look.{Due, known};
 ghost use Rattle.proxy_engine.specs.Story.{Story, ConnStory, with_connection};
-ghost use Rattle.proxy_engine.specs.Acts.{closing, linked, passing};
-ghost use Rattle.proxy_engine.specs.Wiring.{links_of};
+ghost use Rattle.proxy_engine.specs.Acts.{closing, doing, passing};
+ghost use Rattle.proxy_engine.specs.Wiring.{activities_of};
 ghost use Rattle.proxy_engine.specs.State.{Stands, ConnStands, state, wish_at, gone_at, is_free, connection_load, wish_load};
 ghost use Rattle.proxy_engine.specs.declared.ends.Link.{Link};
 
+use crate::activities::Activity;
 use crate::connections::Connections;
 use crate::ends::Connection;
 
 /// The connection, which isn't gone, has no open exchange any more.
 fn unlink(connection: &mut Connection)
     requires { connection.old.gone ≡ false }
-    ensures stands { (c : ConnStory) → ConnStands (Some connection.old) c → ConnStands (Some connection.new) (linked None c) }
-    ensures link { connection.new.link ≡ None }
+    ensures stands { (c : ConnStory) → ConnStands (Some connection.old) c → ConnStands (Some connection.new) (doing Activity.Free c) }
+    ensures activity { connection.new.activity ≡ Activity.Free }
     ensures gone { connection.new.gone ≡ false }
     ensures load { connection_load (Some connection.new) ≡ connection_load (Some connection.old) }
 {
-    connection.link = None;
+    connection.activity = Activity::Free;
 }
 
 /// The connection's request went forward on the link at a place.
 fn link_to(connection: &mut Connection, place: u64)
-    ensures stands { (c : ConnStory) → ConnStands (Some connection.old) c → ConnStands (Some connection.new) (linked (Some place) c) }
-    ensures link { connection.new.link ≡ Some place }
+    ensures stands { (c : ConnStory) → ConnStands (Some connection.old) c → ConnStands (Some connection.new) (doing (Activity.Forwarded place) c) }
+    ensures activity { connection.new.activity ≡ Activity.Forwarded place }
     ensures load { connection_load (Some connection.new) ≡ connection_load (Some connection.old) }
 {
-    connection.link = Some(place);
+    connection.activity = Activity::Forwarded(place);
 }
 
 /// What was due on the connection is done.
 fn pass(connection: &mut Connection)
     ensures stands { (c : ConnStory) → (a : Next Request) → connection.old.watch.look ≡ Due a → ConnStands (Some connection.old) c → ConnStands (Some connection.new) (passing a c) }
-    ensures link { connection.new.link ≡ connection.old.link }
+    ensures activity { connection.new.activity ≡ connection.old.activity }
     ensures gone { connection.new.gone ≡ connection.old.gone }
     ensures load { connection_load (Some connection.new) + 3 * known connection.old.watch.look ≤ connection_load (Some connection.old) }
 {
@@ -48,7 +49,7 @@ pub(crate) fn pass_at(connections: &mut Connections, i: u64)
     requires { is_some (wish_at (slice_index_or connections.old.items i None)) ≡ true }
     ensures stands { (s : Story) → (a : Next Request) → (links : List (Option Link)) → (core : CoreState) → (first : ℕ) → wish_at (slice_index_or connections.old.items i None) ≡ Some a
         → Stands (state connections.old.items links core first) s → Stands (state connections.new.items links core first) (with_connection s i (passing a)) }
-    ensures links { links_of connections.new.items ≡ links_of connections.old.items }
+    ensures activities { activities_of connections.new.items ≡ activities_of connections.old.items }
     ensures free { is_free (slice_index_or connections.new.items i None) ≡ true }
     ensures load { sum_by connection_load connections.new.items + 3 * wish_load (wish_at (slice_index_or connections.old.items i None)) ≤ sum_by connection_load connections.old.items }
 {
@@ -62,8 +63,8 @@ pub(crate) fn pass_at(connections: &mut Connections, i: u64)
 pub(crate) fn link_at(connections: &mut Connections, i: u64, place: u64)
     requires { is_free (slice_index_or connections.old.items i None) ≡ true }
     ensures stands { (s : Story) → (links : List (Option Link)) → (core : CoreState) → (first : ℕ) → Stands (state connections.old.items links core first) s
-        → Stands (state connections.new.items links core first) (with_connection s i (linked (Some place))) }
-    ensures links { links_of connections.new.items ≡ slice_set (links_of connections.old.items) i (Some place) }
+        → Stands (state connections.new.items links core first) (with_connection s i (doing (Activity.Forwarded place))) }
+    ensures activities { activities_of connections.new.items ≡ slice_set (activities_of connections.old.items) i (Activity.Forwarded place) }
     ensures load { sum_by connection_load connections.new.items ≡ sum_by connection_load connections.old.items }
 {
     match connections.at_mut(i) {
@@ -76,8 +77,8 @@ pub(crate) fn link_at(connections: &mut Connections, i: u64, place: u64)
 pub(crate) fn unlink_at(connections: &mut Connections, i: u64)
     requires { gone_at (slice_index_or connections.old.items i None) ≡ Some false }
     ensures stands { (s : Story) → (links : List (Option Link)) → (core : CoreState) → (first : ℕ) → Stands (state connections.old.items links core first) s
-        → Stands (state connections.new.items links core first) (with_connection s i (linked None)) }
-    ensures links { links_of connections.new.items ≡ slice_set (links_of connections.old.items) i None }
+        → Stands (state connections.new.items links core first) (with_connection s i (doing Activity.Free)) }
+    ensures activities { activities_of connections.new.items ≡ slice_set (activities_of connections.old.items) i Activity.Free }
     ensures free { is_free (slice_index_or connections.new.items i None) ≡ true }
     ensures load { sum_by connection_load connections.new.items ≡ sum_by connection_load connections.old.items }
 {
@@ -92,7 +93,7 @@ pub(crate) fn close_at(connections: &mut Connections, i: u64, close: bool)
     requires free { is_free (slice_index_or connections.old.items i None) ≡ true }
     ensures stands { (s : Story) → (links : List (Option Link)) → (core : CoreState) → (first : ℕ) → Stands (state connections.old.items links core first) s
         → Stands (state connections.new.items links core first) (with_connection s i (closing close)) }
-    ensures links { links_of connections.new.items ≡ links_of connections.old.items }
+    ensures activities { activities_of connections.new.items ≡ activities_of connections.old.items }
     ensures load { sum_by connection_load connections.new.items ≤ sum_by connection_load connections.old.items }
     ensures less { close ≡ true → sum_by connection_load connections.new.items < sum_by connection_load connections.old.items }
 {

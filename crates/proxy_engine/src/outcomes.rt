@@ -3,14 +3,15 @@ ghost use Rattle.std.specs.Prelude.{◌≡◌, ℕ, ◌+◌, ◌<◌, ◌≤◌,
 ghost use Rattle.proxy_core.specs.Replies.{is_head};
 ghost use Rattle.proxy_core.specs.State.{State as CoreState};
 ghost use Rattle.proxy_engine.specs.Story.{Story, ConnStory, with_connection};
-ghost use Rattle.proxy_engine.specs.Acts.{closing, linked, came_at, came, HasRoomFor, effects_on, after_on, freed, with_opened};
+ghost use Rattle.proxy_engine.specs.Acts.{closing, came_at, came, HasRoomFor, effects_on, after_on, freed, with_opened};
 ghost use Rattle.proxy_engine.specs.Acts.Came.{Replies};
-ghost use Rattle.proxy_engine.specs.Wiring.{links_of, owners_of, wires_after, owners_after};
+ghost use Rattle.proxy_engine.specs.Wiring.{activities_of, owners_of, activities_after, owners_after};
 ghost use Rattle.proxy_engine.specs.Wishes.{goes_forward};
 ghost use Rattle.proxy_engine.specs.State.{Stands, ConnStands, state, is_free, gone_at, connection_load, link_load, load_of};
 ghost use Rattle.proxy_engine.specs.OpenEnds.{state_of, load_on};
 ghost use Rattle.proxy_engine.specs.declared.ends.Connection.{Connection};
 
+use crate::activities::Activity;
 use crate::connections::Connections;
 use crate::ends::Link;
 use crate::links::Links;
@@ -67,7 +68,7 @@ pub(crate) fn send_reply(
     ensures effects { effects.new.items ≡ effects.old.items ++ effects_on i 0 (Replies bytes close) }
     ensures stands { (s : Story) → (links : List (Option Link)) → (core : CoreState) → (first : ℕ) → Stands (state connections.old.items links core first) s
         → Stands (state connections.new.items links core first) (with_connection s i (closing close)) }
-    ensures links { links_of connections.new.items ≡ links_of connections.old.items }
+    ensures activities { activities_of connections.new.items ≡ activities_of connections.old.items }
     ensures load { sum_by connection_load connections.new.items ≤ sum_by connection_load connections.old.items }
     ensures less { close ≡ true → sum_by connection_load connections.new.items < sum_by connection_load connections.old.items }
 {
@@ -93,7 +94,7 @@ fn open_link(
     requires room { links.old.has_room ≡ true }
     ensures stands { (s : Story) → (core : CoreState) → (first : ℕ) → core.table.max_body ≡ max_body → first + length links.old.items < 2 ^ 64 → Stands (state connections.old.items links.old.items core first) s
         → Stands (state connections.new.items links.new.items core first) (with_opened s i to_head) }
-    ensures links { links_of connections.new.items ≡ slice_set (links_of connections.old.items) i (Some (length links.old.items)) }
+    ensures activities { activities_of connections.new.items ≡ slice_set (activities_of connections.old.items) i (Activity.Forwarded (length links.old.items)) }
     ensures owners { owners_of links.new.items ≡ owners_of links.old.items ++ Some i ∷ [] }
     ensures load { load_of connections.new.items links.new.items ≤ load_of connections.old.items links.old.items + 1 }
 {
@@ -159,7 +160,7 @@ pub(crate) fn free(connections: &mut Connections, links: &mut Links, j: u64, i: 
     requires connection { gone_at (slice_index_or connections.old.items i None) ≡ Some false }
     ensures stands { (s : Story) → (core : CoreState) → (first : ℕ) → Stands (state connections.old.items links.old.items core first) s
         → Stands (state connections.new.items links.new.items core first) (freed s j i) }
-    ensures wires { links_of connections.new.items ≡ slice_set (links_of connections.old.items) i None }
+    ensures activities { activities_of connections.new.items ≡ slice_set (activities_of connections.old.items) i Activity.Free }
     ensures owners { owners_of links.new.items ≡ slice_set (owners_of links.old.items) j None }
     ensures load { load_of connections.new.items links.new.items + link_load (slice_index_or links.old.items j None) ≡ load_of connections.old.items links.old.items }
     ensures free { is_free (slice_index_or connections.new.items i None) ≡ true }
@@ -176,7 +177,7 @@ pub(crate) fn free_lost(connections: &mut Connections, links: &mut Links, j: u64
     requires connection { gone_at (slice_index_or connections.old.items i None) ≡ Some true }
     ensures stands { (s : Story) → (core : CoreState) → (first : ℕ) → Stands (state connections.old.items links.old.items core first) s
         → Stands (state connections.new.items links.new.items core first) (freed s j i) }
-    ensures wires { links_of connections.new.items ≡ slice_set (links_of connections.old.items) i None }
+    ensures activities { activities_of connections.new.items ≡ slice_set (activities_of connections.old.items) i Activity.Free }
     ensures owners { owners_of links.new.items ≡ slice_set (owners_of links.old.items) j None }
     ensures load { load_of connections.new.items links.new.items < load_of connections.old.items links.old.items }
 {
@@ -216,7 +217,7 @@ impl Ends {
         ensures stands { (s : Story) → (core : CoreState) → core.table.max_body ≡ way.max_body → Stands (state_of self.old core) s
             → Stands (state_of self.new core) (after_on i way.to_head (came_at way.address.items outcome) s) }
         ensures first { self.new.first_link ≡ self.old.first_link }
-        ensures links { links_of self.new.connections.items ≡ wires_after i (length self.old.links.items) outcome (links_of self.old.connections.items) }
+        ensures activities { activities_of self.new.connections.items ≡ activities_after i (length self.old.links.items) outcome (activities_of self.old.connections.items) }
         ensures owners { owners_of self.new.links.items ≡ owners_after i outcome (owners_of self.old.links.items) }
         ensures load { load_on self.new ≤ load_on self.old + 1 }
     {

@@ -20,7 +20,7 @@ const PIECE: usize = 4096;
 fn reads(connection: &Connection) -> bool
     ensures { result ≡ connection_reads connection.now }
 {
-    !connection.gone && !connection.ended && connection.link.is_none()
+    !connection.gone && !connection.ended && !connection.activity.has_exchange()
 }
 
 /// Whether bytes may come from the origin.

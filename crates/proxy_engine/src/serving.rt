@@ -11,7 +11,7 @@ ghost use Rattle.proxy_engine.specs.Look.{Due};
 ghost use Rattle.proxy_engine.specs.Story.{Story};
 ghost use Rattle.proxy_engine.specs.Due.{Serves, IsDueFirst};
 ghost use Rattle.proxy_engine.specs.State.{Stands, state, wish_at, is_free, connection_load, load_at, Done, Failed};
-ghost use Rattle.proxy_engine.specs.Wiring.{links_of};
+ghost use Rattle.proxy_engine.specs.Wiring.{activities_of};
 ghost use Rattle.proxy_engine.specs.Wishes.{IsWish};
 ghost use Rattle.proxy_engine.specs.declared.ends.Connection.{Connection};
 ghost use Rattle.proxy_engine.specs.declared.ends.Link.{Link};
@@ -40,7 +40,7 @@ fn send_continue(
     ensures ok { IfOk result (λ effects. (s : Story) → (links : List (Option Link)) → (core : CoreState) → (first now : ℕ) → wish_at (slice_index_or connections.old.items i None) ≡ Some next.NeedsContinue
         → Stands (state connections.old.items links core first) s → Done s now (Serves i next.NeedsContinue) effects.items (state connections.new.items links core first)) }
     ensures less { OnOk result (wish_at (slice_index_or connections.old.items i None) ≡ Some next.NeedsContinue → sum_by connection_load connections.new.items < sum_by connection_load connections.old.items) }
-    ensures links { links_of connections.new.items ≡ links_of connections.old.items }
+    ensures activities { activities_of connections.new.items ≡ activities_of connections.old.items }
     ensures err { OnErr result (connections.new ≡ connections.old) }
 {
     let mut effects = room(alloc)?;
@@ -74,7 +74,7 @@ fn refuse(
     ensures ok { IfOk result (λ effects. (s : Story) → (links : List (Option Link)) → (core : CoreState) → (first : ℕ) → (a : Next Request) → IsWish a (Wish.Refuse why head)
         → Stands (state connections.old.items links core first) s → Done s now (Serves i a) effects.items (state connections.new.items links core first)) }
     ensures less { OnOk result (sum_by connection_load connections.new.items < sum_by connection_load connections.old.items) }
-    ensures links { links_of connections.new.items ≡ links_of connections.old.items }
+    ensures activities { activities_of connections.new.items ≡ activities_of connections.old.items }
     ensures err { OnErr result (connections.new ≡ connections.old) }
 {
     let mut effects = room(alloc)?;
@@ -89,7 +89,7 @@ fn shut(connections: &mut Connections, alloc: Global, i: u64) -> Result<Vec<Effe
     ensures ok { IfOk result (λ effects. (s : Story) → (links : List (Option Link)) → (core : CoreState) → (first now : ℕ) → (a : Next Request) → IsWish a Wish.Close
         → Stands (state connections.old.items links core first) s → Done s now (Serves i a) effects.items (state connections.new.items links core first)) }
     ensures less { OnOk result (sum_by connection_load connections.new.items < sum_by connection_load connections.old.items) }
-    ensures links { links_of connections.new.items ≡ links_of connections.old.items }
+    ensures activities { activities_of connections.new.items ≡ activities_of connections.old.items }
     ensures err { OnErr result (connections.new ≡ connections.old) }
 {
     let mut effects = room(alloc)?;

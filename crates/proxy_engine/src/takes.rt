@@ -3,10 +3,12 @@ ghost use Rattle.std.specs.Prelude.{◌≡◌, ◌≢◌, ℕ, ◌+◌, ◌-◌,
 ghost use Rattle.proxy_core.specs.State.{State as CoreState};
 ghost use Rattle.proxy_engine.specs.Happenings.{Accepts, Sends, Hears, Ends, Leaves, Shuts, Fails};
 ghost use Rattle.proxy_engine.specs.Story.{Story, ConnStory, LinkStory, sent, ended, left, heard_by, shut, failed_by, keeps};
-ghost use Rattle.proxy_engine.specs.Wiring.{owner_of, links_of, owners_of};
+ghost use Rattle.proxy_engine.specs.Activities.{has_exchange};
+ghost use Rattle.proxy_engine.specs.Wiring.{owner_of, activities_of, owners_of};
 ghost use Rattle.proxy_engine.specs.Room.{IsRoomy, IsRoomyLink};
 ghost use Rattle.proxy_engine.specs.State.{Stands, ConnStands, LinkStands, state, Takes, TakeFault};
 
+use crate::activities::Activity;
 use crate::connections::Connections;
 use crate::ends::{Connection, Link};
 use crate::happening::EngineFault;
@@ -44,7 +46,7 @@ fn send(connection: &mut Connection, bytes: &[u8]) -> Result<(), AllocError>
     ensures err { OnErr result (connection.new ≡ connection.old) }
     ensures kept { OnErr result (connection.old.gone || connection.old.ended ≡ false) }
     ensures reserved { length bytes.now ≤ connection.old.watch.reader.spare → IsOk result }
-    ensures link { connection.new.link ≡ connection.old.link }
+    ensures activity { connection.new.activity ≡ connection.old.activity }
 {
     if connection.gone || connection.ended {
         return Ok(());
@@ -67,7 +69,7 @@ fn hear(link: &mut Link, bytes: &[u8]) -> Result<(), AllocError>
 
 fn end(connection: &mut Connection)
     ensures stands { (s : ConnStory) → ConnStands (Some connection.old) s → ConnStands (Some connection.new) (ended s) }
-    ensures link { connection.new.link ≡ connection.old.link }
+    ensures activity { connection.new.activity ≡ connection.old.activity }
 {
     if !connection.gone {
         connection.watch.finish();
@@ -77,8 +79,8 @@ fn end(connection: &mut Connection)
 
 /// A client with an open exchange goes away.
 fn lose(connection: &mut Connection)
-    ensures stands { is_some connection.old.link ≡ true → (s : ConnStory) → ConnStands (Some connection.old) s → ConnStands (Some connection.new) (left s) }
-    ensures link { connection.new.link ≡ connection.old.link }
+    ensures stands { has_exchange connection.old.activity ≡ true → (s : ConnStory) → ConnStands (Some connection.old) s → ConnStands (Some connection.new) (left s) }
+    ensures activity { connection.new.activity ≡ connection.old.activity }
 {
     connection.gone = true;
 }
@@ -118,7 +120,7 @@ pub(crate) fn accept(
     ensures ok { OnOk result ((s : Story) → (links : List (Option Link)) → (core : CoreState) → (first : ℕ) → core.table.max_body ≡ max_body → Stands (state connections.old.items links core first) s
         → Takes s (Accepts n) (state connections.new.items links core first)) }
     ensures fault { IfErr result (λ e. (s : Story) → (links : List (Option Link)) → (core : CoreState) → (first : ℕ) → Stands (state connections.old.items links core first) s → TakeFault s (Accepts n) e) }
-    ensures links { OnOk result (links_of connections.new.items ≡ links_of connections.old.items ++ None ∷ []) }
+    ensures activities { OnOk result (activities_of connections.new.items ≡ activities_of connections.old.items ++ Activity.Free ∷ []) }
     ensures reserved { connections.old.has_room ≡ true → result ≢ Err EngineFault.OutOfMemory }
     ensures err { OnErr result (connections.new ≡ connections.old) }
 {
@@ -130,7 +132,7 @@ pub(crate) fn accept(
         watch,
         ended: false,
         gone: false,
-        link: None,
+        activity: Activity::Free,
     };
     match connections.accept(alloc, connection) {
         Ok(()) => Ok(()),
@@ -144,7 +146,7 @@ pub(crate) fn client(connections: &mut Connections, n: u64, bytes: &[u8]) -> Res
     ensures fault { IfErr result (λ e. (s : Story) → (links : List (Option Link)) → (core : CoreState) → (first : ℕ) → Stands (state connections.old.items links core first) s → TakeFault s (Sends n bytes.now) e) }
     ensures kept { result ≡ Err EngineFault.OutOfMemory → (s : Story) → (links : List (Option Link)) → (core : CoreState) → (first : ℕ) → Stands (state connections.old.items links core first) s → keeps s (Sends n bytes.now) ≡ true }
     ensures reserved { IsRoomy (slice_index_or connections.old.items (n - 1) None) (length bytes.now) → result ≢ Err EngineFault.OutOfMemory }
-    ensures links { links_of connections.new.items ≡ links_of connections.old.items }
+    ensures activities { activities_of connections.new.items ≡ activities_of connections.old.items }
     ensures err { OnErr result (connections.new ≡ connections.old) }
 {
     let Some(i) = connection_place(connections, n) else {
@@ -164,7 +166,7 @@ pub(crate) fn finish_client(connections: &mut Connections, n: u64) -> Result<(),
         → Takes s (Ends n) (state connections.new.items links core first)) }
     ensures fault { IfErr result (λ e. (s : Story) → (links : List (Option Link)) → (core : CoreState) → (first : ℕ) → Stands (state connections.old.items links core first) s → TakeFault s (Ends n) e) }
     ensures memory { IfErr result (λ e. e ≡ EngineFault.NotAccepted) }
-    ensures links { links_of connections.new.items ≡ links_of connections.old.items }
+    ensures activities { activities_of connections.new.items ≡ activities_of connections.old.items }
     ensures err { OnErr result (connections.new ≡ connections.old) }
 {
     let Some(i) = connection_place(connections, n) else {
@@ -181,7 +183,7 @@ pub(crate) fn lose_client(connections: &mut Connections, n: u64) -> Result<(), E
         → Takes s (Leaves n) (state connections.new.items links core first)) }
     ensures fault { IfErr result (λ e. (s : Story) → (links : List (Option Link)) → (core : CoreState) → (first : ℕ) → Stands (state connections.old.items links core first) s → TakeFault s (Leaves n) e) }
     ensures memory { IfErr result (λ e. e ≡ EngineFault.NotAccepted) }
-    ensures links { links_of connections.new.items ≡ links_of connections.old.items }
+    ensures activities { activities_of connections.new.items ≡ activities_of connections.old.items }
     ensures err { OnErr result (connections.new ≡ connections.old) }
 {
     let Some(i) = connection_place(connections, n) else {

@@ -2,11 +2,11 @@ use Rattle.std.proofs.Common.{List, Option, None, Bool, true, sym, ap, subst, �
 use Rattle.proxy_engine.specs.Acts.{closing}
 use Rattle.proxy_engine.specs.Story.{with_connection}
 use Rattle.proxy_engine.specs.State.{Stands, state}
-use Rattle.proxy_engine.specs.Wiring.{link_of, links_of}
+use Rattle.proxy_engine.specs.Wiring.{activity_of, activities_of}
 use Rattle.proxy_engine.specs.declared.ends.Connection.{Connection}
 use Rattle.proxy_engine.proofs.Keeping.{inside}
 use Rattle.proxy_engine.proofs.Searching.{map_kept}
-use Rattle.proxy_engine.proofs.Changes.{changed_connection, closed_over, free_there, free_link}
+use Rattle.proxy_engine.proofs.Changes.{changed_connection, closed_over, free_there, free_activity}
 use Rattle.proxy_engine.proofs.marks.close_at.Goals as goal
 
 pub returns-then-close-clause-stands : goal.returns-then-close-clause-stands
@@ -15,7 +15,7 @@ returns-then-close-clause-stands c = λ s links core first h.
     let i = c.args.i in
     subst (λ (ds : List (Option Connection)). Stands (state ds links core first) (with_connection s i (closing c.args.close))) (sym c.let_go.ensures)
     (subst (λ (b : Bool). Stands (state (set cs i None) links core first) (with_connection s i (closing b))) (sym c.if-close.true)
-    (changed_connection (closing true) cs links core first s i None (inside cs i (free_there _ c.requires.free)) (λ k q. closed_over _ k (free_link _ c.requires.free) q) h))
+    (changed_connection (closing true) cs links core first s i None (inside cs i (free_there _ c.requires.free)) (λ k q. closed_over _ k (free_activity _ c.requires.free) q) h))
 
-pub returns-then-close-clause-links : goal.returns-then-close-clause-links
-returns-then-close-clause-links c = ap links_of c.let_go.ensures ∙ map_kept link_of c.args.connections.now.items c.args.i None None (sym (free_link _ c.requires.free))
+pub returns-then-close-clause-activities : goal.returns-then-close-clause-activities
+returns-then-close-clause-activities c = ap activities_of c.let_go.ensures ∙ map_kept activity_of c.args.connections.now.items c.args.i None None (sym (free_activity _ c.requires.free))

@@ -1,7 +1,7 @@
 use Rattle.std.proofs.Common.{Option, Some, None, is_some, sym, ap, subst, ◌∙◌}
 use Rattle.proxy_engine.specs.Acts.{passing}
 use Rattle.proxy_engine.specs.State.{ConnStands, wish_at}
-use Rattle.proxy_engine.specs.Wiring.{link_of}
+use Rattle.proxy_engine.specs.Wiring.{activity_of}
 use Rattle.proxy_engine.specs.declared.ends.Connection.{Connection}
 use Rattle.proxy_engine.proofs.Keeping.{inside}
 use Rattle.proxy_engine.proofs.Searching.{map_kept}
@@ -14,5 +14,5 @@ returns-clause-stands c = λ s a links core first due h.
     changed_connection (passing a) c.args.connections.now.items links core first s c.args.i (Some c.pass.new.connection) (inside c.args.connections.now.items c.args.i (ap is_some (sym c.in-Some.ensures.value)))
     (λ k q. c.pass.ensures.stands k a look (subst (λ (o : Option Connection). ConnStands o k) (sym c.in-Some.ensures.value) q)) h
 
-pub returns-clause-links : goal.returns-clause-links
-returns-clause-links c = map_kept link_of c.args.connections.now.items c.args.i None (Some c.pass.new.connection) (c.pass.ensures.link ∙ ap link_of c.in-Some.ensures.value)
+pub returns-clause-activities : goal.returns-clause-activities
+returns-clause-activities c = map_kept activity_of c.args.connections.now.items c.args.i None (Some c.pass.new.connection) (c.pass.ensures.activity ∙ ap activity_of c.in-Some.ensures.value)

@@ -1,11 +1,12 @@
 use Rattle.std.proofs.Common.{List, Option, None, true, refl, sym, ap, subst, ◌∙◌, arith, sum_by}
 use Rattle.std.proofs.lemmas.List.{map-set}
 use Rattle.proxy_engine.specs.Story.{with_link}
-use Rattle.proxy_engine.specs.Acts.{linked, dropping, freed}
+use Rattle.proxy_engine.specs.Acts.{doing, dropping, freed}
 use Rattle.proxy_engine.specs.State.{Stands, state, connection_load, link_load}
-use Rattle.proxy_engine.specs.Wiring.{link_of, links_of, owner_of, owners_of}
+use Rattle.proxy_engine.specs.Wiring.{activity_of, activities_of, owner_of, owners_of}
 use Rattle.proxy_engine.specs.declared.ends.Connection.{Connection}
 use Rattle.proxy_engine.specs.declared.ends.Link.{Link}
+use Rattle.proxy_engine.specs.declared.activities.Activity.TheVariants.{Free}
 use Rattle.proxy_engine.proofs.Keeping.{inside}
 use Rattle.proxy_engine.proofs.Searching.{sum_changed}
 use Rattle.proxy_engine.proofs.Changes.{changed_connection, changed_link, lost_over, gone_there, counts_one}
@@ -24,10 +25,10 @@ returns-clause-stands c = λ s core first h.
     subst (λ (ls : List (Option Link)). Stands (state cs ls core first) (with_link s j dropping)) (sym c.let_go.ensures.items)
     (changed_link dropping cs ks core first s j None (inside ks j c.requires.link) (λ k q. refl) h) in
     subst (λ (ds : List (Option Connection)). Stands (state ds c.let_go.new.self.items core first) (freed s j i)) (sym c.let_go-2.ensures)
-    (changed_connection (linked None) cs c.let_go.new.self.items core first (with_link s j dropping) i None (inside cs i (gone_there _ true c.requires.connection)) (λ k q. lost_over _ k c.requires.connection q) dropped)
+    (changed_connection (doing Free) cs c.let_go.new.self.items core first (with_link s j dropping) i None (inside cs i (gone_there _ true c.requires.connection)) (λ k q. lost_over _ k c.requires.connection q) dropped)
 
-pub returns-clause-wires : goal.returns-clause-wires
-returns-clause-wires c = ap links_of c.let_go-2.ensures ∙ map-set link_of c.args.connections.now.items c.args.i None
+pub returns-clause-activities : goal.returns-clause-activities
+returns-clause-activities c = ap activities_of c.let_go-2.ensures ∙ map-set activity_of c.args.connections.now.items c.args.i None
 
 pub returns-clause-owners : goal.returns-clause-owners
 returns-clause-owners c = ap owners_of c.let_go.ensures.items ∙ map-set owner_of c.args.links.now.items c.args.j None

@@ -1,8 +1,9 @@
 use Rattle.std.proofs.Common.{List, Option, Some, ℕ, set, sym, ap, subst, ◌∙◌}
 use Rattle.proxy_engine.specs.Acts.{with_opened}
 use Rattle.proxy_engine.specs.State.{Stands, state}
-use Rattle.proxy_engine.specs.Wiring.{links_of}
+use Rattle.proxy_engine.specs.Wiring.{activities_of}
 use Rattle.proxy_engine.specs.declared.ends.Link.{Link}
+use Rattle.proxy_engine.specs.declared.activities.Activity.TheVariants.{Forwarded}
 use Rattle.proxy_engine.proofs.Changes.{opened_link}
 use Rattle.proxy_engine.proofs.outcomes.open_link.Goals as goal
 
@@ -13,5 +14,5 @@ returns-clause-stands c = λ s core first most small h.
     subst (λ (ls : List (Option Link)). Stands (state cs ls core first) (with_opened s c.args.i c.args.to_head)) (sym c.put.ensures)
     (opened_link cs ks core first c.args.max_body c.len.result c.args.to_head s c.args.i c.new.result c.len.ensures most c.new.ensures.stands small (c.link_at.ensures.stands s ks core first h))
 
-pub returns-clause-links : goal.returns-clause-links
-returns-clause-links c = c.link_at.ensures.links ∙ ap (λ (n : ℕ). set (links_of c.args.connections.now.items) c.args.i (Some n)) c.len.ensures
+pub returns-clause-activities : goal.returns-clause-activities
+returns-clause-activities c = c.link_at.ensures.activities ∙ ap (λ (n : ℕ). set (activities_of c.args.connections.now.items) c.args.i (Forwarded n)) c.len.ensures

@@ -1,5 +1,5 @@
 use Rattle.std.proofs.Common.{◌≡◌, true, false, ℕ, length, get_or, Option, Some, None, sym, ap, subst, ◌∙◌}
-use Rattle.proxy_engine.specs.Wiring.{link_of}
+use Rattle.proxy_engine.specs.Wiring.{activity_of}
 use Rattle.proxy_engine.specs.Room.{IsRoomy}
 use Rattle.proxy_engine.specs.Story.{sent}
 use Rattle.proxy_engine.specs.State.{ConnStands}
@@ -27,8 +27,8 @@ returns-in-Ok-clause-ok c = λ s links core first h. record {
 pub returns-in-Err-clause-fault : goal.returns-in-Err-clause-fault
 returns-in-Err-clause-fault c = λ s links core first h. connection_full c.args.connections.now.items links core first s c.args.n c.in-Some.ensures.0 h
 
-pub returns-in-Ok-clause-links : goal.returns-in-Ok-clause-links
-returns-in-Ok-clause-links c = map_kept link_of c.args.connections.now.items c.in-Some.i None (Some c.send.new.connection) (c.send.ensures.link ∙ ap link_of c.in-Some-at_mut.ensures.value)
+pub returns-in-Ok-clause-activities : goal.returns-in-Ok-clause-activities
+returns-in-Ok-clause-activities c = map_kept activity_of c.args.connections.now.items c.in-Some.i None (Some c.send.new.connection) (c.send.ensures.activity ∙ ap activity_of c.in-Some-at_mut.ensures.value)
 
 pub returns-in-Err-clause-kept : goal.returns-in-Err-clause-kept
 returns-in-Err-clause-kept c = λ e s links core first h. connection_keeps c.args.connections.now.items links core first s c.args.n c.in-Some.i c.in-Some-at_mut.connection.now c.in-Some.ensures.1 c.in-Some.ensures.2 c.in-Some-at_mut.ensures.value c.in-Err.ensures.kept h

@@ -1,5 +1,5 @@
 use Rattle.std.proofs.Common.{true, Option, Some, None, sym, ap, subst, ◌∙◌}
-use Rattle.proxy_engine.specs.Wiring.{link_of}
+use Rattle.proxy_engine.specs.Wiring.{activity_of}
 use Rattle.proxy_engine.specs.Story.{ended}
 use Rattle.proxy_engine.specs.State.{ConnStands}
 use Rattle.proxy_engine.specs.declared.ends.Connection.{Connection}
@@ -23,5 +23,5 @@ returns-in-Some-at_mut-clause-ok c = λ s links core first h. record {
       (λ k q. c.end.ensures.stands k (subst (λ (o : Option Connection). ConnStands o k) (sym c.in-Some-at_mut.ensures.value) q)) h;
 }
 
-pub returns-in-Some-at_mut-clause-links : goal.returns-in-Some-at_mut-clause-links
-returns-in-Some-at_mut-clause-links c = map_kept link_of c.args.connections.now.items c.in-Some.i None (Some c.end.new.connection) (c.end.ensures.link ∙ ap link_of c.in-Some-at_mut.ensures.value)
+pub returns-in-Some-at_mut-clause-activities : goal.returns-in-Some-at_mut-clause-activities
+returns-in-Some-at_mut-clause-activities c = map_kept activity_of c.args.connections.now.items c.in-Some.i None (Some c.end.new.connection) (c.end.ensures.activity ∙ ap activity_of c.in-Some-at_mut.ensures.value)

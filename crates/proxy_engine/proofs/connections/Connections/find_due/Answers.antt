@@ -1,7 +1,9 @@
 use Rattle.std.proofs.Common.{ℕ, sym, ap, ◌∙◌, subst, arith, sum_by, Bool, Option, is_some, ◌&&◌}
-use Rattle.proxy_engine.specs.Wiring.{link_of, links_of}
+use Rattle.proxy_engine.specs.Activities.{has_exchange}
+use Rattle.proxy_engine.specs.Wiring.{activity_of, activities_of}
 use Rattle.proxy_engine.specs.State.{Both, ConnStands, connection_load}
 use Rattle.proxy_engine.specs.Marked.{ConnectionList, LooksLikeConnection, may_be_lost}
+use Rattle.proxy_engine.specs.declared.activities.Activity.{Activity}
 use Rattle.proxy_engine.proofs.Searching.{both_listed, map_listed, sum_listed}
 use Rattle.proxy_engine.proofs.Marking.{marked_alike}
 use Rattle.proxy_engine.proofs.Finding.{due_found}
@@ -11,7 +13,7 @@ use Rattle.proxy_engine.proofs.connections.Connections.find_due.Goals as goal
 pub invariant_of-self : goal.invariant_of-self
 invariant_of-self c = (
   marked_alike may_be_lost LooksLikeConnection c.self.inside.ends c.first_due.new.ends c.self.inside.lost
-      (λ x y r f. sym (ap (λ (b : Bool). b && is_some y.link) r.gone ∙ ap (λ (o : Option ℕ). x.gone && is_some o) r.link) ∙ f) c.self.invariant.0 c.first_due.ensures.alike c.first_due.ensures.size,
+      (λ x y r f. sym (ap (λ (b : Bool). b && has_exchange y.activity) r.gone ∙ ap (λ (a : Activity). x.gone && has_exchange a) r.activity) ∙ f) c.self.invariant.0 c.first_due.ensures.alike c.first_due.ensures.size,
   c.self.invariant.1,
   c.first_due.ensures.marked,
   (λ q there. c.self.invariant.3 q (c.first_due.ensures.fewer q there)),
@@ -25,9 +27,9 @@ returns-clause-stands c = λ ss both.
 pub returns-clause-found : goal.returns-clause-found
 returns-clause-found c = on_ok c.first_due.result _ _ (λ r h. due_found c.first_due.new.ends c.self.inside.count c.self.inside.waiting.places r c.self.invariant.3 h) c.first_due.ensures.found
 
-pub returns-clause-links : goal.returns-clause-links
-returns-clause-links c =
-    map_listed LooksLikeConnection link_of (λ x y r. r.link) c.self.inside.ends c.first_due.new.ends c.self.inside.count c.first_due.ensures.alike ∙ ap (λ (v : ConnectionList). links_of v.items) c.self.view_is
+pub returns-clause-activities : goal.returns-clause-activities
+returns-clause-activities c =
+    map_listed LooksLikeConnection activity_of (λ x y r. r.activity) c.self.inside.ends c.first_due.new.ends c.self.inside.count c.first_due.ensures.alike ∙ ap (λ (v : ConnectionList). activities_of v.items) c.self.view_is
 
 pub returns-clause-load : goal.returns-clause-load
 returns-clause-load c =

@@ -1,5 +1,5 @@
 use Rattle.std.proofs.Common.{◌≢◌, ◌+◌, ◌^◌, ◌&&◌, nat_lt, length, sym, ap, ◌∙◌, subst, arith, Option, None, is_some}
-use Rattle.proxy_engine.specs.Wiring.{link_of, links_of}
+use Rattle.proxy_engine.specs.Wiring.{activity_of, activities_of}
 use Rattle.proxy_engine.specs.State.{Both, ConnStands}
 use Rattle.proxy_engine.specs.Room.{IsRoomy, piece}
 use Rattle.proxy_engine.specs.Held.{GrowsConnection}
@@ -38,9 +38,9 @@ returns-clause-stands c = λ ss both.
     both_listed GrowsConnection ConnStands (λ x y r s h. r.alike.stands s h) c.self.inside.ends c.reserve_client_at.new.ends c.self.inside.count c.reserve_client_at.ensures.grows ss
     (subst (λ (v : ConnectionList). Both ConnStands v.items ss) (sym c.self.view_is) both)
 
-pub returns-clause-links : goal.returns-clause-links
-returns-clause-links c =
-    map_listed GrowsConnection link_of (λ x y r. r.alike.link) c.self.inside.ends c.reserve_client_at.new.ends c.self.inside.count c.reserve_client_at.ensures.grows ∙ ap (λ (v : ConnectionList). links_of v.items) c.self.view_is
+pub returns-clause-activities : goal.returns-clause-activities
+returns-clause-activities c =
+    map_listed GrowsConnection activity_of (λ x y r. r.alike.activity) c.self.inside.ends c.reserve_client_at.new.ends c.self.inside.count c.reserve_client_at.ensures.grows ∙ ap (λ (v : ConnectionList). activities_of v.items) c.self.view_is
 
 pub returns-clause-err : goal.returns-clause-err
 returns-clause-err c =

@@ -25,5 +25,5 @@ returns-clause-ok g c = rw (← c.self.view_is) (
     )
 
 pub invariant_of-self : goal.invariant_of-self
-invariant_of-self g c = wired_ended c.self.inside.ends.connections.items c.free_lost.new.connections.items c.self.inside.ends.links.items c.free_lost.new.links.items c.self.inside.core.exchanges c.abandon.new.self.exchanges c.args.i c.args.l (rw (← c.self.view_is) at c.requires.linked) c.free_lost.ensures.wires c.free_lost.ensures.owners
+invariant_of-self g c = wired_ended c.self.inside.ends.connections.items c.free_lost.new.connections.items c.self.inside.ends.links.items c.free_lost.new.links.items c.self.inside.core.exchanges c.abandon.new.self.exchanges c.args.i c.args.l (rw (← c.self.view_is) at c.requires.linked) c.free_lost.ensures.activities c.free_lost.ensures.owners
     None (ap (λ (k : CoreState). k.exchanges) c.in-Ok.ensures.ok.leaves) c.self.invariant

@@ -7,11 +7,11 @@ use Rattle.proxy_core.specs.declared.exchange.Exchange.{Exchange}
 use Rattle.proxy_engine.specs.Acts.{effects_on, came_at, came, after_on}
 use Rattle.proxy_engine.specs.State.{Stands, Done, state, wish_load, link_load}
 use Rattle.proxy_engine.specs.Due.{Serves}
-use Rattle.proxy_engine.specs.Wiring.{Wired, links_of, owners_of}
+use Rattle.proxy_engine.specs.Wiring.{Wired, activities_of, owners_of}
 use Rattle.proxy_engine.specs.declared.ends.Link.{Link}
 use Rattle.proxy_engine.proofs.Keeping.{inside}
 use Rattle.proxy_engine.proofs.Changes.{free_there, wish_free}
-use Rattle.proxy_engine.proofs.Wires.{no_link, wired_arrived, arrival_refused}
+use Rattle.proxy_engine.proofs.Wires.{not_open, wired_arrived, arrival_refused}
 use Rattle.proxy_engine.proofs.Stepping.{arrived_done}
 use Rattle.proxy_engine.proofs.engine.Engine.admit.Goals as goal
 
@@ -48,7 +48,7 @@ returns-clause-ok g c = rw (← c.self.view_is) (
 
 pub lacks_memory-requires : goal.lacks_memory-requires
 lacks_memory-requires g c = let exchanges = c.self.inside.core.exchanges in
-    let free = no_link c.self.inside.ends.connections.items c.self.inside.ends.links.items exchanges c.args.i (wish_free _ (rw (← c.self.view_is) at c.requires.due)) c.self.invariant in
+    let free = not_open c.self.inside.ends.connections.items c.self.inside.ends.links.items exchanges c.args.i (wish_free _ (rw (← c.self.view_is) at c.requires.due)) c.self.invariant in
     arrival_refused exchanges c.args.now (c.args.i + 1) c.args.asked.now c.in-Err.fault free.1 c.requires.early c.in-Err.ensures.err
 
 pub invariant_of-self-2 : goal.invariant_of-self-2
@@ -56,8 +56,8 @@ invariant_of-self-2 g c = let cs = c.self.inside.ends.connections.items in
     let i = c.args.i in
     let core = c.self.inside.core in
     let idle = wish_free _ (rw (← c.self.view_is) at c.requires.due) in
-    let free = no_link cs c.self.inside.ends.links.items core.exchanges i idle c.self.invariant in
-    subst (λ (xs : List Exchange). Wired (links_of c.carry_out.new.self.connections.items) (owners_of c.carry_out.new.self.links.items) xs) (sym (ap (λ (k : CoreState). k.exchanges) c.in-Ok.ensures.ok.leaves))
+    let free = not_open cs c.self.inside.ends.links.items core.exchanges i idle c.self.invariant in
+    subst (λ (xs : List Exchange). Wired (activities_of c.carry_out.new.self.connections.items) (owners_of c.carry_out.new.self.links.items) xs) (sym (ap (λ (k : CoreState). k.exchanges) c.in-Ok.ensures.ok.leaves))
     (wired_arrived core.table cs c.pass_at.new.connections.items c.carry_out.new.self.connections.items c.reserve_one.new.self.items c.carry_out.new.self.links.items core.entries core.exchanges c.args.now i c.args.asked.now c.in-Ok.outcome
-    (inside cs i (free_there _ idle)) c.pass_at.ensures.links free.0 c.carry_out.ensures.links c.carry_out.ensures.owners
-    (subst (λ (ls : List (Option Link)). Wired (links_of cs) (owners_of ls) core.exchanges) (sym c.reserve_one.ensures.items) c.self.invariant))
+    (inside cs i (free_there _ idle)) c.pass_at.ensures.activities free.0 c.carry_out.ensures.activities c.carry_out.ensures.owners
+    (subst (λ (ls : List (Option Link)). Wired (activities_of cs) (owners_of ls) core.exchanges) (sym c.reserve_one.ensures.items) c.self.invariant))

@@ -89,8 +89,8 @@ invariant_of-self-2 g c = let cs = c.self.inside.ends.connections.items in
     let link = owned_link cs ks core.exchanges c.args.j x there c.self.invariant in
     let is_there = is_open cs ks core.exchanges x.connection c.args.j link c.self.invariant in
     let owners : owners_of c.free.new.links.items ≡ set (owners_of ks) c.args.j None = c.free.ensures.owners ∙ ap (λ (ls : List (Option Link)). set (owners_of ls) c.args.j None) same in
-    wired_finished cs c.free.new.connections.items c.carry_out.new.self.connections.items ks c.free.new.links.items c.carry_out.new.self.links.items core.exchanges c.end.new.core.exchanges x.connection c.args.j c.in_ok-outcome.outcome link c.free.ensures.wires owners
-    c.carry_out.ensures.links c.carry_out.ensures.owners is_there (remains core c.end.new.core c.args.now (x.connection + 1) c.in_ok-outcome.ensures.ok.0 c.in_ok-outcome.outcome is_there c.in_ok-outcome.ensures.ok.2) c.self.invariant
+    wired_finished cs c.free.new.connections.items c.carry_out.new.self.connections.items ks c.free.new.links.items c.carry_out.new.self.links.items core.exchanges c.end.new.core.exchanges x.connection c.args.j c.in_ok-outcome.outcome link c.free.ensures.activities owners
+    c.carry_out.ensures.activities c.carry_out.ensures.owners is_there (remains core c.end.new.core c.args.now (x.connection + 1) c.in_ok-outcome.ensures.ok.0 c.in_ok-outcome.outcome is_there c.in_ok-outcome.ensures.ok.2) c.self.invariant
 
 pub returns-clause-less : goal.returns-clause-less
 returns-clause-less g c = rw (← c.self.view_is) (

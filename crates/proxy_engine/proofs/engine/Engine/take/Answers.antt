@@ -54,7 +54,7 @@ pub returns-in-Link-clause-kept : goal.returns-in-Link-clause-kept
 returns-in-Link-clause-kept g c = λ e s h. subst (λ (x : Happening). keeps s (said x) ≡ true) (sym c.in-Link.is) (c.answer.ensures.kept e s c.self.inside.ends.connections.items c.self.inside.core (subst (λ (e : State). Stands e s) (sym c.self.view_is) h))
 
 pub invariant_of-self : goal.invariant_of-self
-invariant_of-self g c = wired_accepted c.accept.result c.self.inside.ends.connections.items c.accept.new.connections.items (owners_of c.self.inside.ends.links.items) c.self.inside.core.exchanges c.accept.ensures.links (stays_err c.accept.result _ _ (λ same. ap (λ (v : ConnectionList). v.items) same) c.accept.ensures.err) c.self.invariant
+invariant_of-self g c = wired_accepted c.accept.result c.self.inside.ends.connections.items c.accept.new.connections.items (owners_of c.self.inside.ends.links.items) c.self.inside.core.exchanges c.accept.ensures.activities (stays_err c.accept.result _ _ (λ same. ap (λ (v : ConnectionList). v.items) same) c.accept.ensures.err) c.self.invariant
 
 pub returns-in-Client-clause-fault : goal.returns-in-Client-clause-fault
 returns-in-Client-clause-fault g c = on_err c.client.result _ _

@@ -1,0 +1,16 @@
+-- What a connection does with the last request that it took.
+--
+-- link_of: the link on which it went forward     has_exchange: its exchange is open
+use Rattle.std.specs.Prelude.{ℕ, Bool, true, false, Option, None, Some}
+use Rattle.proxy_engine.specs.declared.activities.Activity.{Activity}
+use Rattle.proxy_engine.specs.declared.activities.Activity.TheVariants.{Free, Forwarded}
+
+-- the place of the link on which the request went forward
+abbrev pub link_of : Activity → Option ℕ
+link_of Free = None
+link_of (Forwarded place) = Some place
+
+-- an exchange is open
+abbrev pub has_exchange : Activity → Bool
+has_exchange Free = false
+has_exchange (Forwarded place) = true

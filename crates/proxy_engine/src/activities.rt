@@ -1,0 +1,34 @@
+//! What a connection does with the last request that it took: nothing any more, or its exchange is open.
+ghost use Rattle.std.specs.Prelude.{◌≡◌};
+ghost use Rattle.proxy_engine.specs.Activities.{link_of, has_exchange};
+
+/// An exchange of a connection is open, or none is.
+#[derive(Clone, Copy)]
+pub(crate) enum Activity {
+    /// No exchange is open: the next request may come.
+    Free,
+    /// The request went forward on the link at this place.
+    Forwarded(u64),
+}
+
+impl Activity {
+    /// The place of the link on which the request went forward.
+    pub(crate) fn link(self) -> Option<u64>
+        ensures { result ≡ link_of self }
+    {
+        match self {
+            Activity::Free => None,
+            Activity::Forwarded(place) => Some(place),
+        }
+    }
+
+    /// Whether an exchange is open.
+    pub(crate) fn has_exchange(self) -> bool
+        ensures { result ≡ has_exchange self }
+    {
+        match self {
+            Activity::Free => false,
+            Activity::Forwarded(_) => true,
+        }
+    }
+}
