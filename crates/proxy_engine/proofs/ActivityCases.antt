@@ -1,5 +1,5 @@
 -- What a connection does: by its open exchange, and by its link.
-use Rattle.std.proofs.Common.{◌≡◌, ℕ, refl, Bool, true, false, not, Option, None, Some}
+use Rattle.std.proofs.Common.{◌≡◌, ℕ, refl, Bool, true, false, not, None, Some}
 use Rattle.proxy_engine.specs.Activities.{link_of, has_exchange}
 use Rattle.proxy_engine.specs.declared.activities.Activity.{Activity}
 use Rattle.proxy_engine.specs.declared.activities.Activity.TheVariants.{Free, Forwarded}

@@ -1,5 +1,5 @@
 -- What is closed, gone or dropped stays so.
-use Rattle.std.proofs.Common.{◌≡◌, ℕ, zero, suc, ◌-◌, ◌<◌, List, [], ◌∷◌, ◌++◌, length, get_or, set, refl, sym, ◌∙◌, subst, arith, Bool, true, false, ◌||◌, cond, None, Some, is_some, Result, Ok, Err}
+use Rattle.std.proofs.Common.{◌≡◌, ℕ, zero, suc, ◌-◌, ◌<◌, List, [], ◌∷◌, ◌++◌, length, get_or, set, refl, sym, ◌∙◌, subst, arith, Bool, true, false, ◌||◌, cond, Some, is_some, Result, Ok, Err}
 use Rattle.std.proofs.lemmas.List.{length_push}
 use Rattle.std.proofs.Math.ListN.{length-set}
 use Rattle.hx_framing.specs.declared.requests.Request.{Request}

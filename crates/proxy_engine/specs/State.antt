@@ -4,7 +4,7 @@
 -- finish_at, wish_at: what a look has found  FoundLinks, FoundConnections: the first place at which it found something
 -- load_of: a bound on the acts still to come
 -- Did, Failed, Lessens: what a call of work did, or why it did nothing
-use Rattle.std.specs.Prelude.{◌≡◌, ℕ, ◌+◌, ◌*◌, ◌<◌, ◌≤◌, ◌^◌, List, [], ◌∷◌, length, sum_by, ◌&&◌, ◌||◌, not, Bool, true, false, Option, None, Some, is_some, slice_index_or, if◌then◌else◌}
+use Rattle.std.specs.Prelude.{◌≡◌, ℕ, ◌+◌, ◌*◌, ◌<◌, ◌≤◌, ◌^◌, List, [], ◌∷◌, length, sum_by, ◌&&◌, ◌||◌, not, Bool, true, false, Option, None, Some, slice_index_or, if◌then◌else◌}
 use Rattle.std.specs.Option.{option_map}
 use Rattle.hx_framing.specs.declared.requests.Request.{Request}
 use Rattle.hx_framing.specs.declared.responses.Response.{Response}

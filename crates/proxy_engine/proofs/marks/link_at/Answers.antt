@@ -1,4 +1,4 @@
-use Rattle.std.proofs.Common.{Option, Some, is_some, set, sym, ap, subst, ◌∙◌, ℕ}
+use Rattle.std.proofs.Common.{Option, Some, is_some, set, sym, ap, subst, ◌∙◌}
 use Rattle.std.proofs.lemmas.List.{map-set}
 use Rattle.proxy_engine.specs.Acts.{doing}
 use Rattle.proxy_engine.specs.State.{ConnStands}

@@ -1,4 +1,4 @@
-use Rattle.std.proofs.Common.{List, Option, Some, ℕ, set, sym, ap, subst, ◌∙◌}
+use Rattle.std.proofs.Common.{List, Option, ℕ, set, sym, ap, subst, ◌∙◌}
 use Rattle.proxy_engine.specs.Acts.{with_opened}
 use Rattle.proxy_engine.specs.State.{Stands, state}
 use Rattle.proxy_engine.specs.Wiring.{activities_of}

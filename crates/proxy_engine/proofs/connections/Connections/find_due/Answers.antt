@@ -1,4 +1,4 @@
-use Rattle.std.proofs.Common.{ℕ, sym, ap, ◌∙◌, subst, arith, sum_by, Bool, Option, is_some, ◌&&◌}
+use Rattle.std.proofs.Common.{sym, ap, ◌∙◌, subst, arith, sum_by, Bool, ◌&&◌}
 use Rattle.proxy_engine.specs.Activities.{has_exchange}
 use Rattle.proxy_engine.specs.Wiring.{activity_of, activities_of}
 use Rattle.proxy_engine.specs.State.{Both, ConnStands, connection_load}
