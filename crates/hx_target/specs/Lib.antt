@@ -3,3 +3,4 @@ pub mod Paths
 pub mod Judgement
 pub mod Keys
 pub mod Examples
+pub mod KeyOrder
