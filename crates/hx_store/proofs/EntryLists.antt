@@ -11,10 +11,10 @@ use Rattle.hx_store.specs.Stored.{Stored}
 use Rattle.hx_store.specs.Shelf.{serials, holds, find_entry, without}
 use Rattle.hx_store.specs.Places.{IsAbsent, IsPlace}
 
-eqb_comm : (a b : ℕ) → eqb a b ≡ eqb b a
+pub eqb_comm : (a b : ℕ) → eqb a b ≡ eqb b a
 eqb_comm a b = grind (arith, nat_tests)
 
-not_only : (a s : ℕ) → eqb a s ≡ false → is_in a (s ∷ []) ≡ false
+pub not_only : (a s : ℕ) → eqb a s ≡ false → is_in a (s ∷ []) ≡ false
 not_only a s h = grind (arith, nat_tests)
 
 pub without_none : (s : ℕ) (es : List Stored) → holds s es ≡ false → without (s ∷ []) es ≡ es

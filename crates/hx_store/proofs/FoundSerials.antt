@@ -15,7 +15,7 @@ swap_or true false c = refl
 swap_or false true c = refl
 swap_or false false c = refl
 
-is_in-insert : (s x : ℕ) (xs : List ℕ) → is_in s (insert_ascending x xs) ≡ (eqb x s || is_in s xs)
+pub is_in-insert : (s x : ℕ) (xs : List ℕ) → is_in s (insert_ascending x xs) ≡ (eqb x s || is_in s xs)
 is_in-insert s x [] = refl
 is_in-insert s x (y ∷ ys) =
     elim (leb x y) as (λ b. is_in s (cond b (x ∷ y ∷ ys) (y ∷ insert_ascending x ys)) ≡ (eqb x s || (eqb y s || is_in s ys))) [
@@ -34,7 +34,7 @@ finds_those key s (e ∷ es) =
       | false ↦ more
     ]
 
-below_less : (a b : ℕ) (xs : List ℕ) → a ≤ b → NoneBelow b xs → NoneBelow a xs
+pub below_less : (a b : ℕ) (xs : List ℕ) → a ≤ b → NoneBelow b xs → NoneBelow a xs
 below_less a b [] le h = tt
 below_less a b (x ∷ xs) le h = (omega (arith, h.0), below_less a b xs le h.1)
 

@@ -2,3 +2,6 @@ pub mod EntryLists
 pub mod FoundSerials
 pub mod Recency
 pub mod RecencyOrder
+mod KeyedEntries
+mod Indices
+mod IndexedLists

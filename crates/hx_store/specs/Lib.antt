@@ -1,6 +1,8 @@
 pub mod Stored
 pub mod Serials
 pub mod Shelf
+pub mod Keyed
+pub mod Index
 pub mod Found
 pub mod Recency
 pub mod Places

@@ -6,12 +6,17 @@
 #![tactic(auto)]
 
 mod entries;
+mod entry_cache;
+mod indexed_entries;
+mod indexed_shelf;
+mod key_index;
 mod laws;
 mod list_shelf;
 mod serial_list;
 mod shelves;
 
 pub use entries::Entry;
+pub use indexed_shelf::IndexedShelf;
 pub use laws::{found_serials_are_those_of_the_key, shelf_calls, the_bounded_list_is_what_is_held};
 pub use list_shelf::ListShelf;
 pub use serial_list::Serials;

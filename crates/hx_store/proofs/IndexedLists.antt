@@ -1,0 +1,419 @@
+-- The serials of a key, as entries come and go.
+use Rattle.std.proofs.Common.{◌≡◌, ℕ, suc, ◌-◌, ◌<◌, ◌≤◌, true, false, not, cond, ◌||◌, ◌&&◌, eqb, leb, Option, None, Some, List, [], ◌∷◌, length, take, slice_get, is_some, refl, sym, ◌∙◌, ap, subst, arith, inl, inr}
+use Rattle.std.proofs.lemmas.Bool.{cases_Bool, false≢true, eqb-true, eq-eqb, or_parts, or_left}
+use Rattle.std.proofs.lemmas.Bool.Decides.{nat_tests, leb_tells}
+use Rattle.std.proofs.lemmas.Option.{same_Some}
+use Rattle.hx_target.specs.declared.keys.Key.{Key}
+use Rattle.hx_target.specs.Keys.{same_key}
+use Rattle.hx_target.specs.KeyOrder.{same_key_equiv}
+use Rattle.hx_store.specs.declared.key_index.KeyIndex.{KeyIndex}
+use Rattle.hx_store.specs.Serials.{is_in, Distinct, insert_ascending}
+use Rattle.hx_store.specs.Stored.{Stored}
+use Rattle.hx_store.specs.Shelf.{serials, holds, find_entry, without, serials_of, promoted, in_front, without_key}
+use Rattle.hx_store.specs.Found.{NoneBelow, IsAscending}
+use Rattle.hx_store.specs.Index.{indexed, but, IsIndexOf, IsPutIn, IsTakenOut, without_others}
+use Rattle.hx_store.proofs.EntryLists.{eqb_comm, not_only, without_none, find-serial, find_holds, Distinct-filter, length-filter_le, length-without}
+use Rattle.hx_store.proofs.FoundSerials.{is_in-insert, finds_ascending, below_less}
+use Rattle.hx_store.proofs.KeyedEntries.{is_some-find, distinct-front}
+use Rattle.hx_store.proofs.Indices.{one_key}
+
+-- ---- lists of serials
+
+-- what was put in goes again
+but-insert : (s : ℕ) (xs : List ℕ) → but s (insert_ascending s xs) ≡ xs
+but-insert s [] = ap (λ b. cond b [] (s ∷ [])) (eq-eqb s s refl)
+but-insert s (x ∷ xs) = elim (cases_Bool (leb s x)) [
+  | inl t ↦ ap (λ b. but s (cond b (s ∷ x ∷ xs) (x ∷ insert_ascending s xs))) t ∙ ap (λ b. cond b (x ∷ xs) (s ∷ but s (x ∷ xs))) (eq-eqb s s refl)
+  | inr f ↦ (
+      let n : eqb x s ≡ false = grind (arith, nat_tests, f) in
+      ap (λ b. but s (cond b (s ∷ x ∷ xs) (x ∷ insert_ascending s xs))) f
+      ∙ ap (λ b. cond b (insert_ascending s xs) (x ∷ but s (insert_ascending s xs))) n
+      ∙ ap (λ ys. x ∷ ys) (but-insert s xs)
+      )
+]
+
+but-none : (s : ℕ) (xs : List ℕ) → is_in s xs ≡ false → but s xs ≡ xs
+but-none s [] h = refl
+but-none s (x ∷ xs) h =
+    let p = or_parts (eqb x s) (is_in s xs) h in
+    ap (λ b. cond b xs (x ∷ but s xs)) p.0 ∙ ap (λ ys. x ∷ ys) (but-none s xs p.1)
+
+insert-below : (a : ℕ) (xs : List ℕ) → NoneBelow a xs → insert_ascending a xs ≡ a ∷ xs
+insert-below a [] h = refl
+insert-below a (x ∷ xs) h =
+    let t : leb a x ≡ true = grind (arith, nat_tests, h.0) in
+    ap (λ b. cond b (a ∷ x ∷ xs) (x ∷ insert_ascending a xs)) t
+
+-- another one goes, whether before or after
+but-other : (s a : ℕ) (xs : List ℕ) → eqb a s ≡ false → IsAscending xs → but s (insert_ascending a xs) ≡ insert_ascending a (but s xs)
+but-other s a [] n h = ap (λ b. cond b [] (a ∷ [])) n
+but-other s a (x ∷ xs) n h = elim (leb_tells a x) [
+  | inl p ↦ (
+      let front : but s (insert_ascending a (x ∷ xs)) ≡ a ∷ but s (x ∷ xs) =
+      ap (λ b. but s (cond b (a ∷ x ∷ xs) (x ∷ insert_ascending a xs))) p.0 ∙ ap (λ b. cond b (x ∷ xs) (a ∷ but s (x ∷ xs))) n in
+      front ∙ sym (elim (cases_Bool (eqb x s)) [
+        | inl t ↦ ap (λ b. insert_ascending a (cond b xs (x ∷ but s xs))) t ∙ insert-below a xs (below_less a x xs p.1 h.0)
+            ∙ sym (ap (λ b. a ∷ cond b xs (x ∷ but s xs)) t)
+        | inr f ↦ ap (λ b. insert_ascending a (cond b xs (x ∷ but s xs))) f
+            ∙ ap (λ b. cond b (a ∷ x ∷ but s xs) (x ∷ insert_ascending a (but s xs))) p.0
+            ∙ sym (ap (λ b. a ∷ cond b xs (x ∷ but s xs)) f)
+      ])
+      )
+  | inr p ↦ (
+      ap (λ b. but s (cond b (a ∷ x ∷ xs) (x ∷ insert_ascending a xs))) p.0
+      ∙ (elim (cases_Bool (eqb x s)) [
+        | inl t ↦ ap (λ b. cond b (insert_ascending a xs) (x ∷ but s (insert_ascending a xs))) t
+            ∙ sym (ap (λ b. insert_ascending a (cond b xs (x ∷ but s xs))) t)
+        | inr f ↦ ap (λ b. cond b (insert_ascending a xs) (x ∷ but s (insert_ascending a xs))) f
+            ∙ ap (λ ys. x ∷ ys) (but-other s a xs n h.1)
+            ∙ sym (ap (λ b. cond b (a ∷ x ∷ but s xs) (x ∷ insert_ascending a (but s xs))) p.0)
+            ∙ sym (ap (λ b. insert_ascending a (cond b xs (x ∷ but s xs))) f)
+      ])
+      )
+]
+
+none_below_in : (a s : ℕ) (xs : List ℕ) → NoneBelow a xs → is_in s xs ≡ true → a ≤ s
+none_below_in a s [] h m = absurd (false≢true m)
+none_below_in a s (x ∷ xs) h m = elim (cases_Bool (eqb x s)) [
+  | inl t ↦ subst (λ y. a ≤ y) (eqb-true x s t) h.0
+  | inr f ↦ none_below_in a s xs h.1 (sym (ap (λ b. b || is_in s xs) f) ∙ m)
+]
+
+-- what went comes back where it was
+insert-but : (s : ℕ) (xs : List ℕ) → IsAscending xs → is_in s xs ≡ true → insert_ascending s (but s xs) ≡ xs
+insert-but s [] h m = absurd (false≢true m)
+insert-but s (x ∷ xs) h m = elim (cases_Bool (eqb x s)) [
+  | inl t ↦ (
+      let e : x ≡ s = eqb-true x s t in
+      ap (λ b. insert_ascending s (cond b xs (x ∷ but s xs))) t
+      ∙ insert-below s xs (subst (λ y. NoneBelow y xs) e h.0)
+      ∙ ap (λ y. y ∷ xs) (sym e)
+      )
+  | inr f ↦ (
+      let m' : is_in s xs ≡ true = sym (ap (λ b. b || is_in s xs) f) ∙ m in
+      let l : x ≤ s = none_below_in x s xs h.0 m' in
+      let g : leb s x ≡ false = grind (arith, nat_tests, f, l) in
+      ap (λ b. insert_ascending s (cond b xs (x ∷ but s xs))) f
+      ∙ ap (λ b. cond b (s ∷ x ∷ but s xs) (x ∷ insert_ascending s (but s xs))) g
+      ∙ ap (λ ys. x ∷ ys) (insert-but s xs h.1 m')
+      )
+]
+
+-- ---- the serials of a key
+
+pub not_of_key : (s : ℕ) (q : Key) (es : List Stored) → holds s es ≡ false → is_in s (serials_of q es) ≡ false
+not_of_key s q [] h = refl
+not_of_key s q (e ∷ es) h =
+    let p = or_parts (eqb e.serial s) (holds s es) h in
+    let more = not_of_key s q es p.1 in
+    elim (same_key e.key q) as (λ b. is_in s (cond b (insert_ascending e.serial (serials_of q es)) (serials_of q es)) ≡ false) [
+      | true ↦ is_in-insert s e.serial (serials_of q es) ∙ ap (λ b. b || is_in s (serials_of q es)) p.0 ∙ more
+      | false ↦ more
+    ]
+
+-- an entry that goes takes its serial with it
+pub serials-without : (s : ℕ) (q : Key) (es : List Stored) → Distinct (serials es) → serials_of q (without (s ∷ []) es) ≡ but s (serials_of q es)
+serials-without s q [] d = refl
+serials-without s q (e ∷ es) d = elim (cases_Bool (eqb e.serial s)) [
+  | inl t ↦ (
+      let is : e.serial ≡ s = eqb-true e.serial s t in
+      let none : holds s es ≡ false = subst (λ z. holds z es ≡ false) is d.0 in
+      let gone : is_in e.serial (s ∷ []) ≡ true = or_left _ _ (sym (eqb_comm e.serial s) ∙ t) in
+      ap (λ b. serials_of q (cond (not b) (e ∷ without (s ∷ []) es) (without (s ∷ []) es))) gone
+      ∙ ap (serials_of q) (without_none s es none)
+      ∙ sym (elim (same_key e.key q) as (λ b. but s (cond b (insert_ascending e.serial (serials_of q es)) (serials_of q es)) ≡ serials_of q es) [
+        | true ↦ ap (λ z. but s (insert_ascending z (serials_of q es))) is ∙ but-insert s (serials_of q es)
+        | false ↦ but-none s (serials_of q es) (not_of_key s q es none)
+      ])
+      )
+  | inr f ↦ (
+      ap (λ b. serials_of q (cond (not b) (e ∷ without (s ∷ []) es) (without (s ∷ []) es))) (not_only e.serial s f)
+      ∙ (elim (same_key e.key q) as (λ b. cond b (insert_ascending e.serial (serials_of q (without (s ∷ []) es))) (serials_of q (without (s ∷ []) es))
+      ≡ but s (cond b (insert_ascending e.serial (serials_of q es)) (serials_of q es))) [
+        | true ↦ ap (insert_ascending e.serial) (serials-without s q es d.1)
+            ∙ sym (but-other s e.serial (serials_of q es) f (finds_ascending q es))
+        | false ↦ serials-without s q es d.1
+      ])
+      )
+]
+
+-- the serial of a held entry is among those of its key, and of no other key
+of_its_key : (s : ℕ) (q : Key) (es : List Stored) (e : Stored) → Distinct (serials es) → find_entry s es ≡ Some e → is_in s (serials_of q es) ≡ same_key e.key q
+of_its_key s q [] e d h = absurd (cc)
+of_its_key s q (x ∷ xs) e d h = elim (cases_Bool (eqb x.serial s)) [
+  | inl t ↦ (
+      let k : x ≡ e = same_Some x e (sym (ap (λ b. cond b (Some x) (find_entry s xs)) t) ∙ h) in
+      let none : holds s xs ≡ false = subst (λ z. holds z xs ≡ false) (eqb-true x.serial s t) d.0 in
+      let r = not_of_key s q xs none in
+      (elim (same_key x.key q) as (λ b. is_in s (cond b (insert_ascending x.serial (serials_of q xs)) (serials_of q xs)) ≡ b) [
+        | true ↦ is_in-insert s x.serial (serials_of q xs) ∙ or_left _ _ t
+        | false ↦ r
+      ])
+      ∙ ap (λ y. same_key y.key q) k
+      )
+  | inr f ↦ (
+      let more = of_its_key s q xs e d.1 (sym (ap (λ b. cond b (Some x) (find_entry s xs)) f) ∙ h) in
+      (elim (same_key x.key q) as (λ b. is_in s (cond b (insert_ascending x.serial (serials_of q xs)) (serials_of q xs)) ≡ is_in s (serials_of q xs)) [
+        | true ↦ is_in-insert s x.serial (serials_of q xs) ∙ ap (λ b. b || is_in s (serials_of q xs)) f
+        | false ↦ refl
+      ])
+      ∙ more
+      )
+]
+
+-- an entry with the serial and the key of a held one, in its place, first
+pub serials-front : (s : ℕ) (q : Key) (es : List Stored) (e x : Stored) → Distinct (serials es) → find_entry s es ≡ Some e → x.serial ≡ s →
+    same_key e.key x.key ≡ true → serials_of q (x ∷ without (s ∷ []) es) ≡ serials_of q es
+serials-front s q es e x d h is k =
+    let same : same_key x.key q ≡ same_key e.key q = ap (λ y. same_key y q) (sym (one_key e.key x.key k)) in
+    let its = of_its_key s q es e d h in
+    let w = serials-without s q es d in
+    elim (cases_Bool (same_key e.key q)) [
+      | inl t ↦ (
+          ap (λ b. cond b (insert_ascending x.serial (serials_of q (without (s ∷ []) es))) (serials_of q (without (s ∷ []) es))) (same ∙ t)
+          ∙ ap (λ z. insert_ascending z (serials_of q (without (s ∷ []) es))) is
+          ∙ ap (insert_ascending s) w
+          ∙ insert-but s (serials_of q es) (finds_ascending q es) (its ∙ t)
+          )
+      | inr f ↦ (
+          ap (λ b. cond b (insert_ascending x.serial (serials_of q (without (s ∷ []) es))) (serials_of q (without (s ∷ []) es))) (same ∙ f)
+          ∙ w ∙ but-none s (serials_of q es) (its ∙ f)
+          )
+    ]
+
+-- ---- the index
+
+pub index-without : (s : ℕ) (es : List Stored) (e : Stored) (old new : KeyIndex) → Distinct (serials es) → find_entry s es ≡ Some e →
+    IsIndexOf es old → IsTakenOut old e.key s new → IsIndexOf (without (s ∷ []) es) new
+index-without s es e old new d h i t q =
+    t q
+    ∙ (elim (cases_Bool (same_key e.key q)) [
+      | inl y ↦ ap (λ b. cond b (but s (indexed old q)) (indexed old q)) y ∙ ap (but s) (i q)
+      | inr n ↦ ap (λ b. cond b (but s (indexed old q)) (indexed old q)) n ∙ i q ∙ sym (but-none s (serials_of q es) (of_its_key s q es e d h ∙ n))
+    ])
+    ∙ sym (serials-without s q es d)
+
+pub index-more : (e : Stored) (es : List Stored) (old new : KeyIndex) → IsIndexOf es old → IsPutIn old e.key e.serial new → IsIndexOf (e ∷ es) new
+index-more e es old new i p q = p q ∙ ap (λ xs. cond (same_key e.key q) (insert_ascending e.serial xs) xs) (i q)
+
+-- put in and taken out again
+pub index-again : (key : Key) (s : ℕ) (es : List Stored) (old mid new : KeyIndex) → IsIndexOf es old → IsPutIn old key s mid → IsTakenOut mid key s new →
+    IsIndexOf es new
+index-again key s es old mid new i p t q =
+    t q
+    ∙ (elim (cases_Bool (same_key key q)) [
+      | inl y ↦ ap (λ b. cond b (but s (indexed mid q)) (indexed mid q)) y
+          ∙ ap (but s) (p q ∙ ap (λ b. cond b (insert_ascending s (indexed old q)) (indexed old q)) y)
+          ∙ but-insert s (indexed old q)
+      | inr n ↦ ap (λ b. cond b (but s (indexed mid q)) (indexed mid q)) n
+          ∙ p q ∙ ap (λ b. cond b (insert_ascending s (indexed old q)) (indexed old q)) n
+    ])
+    ∙ i q
+
+pub index-front : (s : ℕ) (es : List Stored) (e x : Stored) (index : KeyIndex) → Distinct (serials es) → find_entry s es ≡ Some e → x.serial ≡ s →
+    same_key e.key x.key ≡ true → IsIndexOf es index → IsIndexOf (x ∷ without (s ∷ []) es) index
+index-front s es e x index d h is k i q = i q ∙ sym (serials-front s q es e x d h is k)
+
+-- the last of them
+pub record IsLast (es : List Stored) (e : Stored) : Type 0 where
+  pub found : find_entry e.serial es ≡ Some e
+  pub rest : without (e.serial ∷ []) es ≡ take (length es - 1) es
+
+pub last-is : (es : List Stored) (e : Stored) → Distinct (serials es) → slice_get es (length es - 1) ≡ Some e → IsLast es e
+last-is [] e d h = absurd (cc)
+last-is (x ∷ []) e d h =
+    let k : x ≡ e = same_Some x e h in
+    let t : eqb x.serial e.serial ≡ true = eq-eqb _ _ (ap (λ y. y.serial) k) in
+    let gone : is_in x.serial (e.serial ∷ []) ≡ true = or_left _ _ (sym (eqb_comm x.serial e.serial) ∙ t) in
+    record {
+      found = ap (λ b. cond b (Some x) None) t ∙ ap Some k;
+      rest = ap (λ b. cond (not b) (x ∷ []) []) gone;
+    }
+last-is (x ∷ (y ∷ ys)) e d h =
+    let one : length (x ∷ (y ∷ ys)) - 1 ≡ suc (length (y ∷ ys) - 1) = omega arith in
+    let r = last-is (y ∷ ys) e d.1 (ap (slice_get (x ∷ (y ∷ ys))) (sym one) ∙ h) in
+    let in' : holds e.serial (y ∷ ys) ≡ true = find_holds e.serial (y ∷ ys) e r.found in
+    let n : eqb x.serial e.serial ≡ false = elim (cases_Bool (eqb x.serial e.serial)) [
+      | inl t ↦ absurd (false≢true (sym d.0 ∙ subst (λ z. holds z (y ∷ ys) ≡ true) (sym (eqb-true x.serial e.serial t)) in'))
+      | inr f ↦ f
+    ] in
+    record {
+      found = ap (λ b. cond b (Some x) (find_entry e.serial (y ∷ ys))) n ∙ r.found;
+      rest = ap (λ b. cond (not b) (x ∷ without (e.serial ∷ []) (y ∷ ys)) (without (e.serial ∷ []) (y ∷ ys))) (not_only x.serial e.serial n)
+          ∙ ap (λ zs. x ∷ zs) r.rest
+          ∙ sym (ap (λ m. take m (x ∷ (y ∷ ys))) one);
+    }
+
+pub last-none : (es : List Stored) → slice_get es (length es - 1) ≡ None → take (length es - 1) es ≡ es
+last-none [] h = refl
+last-none (x ∷ []) h = absurd (cc)
+last-none (x ∷ (y ∷ ys)) h =
+    let one : length (x ∷ (y ∷ ys)) - 1 ≡ suc (length (y ∷ ys) - 1) = omega arith in
+    ap (λ m. take m (x ∷ (y ∷ ys))) one ∙ ap (λ zs. x ∷ zs) (last-none (y ∷ ys) (ap (slice_get (x ∷ (y ∷ ys))) (sym one) ∙ h))
+
+-- ---- what keeps the index: entries of which no serial stands twice, and an index of them
+abbrev pub IsKept : List Stored → KeyIndex → Type 0
+IsKept es index = Distinct (serials es) × IsIndexOf es index
+
+pub kept-none : (s : ℕ) (es : List Stored) (index : KeyIndex) → find_entry s es ≡ None → IsKept es index → IsKept (without (s ∷ []) es) index
+kept-none s es index h k =
+    subst (λ zs. IsKept zs index) (sym (without_none s es (sym (is_some-find s es) ∙ ap is_some h))) k
+
+pub kept-without : (s : ℕ) (es : List Stored) (e : Stored) (old new : KeyIndex) → find_entry s es ≡ Some e → IsTakenOut old e.key s new →
+    IsKept es old → IsKept (without (s ∷ []) es) new
+kept-without s es e old new h t k = (Distinct-filter _ es k.0, index-without s es e old new k.0 h k.1 t)
+
+pub kept-front : (s : ℕ) (es : List Stored) (e x : Stored) (index : KeyIndex) → find_entry s es ≡ Some e → x.serial ≡ s → same_key e.key x.key ≡ true →
+    IsKept es index → IsKept (x ∷ without (s ∷ []) es) index
+kept-front s es e x index h is same k = (distinct-front s x es is k.0, index-front s es e x index k.0 h is same k.1)
+
+kept_promoted_by : (s : ℕ) (es : List Stored) (index : KeyIndex) (o : Option Stored) → find_entry s es ≡ o → IsKept es index →
+    IsKept (in_front o (without (s ∷ []) es)) index
+kept_promoted_by s es index None h k = kept-none s es index h k
+kept_promoted_by s es index (Some e) h k = kept-front s es e e index h (find-serial s es e h) (same_key_equiv.refl e.key) k
+
+pub kept-promoted : (s : ℕ) (es : List Stored) (index : KeyIndex) → IsKept es index → IsKept (promoted s es) index
+kept-promoted s es index k = kept_promoted_by s es index (find_entry s es) refl k
+
+pub kept-last : (es : List Stored) (e : Stored) (old new : KeyIndex) → slice_get es (length es - 1) ≡ Some e → IsTakenOut old e.key e.serial new →
+    IsKept es old → IsKept (take (length es - 1) es) new
+kept-last es e old new h t k =
+    let l = last-is es e k.0 h in
+    subst (λ zs. IsKept zs new) l.rest (kept-without e.serial es e old new l.found t k)
+
+pub kept-more : (e : Stored) (es : List Stored) (old new : KeyIndex) → holds e.serial es ≡ false → IsPutIn old e.key e.serial new →
+    IsKept es old → IsKept (e ∷ es) new
+kept-more e es old new n p k = ((n, k.0), index-more e es old new k.1 p)
+
+-- ---- entries that go
+
+stays : (s kept : ℕ) (gone : List ℕ) (e : Stored) → eqb s kept ≡ false →
+    ((eqb e.serial kept || not (is_in e.serial (s ∷ gone))) ≡ (not (is_in e.serial (s ∷ [])) && (eqb e.serial kept || not (is_in e.serial gone))))
+stays s kept gone e n = grind (arith, nat_tests, n)
+
+-- one of several goes
+pub others-step : (s kept : ℕ) (gone : List ℕ) (es : List Stored) → eqb s kept ≡ false →
+    without_others kept gone (without (s ∷ []) es) ≡ without_others kept (s ∷ gone) es
+others-step s kept gone [] n = refl
+others-step s kept gone (e ∷ es) n =
+    let more = others-step s kept gone es n in
+    let b = is_in e.serial (s ∷ []) in
+    let r = eqb e.serial kept || not (is_in e.serial gone) in
+    sym (ap (λ x. cond x (e ∷ without_others kept (s ∷ gone) es) (without_others kept (s ∷ gone) es)) (stays s kept gone e n)
+    ∙ (elim b as (λ x. cond (not x && r) (e ∷ without_others kept (s ∷ gone) es) (without_others kept (s ∷ gone) es)
+    ≡ without_others kept gone (cond (not x) (e ∷ without (s ∷ []) es) (without (s ∷ []) es))) [
+      | true ↦ sym more
+      | false ↦ ap (λ zs. cond r (e ∷ zs) zs) (sym more)
+    ]))
+
+-- the one that stays in any case is passed over
+pub others-same : (kept : ℕ) (gone : List ℕ) (es : List Stored) → without_others kept gone es ≡ without_others kept (kept ∷ gone) es
+others-same kept gone [] = refl
+others-same kept gone (e ∷ es) =
+    let more = others-same kept gone es in
+    let same : (eqb e.serial kept || not (is_in e.serial gone)) ≡ (eqb e.serial kept || not (is_in e.serial (kept ∷ gone))) = grind (arith, nat_tests) in
+    ap (λ x. cond x (e ∷ without_others kept gone es) (without_others kept gone es)) same
+    ∙ ap (λ zs. cond (eqb e.serial kept || not (is_in e.serial (kept ∷ gone))) (e ∷ zs) zs) more
+
+pub others-none : (kept : ℕ) (es : List Stored) → without_others kept [] es ≡ es
+others-none kept [] = refl
+others-none kept (e ∷ es) =
+    (elim (eqb e.serial kept) as (λ b. cond (b || true) (e ∷ without_others kept [] es) (without_others kept [] es) ≡ e ∷ without_others kept [] es) [ true ↦ refl | false ↦ refl ])
+    ∙ ap (λ zs. e ∷ zs) (others-none kept es)
+
+others-old : (kept : ℕ) (gone : List ℕ) (es : List Stored) → holds kept es ≡ false → without_others kept gone es ≡ without gone es
+others-old kept gone [] h = refl
+others-old kept gone (e ∷ es) h =
+    let p = or_parts (eqb e.serial kept) (holds kept es) h in
+    ap (λ b. cond (b || not (is_in e.serial gone)) (e ∷ without_others kept gone es) (without_others kept gone es)) p.0
+    ∙ ap (λ zs. cond (not (is_in e.serial gone)) (e ∷ zs) zs) (others-old kept gone es p.1)
+
+-- a new entry stays, of whatever serials the others go
+others-new : (x : Stored) (gone : List ℕ) (es : List Stored) → holds x.serial es ≡ false → without_others x.serial gone (x ∷ es) ≡ x ∷ without gone es
+others-new x gone es h =
+    ap (λ b. cond (b || not (is_in x.serial gone)) (x ∷ without_others x.serial gone es) (without_others x.serial gone es)) (eq-eqb x.serial x.serial refl)
+    ∙ ap (λ zs. x ∷ zs) (others-old x.serial gone es h)
+
+-- what stands once a new entry went in and the replaced ones went
+pub put-stands : (x : Stored) (gone : List ℕ) (es mid zs : List Stored) (s : ℕ) → s ≡ x.serial → mid ≡ x ∷ es → zs ≡ without_others s gone mid →
+    holds x.serial es ≡ false → zs ≡ x ∷ without gone es
+put-stands x gone es mid zs s is stored left new =
+    left ∙ ap (λ k. without_others k gone mid) is ∙ ap (without_others x.serial gone) stored ∙ others-new x gone es new
+
+is_first : (s : ℕ) (xs : List ℕ) → slice_get xs 0 ≡ Some s → is_in s xs ≡ true
+is_first s [] h = absurd (cc)
+is_first s (x ∷ xs) h = or_left _ _ (eq-eqb x s (same_Some x s h))
+
+first-held : (s : ℕ) (q : Key) (es : List Stored) → slice_get (serials_of q es) 0 ≡ Some s → holds s es ≡ true
+first-held s q es h = elim (cases_Bool (holds s es)) [
+  | inl t ↦ t
+  | inr f ↦ absurd (false≢true (sym (not_of_key s q es f) ∙ is_first s (serials_of q es) h))
+]
+
+goes : (s : ℕ) (q : Key) (es : List Stored) → Distinct (serials es) → is_in s (serials_of q es) ≡ true → without_key q (without (s ∷ []) es) ≡ without_key q es
+goes s q [] d m = refl
+goes s q (e ∷ es) d m = elim (cases_Bool (eqb e.serial s)) [
+  | inl t ↦ (
+      let none : holds s es ≡ false = subst (λ z. holds z es ≡ false) (eqb-true e.serial s t) d.0 in
+      let gone : is_in e.serial (s ∷ []) ≡ true = or_left _ _ (sym (eqb_comm e.serial s) ∙ t) in
+      let key : same_key e.key q ≡ true = elim (cases_Bool (same_key e.key q)) [
+        | inl y ↦ y
+        | inr n ↦ absurd (false≢true (
+            sym (not_of_key s q es none)
+            ∙ sym (ap (λ b. is_in s (cond b (insert_ascending e.serial (serials_of q es)) (serials_of q es))) n)
+            ∙ m
+            ))
+      ] in
+      ap (λ b. without_key q (cond (not b) (e ∷ without (s ∷ []) es) (without (s ∷ []) es))) gone
+      ∙ ap (without_key q) (without_none s es none)
+      ∙ sym (ap (λ b. cond (not b) (e ∷ without_key q es) (without_key q es)) key)
+      )
+  | inr f ↦ (
+      let more : is_in s (serials_of q es) ≡ true =
+      (elim (same_key e.key q) as (λ b. is_in s (serials_of q es) ≡ is_in s (cond b (insert_ascending e.serial (serials_of q es)) (serials_of q es))) [
+        | true ↦ sym (is_in-insert s e.serial (serials_of q es) ∙ ap (λ b. b || is_in s (serials_of q es)) f)
+        | false ↦ refl
+      ]) ∙ m in
+      ap (λ b. without_key q (cond (not b) (e ∷ without (s ∷ []) es) (without (s ∷ []) es))) (not_only e.serial s f)
+      ∙ ap (λ zs. cond (not (same_key e.key q)) (e ∷ zs) zs) (goes s q es d.1 more)
+      )
+]
+
+-- one of a key goes, and those that are not of the key stay
+pub key-step : (s : ℕ) (q : Key) (es zs : List Stored) → Distinct (serials es) → slice_get (serials_of q es) 0 ≡ Some s → zs ≡ without (s ∷ []) es →
+    without_key q zs ≡ without_key q es
+key-step s q es zs d h e = ap (without_key q) e ∙ goes s q es d (is_first s (serials_of q es) h)
+
+pub key-smaller : (s : ℕ) (q : Key) (es zs : List Stored) → slice_get (serials_of q es) 0 ≡ Some s → zs ≡ without (s ∷ []) es → length zs < length es
+key-smaller s q es zs h e = subst (λ ys. length ys < length es) (sym e) (length-without s es (first-held s q es h))
+
+nothing : (xs : List ℕ) → slice_get xs 0 ≡ None → xs ≡ []
+nothing [] h = refl
+nothing (x ∷ xs) h = absurd (cc)
+
+not_nothing : (s : ℕ) (xs : List ℕ) → insert_ascending s xs ≡ [] → ⊥
+not_nothing s xs h = false≢true (
+    sym (ap (is_in s) h)
+    ∙ is_in-insert s s xs
+    ∙ or_left _ _ (eq-eqb s s refl)
+    )
+
+none_of_key : (q : Key) (es : List Stored) → serials_of q es ≡ [] → without_key q es ≡ es
+none_of_key q [] h = refl
+none_of_key q (e ∷ es) h = elim (cases_Bool (same_key e.key q)) [
+  | inl y ↦ absurd (not_nothing e.serial (serials_of q es) (sym (ap (λ b. cond b (insert_ascending e.serial (serials_of q es)) (serials_of q es)) y) ∙ h))
+  | inr n ↦ ap (λ b. cond (not b) (e ∷ without_key q es) (without_key q es)) n
+      ∙ ap (λ zs. e ∷ zs) (none_of_key q es (sym (ap (λ b. cond b (insert_ascending e.serial (serials_of q es)) (serials_of q es)) n) ∙ h))
+]
+
+pub key-end : (q : Key) (es : List Stored) → slice_get (serials_of q es) 0 ≡ None → without_key q es ≡ es
+key-end q es h = none_of_key q es (nothing (serials_of q es) h)
+
+length_front : (s : ℕ) (es : List Stored) (o : Option Stored) → find_entry s es ≡ o → length (in_front o (without (s ∷ []) es)) ≤ length es
+length_front s es None h = length-filter_le (λ e. not (is_in e.serial (s ∷ []))) es
+length_front s es (Some e) h =
+    let l = length-without s es (sym (is_some-find s es) ∙ ap is_some h) in
+    omega arith
+
+pub length-promoted : (s : ℕ) (es : List Stored) → length (promoted s es) ≤ length es
+length-promoted s es = length_front s es (find_entry s es) refl

@@ -1,0 +1,32 @@
+use Rattle.std.proofs.Common.{rules, ◌≡◌, ap, sym, ◌∙◌, Some, is_some}
+use Rattle.std.specs.BTreeMap.{WritesThrough, get_by}
+use Rattle.hx_target.specs.KeyOrder.{key_cmp}
+use Rattle.hx_store.specs.declared.key_index.KeyIndex.{KeyIndex}
+use Rattle.hx_store.specs.Serials.{insert_ascending}
+use Rattle.hx_store.specs.Index.{indexed, IsSameIndex}
+use Rattle.hx_store.proofs.Indices.{changed, unchanged, written}
+use Rattle.hx_store.proofs.key_index.KeyIndex.insert_beside.Goals as goal
+
+pub returns-in_err-insert_new-in-Some-clause-err : goal.returns-in_err-insert_new-in-Some-clause-err
+returns-in_err-insert_new-in-Some-clause-err c =
+    let old = c.args.self.now in
+    let set = c.insert_new.new.serials in
+    let new : KeyIndex = record { serials = c.get_mut.follows.lender set } in
+    let u : WritesThrough key_cmp (key_cmp c.args.key.now) old.serials set new.serials = search rules in
+    let m : get_by (key_cmp c.args.key.now) old.serials ≡ Some c.in-Some.serials.now = search rules in
+    let e : indexed old c.args.key.now ≡ c.in-Some.serials.now.keys = search rules in
+    let k : set.keys ≡ indexed old c.args.key.now = c.in_err-insert_new-in-Some.ensures.err ∙ sym e in
+    let same : IsSameIndex old new = unchanged c.args.key.now old new _ (written c.args.key.now old new (Some set) (u.3 (ap is_some m)).0) k in
+    search rules
+
+pub returns-in_ok-insert_new-in-Some-clause-ok : goal.returns-in_ok-insert_new-in-Some-clause-ok
+returns-in_ok-insert_new-in-Some-clause-ok c =
+    let old = c.args.self.now in
+    let set = c.insert_new.new.serials in
+    let new : KeyIndex = record { serials = c.get_mut.follows.lender set } in
+    let u : WritesThrough key_cmp (key_cmp c.args.key.now) old.serials set new.serials = search rules in
+    let m : get_by (key_cmp c.args.key.now) old.serials ≡ Some c.in-Some.serials.now = search rules in
+    let e : indexed old c.args.key.now ≡ c.in-Some.serials.now.keys = search rules in
+    let k : set.keys ≡ insert_ascending c.args.serial (indexed old c.args.key.now) =
+    c.in_ok-insert_new-in-Some.ensures.ok ∙ ap (insert_ascending c.args.serial) (sym e) in
+    changed (insert_ascending c.args.serial) c.args.key.now old new _ (written c.args.key.now old new (Some set) (u.3 (ap is_some m)).0) k

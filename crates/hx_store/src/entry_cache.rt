@@ -1,0 +1,126 @@
+//! Entries by their serials, the latest stored or used first. Its own order is that of `lru`.
+//!
+//! A call costs a look-up of the serial, whatever is held, and no entry is moved. It has no bound of its own.
+
+ghost use Rattle.std.specs.Prelude.{◌≡◌, ◌-◌, ◌∷◌, [], false, true, length, take, slice_get, option_copied, IfOk, IfErr, OnErr, OnOk, Some};
+ghost use Rattle.hx_store.specs.Shelf.{holds, find_entry, without, promoted};
+
+use crate::entries::Entry;
+use lru::LruCache;
+use std::alloc::{AllocError, Global};
+use std::marker::Model;
+use std::mem;
+
+/// Entries, of which callers see the list.
+pub(crate) struct EntryCache {
+    // Serials are counted up by the owner, so no peer picks what is hashed.
+    entries: LruCache<u64, Entry>,
+}
+
+/// One call drops it, wherever that is.
+impl Drop for EntryCache {
+    fn drop(self) {
+        let EntryCache { entries: _ } = self;
+    }
+}
+
+impl Model for EntryCache {
+    ghost use Rattle.std.specs.Prelude.{◌≡◌, ◌^◌, ◌-◌, List};
+    ghost use Rattle.std.specs.Map.{values_of};
+    ghost use Rattle.hx_store.specs.Stored.{Stored};
+    ghost use Rattle.hx_store.specs.Keyed.{AreKeyedApart};
+
+    ghost Value = { List Stored };
+
+    ghost view = { λ c. values_of c.entries.entries };
+
+    ghost invariant = { λ c. AreKeyedApart c.entries.entries × (c.entries.cap ≡ 2 ^ 64 - 1) };
+}
+
+impl EntryCache {
+    /// None. Fails for want of memory alone.
+    pub(crate) fn new(alloc: Global) -> Result<EntryCache, AllocError>
+        ensures { IfOk result (λ cache. cache ≡ []) }
+    {
+        Ok(EntryCache {
+            entries: LruCache::unbounded(alloc)?,
+        })
+    }
+
+    /// How many there are.
+    pub(crate) fn len(&self) -> usize
+        ensures { result ≡ length self.now }
+    {
+        self.entries.len()
+    }
+
+    /// Whether the entry of this serial is here.
+    pub(crate) fn contains(&self, serial: u64) -> bool
+        ensures { result ≡ holds serial self.now }
+    {
+        self.entries.contains(&serial)
+    }
+
+    /// The entry of this serial, which is not used by this.
+    pub(crate) fn peek(&self, serial: u64) -> Option<&Entry>
+        ensures { option_copied result ≡ find_entry serial self.now }
+    {
+        self.entries.peek(&serial)
+    }
+
+    /// Puts an entry first. Want of memory changes nothing and hands it back.
+    pub(crate) fn store(&mut self, entry: Entry) -> Result<(), Entry>
+        requires { holds entry.serial self.old ≡ false }
+        ensures ok { OnOk result (self.new ≡ entry ∷ self.old) }
+        ensures err { OnErr result (self.new ≡ self.old) }
+        ensures given_back { IfErr result (λ e. e ≡ entry) }
+    {
+        let _held = self.entries.len();
+        match self.entries.put(entry.serial, entry) {
+            Ok(_) => Ok(()),
+            Err(refused) => {
+                let (_, entry) = refused.value;
+                Err(entry)
+            }
+        }
+    }
+
+    /// Puts a new form of a held entry in its place, first, and hands the old one back. No memory is taken.
+    pub(crate) fn replace(&mut self, entry: Entry) -> Entry
+        requires { holds entry.serial self.old ≡ true }
+        ensures value { find_entry entry.serial self.old ≡ Some result }
+        ensures entries { self.new ≡ entry ∷ without (entry.serial ∷ []) self.old }
+    {
+        match self.entries.get_mut(&entry.serial) {
+            Some(held) => mem::replace(held, entry),
+            None => entry,
+        }
+    }
+
+    /// Brings the entry of this serial to the front. No memory is taken.
+    pub(crate) fn promote(&mut self, serial: u64) -> bool
+        ensures value { result ≡ holds serial self.old }
+        ensures entries { self.new ≡ promoted serial self.old }
+    {
+        self.entries.promote(&serial)
+    }
+
+    /// Takes the entry of this serial out. No memory is taken.
+    pub(crate) fn remove(&mut self, serial: u64) -> Option<Entry>
+        ensures value { result ≡ find_entry serial self.old }
+        ensures entries { self.new ≡ without (serial ∷ []) self.old }
+    {
+        self.entries.pop(&serial)
+    }
+
+    /// Takes the last one out. No memory is taken.
+    pub(crate) fn pop_last(&mut self) -> Option<Entry>
+        ensures value { result ≡ slice_get self.old (length self.old - 1) }
+        ensures entries { self.new ≡ take (length self.old - 1) self.old }
+    {
+        match self.entries.pop_lru() {
+            Some((_, entry)) => Some(entry),
+            None => None,
+        }
+    }
+}

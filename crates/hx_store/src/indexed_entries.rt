@@ -1,0 +1,199 @@
+//! Entries that are found by their serials and by their keys, the latest stored or used first.
+//!
+//! A call costs at most the logarithm of what is held, and no entry is moved. There is no bound of its own.
+
+ghost use Rattle.std.specs.Prelude.{◌≡◌, ◌≤◌, ◌+◌, ◌-◌, ◌∷◌, [], false, true, length, take, slice_get, option_copied, IfOk, IfErr, OnErr, OnOk, Some};
+ghost use Rattle.std.specs.Option.{ForSome};
+ghost use Rattle.hx_target.specs.Keys.{same_key};
+ghost use Rattle.hx_store.specs.Serials.{Distinct};
+ghost use Rattle.hx_store.specs.Shelf.{holds, find_entry, without, serials, serials_of, promoted, without_key};
+ghost use Rattle.hx_store.specs.Index.{without_others};
+
+use crate::entries::Entry;
+use crate::entry_cache::EntryCache;
+use crate::key_index::KeyIndex;
+use crate::serial_list::Serials;
+use hx_target::Key;
+use std::alloc::{AllocError, Global};
+use std::marker::Model;
+
+/// Entries, of which callers see the list.
+pub(crate) struct IndexedEntries {
+    alloc: Global,
+    entries: EntryCache,
+    index: KeyIndex,
+}
+
+/// One call drops it, wherever that is.
+impl Drop for IndexedEntries {
+    fn drop(self) {
+        let IndexedEntries {
+            alloc: _,
+            entries: _,
+            index: _,
+        } = self;
+    }
+}
+
+impl Model for IndexedEntries {
+    ghost use Rattle.std.specs.Prelude.{List};
+    ghost use Rattle.hx_store.specs.Stored.{Stored};
+    ghost use Rattle.hx_store.specs.Index.{IsIndexOf};
+    ghost use Rattle.hx_store.specs.Serials.{Distinct};
+    ghost use Rattle.hx_store.specs.Shelf.{serials};
+
+    ghost Value = { List Stored };
+
+    ghost view = { λ s. s.entries };
+
+    ghost invariant = { λ s. Distinct (serials s.entries) × IsIndexOf s.entries s.index };
+}
+
+impl IndexedEntries {
+    /// None. Fails for want of memory alone.
+    pub(crate) fn new(alloc: Global) -> Result<IndexedEntries, AllocError>
+        ensures { IfOk result (λ held. held ≡ []) }
+    {
+        Ok(IndexedEntries {
+            alloc,
+            entries: EntryCache::new(alloc)?,
+            index: KeyIndex::new(alloc),
+        })
+    }
+
+    /// How many there are.
+    pub(crate) fn len(&self) -> usize
+        ensures { result ≡ length self.now }
+    {
+        self.entries.len()
+    }
+
+    /// Whether the entry of this serial is here.
+    pub(crate) fn contains(&self, serial: u64) -> bool
+        ensures { result ≡ holds serial self.now }
+    {
+        self.entries.contains(serial)
+    }
+
+    /// The entry of this serial, which is not used by this.
+    pub(crate) fn peek(&self, serial: u64) -> Option<&Entry>
+        ensures { option_copied result ≡ find_entry serial self.now }
+    {
+        self.entries.peek(serial)
+    }
+
+    /// The serials of the entries with this key, ascending. Fails for want of memory alone.
+    pub(crate) fn find(&self, alloc: Global, key: &Key) -> Result<Serials, AllocError>
+        ensures found { IfOk result (λ found. found ≡ serials_of key.now self.now) }
+        ensures distinct { Distinct (serials self.now) }
+    {
+        self.index.find(alloc, key)
+    }
+
+    /// The least of them. No memory is taken.
+    fn first_of(&self, key: &Key) -> Option<u64>
+        ensures first { result ≡ slice_get (serials_of key.now self.now) 0 }
+        ensures distinct { Distinct (serials self.now) }
+    {
+        self.index.first(key)
+    }
+
+    /// Puts an entry first. Want of memory changes nothing and hands it back.
+    pub(crate) fn store(&mut self, entry: Entry) -> Result<(), Entry>
+        requires { holds entry.serial self.old ≡ false }
+        ensures ok { OnOk result (self.new ≡ entry ∷ self.old) }
+        ensures err { OnErr result (self.new ≡ self.old) }
+        ensures given_back { IfErr result (λ e. e ≡ entry) }
+    {
+        let serial = entry.serial;
+        if self.index.insert(self.alloc, &entry.key, serial).is_err() {
+            return Err(entry);
+        }
+        match self.entries.store(entry) {
+            Ok(()) => Ok(()),
+            Err(entry) => {
+                self.index.remove(&entry.key, serial);
+                Err(entry)
+            }
+        }
+    }
+
+    /// Puts a new form of a held entry in its place, first, and hands the old one back. No memory is taken.
+    pub(crate) fn replace(&mut self, entry: Entry) -> Entry
+        requires held { holds entry.serial self.old ≡ true }
+        requires same_key { ForSome (find_entry entry.serial self.old) (λ old. same_key old.key entry.key ≡ true) }
+        ensures value { find_entry entry.serial self.old ≡ Some result }
+        ensures entries { self.new ≡ entry ∷ without (entry.serial ∷ []) self.old }
+    {
+        self.entries.replace(entry)
+    }
+
+    /// Brings the entry of this serial to the front. No memory is taken.
+    pub(crate) fn promote(&mut self, serial: u64) -> bool
+        ensures value { result ≡ holds serial self.old }
+        ensures entries { self.new ≡ promoted serial self.old }
+    {
+        self.entries.promote(serial)
+    }
+
+    /// Takes the entry of this serial out. No memory is taken.
+    pub(crate) fn remove(&mut self, serial: u64) -> Option<Entry>
+        ensures value { result ≡ find_entry serial self.old }
+        ensures entries { self.new ≡ without (serial ∷ []) self.old }
+    {
+        match self.entries.remove(serial) {
+            Some(entry) => {
+                self.index.remove(&entry.key, serial);
+                Some(entry)
+            }
+            None => None,
+        }
+    }
+
+    /// Takes the last one out. No memory is taken.
+    pub(crate) fn pop_last(&mut self) -> Option<Entry>
+        ensures value { result ≡ slice_get self.old (length self.old - 1) }
+        ensures entries { self.new ≡ take (length self.old - 1) self.old }
+    {
+        match self.entries.pop_last() {
+            Some(entry) => {
+                self.index.remove(&entry.key, entry.serial);
+                Some(entry)
+            }
+            None => None,
+        }
+    }
+
+    /// Takes the last one out where one too many stand.
+    pub(crate) fn cut(&mut self, capacity: usize) -> Option<Entry>
+        requires { length self.old ≤ capacity + 1 }
+        ensures entries { self.new ≡ take capacity self.old }
+        ensures gone { result ≡ slice_get self.old capacity }
+    {
+        if self.len() > capacity {
+            self.pop_last()
+        } else {
+            None
+        }
+    }
+
+    /// Takes the entries with these serials out, but that of the serial `kept`.
+    pub(crate) fn remove_others(&mut self, kept: u64, gone: &[u64])
+        ensures { self.new ≡ without_others kept gone.now self.old }
+    {
+        for serial in gone {
+            if *serial != kept {
+                self.remove(*serial);
+            }
+        }
+    }
+
+    /// Takes the entries of this key out, at the cost of taking each of them out. No memory is taken.
+    pub(crate) fn remove_key(&mut self, key: &Key)
+        ensures { self.new ≡ without_key key.now self.old }
+    {
+        while let Some(serial) = self.first_of(key) {
+            self.remove(serial);
+        }
+    }
+}

@@ -1,0 +1,104 @@
+//! A shelf whose entries are found by serial and by key. A call costs at most the logarithm of what is held, beside
+//! what it hands back or takes out, and moves no entry.
+
+ghost use Rattle.std.specs.Prelude.{◌≡◌, [], IfOk};
+
+use crate::entries::Entry;
+use crate::indexed_entries::IndexedEntries;
+use crate::serial_list::Serials;
+use crate::shelves::Shelf;
+use hx_target::Key;
+use std::alloc::{AllocError, Global};
+use std::marker::Model;
+
+/// A store with an index.
+pub struct IndexedShelf {
+    capacity: usize,
+    held: IndexedEntries,
+}
+
+/// One call drops it, wherever that is.
+impl Drop for IndexedShelf {
+    fn drop(self) {
+        let IndexedShelf {
+            capacity: _,
+            held: _,
+        } = self;
+    }
+}
+
+impl Model for IndexedShelf {
+    ghost use Rattle.std.specs.Prelude.{◌≤◌, length};
+    ghost use Rattle.hx_store.specs.Shelf.{Shelved};
+
+    ghost Value = { Shelved };
+
+    ghost view = { λ s. record { limit = s.capacity; entries = s.held } };
+
+    ghost invariant = { λ s. length s.held ≤ s.capacity };
+}
+
+impl IndexedShelf {
+    /// An empty store that holds at most `capacity` entries. Memory for those is taken as they come. Fails for want
+    /// of memory alone.
+    pub fn new(alloc: Global, capacity: usize) -> Result<IndexedShelf, AllocError>
+        ensures { IfOk result (λ shelf. shelf ≡ record { limit = capacity; entries = [] }) }
+    {
+        Ok(IndexedShelf {
+            capacity,
+            held: IndexedEntries::new(alloc)?,
+        })
+    }
+}
+
+impl Shelf for IndexedShelf {
+    ghost entries = { λ s. s.entries };
+
+    ghost limit = { λ s. s.limit };
+
+    fn capacity(&self) -> usize {
+        self.capacity
+    }
+
+    fn len(&self) -> usize {
+        self.held.len()
+    }
+
+    fn contains(&self, serial: u64) -> bool {
+        self.held.contains(serial)
+    }
+
+    fn peek(&self, serial: u64) -> Option<&Entry> {
+        self.held.peek(serial)
+    }
+
+    fn find(&self, alloc: Global, key: &Key) -> Result<Serials, AllocError> {
+        self.held.find(alloc, key)
+    }
+
+    fn put(&mut self, entry: Entry, replaced: &[u64]) -> Result<Option<Entry>, Entry> {
+        let serial = entry.serial;
+        // The new entry goes in first: where memory is refused, the replaced ones have to stay.
+        self.held.store(entry)?;
+        self.held.remove_others(serial, replaced);
+        Ok(self.held.cut(self.capacity))
+    }
+
+    fn freshen(&mut self, entry: Entry) -> Entry {
+        self.held.replace(entry)
+    }
+
+    fn promote(&mut self, serial: u64) -> bool {
+        self.held.promote(serial)
+    }
+
+    fn remove(&mut self, serial: u64) -> Option<Entry> {
+        self.held.remove(serial)
+    }
+
+    fn invalidate(&mut self, key: &Key) -> usize {
+        let before = self.held.len();
+        self.held.remove_key(key);
+        before - self.held.len()
+    }
+}
