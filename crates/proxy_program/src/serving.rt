@@ -4,7 +4,7 @@ use crate::command_line::Service;
 use crate::fault::{Fault, fault_of};
 use crate::files::read_table;
 use hx_allow::Config;
-use hx_store::ListShelf;
+use hx_store::IndexedShelf;
 use proxy_live::{LiveSockets, Recorder, Server};
 use std::fs;
 use std::net::Net;
@@ -50,7 +50,7 @@ pub(crate) fn serve<R: Net + Clock + Files + Eprint + AllocGlobal>(
     };
     let record = record_of(rt, service.record, table.as_slice())?;
     announce(rt, &sockets)?;
-    let shelf = ListShelf::new(rt.alloc(), config.capacity());
+    let shelf = IndexedShelf::new(rt.alloc(), config.capacity())?;
     let mut server = Server::new(rt.alloc(), config, shelf, sockets, record);
     let mut told = false;
     for _ in 0..service.turns {

@@ -21,4 +21,4 @@ pub use crate::laws::{
     nothing_follows_a_gone,
 };
 pub use crate::memory::replayed;
-pub use crate::play::replay;
+pub use crate::play::{replay, replay_on_list};

@@ -13,7 +13,7 @@ use crate::faults::ReplayFault;
 use crate::shelves::NewShelf;
 use crate::steps::{moment_after, play_item};
 use hx_allow::Config;
-use hx_store::ListShelf;
+use hx_store::{IndexedShelf, ListShelf};
 use proxy_engine::Engine;
 use proxy_script::{Front, Item, read_item};
 use std::alloc::{AllocError, Global};
@@ -120,6 +120,17 @@ fn replay_on<S: NewShelf + Drop, R: Read, W: Write>(
 ///
 /// Effects of the happenings before a fault have been written; after `Write` a prefix of the text may have gone out.
 pub fn replay<R: Read, W: Write>(
+    alloc: Global,
+    reader: &mut R,
+    writer: &mut W,
+) -> Result<(), ReplayFault>
+    ensures { IsReplay (R.remaining reader.old) (R.remaining reader.new) (W.contents writer.old) (W.contents writer.new) result }
+{
+    replay_on::<IndexedShelf, R, W>(alloc, reader, writer)
+}
+
+/// The same over a shelf that is a list, to compare what both give.
+pub fn replay_on_list<R: Read, W: Write>(
     alloc: Global,
     reader: &mut R,
     writer: &mut W,

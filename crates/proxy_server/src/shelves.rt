@@ -1,7 +1,7 @@
 //! The shelf that a replay keeps its responses on.
 ghost use Rattle.std.specs.Prelude.{◌≡◌, [], IfOk};
 
-use hx_store::{ListShelf, Shelf};
+use hx_store::{IndexedShelf, ListShelf, Shelf};
 use std::alloc::{AllocError, Global};
 
 /// A shelf that can be made for a table.
@@ -10,6 +10,12 @@ pub(crate) trait NewShelf: Shelf {
     fn with_capacity(alloc: Global, capacity: usize) -> Result<Self, AllocError>
         ensures empty { IfOk result (λ shelf. Self.entries shelf ≡ []) }
         ensures limit { IfOk result (λ shelf. Self.limit shelf ≡ capacity) };
+}
+
+impl NewShelf for IndexedShelf {
+    fn with_capacity(alloc: Global, capacity: usize) -> Result<Self, AllocError> {
+        IndexedShelf::new(alloc, capacity)
+    }
 }
 
 impl NewShelf for ListShelf {
