@@ -1,0 +1,133 @@
+//! The shelf with an index beside the shelf that is a list, through the same 5,000 calls: each gives the same of both.
+
+use super::entries::{entry, key};
+use hx_store::{IndexedShelf, ListShelf, Shelf};
+use std::alloc::{AllocError, Global};
+use std::process::Abort;
+use std::test::Fail;
+
+const CALLS: u64 = 5_000;
+
+const CAPACITY: u64 = 12;
+
+/// One call.
+#[derive(Clone, Copy)]
+enum Call {
+    Put(u64, u64),
+    Freshen(u64),
+    Promote(u64),
+    Remove(u64),
+    Invalidate(u64),
+    Find(u64),
+}
+
+/// The path of an entry, by its serial.
+fn path_of(serial: u64) -> &'static str {
+    match serial % 7 {
+        0 | 1 | 2 => "/a",
+        3 | 4 => "/b",
+        5 => "/c",
+        _ => "/d",
+    }
+}
+
+/// The nth call, which is mostly about a serial of late.
+fn nth(n: u64, dice: u64) -> Call {
+    let serial = n.saturating_sub(dice / 16 % 24);
+    match dice % 16 {
+        0..=6 => Call::Put(n, serial),
+        7 | 8 => Call::Freshen(serial),
+        9..=11 => Call::Promote(serial),
+        12 => Call::Remove(serial),
+        13 => Call::Invalidate(serial),
+        _ => Call::Find(serial),
+    }
+}
+
+/// Puts an entry in place of two others, and gives the serial that is handed back.
+fn put<S: Shelf>(alloc: Global, shelf: &mut S, serial: u64, replaced: u64) -> Result<u64, Fail> {
+    let entry = entry(alloc, serial, path_of(serial))?;
+    if shelf.contains(entry.serial) {
+        return Err("a new serial".into());
+    }
+    match shelf.put(entry, &[replaced, serial]) {
+        Ok(Some(evicted)) => Ok(evicted.serial),
+        Ok(None) => Ok(0),
+        Err(_) => Err("room for the entry".into()),
+    }
+}
+
+/// Freshens the entry of a serial, where it is held, and gives its serial.
+fn freshen<S: Shelf>(alloc: Global, shelf: &mut S, serial: u64) -> Result<u64, Fail> {
+    let entry = entry(alloc, serial, path_of(serial))?;
+    match shelf.peek(entry.serial) {
+        Some(held) if held.key.is_same(&entry.key) => {}
+        _ => return Ok(0),
+    }
+    if !shelf.contains(entry.serial) {
+        return Err("a held serial".into());
+    }
+    Ok(shelf.freshen(entry).serial)
+}
+
+/// The serials of a path, one behind the other in one number.
+fn found<S: Shelf>(alloc: Global, shelf: &S, path: &str) -> Result<u64, AllocError> {
+    let key = key(alloc, path)?;
+    let mut sum = 0u64;
+    for serial in shelf.find(alloc, &key)?.as_slice() {
+        sum = sum.wrapping_mul(6_007).wrapping_add(*serial);
+    }
+    Ok(sum)
+}
+
+/// What a call answers, as a number.
+fn answer<S: Shelf>(alloc: Global, shelf: &mut S, call: Call) -> Result<u64, Fail> {
+    match call {
+        Call::Put(serial, replaced) => put(alloc, shelf, serial, replaced),
+        Call::Freshen(serial) => freshen(alloc, shelf, serial),
+        Call::Promote(serial) => Ok(u64::from(shelf.promote(serial))),
+        Call::Remove(serial) => match shelf.remove(serial) {
+            Some(entry) => Ok(entry.serial),
+            None => Ok(0),
+        },
+        Call::Invalidate(serial) => {
+            let key = key(alloc, path_of(serial))?;
+            Ok(shelf.invalidate(&key) as u64)
+        }
+        Call::Find(serial) => Ok(found(alloc, shelf, path_of(serial))?),
+    }
+}
+
+/// Both answer the same, and hold as many.
+fn agree(
+    rt: &impl Abort,
+    alloc: Global,
+    (list, indexed): (&mut ListShelf, &mut IndexedShelf),
+    call: Call,
+) -> Result<(), Fail> {
+    let of_list = answer(alloc, list, call)?;
+    let of_indexed = answer(alloc, indexed, call)?;
+    assert_eq!(rt; of_list, of_indexed);
+    assert_eq!(rt; list.len(), indexed.len());
+    Ok(())
+}
+
+/// At the end as many are put as there is room for, so that the order of all that were held is seen.
+#[test]
+fn both_shelves_answer_alike(rt: HostRuntime) -> Result<(), Fail> {
+    let alloc = rt.alloc();
+    let mut list = ListShelf::new(alloc, CAPACITY as usize);
+    let mut indexed = IndexedShelf::new(alloc, CAPACITY as usize)?;
+    let mut dice = 20_261_124u64;
+    for n in 1..=CALLS {
+        dice = dice
+            .wrapping_mul(6_364_136_223_846_793_005)
+            .wrapping_add(1_442_695_040_888_963_407);
+        agree(&rt, alloc, (&mut list, &mut indexed), nth(n, dice >> 33))?;
+    }
+    for n in CALLS + 1..=CALLS + CAPACITY {
+        agree(&rt, alloc, (&mut list, &mut indexed), Call::Put(n, 0))?;
+    }
+    assert_eq!(rt; indexed.len(), indexed.capacity());
+    Ok(())
+}
