@@ -3,7 +3,7 @@
 use crate::check::{Counts, Wrong, check_run};
 use crate::log::Log;
 use crate::world::{Stopped, World};
-use proxy_server::replay;
+use proxy_server::{ReplayFault, replay, replay_on_list};
 use std::alloc::Global;
 use std::io;
 
@@ -55,12 +55,28 @@ fn tell<R: Print + Eprint>(
     }
 }
 
+/// The text of a replay, and of one over a shelf that is a list.
+fn replayed(alloc: Global, script: &[u8]) -> Result<(Vec<u8>, Vec<u8>), ReplayFault> {
+    let mut reader = script;
+    let mut text = Vec::new(alloc);
+    replay(alloc, &mut reader, &mut text)?;
+    let mut reader = script;
+    let mut listed = Vec::new(alloc);
+    replay_on_list(alloc, &mut reader, &mut listed)?;
+    Ok((text, listed))
+}
+
 /// Replays what happened, and prints what the check of it comes to.
 fn judge<R: Print + Eprint + AllocGlobal>(rt: &R, log: &Log) -> io::Result<bool> {
-    let mut script = log.script.as_slice();
-    let mut text = Vec::new(rt.alloc());
-    if let Err(fault) = replay(rt.alloc(), &mut script, &mut text) {
-        println!(rt; "the replay ended: {fault}")?;
+    let (text, listed) = match replayed(rt.alloc(), log.script.as_slice()) {
+        Ok(texts) => texts,
+        Err(fault) => {
+            println!(rt; "the replay ended: {fault}")?;
+            return Ok(false);
+        }
+    };
+    if text.as_slice() != listed.as_slice() {
+        println!(rt; "over a list it differs")?;
         return Ok(false);
     }
     tell(

@@ -1,6 +1,6 @@
 //! What the replay of a script gives.
 
-use proxy_server::replay;
+use proxy_server::{ReplayFault, replay, replay_on_list};
 use std::alloc::{AllocError, Global};
 
 /// What a replay writes, the line of its fault and the exit status; where it ends well there is no line, and the status is 0.
@@ -28,11 +28,12 @@ impl Played {
         (text, line, status)
     }
 
-    /// Replays a script.
-    pub fn of(alloc: Global, script: &[u8]) -> Result<Played, AllocError> {
-        let mut reader = script;
-        let mut text = Vec::new(alloc);
-        match replay(alloc, &mut reader, &mut text) {
+    fn ended(
+        alloc: Global,
+        text: Vec<u8>,
+        end: Result<(), ReplayFault>,
+    ) -> Result<Played, AllocError> {
+        match end {
             Ok(()) => Ok(Played {
                 text,
                 line: String::new(alloc),
@@ -44,6 +45,22 @@ impl Played {
                 status: fault.exit_status(),
             }),
         }
+    }
+
+    /// Replays a script.
+    pub fn of(alloc: Global, script: &[u8]) -> Result<Played, AllocError> {
+        let mut reader = script;
+        let mut text = Vec::new(alloc);
+        let end = replay(alloc, &mut reader, &mut text);
+        Played::ended(alloc, text, end)
+    }
+
+    /// Replays a script over a shelf that is a list.
+    pub fn on_list(alloc: Global, script: &[u8]) -> Result<Played, AllocError> {
+        let mut reader = script;
+        let mut text = Vec::new(alloc);
+        let end = replay_on_list(alloc, &mut reader, &mut text);
+        Played::ended(alloc, text, end)
     }
 
     /// The line on standard error and that of the exit status, as they are written down beside a script; nothing where it ends well.

@@ -90,10 +90,12 @@ impl Row {
         Ok(cut.text.as_slice() == self.effects.as_slice() && cut.status == status)
     }
 
-    /// Whether the replay gives what is written down, and writes the same and ends alike where all bytes come one at a time.
+    /// Whether the replay gives what is written down, over a shelf that is a list too, and writes the same and ends alike where
+    /// all bytes come one at a time.
     pub fn holds(&self, alloc: Global) -> Result<bool, AllocError> {
         let whole = Played::of(alloc, self.script.as_slice())?;
-        if self.is_played(&whole, alloc)? {
+        let listed = Played::on_list(alloc, self.script.as_slice())?;
+        if self.is_played(&whole, alloc)? && self.is_played(&listed, alloc)? {
             self.holds_cut(alloc, whole.status)
         } else {
             Ok(false)
