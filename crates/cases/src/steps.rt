@@ -1,10 +1,10 @@
 //! Steps of the core, one after another, each with what it must give.
 //!
 //! The group's front is the operator's table. A case is a scenario: `at MOMENT, ID asks METHOD PATH`, `at MOMENT, ID is
-//! answered STATUS`, `at MOMENT, ID fails KIND` or `at MOMENT, ID is abandoned`, the first two perhaps `with content TEXT` and
-//! with field lines below; then `gives forward`, by the table's first line, or `gives forward by line N`, `gives reply` with
-//! what is stored, used and removed, each with the message below, `gives refusal` with the core's fault, or `gives an end`.
-//! The answer is the number of steps.
+//! answered STATUS`, `at MOMENT, ID fails KIND`, `at MOMENT, ID is woken` or `at MOMENT, ID is abandoned`, the first two
+//! perhaps `with content TEXT` and with field lines below; then `gives forward`, by the table's first line, or `gives forward
+//! by line N`, `gives reply` with what is stored, used and removed, each with the message below, `gives a wait for ID`,
+//! `gives refusal` with the core's fault, or `gives an end`. The answer is the number of steps.
 
 use crate::case_file::Case;
 use crate::field_lines::fields_of;
@@ -31,6 +31,8 @@ enum What<'a> {
     Answered(u16, &'a str),
     /// The origin fails.
     Fails(FailKind),
+    /// It was released, and is decided now.
+    Woken,
     /// The client is gone.
     Abandoned,
 }
@@ -76,8 +78,10 @@ fn what_of(words: &str) -> Option<What<'_>> {
     if let Some(answer) = words.strip_prefix("is answered ") {
         return answered_of(answer);
     }
-    if words == "is abandoned" {
-        return Some(What::Abandoned);
+    match words {
+        "is woken" => return Some(What::Woken),
+        "is abandoned" => return Some(What::Abandoned),
+        _ => {}
     }
     Some(What::Fails(fail_kind(words.strip_prefix("fails ")?)?))
 }
@@ -200,6 +204,7 @@ fn outcome_of(
             step.happens.fault("field lines where there is no message"),
         ),
         What::Fails(kind) => Ok(core.fail(alloc, happens.now, happens.id, kind)),
+        What::Woken => Ok(core.wake(alloc, happens.now, happens.id)),
         What::Abandoned => Ok(core.abandon(happens.id)),
     }
 }
@@ -231,6 +236,7 @@ fn write_given(text: &mut String, given: &Result<Outcome, CoreFault>) -> Result<
         Ok(Outcome::Reply(reply)) => write_changes(text, reply),
         Ok(Outcome::Forward(1, _)) => text.push_str("gives forward"),
         Ok(Outcome::Forward(line, _)) => write!(text, "gives forward by line {line}"),
+        Ok(Outcome::Waits { leader }) => write!(text, "gives a wait for {leader}"),
         Ok(Outcome::Ended) => text.push_str("gives an end"),
         Err(fault) => write!(text, "gives refusal {fault:?}"),
     }
@@ -241,6 +247,7 @@ fn message_in(given: &Result<Outcome, CoreFault>) -> &[u8] {
     match given {
         Ok(Outcome::Reply(reply)) => reply.bytes.as_slice(),
         Ok(Outcome::Forward(_, bytes)) => bytes.as_slice(),
+        Ok(Outcome::Waits { leader: _ }) => &[],
         Ok(Outcome::Ended) => &[],
         Err(_) => &[],
     }
