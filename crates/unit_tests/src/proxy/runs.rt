@@ -40,14 +40,17 @@ fn stops(rt: &impl Abort, ran: &Run, count: usize, fault: Option<CoreFault>) {
     assert_eq!(rt; ran.stopped, fault);
 }
 
-/// What is stored by the second exchange is sent when the third fails, and a method that no line allows is denied.
+/// Two ask for what is stale. What the first of them stores is sent when the second fails, and a method that no line allows is
+/// denied.
 fn whole_run(alloc: Global) -> Result<Vec<Event>, Fail> {
     let mut events = Vec::new(alloc);
     arrives(alloc, &mut events, 20, 1, Method::GET, "/a")?;
-    arrives(alloc, &mut events, 20, 2, Method::GET, "/a")?;
     answers(alloc, &mut events, 20, 1)?;
-    events.push(Event::Fail(30, 2, FailKind::Refused))?;
-    arrives(alloc, &mut events, 30, 3, Method::HEAD, "/a")?;
+    arrives(alloc, &mut events, 100, 2, Method::GET, "/a")?;
+    arrives(alloc, &mut events, 100, 3, Method::GET, "/a")?;
+    answers(alloc, &mut events, 100, 2)?;
+    events.push(Event::Fail(130, 3, FailKind::Refused))?;
+    arrives(alloc, &mut events, 130, 4, Method::HEAD, "/a")?;
     Ok(events)
 }
 
@@ -62,8 +65,8 @@ fn used(ran: &Run, at: usize) -> Option<Option<u64>> {
 fn reuse_after_an_error(rt: HostRuntime) -> Result<(), Fail> {
     let events = whole_run(rt.alloc())?;
     let ran = ran(rt.alloc(), &events)?;
-    stops(&rt, &ran, 5, None);
-    assert_eq!(rt; used(&ran, 3), Some(Some(1)));
-    assert_eq!(rt; used(&ran, 4), Some(None));
+    stops(&rt, &ran, 7, None);
+    assert_eq!(rt; used(&ran, 5), Some(Some(2)));
+    assert_eq!(rt; used(&ran, 6), Some(None));
     Ok(())
 }
