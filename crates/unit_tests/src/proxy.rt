@@ -11,3 +11,4 @@ mod replays;
 mod runs;
 mod streams;
 mod turns;
+mod waiting;
