@@ -122,6 +122,36 @@ fn numbers_run_out(rt: HostRuntime) -> Result<(), Fail> {
     Ok(())
 }
 
+const ASK_OTHER: &[u8] = b"GET /b HTTP/1.1\r\nHost: h\r\n\r\n";
+
+/// A request that waits takes no number. Its wake is refused where none is left for it to go forward; to go needs none.
+#[test]
+fn a_wake_needs_a_number(rt: HostRuntime) -> Result<(), Fail> {
+    let mut engine = engine(rt.alloc(), u64::MAX - 1)?;
+    takes(&rt, rt.alloc(), &mut engine, Happening::Accept(1));
+    takes(&rt, rt.alloc(), &mut engine, Happening::Client(1, ASK));
+    assert!(&rt; matches!(work(rt.alloc(), &mut engine, 100), Ok(Some(_))));
+    takes(&rt, rt.alloc(), &mut engine, Happening::Accept(2));
+    takes(&rt, rt.alloc(), &mut engine, Happening::Client(2, ASK));
+    does(&rt, rt.alloc(), &mut engine, 100, b"");
+    takes(&rt, rt.alloc(), &mut engine, Happening::Accept(3));
+    takes(
+        &rt,
+        rt.alloc(),
+        &mut engine,
+        Happening::Client(3, ASK_OTHER),
+    );
+    assert!(&rt; matches!(work(rt.alloc(), &mut engine, 100), Ok(Some(_))));
+    takes(&rt, rt.alloc(), &mut engine, Happening::Gone(1));
+    assert!(&rt; matches!(work(rt.alloc(), &mut engine, 100), Ok(Some(_))));
+    for _ in 0..2u8 {
+        assert!(&rt; matches!(work(rt.alloc(), &mut engine, 100), Err(EngineFault::Spent)));
+    }
+    takes(&rt, rt.alloc(), &mut engine, Happening::Gone(2));
+    does(&rt, rt.alloc(), &mut engine, 100, b"");
+    Ok(())
+}
+
 const ANSWER: &[u8] = b"HTTP/1.1 200 OK\r\nCache-Control: no-store\r\nContent-Length: 2\r\n\r\nhi";
 
 const LAST_FORWARDED: &[u8] = b"forward 2000 127.0.0.1:8081 62

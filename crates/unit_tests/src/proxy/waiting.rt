@@ -46,13 +46,28 @@ fn stops_at(rt: &impl Abort, alloc: Global, event: Event, fault: CoreFault) -> R
 fn wake_faults(rt: HostRuntime) -> Result<(), Fail> {
     let alloc = rt.alloc();
     let given = response(alloc, 200, b"max-age=60", b"hi")?;
-    stops_at(&rt, alloc, Event::Answer(101, 2, given), CoreFault::NotForwarded)?;
+    stops_at(
+        &rt,
+        alloc,
+        Event::Answer(101, 2, given),
+        CoreFault::NotForwarded,
+    )?;
     let failure = Event::Fail(101, 2, FailKind::Closed);
     stops_at(&rt, alloc, failure, CoreFault::NotForwarded)?;
     for id in 1..3u64 {
-        stops_at(&rt, alloc, Event::Wake { now: 101, id }, CoreFault::NotReady)?;
+        stops_at(
+            &rt,
+            alloc,
+            Event::Wake { now: 101, id },
+            CoreFault::NotReady,
+        )?;
     }
-    stops_at(&rt, alloc, Event::Wake { now: 101, id: 9 }, CoreFault::UnknownId)
+    stops_at(
+        &rt,
+        alloc,
+        Event::Wake { now: 101, id: 9 },
+        CoreFault::UnknownId,
+    )
 }
 
 /// Once the first has its answer the second is woken to what was stored of it, and only once.
