@@ -8,19 +8,23 @@
 //! - Replies come in the order of a connection's requests: what came of an origin has the fields of that very request,
 //!   what came of the store those of an earlier one for its target, whose answer was stored. A reply is a whole message.
 //! - Nothing goes to a connection that isn't accepted, or is closed, or gone; a client that goes leaves no link.
+//! - A happening has effects on its own connection, or that of its link, and on those that it wakes, alone. A request that has
+//!   come whole gets something at once, or waits; of those that wait `waiting.rt` says more.
 //! - Behind an unsafe request that went well nothing is sent of what was stored for its target before.
 //! - A request that the table sends past the store goes to the origin of its line, and its answer says so, and is kept for
 //!   nobody. No other request goes there, and no other answer says so.
 
+use crate::counts::Counts;
 use crate::effects::{Effect, read_effect};
 use crate::fields::{last_value, number_of, parts};
 use crate::log::{Log, Step, Told};
 use crate::past_store::{is_claimed, is_told};
+use crate::replies::{Source, has_target, names_a_miss, read_reply, seconds_left, went_well};
 use crate::requests::Asked;
 use crate::tables::is_past_the_store;
+use crate::waiting::{Link, Suspect, Waiter, beside, found, link_of};
 use bstr::ByteSlice;
 use std::alloc::{AllocError, Global};
-use std::fmt;
 
 /// What doesn't hold, with the connection or link at which it doesn't.
 #[derive(Clone, Copy)]
@@ -35,45 +39,14 @@ impl From<AllocError> for Wrong {
     }
 }
 
-/// How much there was of what.
-#[derive(Clone, Copy, Default)]
-pub struct Counts {
-    pub effects: u64,
-    pub forwards: u64,
-    pub drops: u64,
-    pub replies: u64,
-    pub stored: u64,
-    pub hits: u64,
-    pub validated: u64,
-    pub refused: u64,
-    /// Requests that went past the store.
-    pub past: u64,
-    /// Of them those that asked for what was fresh by the last answer for their target that was stored or sent.
-    pub past_fresh: u64,
-    /// Of them those that took away what was stored.
-    pub past_taking: u64,
-}
-
-impl fmt::Display for Counts {
-    fn fmt<W: fmt::Write>(&self, f: &mut fmt::Formatter<W>) -> fmt::Result {
-        let (effects, forwards, drops) = (self.effects, self.forwards, self.drops);
-        let (replies, stored, hits) = (self.replies, self.stored, self.hits);
-        let (validated, refused) = (self.validated, self.refused);
-        write!(
-            f,
-            "{effects} effects: {forwards} forwards, {drops} drops, {replies} replies, "
-        )?;
-        write!(
-            f,
-            "of them {stored} stored, {hits} hits, {validated} validated, {refused} refused"
-        )
-    }
-}
-
 struct Client<'a> {
     asked: Vec<&'a Asked>,
+    /// How many of these have come whole.
+    whole: u64,
     replies: usize,
     link: Option<u64>,
+    /// The latest link of the request that has no reply.
+    last: Option<u64>,
     is_accepted: bool,
     is_over: bool,
 }
@@ -83,24 +56,60 @@ impl Drop for Client<'_> {
     fn drop(self) {
         let Client {
             asked: _,
+            whole: _,
             replies: _,
             link: _,
+            last: _,
             is_accepted: _,
             is_over: _,
         } = self;
     }
 }
 
-#[derive(Clone, Copy)]
-struct Link {
-    connection: u64,
-    is_dropped: bool,
+impl Client<'_> {
+    /// The request that has come whole, and has neither a reply nor a link.
+    fn silent(&self) -> Option<Asked> {
+        let is_open = self.is_accepted && !self.is_over && self.link.is_none();
+        if is_open && (self.replies as u64) < self.whole {
+            return Some(**self.asked.get(self.replies)?);
+        }
+        None
+    }
+}
+
+/// What is known of the happening whose effects are checked.
+#[derive(Clone, Copy, Default)]
+struct Now {
+    /// The connection to which it happened, or to whose link.
+    about: Option<u64>,
+    /// The link of the exchange that it ended.
+    ended: Option<u64>,
+    /// How many had begun to wait before the latest that was woken.
+    last_woken: Option<u64>,
+    /// Whether a further request was served.
+    is_serving: bool,
+}
+
+impl Now {
+    /// Whether it has woken one that began to wait behind so many, or behind more.
+    fn has_woken_behind(&self, before: u64) -> bool {
+        match self.last_woken {
+            Some(last) => last >= before,
+            None => false,
+        }
+    }
 }
 
 struct Check<'a> {
     alloc: Global,
     clients: Vec<Client<'a>>,
     links: Vec<Link>,
+    /// The requests that wait, in the order in which they began to.
+    waiters: Vec<Waiter>,
+    suspects: Vec<Suspect>,
+    happening: Now,
+    /// The connections that were woken by it.
+    woken: Vec<u64>,
     /// The requests whose answers may have been kept.
     kept: Vec<Asked>,
     /// Until when the last answer that was stored or sent for a target is fresh, the latest behind the others.
@@ -117,6 +126,10 @@ impl Drop for Check<'_> {
             alloc: _,
             clients: _,
             links: _,
+            waiters: _,
+            suspects: _,
+            happening: _,
+            woken: _,
             kept: _,
             fresh: _,
             is_partly_without: _,
@@ -162,106 +175,6 @@ fn is_address(address: &[u8], is_past: bool) -> bool {
     address == b"127.0.0.1:8081".as_slice() || address == b"127.0.0.1:8082".as_slice()
 }
 
-/// Whether the head of an answer has a status from 200 to 399.
-fn went_well(head: &[u8]) -> bool {
-    head.starts_with(b"HTTP/1.1 2") || head.starts_with(b"HTTP/1.1 3")
-}
-
-/// For how many seconds an answer is fresh, by its member of Cache-Status; 0 where it is stale.
-fn seconds_left(head: &[u8]) -> Option<u64> {
-    let (_, told) = last_value(head, b"Cache-Status")?.split_once_str(b";ttl=")?;
-    let seconds = match told.split_once_str(b";") {
-        Some((seconds, _)) => seconds,
-        None => told,
-    };
-    Some(number_of(seconds).unwrap_or(0))
-}
-
-/// Whether a content has the length that its head states; to a HEAD there is none.
-fn fits(head: &[u8], content: &[u8]) -> bool {
-    match last_value(head, b"Content-Length") {
-        Some(length) => content.is_empty() || number_of(length) == Some(content.len() as u64),
-        None => content.is_empty(),
-    }
-}
-
-/// Whether the first line of a head has a status of three digits and no reason.
-fn has_status_line(head: &[u8]) -> bool {
-    let line = match head.split_once_str(b"\r\n") {
-        Some((line, _)) => line,
-        None => head,
-    };
-    match line.strip_prefix(b"HTTP/1.1 ") {
-        Some([a, b, c, b' ']) => a.is_ascii_digit() && b.is_ascii_digit() && c.is_ascii_digit(),
-        _ => false,
-    }
-}
-
-/// Where a reply comes from.
-#[derive(Clone, Copy)]
-enum Source {
-    /// The proxy itself.
-    Own,
-    /// An origin, whose answer was stored or not.
-    Stored,
-    Origin,
-    /// The store: unasked, on the word of an origin, or in the place of an answer.
-    Hit,
-    Validated,
-    Store,
-}
-
-/// Where the member of Cache-Status says that an answer comes from.
-fn source_by(member: &[u8]) -> Source {
-    if member.starts_with(b"hit") {
-        return Source::Hit;
-    }
-    if member.contains_str(b";stored") {
-        return Source::Stored;
-    }
-    if !member.contains_str(b";ttl=") {
-        return Source::Origin;
-    }
-    let is_instead = member.contains_str(b";detail=stale-if-error")
-        || member.contains_str(b";detail=reuse-after-");
-    if member.contains_str(b";fwd-status=304") && !is_instead {
-        Source::Validated
-    } else {
-        Source::Store
-    }
-}
-
-/// Where a reply says that it comes from.
-fn source_of(head: &[u8]) -> Option<Source> {
-    if last_value(head, b"Refusal").is_some() {
-        return Some(Source::Own);
-    }
-    let status = last_value(head, b"Cache-Status")?;
-    Some(source_by(status.strip_prefix(b"edge;")?))
-}
-
-/// Whether a head has the target of this request in its field X-Target.
-fn has_target(alloc: Global, head: &[u8], asked: &Asked) -> Result<bool, AllocError> {
-    Ok(last_value(head, b"X-Target") == Some(asked.target(alloc)?.as_bytes()))
-}
-
-/// The head of a reply, which is to be a whole message, and where it says that it comes from.
-fn read_reply(number: u64, bytes: &[u8]) -> Result<(&[u8], Source), Wrong> {
-    let Some((head, content)) = parts(bytes) else {
-        return Err(Wrong::Rule("a reply is no message", number));
-    };
-    if !has_status_line(head) {
-        return Err(Wrong::Rule("a reply has no status line", number));
-    }
-    if !fits(head, content) {
-        return Err(Wrong::Rule("a reply has another length than it says", number));
-    }
-    match source_of(head) {
-        Some(source) => Ok((head, source)),
-        None => Err(Wrong::Rule("a reply doesn't say whence it is", number)),
-    }
-}
-
 /// The clients of a log, which have sent nothing yet.
 fn clients_of<'a>(alloc: Global, log: &Log) -> Result<Vec<Client<'a>>, Wrong> {
     let mut clients = Vec::new(alloc);
@@ -269,8 +182,10 @@ fn clients_of<'a>(alloc: Global, log: &Log) -> Result<Vec<Client<'a>>, Wrong> {
         if let Told::Accepted(_) = step.told {
             let client = Client {
                 asked: Vec::new(alloc),
+                whole: 0,
                 replies: 0,
                 link: None,
+                last: None,
                 is_accepted: false,
                 is_over: false,
             };
@@ -293,6 +208,10 @@ impl<'a> Check<'a> {
             alloc,
             clients,
             links: Vec::new(alloc),
+            waiters: Vec::new(alloc),
+            suspects: Vec::new(alloc),
+            happening: Now::default(),
+            woken: Vec::new(alloc),
             kept: Vec::new(alloc),
             fresh: Vec::new(alloc),
             is_partly_without: log.is_partly_without,
@@ -311,19 +230,166 @@ impl<'a> Check<'a> {
 
     /// What is known of a happening before its effects.
     fn tell(&mut self, told: Told) {
-        match told {
-            Told::Accepted(number) => {
-                if let Some(client) = self.clients.get_mut(place(number)) {
-                    client.is_accepted = true;
-                }
-            }
-            Told::Gone(number) => {
-                if let Some(client) = self.clients.get_mut(place(number)) {
-                    client.is_over = true;
-                }
-            }
-            Told::Other => {}
+        self.woken.clear();
+        self.happening = Now::default();
+        self.happening.about = match told {
+            Told::Accepted(number) => Some(number),
+            Told::Client(number, _) => Some(number),
+            Told::Gone(number) => Some(number),
+            Told::Link(number) => match link_of(self.links.as_slice(), number) {
+                Some(link) => Some(link.asked.connection),
+                None => None,
+            },
+            Told::Late => None,
+        };
+        if let Some(number) = self.happening.about {
+            self.tell_client(number, told);
         }
+    }
+
+    fn tell_client(&mut self, number: u64, told: Told) {
+        if let Some(client) = self.clients.get_mut(place(number)) {
+            match told {
+                Told::Accepted(_) => client.is_accepted = true,
+                Told::Client(_, whole) => client.whole = whole,
+                Told::Gone(_) => client.is_over = true,
+                Told::Link(_) | Told::Late => {}
+            }
+        }
+        if let Told::Gone(_) = told {
+            self.forget(number);
+        }
+    }
+
+    /// A client is gone: if its request waited, it waits no longer.
+    fn forget(&mut self, number: u64) {
+        let before = self.waiters.len();
+        self.waiters.retain(|waiter| waiter.connection != number);
+        if self.waiters.len() < before {
+            one_more(&mut self.counts.waiters_gone);
+        }
+    }
+
+    /// Whether an effect on a connection wakes the request there.
+    fn wakes(&mut self, number: u64) -> Result<bool, Wrong> {
+        let Some(waiter) = self.waiters.iter().find(|it| it.connection == number) else {
+            return Ok(false);
+        };
+        if !waiter.may_wait_for(self.happening.ended) {
+            return Err(Wrong::Rule("a request is woken while what it waits for is open", number));
+        }
+        if self.happening.is_serving {
+            return Err(Wrong::Rule("a request is served before one that is woken", number));
+        }
+        let before = waiter.before;
+        if self.happening.has_woken_behind(before) {
+            return Err(Wrong::Rule("requests are woken in another order than they came", number));
+        }
+        waiter.push_suspects(
+            &mut self.suspects,
+            self.links.as_slice(),
+            self.happening.ended,
+        )?;
+        self.wake(number, before)?;
+        Ok(true)
+    }
+
+    /// A request waits no longer.
+    fn wake(&mut self, number: u64, before: u64) -> Result<(), Wrong> {
+        if self.woken.is_empty() {
+            one_more(&mut self.counts.wakings);
+        }
+        self.happening.last_woken = Some(before);
+        self.waiters.retain(|waiter| waiter.connection != number);
+        Ok(self.woken.push(number).map_err(AllocError::from)?)
+    }
+
+    /// There may be an effect on a connection to which the happening happened, or which it wakes. Tells whether it does so now.
+    fn touch(&mut self, number: u64) -> Result<bool, Wrong> {
+        if self.wakes(number)? {
+            return Ok(true);
+        }
+        let is_woken = self.woken.iter().any(|woken| *woken == number);
+        if is_woken || self.happening.about == Some(number) {
+            return Ok(false);
+        }
+        Err(Wrong::Rule(
+            "an effect is on a connection to which nothing happened",
+            number,
+        ))
+    }
+
+    /// The same of what is no answer and no forward, which wakes nobody.
+    fn touch_only(&mut self, number: u64) -> Result<(), Wrong> {
+        if self.touch(number)? {
+            return Err(Wrong::Rule("a request that waits gets something else", number));
+        }
+        Ok(())
+    }
+
+    /// A request has come whole, and got nothing: it waits.
+    fn begin_to_wait(&mut self, asked: Asked) -> Result<(), Wrong> {
+        let connection = asked.connection;
+        if asked.method != "GET" || self.is_past(&asked) {
+            return Err(Wrong::Rule("a request that never waits gets nothing", connection));
+        }
+        let beside = beside(self.alloc, self.links.as_slice(), &asked)?;
+        if beside.is_empty() {
+            return Err(Wrong::Rule("a request waits for none", connection));
+        }
+        let waiter = Waiter {
+            connection,
+            before: self.counts.waited,
+            beside,
+        };
+        one_more(&mut self.counts.waited);
+        Ok(self.waiters.push(waiter).map_err(AllocError::from)?)
+    }
+
+    /// The least connection behind this one to which the happening happened, or which it has woken.
+    fn next_touched(&self, last: u64) -> Option<u64> {
+        let mut next = match self.happening.about {
+            Some(about) if about > last => about,
+            _ => u64::MAX,
+        };
+        for woken in &self.woken {
+            if *woken > last && *woken < next {
+                next = *woken;
+            }
+        }
+        if next == u64::MAX { None } else { Some(next) }
+    }
+
+    /// The request of a connection that has come whole, got nothing, and isn't known to wait.
+    fn silent(&self, connection: u64) -> Option<Asked> {
+        if self
+            .waiters
+            .iter()
+            .any(|waiter| waiter.connection == connection)
+        {
+            return None;
+        }
+        self.clients.get(place(connection))?.silent()
+    }
+
+    /// Who is served is served by now, the least connection first; so what has come whole and got nothing waits.
+    fn note_waiting(&mut self) -> Result<(), Wrong> {
+        let mut last = 0;
+        for _ in 0..self.woken.len().saturating_add(1) {
+            let Some(connection) = self.next_touched(last) else {
+                break;
+            };
+            last = connection;
+            if let Some(asked) = self.silent(connection) {
+                self.begin_to_wait(asked)?;
+            }
+        }
+        for waiter in &self.waiters {
+            if !waiter.has_one_to_wait_for(self.links.as_slice()) {
+                return Err(Wrong::Rule("a request waits for what has ended", waiter.connection));
+            }
+        }
+        Ok(())
     }
 
     /// What must hold behind the effects of a happening.
@@ -354,8 +420,8 @@ impl<'a> Check<'a> {
         self.now < until
     }
 
-    /// The request of a connection that waits for an answer.
-    fn waiting(&self, connection: u64) -> Option<Asked> {
+    /// The request of a connection that has no reply.
+    fn unanswered(&self, connection: u64) -> Option<Asked> {
         let client = self.clients.get(place(connection))?;
         let asked = client.asked.get(client.replies)?;
         Some(**asked)
@@ -393,6 +459,30 @@ impl<'a> Check<'a> {
             ));
         }
         client.link = Some(number);
+        // The request has had a link: its exchange goes on.
+        let goes_on = client.last.is_some();
+        client.last = Some(number);
+        if goes_on {
+            self.happening.ended = None;
+        }
+        Ok(())
+    }
+
+    /// A request goes forward that hasn't waited: there was none that it could have waited for.
+    fn begin_at_once(&mut self, asked: &Asked, number: u64) -> Result<(), Wrong> {
+        self.happening.is_serving = true;
+        if asked.method != "GET" {
+            return Ok(());
+        }
+        let others = beside(self.alloc, self.links.as_slice(), asked)?;
+        for other in &others {
+            let suspect = Suspect {
+                links: (*other, number),
+                rule: "a request goes forward beside one that it could have waited for",
+                connection: asked.connection,
+            };
+            self.suspects.push(suspect).map_err(AllocError::from)?;
+        }
         Ok(())
     }
 
@@ -403,26 +493,32 @@ impl<'a> Check<'a> {
         let Some((connection, ordinal)) = id_of_request(request) else {
             return Err(Wrong::Rule("a forward is of no request", number));
         };
+        let is_woken = self.touch(connection)?;
         self.begin(connection, ordinal, number)?;
-        let Some(asked) = self.waiting(connection) else {
+        let Some(asked) = self.unanswered(connection) else {
             return Err(Wrong::Rule("a forward is of no request", number));
         };
         self.send_on(&asked, number, address)?;
-        let link = Link {
-            connection,
-            is_dropped: false,
-        };
-        Ok(self.links.push(link).map_err(AllocError::from)?)
+        if is_woken {
+            one_more(&mut self.counts.woken_forward);
+        } else {
+            self.begin_at_once(&asked, number)?;
+        }
+        Ok(self.links.push(Link::new(asked)).map_err(AllocError::from)?)
     }
 
     fn drop_link(&mut self, number: u64) -> Result<(), Wrong> {
         let connection = match self.links.get_mut(place(number)) {
             Some(link) if !link.is_dropped => {
                 link.is_dropped = true;
-                link.connection
+                link.asked.connection
             }
             _ => return Err(Wrong::Rule("a link is dropped that isn't there", number)),
         };
+        if self.happening.about != Some(connection) {
+            return Err(Wrong::Rule("a link is dropped to which nothing happened", number));
+        }
+        self.happening.ended = Some(number);
         if let Some(client) = self.clients.get_mut(place(connection)) {
             client.link = None;
         }
@@ -431,6 +527,7 @@ impl<'a> Check<'a> {
     }
 
     fn close(&mut self, number: u64) -> Result<(), Wrong> {
+        self.touch_only(number)?;
         let client = self.client(number)?;
         if client.link.is_some() {
             return Err(Wrong::Rule("a close leaves a link", number));
@@ -448,8 +545,9 @@ impl<'a> Check<'a> {
             Source::Own => Ok(true),
             Source::Stored | Source::Origin => Ok(is_own),
             Source::Validated => Ok(is_own && has_target(self.alloc, head, asked)?),
-            Source::Hit | Source::Store if head.starts_with(b"HTTP/1.1 304 ") => Ok(true),
-            Source::Hit | Source::Store => {
+            Source::Hit | Source::Store | Source::Collapsed if head.starts_with(b"HTTP/1.1 304 ") =>
+                { Ok(true) }
+            Source::Hit | Source::Store | Source::Collapsed => {
                 let was_kept = self
                     .kept
                     .iter()
@@ -466,6 +564,7 @@ impl<'a> Check<'a> {
             Source::Stored => one_more(&mut self.counts.stored),
             Source::Hit => one_more(&mut self.counts.hits),
             Source::Validated => one_more(&mut self.counts.validated),
+            Source::Collapsed => one_more(&mut self.counts.collapsed),
             Source::Origin | Source::Store => {}
         }
     }
@@ -534,10 +633,32 @@ impl<'a> Check<'a> {
         Ok(())
     }
 
+    /// What an answer says of the link on which its request was, if there was one.
+    fn note_link(&mut self, number: u64, head: &[u8]) {
+        let Some(client) = self.clients.get_mut(place(number)) else {
+            return;
+        };
+        let Some(last) = client.last else {
+            self.happening.is_serving = true;
+            return;
+        };
+        client.last = None;
+        if let Some(link) = self.links.get_mut(place(last)) {
+            link.is_miss = names_a_miss(head);
+        }
+    }
+
     /// A reply to the first request of a client that has none.
     fn reply(&mut self, number: u64, bytes: &[u8]) -> Result<(), Wrong> {
+        let is_woken = self.touch(number)?;
         let asked = self.next_asked(number)?;
         let (head, source) = read_reply(number, bytes)?;
+        if is_woken != matches!(source, Source::Collapsed) {
+            return Err(Wrong::Rule("a reply says wrongly whether its request waited", number));
+        }
+        if !is_woken {
+            self.note_link(number, head);
+        }
         if !self.answers(head, source, &asked)? {
             return Err(Wrong::Rule("a reply is to another request", number));
         }
@@ -550,6 +671,7 @@ impl<'a> Check<'a> {
     /// Bytes to a client: a continue or a reply.
     fn send(&mut self, number: u64, bytes: &[u8]) -> Result<(), Wrong> {
         if bytes == CONTINUE {
+            self.touch_only(number)?;
             self.listener(number)?;
             return Ok(());
         }
@@ -597,6 +719,7 @@ impl<'a> Check<'a> {
         self.tell(told);
         self.see(own)?;
         self.ask(told)?;
+        self.note_waiting()?;
         Ok(rest)
     }
 }
@@ -613,6 +736,9 @@ pub fn check_run(alloc: Global, log: &Log, text: &[u8]) -> Result<Counts, Wrong>
     }
     if !rest.is_empty() {
         return Err(Wrong::Rule("there are effects of no happening", 0));
+    }
+    if let Some(suspect) = found(check.suspects.as_slice(), check.links.as_slice()) {
+        return Err(Wrong::Rule(suspect.rule, suspect.connection));
     }
     Ok(check.counts)
 }

@@ -8,10 +8,14 @@ use std::alloc::Global;
 pub enum Told {
     /// The connection of this number was accepted.
     Accepted(u64),
+    /// The client of this connection sent bytes or its end; so many of its requests have come whole.
+    Client(u64, u64),
     /// The client of this connection went away.
     Gone(u64),
-    /// Anything else.
-    Other,
+    /// On this link bytes came, or its end, or a failure.
+    Link(u64),
+    /// What was told of an end that is over.
+    Late,
 }
 
 /// A happening, its moment, and how many bytes the text of its effects has.

@@ -9,14 +9,17 @@
 
 mod answers;
 mod check;
+mod counts;
 mod dice;
 mod effects;
 mod fields;
 mod log;
 mod past_store;
+mod replies;
 mod requests;
 mod tables;
 mod trial;
+mod waiting;
 mod world;
 
 use std::process::ExitCode;

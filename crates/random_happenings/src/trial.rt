@@ -1,6 +1,7 @@
 //! The trials: scripts are made, replayed and checked.
 
-use crate::check::{Counts, Wrong, check_run};
+use crate::check::{Wrong, check_run};
+use crate::counts::Counts;
 use crate::log::Log;
 use crate::world::{Stopped, World};
 use proxy_server::{ReplayFault, replay, replay_on_list};
@@ -31,6 +32,16 @@ fn tell_past<R: Print>(rt: &R, counts: &Counts) -> io::Result<()> {
     )
 }
 
+/// Prints how many waited, and what came of it.
+fn tell_waiting<R: Print>(rt: &R, counts: &Counts) -> io::Result<()> {
+    let (waited, wakings, gone) = (counts.waited, counts.wakings, counts.waiters_gone);
+    let (collapsed, forward) = (counts.collapsed, counts.woken_forward);
+    let released = collapsed.saturating_add(forward);
+    println!(rt;
+        "{waited} waited: {released} released by {wakings} others, {collapsed} to a stored response and {forward} to a forward; {gone} went away"
+    )
+}
+
 /// Prints what the check came to.
 fn tell<R: Print + Eprint>(
     rt: &R,
@@ -41,6 +52,7 @@ fn tell<R: Print + Eprint>(
         Ok(counts) => {
             println!(rt; "{happenings} happenings: the property holds")?;
             println!(rt; "{counts}")?;
+            tell_waiting(rt, &counts)?;
             tell_past(rt, &counts)?;
             Ok(true)
         }

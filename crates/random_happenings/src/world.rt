@@ -66,6 +66,11 @@ struct Caller {
     begun: u64,
     /// What of its requests isn't sent yet.
     rest: Vec<u8>,
+    /// How many bytes it has sent that count: those before its end.
+    sent: usize,
+    /// Behind how many bytes each of its requests is whole.
+    wholes: Vec<usize>,
+    has_ended: bool,
 }
 
 // By hand, here and below, so that a scope that ends is one call to the prover and not the drop of each part.
@@ -75,11 +80,43 @@ impl Drop for Caller {
             number: _,
             begun: _,
             rest: _,
+            sent: _,
+            wholes: _,
+            has_ended: _,
         } = self;
     }
 }
 
 impl Caller {
+    fn new(alloc: Global, number: u64) -> Self {
+        Caller {
+            number,
+            begun: 0,
+            rest: Vec::new(alloc),
+            sent: 0,
+            wholes: Vec::new(alloc),
+            has_ended: false,
+        }
+    }
+
+    /// So many bytes more were sent.
+    fn note_sent(&mut self, count: usize) {
+        if !self.has_ended {
+            self.sent = self.sent.saturating_add(count);
+        }
+    }
+
+    /// What is told where the client sent something.
+    fn told(&self) -> Told {
+        let mut whole = 0u64;
+        for end in &self.wholes {
+            if *end <= self.sent {
+                whole = whole.saturating_add(1);
+            }
+        }
+        Told::Client(self.number, whole)
+    }
+
     /// Begins a request, which is sent behind the rest.
     fn begin(&mut self, alloc: Global, dice: &mut Dice) -> Result<Asked, AllocError> {
         self.begun = self.begun.saturating_add(1);
@@ -87,6 +124,7 @@ impl Caller {
         let mut text = String::new(alloc);
         push_request(&mut text, dice, &asked)?;
         self.rest.extend_from_slice(text.as_bytes())?;
+        self.wholes.push(self.sent.saturating_add(self.rest.len()))?;
         Ok(asked)
     }
 }
@@ -170,13 +208,13 @@ fn late(
     is_linked: bool,
 ) -> Option<(Happening<'static>, Told)> {
     match roll {
-        0 if !is_open => Some((Happening::Client(n, b"GET /late HTTP/1.1\r\n"), Told::Other)),
-        1 if !is_open => Some((Happening::End(n), Told::Other)),
+        0 if !is_open => Some((Happening::Client(n, b"GET /late HTTP/1.1\r\n"), Told::Late)),
+        1 if !is_open => Some((Happening::End(n), Told::Late)),
         2 if !is_open => Some((Happening::Gone(n), Told::Gone(n))),
         _ if is_linked => None,
-        3 => Some((Happening::Fail(l, FailKind::Closed), Told::Other)),
-        4 => Some((Happening::Shut(l), Told::Other)),
-        _ => Some((Happening::Link(l, b"late"), Told::Other)),
+        3 => Some((Happening::Fail(l, FailKind::Closed), Told::Late)),
+        4 => Some((Happening::Shut(l), Told::Late)),
+        _ => Some((Happening::Link(l, b"late"), Told::Late)),
     }
 }
 
@@ -265,11 +303,7 @@ impl World {
     fn accept(&mut self) -> Result<(), Stopped> {
         self.accepted = self.accepted.saturating_add(1);
         let number = self.accepted;
-        let caller = Caller {
-            number,
-            begun: 0,
-            rest: Vec::new(self.alloc),
-        };
+        let caller = Caller::new(self.alloc, number);
         self.callers.push(caller).map_err(AllocError::from)?;
         self.happen(Happening::Accept(number), Told::Accepted(number))
     }
@@ -286,7 +320,9 @@ impl World {
         }
         let number = caller.number;
         let piece = cut_piece(&mut self.dice, &mut caller.rest)?;
-        self.happen(Happening::Client(number, piece.as_slice()), Told::Other)
+        caller.note_sent(piece.len());
+        let told = caller.told();
+        self.happen(Happening::Client(number, piece.as_slice()), told)
     }
 
     /// An origin sends a piece of its answer, and closes where all of it was sent.
@@ -299,21 +335,26 @@ impl World {
         if !link.has_begun {
             link.begin(self.alloc, &mut self.dice)?;
         } else if link.rest.is_empty() {
-            return self.happen(Happening::Shut(number), Told::Other);
+            return self.happen(Happening::Shut(number), Told::Link(number));
         }
         let piece = cut_piece(&mut self.dice, &mut link.rest)?;
-        self.happen(Happening::Link(number, piece.as_slice()), Told::Other)
+        self.happen(
+            Happening::Link(number, piece.as_slice()),
+            Told::Link(number),
+        )
     }
 
     /// A client sends no more, or goes away.
     fn client_leaves(&mut self) -> Result<(), Stopped> {
         let i = self.dice.below(self.callers.len());
-        let Some(caller) = self.callers.get(i) else {
+        let Some(caller) = self.callers.get_mut(i) else {
             return self.accept();
         };
         let number = caller.number;
         if self.dice.once_in(2) {
-            return self.happen(Happening::End(number), Told::Other);
+            caller.has_ended = true;
+            let told = caller.told();
+            return self.happen(Happening::End(number), told);
         }
         self.callers.retain(|caller| caller.number != number);
         self.happen(Happening::Gone(number), Told::Gone(number))
@@ -332,7 +373,7 @@ impl World {
             2 => Happening::Fail(number, FailKind::Closed),
             _ => Happening::Shut(number),
         };
-        self.happen(happening, Told::Other)
+        self.happen(happening, Told::Link(number))
     }
 
     /// Something happens at an end that is over.

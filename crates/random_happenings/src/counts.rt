@@ -1,0 +1,48 @@
+//! How much there was of what in a run.
+
+use std::fmt;
+
+/// How much there was of what.
+#[derive(Clone, Copy, Default)]
+pub struct Counts {
+    pub effects: u64,
+    pub forwards: u64,
+    pub drops: u64,
+    pub replies: u64,
+    pub stored: u64,
+    pub hits: u64,
+    pub validated: u64,
+    pub refused: u64,
+    /// Requests that went past the store.
+    pub past: u64,
+    /// Of them those that asked for what was fresh by the last answer for their target that was stored or sent.
+    pub past_fresh: u64,
+    /// Of them those that took away what was stored.
+    pub past_taking: u64,
+    /// Requests that waited for others.
+    pub waited: u64,
+    /// Ends of others that woke some.
+    pub wakings: u64,
+    /// Woken requests that were sent a stored response.
+    pub collapsed: u64,
+    /// Woken requests that went forward.
+    pub woken_forward: u64,
+    /// Requests whose clients went away while they waited.
+    pub waiters_gone: u64,
+}
+
+impl fmt::Display for Counts {
+    fn fmt<W: fmt::Write>(&self, f: &mut fmt::Formatter<W>) -> fmt::Result {
+        let (effects, forwards, drops) = (self.effects, self.forwards, self.drops);
+        let (replies, stored, hits) = (self.replies, self.stored, self.hits);
+        let (validated, refused) = (self.validated, self.refused);
+        write!(
+            f,
+            "{effects} effects: {forwards} forwards, {drops} drops, {replies} replies, "
+        )?;
+        write!(
+            f,
+            "of them {stored} stored, {hits} hits, {validated} validated, {refused} refused"
+        )
+    }
+}

@@ -1,0 +1,120 @@
+//! What a reply says of itself.
+
+use crate::check::Wrong;
+use crate::fields::{last_value, number_of, parts};
+use crate::requests::Asked;
+use bstr::ByteSlice;
+use std::alloc::{AllocError, Global};
+
+/// Whether the head of an answer has a status from 200 to 399.
+pub fn went_well(head: &[u8]) -> bool {
+    head.starts_with(b"HTTP/1.1 2") || head.starts_with(b"HTTP/1.1 3")
+}
+
+/// For how many seconds an answer is fresh, by its member of Cache-Status; 0 where it is stale.
+pub fn seconds_left(head: &[u8]) -> Option<u64> {
+    let (_, told) = last_value(head, b"Cache-Status")?.split_once_str(b";ttl=")?;
+    let seconds = match told.split_once_str(b";") {
+        Some((seconds, _)) => seconds,
+        None => told,
+    };
+    Some(number_of(seconds).unwrap_or(0))
+}
+
+/// Whether a content has the length that its head states; to a HEAD there is none.
+fn fits(head: &[u8], content: &[u8]) -> bool {
+    match last_value(head, b"Content-Length") {
+        Some(length) => content.is_empty() || number_of(length) == Some(content.len() as u64),
+        None => content.is_empty(),
+    }
+}
+
+/// Whether the first line of a head has a status of three digits and no reason.
+fn has_status_line(head: &[u8]) -> bool {
+    let line = match head.split_once_str(b"\r\n") {
+        Some((line, _)) => line,
+        None => head,
+    };
+    match line.strip_prefix(b"HTTP/1.1 ") {
+        Some([a, b, c, b' ']) => a.is_ascii_digit() && b.is_ascii_digit() && c.is_ascii_digit(),
+        _ => false,
+    }
+}
+
+/// Where a reply comes from.
+#[derive(Clone, Copy)]
+pub enum Source {
+    /// The proxy itself.
+    Own,
+    /// An origin, whose answer was stored or not.
+    Stored,
+    Origin,
+    /// The store: unasked, on the word of an origin, or in the place of an answer.
+    Hit,
+    Validated,
+    Store,
+    /// The same, where the request waited for another's answer.
+    Collapsed,
+}
+
+/// Where the member of Cache-Status says that an answer comes from.
+fn source_by(member: &[u8]) -> Source {
+    if member.starts_with(b"hit") {
+        return Source::Hit;
+    }
+    if member.starts_with(b"fwd=uri-miss;ttl=") && member.ends_with(b";collapsed") {
+        return Source::Collapsed;
+    }
+    if member.contains_str(b";stored") {
+        return Source::Stored;
+    }
+    if !member.contains_str(b";ttl=") {
+        return Source::Origin;
+    }
+    let is_instead = member.contains_str(b";detail=stale-if-error")
+        || member.contains_str(b";detail=reuse-after-");
+    if member.contains_str(b";fwd-status=304") && !is_instead {
+        Source::Validated
+    } else {
+        Source::Store
+    }
+}
+
+/// Where a reply says that it comes from.
+fn source_of(head: &[u8]) -> Option<Source> {
+    if last_value(head, b"Refusal").is_some() {
+        return Some(Source::Own);
+    }
+    let status = last_value(head, b"Cache-Status")?;
+    Some(source_by(status.strip_prefix(b"edge;")?))
+}
+
+/// Whether an answer tells that its request went forward since nothing was held for its target.
+pub fn names_a_miss(head: &[u8]) -> bool {
+    match last_value(head, b"Cache-Status") {
+        Some(member) => member.starts_with(b"edge;fwd=uri-miss"),
+        None => false,
+    }
+}
+
+/// Whether a head has the target of this request in its field X-Target.
+pub fn has_target(alloc: Global, head: &[u8], asked: &Asked) -> Result<bool, AllocError> {
+    Ok(last_value(head, b"X-Target") == Some(asked.target(alloc)?.as_bytes()))
+}
+
+/// The head of a reply, which is to be a whole message, and where it says that it comes from.
+pub fn read_reply(number: u64, bytes: &[u8]) -> Result<(&[u8], Source), Wrong> {
+    let Some((head, content)) = parts(bytes) else {
+        return Err(Wrong::Rule("a reply is no message", number));
+    };
+    if !has_status_line(head) {
+        return Err(Wrong::Rule("a reply has no status line", number));
+    }
+    if !fits(head, content) {
+        return Err(Wrong::Rule("a reply has another length than it says", number));
+    }
+    match source_of(head) {
+        Some(source) => Ok((head, source)),
+        None => Err(Wrong::Rule("a reply doesn't say whence it is", number)),
+    }
+}
