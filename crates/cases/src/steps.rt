@@ -236,7 +236,7 @@ fn write_given(text: &mut String, given: &Result<Outcome, CoreFault>) -> Result<
         Ok(Outcome::Reply(reply)) => write_changes(text, reply),
         Ok(Outcome::Forward(1, _)) => text.push_str("gives forward"),
         Ok(Outcome::Forward(line, _)) => write!(text, "gives forward by line {line}"),
-        Ok(Outcome::Waits { leader }) => write!(text, "gives a wait for {leader}"),
+        Ok(Outcome::Waits(leader)) => write!(text, "gives a wait for {leader}"),
         Ok(Outcome::Ended) => text.push_str("gives an end"),
         Err(fault) => write!(text, "gives refusal {fault:?}"),
     }
@@ -247,7 +247,7 @@ fn message_in(given: &Result<Outcome, CoreFault>) -> &[u8] {
     match given {
         Ok(Outcome::Reply(reply)) => reply.bytes.as_slice(),
         Ok(Outcome::Forward(_, bytes)) => bytes.as_slice(),
-        Ok(Outcome::Waits { leader: _ }) => &[],
+        Ok(Outcome::Waits(_)) => &[],
         Ok(Outcome::Ended) => &[],
         Err(_) => &[],
     }

@@ -55,19 +55,9 @@ fn wake_faults(rt: HostRuntime) -> Result<(), Fail> {
     let failure = Event::Fail(101, 2, FailKind::Closed);
     stops_at(&rt, alloc, failure, CoreFault::NotForwarded)?;
     for id in 1..3u64 {
-        stops_at(
-            &rt,
-            alloc,
-            Event::Wake { now: 101, id },
-            CoreFault::NotReady,
-        )?;
+        stops_at(&rt, alloc, Event::Wake(101, id), CoreFault::NotReady)?;
     }
-    stops_at(
-        &rt,
-        alloc,
-        Event::Wake { now: 101, id: 9 },
-        CoreFault::UnknownId,
-    )
+    stops_at(&rt, alloc, Event::Wake(101, 9), CoreFault::UnknownId)
 }
 
 /// Once the first has its answer the second is woken to what was stored of it, and only once.
@@ -77,10 +67,10 @@ fn a_run_wakes_once(rt: HostRuntime) -> Result<(), Fail> {
     let mut events = two_ask(alloc)?;
     answers(alloc, &mut events, 1)?;
     for _ in 0..2u8 {
-        events.push(Event::Wake { now: 101, id: 2 })?;
+        events.push(Event::Wake(101, 2))?;
     }
     let ran = ran(alloc, &events)?;
-    assert!(rt; matches!(ran.outcomes.get(1), Some(Outcome::Waits { leader: 1 })));
+    assert!(rt; matches!(ran.outcomes.get(1), Some(Outcome::Waits(1))));
     match ran.outcomes.get(3) {
         Some(Outcome::Reply(reply)) => assert_eq!(rt; reply.used, Some(1)),
         _ => assert!(rt; false),
