@@ -15,7 +15,7 @@ use Rattle.hx_store.specs.Index.{indexed, but, IsIndexOf, IsPutIn, IsTakenOut, w
 use Rattle.hx_store.proofs.EntryLists.{eqb_comm, not_only, without_none, find-serial, find_holds, Distinct-filter, length-filter_le, length-without}
 use Rattle.hx_store.proofs.FoundSerials.{is_in-insert, finds_ascending, below_less}
 use Rattle.hx_store.proofs.KeyedEntries.{is_some-find, distinct-front}
-use Rattle.hx_store.proofs.Indices.{one_key}
+use Rattle.hx_store.proofs.Indices.{one_key, not_nothing}
 
 -- ---- lists of serials
 
@@ -390,13 +390,6 @@ key-smaller s q es zs h e = subst (λ ys. length ys < length es) (sym e) (length
 nothing : (xs : List ℕ) → slice_get xs 0 ≡ None → xs ≡ []
 nothing [] h = refl
 nothing (x ∷ xs) h = absurd (cc)
-
-not_nothing : (s : ℕ) (xs : List ℕ) → insert_ascending s xs ≡ [] → ⊥
-not_nothing s xs h = false≢true (
-    sym (ap (is_in s) h)
-    ∙ is_in-insert s s xs
-    ∙ or_left _ _ (eq-eqb s s refl)
-    )
 
 none_of_key : (q : Key) (es : List Stored) → serials_of q es ≡ [] → without_key q es ≡ es
 none_of_key q [] h = refl

@@ -1,19 +1,22 @@
 -- What a map from keys to sets of serials says of the serials at each key.
-use Rattle.std.proofs.Common.{◌≡◌, ℕ, Bool, true, false, cond, ◌&&◌, eqb, Option, List, [], ◌∷◌, refl, sym, ◌∙◌, ap, arith, inl, inr}
-use Rattle.std.specs.Option.{option_map_or}
+use Rattle.std.proofs.Common.{None, Some, ◌≡◌, ℕ, Bool, true, false, cond, ◌&&◌, eqb, Option, List, [], ◌∷◌, refl, sym, ◌∙◌, ap, arith, inl, inr}
+use Rattle.std.specs.Option.{option_map_or, ForSome}
 use Rattle.std.specs.Ordering.{nat_cmp}
 use Rattle.std.specs.Cmp.Lexicographic.{bytes_decides}
 use Rattle.std.specs.BTreeMap.{get, is_at}
 use Rattle.std.specs.BTreeSet.{BTreeSet, insert_key}
 use Rattle.std.specs.Set.{remove_key}
-use Rattle.std.proofs.lemmas.Bool.{cases_Bool, false≢true, eqb-true, or_parts}
+use Rattle.std.proofs.lemmas.Bool.{cases_Bool, false≢true, eqb-true, eq-eqb, or_parts, or_left}
 use Rattle.std.proofs.lemmas.Bool.Decides.{nat_tests}
+use Rattle.std.specs.Map.{lookup}
+use Rattle.std.proofs.lemmas.Option.{same_Some}
 use Rattle.hx_target.specs.declared.keys.Key.{Key}
 use Rattle.hx_target.specs.Keys.{same_key}
 use Rattle.hx_target.specs.KeyOrder.{key_cmp, key_ties}
 use Rattle.hx_store.specs.declared.key_index.KeyIndex.{KeyIndex}
 use Rattle.hx_store.specs.Serials.{is_in, insert_ascending}
-use Rattle.hx_store.specs.Index.{indexed, but, IsSameIndex}
+use Rattle.hx_store.specs.Index.{indexed, but, IsSameIndex, IsTrim, IsTrimBeside}
+use Rattle.hx_store.proofs.FoundSerials.{is_in-insert}
 
 both : (a b : Bool) → (a && b) ≡ true → (a ≡ true) × (b ≡ true)
 both true b h = (refl, h)
@@ -73,3 +76,48 @@ insert-new s (x ∷ xs) h = let p = or_parts (eqb x s) (is_in s xs) h in insert-
 pub remove-first : (s : ℕ) (xs : List ℕ) → remove_key (is_at (nat_cmp s)) xs ≡ but s xs
 remove-first s [] = refl
 remove-first s (x ∷ xs) = let h = remove-first s xs in grind (arith, nat_tests, h)
+
+-- ---- no key is in the index for nothing
+
+abbrev pub HasSome : BTreeSet ℕ → Type 0
+HasSome set = set.keys ≡ [] → ⊥
+
+pub not_nothing : (s : ℕ) (xs : List ℕ) → insert_ascending s xs ≡ [] → ⊥
+not_nothing s xs h = false≢true (
+    sym (ap (is_in s) h)
+    ∙ is_in-insert s s xs
+    ∙ or_left _ _ (eq-eqb s s refl)
+    )
+
+pub some_has : (set : BTreeSet ℕ) → HasSome set → ForSome (Some set) HasSome
+some_has set n x e k = n (ap (λ y. y.keys) (same_Some set x e) ∙ k)
+
+pub trim-written : (key : Key) (old new : KeyIndex) (w : Option (BTreeSet ℕ)) →
+    ((q : Key) → get key_cmp new.serials q ≡ cond (is_at (key_cmp key) q) w (get key_cmp old.serials q)) → ForSome w HasSome → IsTrim old → IsTrim new
+trim-written key old new w h n o q set e k =
+    let g = get key_cmp old.serials q in
+    elim (cases_Bool (is_at (key_cmp key) q)) [
+      | inl t ↦ n set (sym (h q ∙ ap (λ b. cond b w g) t) ∙ e) k
+      | inr f ↦ o q set (sym (h q ∙ ap (λ b. cond b w g) f) ∙ e) k
+    ]
+
+pub trim-beside : (key : Key) (old new : KeyIndex) (w : Option (BTreeSet ℕ)) →
+    ((q : Key) → get key_cmp new.serials q ≡ cond (is_at (key_cmp key) q) w (get key_cmp old.serials q)) → IsTrim old → IsTrimBeside key new
+trim-beside key old new w h o q f set e k =
+    let g = get key_cmp old.serials q in
+    o q set (sym (h q ∙ ap (λ b. cond b w g) (sym (key_ties key q) ∙ f)) ∙ e) k
+
+pub trim-removed : (key : Key) (mid new : KeyIndex) →
+    ((q : Key) → get key_cmp new.serials q ≡ cond (is_at (key_cmp key) q) None (get key_cmp mid.serials q)) → IsTrimBeside key mid → IsTrim new
+trim-removed key mid new h b q set e k =
+    let g = get key_cmp mid.serials q in
+    elim (cases_Bool (is_at (key_cmp key) q)) [
+      | inl t ↦ (
+          let n : None ≡ Some set = sym (h q ∙ ap (λ b. cond b None g) t) ∙ e in
+          absurd (cc)
+          )
+      | inr f ↦ b q (key_ties key q ∙ f) set (sym (h q ∙ ap (λ b. cond b None g) f) ∙ e) k
+    ]
+
+pub trim-same : (old new : KeyIndex) → new.serials.entries ≡ old.serials.entries → IsTrim old → IsTrim new
+trim-same old new s o q set e k = o q set (ap (lookup (is_at (key_cmp q))) (sym s) ∙ e) k

@@ -1,7 +1,7 @@
 -- An index from keys to serials.
 use Rattle.std.specs.Prelude.{◌≡◌, ℕ, Bool, true, false, not, ◌||◌, ◌==◌, List, [], ◌∷◌, if◌then◌else◌}
 use Rattle.std.specs.List.{filter}
-use Rattle.std.specs.Option.{option_map_or}
+use Rattle.std.specs.Option.{option_map_or, ForSome}
 use Rattle.std.specs.BTreeMap.{get}
 use Rattle.hx_target.specs.declared.keys.Key.{Key}
 use Rattle.hx_target.specs.Keys.{same_key}
@@ -34,6 +34,14 @@ IsSameIndex old new = (q : Key) → indexed new q ≡ indexed old q
 abbrev pub IsPutInIf : Bool → KeyIndex → Key → ℕ → KeyIndex → Type 0
 IsPutInIf true old key s new = IsPutIn old key s new
 IsPutInIf false old key s new = IsSameIndex old new × (indexed old key ≡ [])
+
+-- no key is in the index for nothing
+abbrev pub IsTrim : KeyIndex → Type 0
+IsTrim index = (q : Key) → ForSome (get key_cmp index.serials q) (λ set. set.keys ≡ [] → ⊥)
+
+-- the same of each key but this one
+abbrev pub IsTrimBeside : Key → KeyIndex → Type 0
+IsTrimBeside key index = (q : Key) → same_key key q ≡ false → ForSome (get key_cmp index.serials q) (λ set. set.keys ≡ [] → ⊥)
 
 -- the index has the serials of these entries at each key
 abbrev pub IsIndexOf : List Stored → KeyIndex → Type 0

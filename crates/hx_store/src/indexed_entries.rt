@@ -38,7 +38,7 @@ impl Drop for IndexedEntries {
 impl Model for IndexedEntries {
     ghost use Rattle.std.specs.Prelude.{List};
     ghost use Rattle.hx_store.specs.Stored.{Stored};
-    ghost use Rattle.hx_store.specs.Index.{IsIndexOf};
+    ghost use Rattle.hx_store.specs.Index.{IsIndexOf, IsTrim};
     ghost use Rattle.hx_store.specs.Serials.{Distinct};
     ghost use Rattle.hx_store.specs.Shelf.{serials};
 
@@ -46,7 +46,7 @@ impl Model for IndexedEntries {
 
     ghost view = { λ s. s.entries };
 
-    ghost invariant = { λ s. Distinct (serials s.entries) × IsIndexOf s.entries s.index };
+    ghost invariant = { λ s. (Distinct (serials s.entries) × IsIndexOf s.entries s.index) × IsTrim s.index };
 }
 
 impl IndexedEntries {

@@ -3,17 +3,17 @@
 //! A call costs the logarithm of what is held, but that `find` also costs what it finds.
 
 ghost use Rattle.std.specs.Prelude.{◌≡◌, ◌∷◌, [], false, IfOk, OnOk, OnErr, slice_get};
-ghost use Rattle.std.specs.Bool.{OnTrue};
+ghost use Rattle.std.specs.Bool.{OnFalse, OnTrue};
 ghost use Rattle.hx_target.specs.declared.keys.Key.{Key as StoreKey};
 ghost use Rattle.hx_store.specs.Serials.{is_in, insert_ascending};
-ghost use Rattle.hx_store.specs.Index.{indexed, IsPutIn, IsPutInIf, IsTakenOut, IsSameIndex};
+ghost use Rattle.hx_store.specs.Index.{indexed, IsPutIn, IsPutInIf, IsTakenOut, IsSameIndex, IsTrim, IsTrimBeside};
 
 use crate::serial_list::Serials;
 use hx_target::Key;
 use std::alloc::{AllocError, Global};
 use std::collections::{BTreeMap, BTreeSet};
 
-/// Serials by keys. No key has none, so that what is kept is no more than what is held.
+/// Serials by keys, of which none stands there without a serial.
 pub(crate) struct KeyIndex {
     serials: BTreeMap<Key, BTreeSet<u64>>,
 }
@@ -28,7 +28,8 @@ impl Drop for KeyIndex {
 impl KeyIndex {
     /// No serials.
     pub(crate) fn new(alloc: Global) -> KeyIndex
-        ensures { (key : StoreKey) → indexed result key ≡ [] }
+        ensures empty { (key : StoreKey) → indexed result key ≡ [] }
+        ensures trim { IsTrim result }
     {
         KeyIndex {
             serials: BTreeMap::new(alloc),
@@ -60,6 +61,7 @@ impl KeyIndex {
         requires { is_in serial (indexed self.old key.now) ≡ false }
         ensures ok { OnOk result (IsPutIn self.old key.now serial self.new) }
         ensures err { OnErr result (IsSameIndex self.old self.new) }
+        ensures trim { IsTrim self.old → IsTrim self.new }
     {
         if self.insert_beside(key, serial)? {
             return Ok(());
@@ -74,6 +76,7 @@ impl KeyIndex {
         requires { is_in serial (indexed self.old key.now) ≡ false }
         ensures ok { IfOk result (λ has. IsPutInIf has self.old key.now serial self.new) }
         ensures err { OnErr result (IsSameIndex self.old self.new) }
+        ensures trim { IsTrim self.old → IsTrim self.new }
     {
         match self.serials.get_mut(key) {
             Some(serials) => {
@@ -86,7 +89,8 @@ impl KeyIndex {
 
     /// Takes a serial out at a key. No memory is taken.
     pub(crate) fn remove(&mut self, key: &Key, serial: u64)
-        ensures { IsTakenOut self.old key.now serial self.new }
+        ensures taken { IsTakenOut self.old key.now serial self.new }
+        ensures trim { IsTrim self.old → IsTrim self.new }
     {
         if self.take_out(key, serial) {
             self.serials.remove(key);
@@ -97,6 +101,8 @@ impl KeyIndex {
     fn take_out(&mut self, key: &Key, serial: u64) -> bool
         ensures taken { IsTakenOut self.old key.now serial self.new }
         ensures emptied { OnTrue result (indexed self.new key.now ≡ []) }
+        ensures trim_beside { IsTrim self.old → IsTrimBeside key.now self.new }
+        ensures trim { IsTrim self.old → OnFalse result (IsTrim self.new) }
     {
         match self.serials.get_mut(key) {
             Some(serials) => {

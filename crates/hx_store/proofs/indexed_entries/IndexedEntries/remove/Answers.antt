@@ -9,9 +9,9 @@ invariant_of-self c =
     let es = c.self.inside.entries in
     let found : find_entry c.args.serial es ≡ Some c.in-Some.entry = sym c.remove.ensures.value ∙ c.in-Some.is in
     let taken : IsTakenOut c.self.inside.index c.in-Some.entry.key c.args.serial c.remove-in-Some.new.self =
-    subst (λ e. IsTakenOut c.self.inside.index e.key c.args.serial c.remove-in-Some.new.self) c.entry.view_is c.remove-in-Some.ensures in
-    rw c.remove.ensures.entries (kept-without c.args.serial es c.in-Some.entry c.self.inside.index c.remove-in-Some.new.self found taken c.self.invariant)
+    subst (λ e. IsTakenOut c.self.inside.index e.key c.args.serial c.remove-in-Some.new.self) c.entry.view_is c.remove-in-Some.ensures.taken in
+    rw c.remove.ensures.entries (kept-without c.args.serial es c.in-Some.entry c.self.inside.index c.remove-in-Some.new.self found taken c.self.invariant.0, c.remove-in-Some.ensures.trim c.self.invariant.1)
 
 pub invariant_of-self-in-None : goal.invariant_of-self-in-None
 invariant_of-self-in-None c =
-    rw c.remove.ensures.entries (kept-none c.args.serial c.self.inside.entries c.self.inside.index (sym c.remove.ensures.value ∙ c.in-None.is) c.self.invariant)
+    rw c.remove.ensures.entries (kept-none c.args.serial c.self.inside.entries c.self.inside.index (sym c.remove.ensures.value ∙ c.in-None.is) c.self.invariant.0, c.self.invariant.1)

@@ -7,4 +7,4 @@ pub invariant_of-self : goal.invariant_of-self
 invariant_of-self c =
     let found = c.replace.ensures.value in
     let same : same_key c.replace.result.key c.args.entry.key ≡ true = search rules in
-    rw c.replace.ensures.entries (kept-front c.args.entry.serial c.self.inside.entries c.replace.result c.args.entry c.self.inside.index found refl same c.self.invariant)
+    rw c.replace.ensures.entries (kept-front c.args.entry.serial c.self.inside.entries c.replace.result c.args.entry c.self.inside.index found refl same c.self.invariant.0, c.self.invariant.1)

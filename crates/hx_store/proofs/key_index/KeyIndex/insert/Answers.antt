@@ -6,7 +6,7 @@ use Rattle.hx_target.specs.KeyOrder.{key_cmp}
 use Rattle.hx_store.specs.declared.key_index.KeyIndex.{KeyIndex}
 use Rattle.hx_store.specs.Serials.{insert_ascending}
 use Rattle.hx_store.specs.Index.{indexed, IsSameIndex}
-use Rattle.hx_store.proofs.Indices.{changed, written}
+use Rattle.hx_store.proofs.Indices.{changed, not_nothing, some_has, trim-same, trim-written, written}
 use Rattle.hx_store.proofs.key_index.KeyIndex.insert.Goals as goal
 
 pub returns-clause-ok : goal.returns-clause-ok
@@ -23,3 +23,14 @@ returns-clause-ok c =
     c.in_ok-serials.ensures ∙ ap (insert_ascending c.args.serial) (sym b.1) in
     changed (insert_ascending c.args.serial) c.args.key.now old new _
     (λ q. w q ∙ ap (cond (same_key c.args.key.now q) c.in_ok-serials.serials.keys) (b.0 q)) s
+
+pub returns-clause-trim : goal.returns-clause-trim
+returns-clause-trim c o =
+    let mid = c.insert_beside.new.self in
+    let new : KeyIndex = record { serials = c.insert.new.self } in
+    trim-written c.in_ok-copy.field-0 mid new (Some c.in_ok-serials.serials) c.in_ok-insert.ensures.updates.0
+    (some_has c.in_ok-serials.serials (λ k. not_nothing c.args.serial [] (sym c.in_ok-serials.ensures ∙ k))) (c.insert_beside.ensures.trim o)
+
+pub returns-in_err-insert-clause-trim : goal.returns-in_err-insert-clause-trim
+returns-in_err-insert-clause-trim c o =
+    trim-same c.insert_beside.new.self (record { serials = c.insert.new.self }) c.in_err-insert.ensures.err (c.insert_beside.ensures.trim o)

@@ -4,7 +4,7 @@ use Rattle.hx_target.specs.KeyOrder.{key_cmp}
 use Rattle.hx_store.specs.declared.key_index.KeyIndex.{KeyIndex}
 use Rattle.hx_store.specs.Serials.{insert_ascending}
 use Rattle.hx_store.specs.Index.{indexed, IsSameIndex}
-use Rattle.hx_store.proofs.Indices.{changed, unchanged, written}
+use Rattle.hx_store.proofs.Indices.{changed, not_nothing, some_has, trim-same, trim-written, unchanged, written}
 use Rattle.hx_store.proofs.key_index.KeyIndex.insert_beside.Goals as goal
 
 pub returns-in_err-insert_new-in-Some-clause-err : goal.returns-in_err-insert_new-in-Some-clause-err
@@ -30,3 +30,28 @@ returns-in_ok-insert_new-in-Some-clause-ok c =
     let k : set.keys ≡ insert_ascending c.args.serial (indexed old c.args.key.now) =
     c.in_ok-insert_new-in-Some.ensures.ok ∙ ap (insert_ascending c.args.serial) (sym e) in
     changed (insert_ascending c.args.serial) c.args.key.now old new _ (written c.args.key.now old new (Some set) (u.3 (ap is_some m)).0) k
+
+pub returns-in_err-insert_new-in-Some-clause-trim : goal.returns-in_err-insert_new-in-Some-clause-trim
+returns-in_err-insert_new-in-Some-clause-trim c o =
+    let old = c.args.self.now in
+    let set = c.insert_new.new.serials in
+    let new : KeyIndex = record { serials = c.get_mut.follows.lender set } in
+    let u : WritesThrough key_cmp (key_cmp c.args.key.now) old.serials set new.serials = search rules in
+    let m : get_by (key_cmp c.args.key.now) old.serials ≡ Some c.in-Some.serials.now = search rules in
+    trim-written c.args.key.now old new (Some set) (u.3 (ap is_some m)).0
+    (some_has set (λ k. o c.args.key.now c.in-Some.serials.now m (sym c.in_err-insert_new-in-Some.ensures.err ∙ k))) o
+
+pub returns-in_ok-insert_new-in-Some-clause-trim : goal.returns-in_ok-insert_new-in-Some-clause-trim
+returns-in_ok-insert_new-in-Some-clause-trim c o =
+    let old = c.args.self.now in
+    let set = c.insert_new.new.serials in
+    let new : KeyIndex = record { serials = c.get_mut.follows.lender set } in
+    let u : WritesThrough key_cmp (key_cmp c.args.key.now) old.serials set new.serials = search rules in
+    let m : get_by (key_cmp c.args.key.now) old.serials ≡ Some c.in-Some.serials.now = search rules in
+    trim-written c.args.key.now old new (Some set) (u.3 (ap is_some m)).0
+    (some_has set (λ k. not_nothing c.args.serial c.in-Some.serials.now.keys (sym c.in_ok-insert_new-in-Some.ensures.ok ∙ k))) o
+
+pub returns-in-None-clause-trim : goal.returns-in-None-clause-trim
+returns-in-None-clause-trim c o =
+    let e : c.get_mut.follows.lender-at-none ≡ c.args.self.now.serials = search rules in
+    trim-same c.args.self.now (record { serials = c.get_mut.follows.lender-at-none }) (ap (λ m. m.entries) e) o
