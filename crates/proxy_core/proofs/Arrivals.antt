@@ -12,8 +12,14 @@ use Rattle.std.proofs.lemmas.Bool.Decides.{nat_tests}
 use Rattle.std.proofs.lemmas.List.Elements.{All-head, All-tail}
 use Rattle.std.proofs.lemmas.Option.{same_Some}
 use Rattle.proxy_core.specs.declared.exchange.Exchange.{Exchange}
+use Rattle.std.specs.Prelude.{slice_get}
+use Rattle.proxy_core.specs.Leading.{is_released, ready_ids}
+use Rattle.proxy_core.specs.Waiting.{IsReady}
 use Rattle.proxy_core.specs.Outcomes.{find_exchange}
-use Rattle.proxy_core.specs.State.{closed, goes_out, gone_out}
+use Rattle.std.specs.Prelude.{filter}
+use Rattle.hx_reuse.specs.declared.rule.ReuseRule.{ReuseRule}
+use Rattle.proxy_core.specs.declared.condition.Condition.{Condition}
+use Rattle.proxy_core.specs.State.{goes_out, gone_out, sent_out}
 use Rattle.proxy_core.proofs.ExchangeLists.{cond_none, nones, swap, not_both}
 use Rattle.proxy_core.specs.Arrivals.{arrival_of, AreApart, IsIndexed}
 
@@ -97,33 +103,60 @@ found id n (e ∷ es) a h = elim (cases_Bool (eqb e.1.id id)) [
       )
 ]
 
+-- the first that may be woken is found by its id
+pub first_found : (id : ℕ) (es : Numbered) → AreApart es → Some id ≡ slice_get (ready_ids (values_of es)) 0 → IsReady id (values_of es)
+first_found id [] a h = absurd (cc)
+first_found id (e ∷ es) a h = by_stage (λ k. first_found id es a.2 k) (is_released e.1.stage) refl h
+  where
+    not_it : IsReady id (values_of es) → eqb e.1.id id ≡ false
+    not_it r = elim (cases_Bool (eqb e.1.id id)) [
+      | inl t ↦ (
+          let none : find_exchange id (values_of es) ≡ None = not_found id es (ap (λ i. arrival_of i es) (sym (eqb-true e.1.id id t)) ∙ a.1) in
+          let no : None ≡ Some r.x = sym none ∙ r.is_open in
+          absurd (cc)
+          )
+      | inr f ↦ f
+    ]
+
+    by_stage : (Some id ≡ slice_get (ready_ids (values_of es)) 0 → IsReady id (values_of es)) → (b : Bool) → is_released e.1.stage ≡ b →
+        Some id ≡ slice_get (cond b (e.1.id ∷ ready_ids (values_of es)) (ready_ids (values_of es))) 0 → IsReady id (values_of (e ∷ es))
+    by_stage rest true s h =
+        let same : e.1.id ≡ id = sym (same_Some id e.1.id h) in
+        record { x = e.1; is_open = ap (λ b. cond b (Some e.1) (find_exchange id (values_of es))) (eq-eqb e.1.id id same); stage = s }
+    by_stage rest false s h =
+        let r = rest h in
+        record { x = r.x; is_open = ap (λ b. cond b (Some e.1) (find_exchange id (values_of es))) (not_it r) ∙ r.is_open; stage = r.stage }
+
 -- ---- closing
 
+abbrev pub but : ℕ → List Exchange → List Exchange
+but id xs = filter (λ (x : Exchange). not (eqb x.id id)) xs
+
 -- where an id isn't open, closing it changes nothing
-pub closed_none : (id : ℕ) (es : Numbered) → arrival_of id es ≡ None → closed id (values_of es) ≡ values_of es
+pub closed_none : (id : ℕ) (es : Numbered) → arrival_of id es ≡ None → but id (values_of es) ≡ values_of es
 closed_none id [] h = refl
 closed_none id (e ∷ es) h = elim (cases_Bool (eqb e.1.id id)) [
   | inl t ↦ absurd (false≢true (ap is_some (sym h ∙ ap (λ b. cond b (Some e.0) (arrival_of id es)) t)))
   | inr f ↦ (
-      ap (λ b. cond (not b) (e.1 ∷ closed id (values_of es)) (closed id (values_of es))) f
+      ap (λ b. cond (not b) (e.1 ∷ but id (values_of es)) (but id (values_of es))) f
       ∙ ap (λ (xs : List Exchange). e.1 ∷ xs) (closed_none id es (sym (ap (λ b. cond b (Some e.0) (arrival_of id es)) f) ∙ h))
       )
 ]
 
-pub closed_one : (id n : ℕ) (es : Numbered) → AreApart es → arrival_of id es ≡ Some n → values_of (remove_entry (at n) es) ≡ closed id (values_of es)
+pub closed_one : (id n : ℕ) (es : Numbered) → AreApart es → arrival_of id es ≡ Some n → values_of (remove_entry (at n) es) ≡ but id (values_of es)
 closed_one id n [] a h = absurd (cc)
 closed_one id n (e ∷ es) a h = elim (cases_Bool (eqb e.1.id id)) [
   | inl t ↦ (
       let k : e.0 ≡ n = same_Some e.0 n (sym (ap (λ b. cond b (Some e.0) (arrival_of id es)) t) ∙ h) in
       let none : arrival_of id es ≡ None = ap (λ i. arrival_of i es) (sym (eqb-true e.1.id id t)) ∙ a.1 in
       ap (λ b. values_of (cond b es (e ∷ remove_entry (at n) es))) (at_itself n e.0 (sym k))
-      ∙ sym (ap (λ b. cond (not b) (e.1 ∷ closed id (values_of es)) (closed id (values_of es))) t ∙ closed_none id es none)
+      ∙ sym (ap (λ b. cond (not b) (e.1 ∷ but id (values_of es)) (but id (values_of es))) t ∙ closed_none id es none)
       )
   | inr f ↦ (
       let k : arrival_of id es ≡ Some n = sym (ap (λ b. cond b (Some e.0) (arrival_of id es)) f) ∙ h in
       ap (λ b. values_of (cond b es (e ∷ remove_entry (at n) es))) (not_first id n e es a.0 k)
       ∙ ap (λ (xs : List Exchange). e.1 ∷ xs) (closed_one id n es a.2 k)
-      ∙ sym (ap (λ b. cond (not b) (e.1 ∷ closed id (values_of es)) (closed id (values_of es))) f)
+      ∙ sym (ap (λ b. cond (not b) (e.1 ∷ but id (values_of es)) (but id (values_of es))) f)
       )
 ]
 
@@ -249,6 +282,9 @@ module _ (id : ℕ) (f : Exchange → Exchange) (others : (x : Exchange) → eqb
 
 pub gone_out-others : (id now : ℕ) (x : Exchange) → eqb x.id id ≡ false → gone_out id now x ≡ x
 gone_out-others id now x h = ap (λ b. cond b (goes_out now x.rule None x) x) h
+
+pub sent_out-others : (id now : ℕ) (rule : ReuseRule) (condition : Option Condition) (x : Exchange) → eqb x.id id ≡ false → sent_out id now rule condition x ≡ x
+sent_out-others id now rule condition x h = ap (λ b. cond b (goes_out now rule condition x) x) h
 
 -- ---- opening
 

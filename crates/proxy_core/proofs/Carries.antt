@@ -23,19 +23,24 @@ use Rattle.proxy_core.specs.declared.exchange.Exchange.{Exchange}
 use Rattle.proxy_core.specs.declared.fallback.Fallback.{Fallback}
 use Rattle.proxy_core.specs.declared.fallback.Fallback.TheVariants.{Sends, Refuses}
 use Rattle.proxy_core.specs.declared.outcome.Outcome.{Outcome}
-use Rattle.proxy_core.specs.declared.outcome.Outcome.TheVariants.{Reply, Forward, Ended}
+use Rattle.proxy_core.specs.declared.outcome.Outcome.TheVariants.{Reply, Forward, Waits, Ended}
 use Rattle.proxy_core.specs.declared.event.Event.{Event}
-use Rattle.proxy_core.specs.declared.event.Event.TheVariants.{Arrive, Answer, Fail, Abandon}
+use Rattle.proxy_core.specs.declared.event.Event.TheVariants.{Arrive, Answer, Fail, Wake, Abandon}
 use Rattle.proxy_core.specs.Validating.{condition_at, is_validation, validated}
 use Rattle.proxy_core.specs.Storing.{is_unasked}
-use Rattle.proxy_core.specs.Outcomes.{find_exchange, id_of, arrived, allowed, unanswered, is_only_if_cached, forward_text, fallback_for, failed, is_error_status, passed_unless, revalidated, answered, outcome_of}
-use Rattle.proxy_core.specs.State.{State, overtake, opened, rule_of, named_by, gone_out, open_after}
+use Rattle.proxy_core.specs.declared.stage.Stage.{Stage}
+use Rattle.proxy_core.specs.declared.stage.Stage.TheVariants.{Forwarded, Waiting, Released}
+use Rattle.proxy_core.specs.declared.condition.Condition.{Condition}
+use Rattle.proxy_core.specs.Leading.{leader_for, waits_for}
+use Rattle.proxy_core.specs.Outcomes.{find_exchange, id_of, arrived, allowed, sent_on, unanswered, woken, is_only_if_cached, forward_text, fallback_for, failed, is_error_status, passed_unless, revalidated, answered, outcome_of}
+use Rattle.proxy_core.specs.State.{State, overtake, release, opened, queued, line_of, rule_of, named_by, goes_out, gone_out, sent_out, woken_out, open_after}
 use Rattle.proxy_core.specs.Traces.{Item, begun, left, IsGood}
 use Rattle.proxy_core.specs.Histories.{open_exchanges, IsGoodHistory}
 use Rattle.proxy_core.specs.Promises.{goes_forward, is_arrival, times}
-use Rattle.proxy_core.specs.Carrying.{arrival_of, again_of, WentOnce, WentAgain, Arrived, LeastAtItsArrival, CarriesItsArrival}
-use Rattle.proxy_core.proofs.ExchangeLists.{overtaken_by, find-push, find-gone_out, found-id}
-use Rattle.proxy_core.proofs.Moves.{Move, apart, opens, passes, again, closes, out_again, move_of, and_none, failed_back}
+use Rattle.proxy_core.specs.Carrying.{judges, again_of, WentOnce, WentAgain, StillWaits, Judged, LeastWhenJudged, CarriesItsArrival}
+use Rattle.proxy_core.proofs.ExchangeLists.{overtaken_by, released_by, changed_by, find-map, find-push, find-gone_out, sent_out-id, found-id}
+use Rattle.proxy_core.proofs.Moves.{Move, apart, opens, queues, passes, again, wakes, closes, out_again, woken_form, asked_of, ended_by, move_of, and_none, failed_back}
+use Rattle.proxy_core.specs.Promises.{key_by_step}
 use Rattle.proxy_core.proofs.Tracing.{same_table}
 use Rattle.proxy_core.proofs.HeldLaw.{good_plain, entries_are_held, exchanges_are_open}
 
@@ -43,38 +48,56 @@ none_some : (y : Option Exchange) (z : Exchange) → y ≡ None → y ≡ Some z
 none_some None z h g = cc
 none_some (Some x) z h g = cc
 
--- ---- what goes forward at an arrival
+-- ---- what goes forward or waits at an arrival
 
-module _ (table : Table) (es : List Stored) (now : ℕ) (asked : Asked) (line : ℕ) (bytes : List ℕ) where
-  pub record WentBy : Type 0 where
+module _ (table : Table) (es : List Stored) (xs : List Exchange) (now : ℕ) (asked : Asked) where
+  -- a rule stands against a stored response, and the request takes others too
+  pub record IsSentOn (line : ℕ) : Type 0 where
     pub line_allows : verdict_of table.lines asked.method asked.target ≡ verdict.Allowed line
     pub rule : ReuseRule
     pub against : Option ℕ
     pub decided : decision_of (caches_of table.lines line) es asked now ≡ decision.Forward rule against
-    pub bytes_are : bytes ≡ forward_text table asked (condition_at es against)
 
-  went_by : (v : Verdict) → verdict_of table.lines asked.method asked.target ≡ v → arrived table es now asked v ≡ Forward line bytes → WentBy
-  went_by (verdict.Allowed n) v h = by_decision (decision_of (caches_of table.lines n) es asked now) refl h
+  pub record WentBy (line : ℕ) (bytes : List ℕ) : Type 0 where
+    pub on : IsSentOn line
+    pub bytes_are : bytes ≡ forward_text table asked (condition_at es on.against)
+
+  -- what a request that arrives does, where it isn't answered
+  Goes : Outcome → Type 0
+  Goes (Forward line bytes) = WentBy line bytes
+  Goes (Waits leader) = IsSentOn (line_of (verdict_of table.lines asked.method asked.target))
+  Goes (Reply r) = Unit {0}
+  Goes Ended = Unit {0}
+
+  goes_by : (v : Verdict) → verdict_of table.lines asked.method asked.target ≡ v → Goes (arrived table es xs now asked v)
+  unfolding Goes
+  goes_by (verdict.Allowed n) v = by_decision (decision_of (caches_of table.lines n) es asked now) refl
     where
-      unless : (rule : ReuseRule) (against : Option ℕ) (b : Bool) → decision_of (caches_of table.lines n) es asked now ≡ decision.Forward rule against →
-          unanswered table n now asked rule (condition_at es against) b ≡ Forward line bytes → WentBy
-      unless rule against true d h = absurd (cc)
-      unless rule against false d h =
-          let same : n ≡ line = cc in
-          let text : forward_text table asked (condition_at es against) ≡ bytes = cc in
-          record { line_allows = v ∙ ap (λ m. verdict.Allowed m) same; rule = rule; against = against; decided = ap (λ m. decision_of (caches_of table.lines m) es asked now) (sym same) ∙ d; bytes_are = sym text }
+      on : (rule : ReuseRule) (against : Option ℕ) → decision_of (caches_of table.lines n) es asked now ≡ decision.Forward rule against → IsSentOn n
+      on rule against d = record { line_allows = v; rule = rule; against = against; decided = d }
 
-      by_decision : (d : Decision) → decision_of (caches_of table.lines n) es asked now ≡ d → allowed table es n now asked d ≡ Forward line bytes → WentBy
-      by_decision (decision.Hit t) k h = absurd (cc)
-      by_decision (decision.Forward rule against) k h = unless rule against (is_only_if_cached asked) k h
-  went_by (verdict.DeniedBy n) v h = absurd (cc)
-  went_by verdict.NoLine v h = absurd (cc)
+      led : (rule : ReuseRule) (against leader : Option ℕ) → decision_of (caches_of table.lines n) es asked now ≡ decision.Forward rule against →
+          Goes (sent_on table n asked (condition_at es against) leader)
+      led rule against None d = record { on = on rule against d; bytes_are = refl }
+      led rule against (Some leader) d = subst IsSentOn (sym (ap line_of v)) (on rule against d)
+
+      unless : (rule : ReuseRule) (against : Option ℕ) (b : Bool) → decision_of (caches_of table.lines n) es asked now ≡ decision.Forward rule against →
+          Goes (unanswered table xs n now asked rule (condition_at es against) b)
+      unless rule against true d = tt
+      unless rule against false d = led rule against (leader_for xs asked rule) d
+
+      by_decision : (d : Decision) → decision_of (caches_of table.lines n) es asked now ≡ d → Goes (allowed table es xs n now asked d)
+      by_decision (decision.Hit t) k = tt
+      by_decision (decision.Forward rule against) k = unless rule against (is_only_if_cached asked) k
+  goes_by (verdict.DeniedBy n) v = tt
+  goes_by verdict.NoLine v = tt
 
 -- ---- what goes forward behind an answer
 
 -- it goes where it went, without conditions
 abbrev pub IsAgain : Table → Exchange → Outcome → Type 0
 IsAgain table x (Forward line bytes) = (line ≡ x.line) × (bytes ≡ forward_text table x.asked None)
+IsAgain table x (Waits leader) = Unit {0}
 IsAgain table x (Reply r) = Unit {0}
 IsAgain table x Ended = Unit {0}
 
@@ -112,15 +135,20 @@ not_of : (id : ℕ) (event : Event) (p : Bool) → eqb (id_of event) id ≡ fals
 not_of id event p n = ap (λ b. b && p) n
 
 module _ (table : Table) (limit : ℕ) where
+  -- what an exchange did since it was judged
+  abbrev Went : Exchange → List Item → List Item → ℕ → Outcome → Type 0
+  Went x since before now o = WentOnce table limit x since before now o ⊎ (WentAgain table x since ⊎ StillWaits table limit x since before o)
+
   -- of another id
-  further : (i : Item) (x : Exchange) (past : List Item) → eqb (id_of i.event) x.id ≡ false → Arrived table limit x past → Arrived table limit x (i ∷ past)
+  further : (i : Item) (x : Exchange) (past : List Item) → eqb (id_of i.event) x.id ≡ false → Judged table limit x past → Judged table limit x (i ∷ past)
   further i x past n h = record {
     since = i ∷ h.since;
     before = h.before;
+    item = h.item;
     now = h.now;
-    bytes = h.bytes;
     past_is = ap (λ zs. i ∷ zs) h.past_is;
-    none_since = (not_of x.id i.event (is_arrival i.event) n, h.none_since);
+    judged = h.judged;
+    none_since = (not_of x.id i.event (judges i.event) n, h.none_since);
     line_allows = h.line_allows;
     rule_is_least = h.rule_is_least;
     went = by_going h.went;
@@ -129,17 +157,18 @@ module _ (table : Table) (limit : ℕ) where
       uncounted : (items : List Item) → times goes_forward x.id items ≡ 0 → times goes_forward x.id (i ∷ items) ≡ 0
       uncounted items z = ap (λ b. cond b (times goes_forward x.id items + 1) (times goes_forward x.id items)) (not_of x.id i.event (goes_forward i.outcome) n) ∙ z
 
-      by_going : WentOnce table limit x h.since h.before h.now h.bytes ⊎ WentAgain table x h.since →
-          WentOnce table limit x (i ∷ h.since) h.before h.now h.bytes ⊎ WentAgain table x (i ∷ h.since)
+      by_going : Went x h.since h.before h.now h.item.outcome → Went x (i ∷ h.since) h.before h.now h.item.outcome
       by_going (inl w) = inl (record {
+        stage = w.stage;
         since_then = uncounted h.since w.since_then;
         request_time = w.request_time;
         against = w.against;
         names = w.names;
         condition = w.condition;
-        bytes_are = w.bytes_are;
+        outcome_is = w.outcome_is;
       })
-      by_going (inr w) = inr (record {
+      by_going (inr (inl w)) = inr (inl (record {
+        stage = w.stage;
         later = i ∷ w.later;
         between = w.between;
         now = w.now;
@@ -148,33 +177,44 @@ module _ (table : Table) (limit : ℕ) where
         since_then = uncounted w.later w.since_then;
         request_time = w.request_time;
         condition = w.condition;
-      })
+      }))
+      by_going (inr (inr w)) = inr (inr (record {
+        leader = w.leader;
+        outcome_is = w.outcome_is;
+        stage = w.stage;
+        since_then = uncounted h.since w.since_then;
+        against = w.against;
+        names = w.names;
+        condition = w.condition;
+      }))
 
   -- the mark is no part of it
-  marked : (z : Exchange) (past : List Item) → Arrived table limit z past → Arrived table limit (record z { overtaken = true }) past
+  marked : (z : Exchange) (past : List Item) → Judged table limit z past → Judged table limit (record z { overtaken = true }) past
   marked z past h = record {
     since = h.since;
     before = h.before;
+    item = h.item;
     now = h.now;
-    bytes = h.bytes;
     past_is = h.past_is;
+    judged = h.judged;
     none_since = h.none_since;
     line_allows = h.line_allows;
     rule_is_least = h.rule_is_least;
     went = by_going h.went;
   }
     where
-      by_going : WentOnce table limit z h.since h.before h.now h.bytes ⊎ WentAgain table z h.since →
-          WentOnce table limit (record z { overtaken = true }) h.since h.before h.now h.bytes ⊎ WentAgain table (record z { overtaken = true }) h.since
+      by_going : Went z h.since h.before h.now h.item.outcome → Went (record z { overtaken = true }) h.since h.before h.now h.item.outcome
       by_going (inl w) = inl (record {
+        stage = w.stage;
         since_then = w.since_then;
         request_time = w.request_time;
         against = w.against;
         names = w.names;
         condition = w.condition;
-        bytes_are = w.bytes_are;
+        outcome_is = w.outcome_is;
       })
-      by_going (inr w) = inr (record {
+      by_going (inr (inl w)) = inr (inl (record {
+        stage = w.stage;
         later = w.later;
         between = w.between;
         now = w.now;
@@ -183,10 +223,50 @@ module _ (table : Table) (limit : ℕ) where
         since_then = w.since_then;
         request_time = w.request_time;
         condition = w.condition;
-      })
+      }))
+      by_going (inr (inr w)) = inr (inr (record {
+        leader = w.leader;
+        outcome_is = w.outcome_is;
+        stage = w.stage;
+        since_then = w.since_then;
+        against = w.against;
+        names = w.names;
+        condition = w.condition;
+      }))
 
-  overtakes : (key : Key) (z : Exchange) (past : List Item) → Arrived table limit z past → Arrived table limit (overtake key z) past
-  overtakes key z past h = elim (same_key z.asked.target.key key) as (λ b. Arrived table limit (cond b (record z { overtaken = true }) z) past) [
+  -- one that waits is released
+  freed : (i : ℕ) (z : Exchange) (past : List Item) → waits_for i z.stage ≡ true → Judged table limit z past → Judged table limit (record z { stage = Released }) past
+  freed i z past waits h = record {
+    since = h.since;
+    before = h.before;
+    item = h.item;
+    now = h.now;
+    past_is = h.past_is;
+    judged = h.judged;
+    none_since = h.none_since;
+    line_allows = h.line_allows;
+    rule_is_least = h.rule_is_least;
+    went = by_going h.went;
+  }
+    where
+      not_out : z.stage ≡ Forwarded → ⊥
+      not_out s = false≢true (sym (ap (waits_for i) s) ∙ waits)
+
+      by_going : Went z h.since h.before h.now h.item.outcome → Went (record z { stage = Released }) h.since h.before h.now h.item.outcome
+      by_going (inl w) = absurd (not_out w.stage)
+      by_going (inr (inl w)) = absurd (not_out w.stage)
+      by_going (inr (inr w)) = inr (inr (record {
+        leader = w.leader;
+        outcome_is = w.outcome_is;
+        stage = inr refl;
+        since_then = w.since_then;
+        against = w.against;
+        names = w.names;
+        condition = w.condition;
+      }))
+
+  overtakes : (key : Key) (z : Exchange) (past : List Item) → Judged table limit z past → Judged table limit (overtake key z) past
+  overtakes key z past h = elim (same_key z.asked.target.key key) as (λ b. Judged table limit (cond b (record z { overtaken = true }) z) past) [
     | true ↦ marked z past h
     | false ↦ h
   ]
@@ -197,23 +277,46 @@ module _ (table : Table) (limit : ℕ) where
     | false ↦ refl
   ]
 
+  releases : (i : ℕ) (z : Exchange) (past : List Item) → Judged table limit z past → Judged table limit (release i z) past
+  releases i z past h = by_test (waits_for i z.stage) refl
+    where
+      by_test : (b : Bool) → waits_for i z.stage ≡ b → Judged table limit (cond b (record z { stage = Released }) z) past
+      by_test true waits = freed i z past waits h
+      by_test false waits = h
+
+  release_id : (i : ℕ) (z : Exchange) → (release i z).id ≡ z.id
+  release_id i z = elim (waits_for i z.stage) as (λ b. (cond b (record z { stage = Released }) z).id ≡ z.id) [
+    | true ↦ refl
+    | false ↦ refl
+  ]
+
   -- carried by the exchange of an id
   abbrev Carried : ℕ → List Item → Exchange → Type 0
-  Carried id past x = Arrived table limit x past × (x.id ≡ id)
+  Carried id past x = Judged table limit x past × (x.id ≡ id)
 
-  carried_apart : (id : ℕ) (i : Item) (past : List Item) (key : Option Key) (o : Option Exchange) (x : Exchange) → eqb (id_of i.event) id ≡ false →
-      ((z : Exchange) → o ≡ Some z → Carried id past z) → overtaken_by key o ≡ Some x → Carried id (i ∷ past) x
-  carried_apart id i past None o x n f h =
-      let c = f x h in
-      (further i x past (ap (eqb (id_of i.event)) c.1 ∙ n) c.0, c.1)
-  carried_apart id i past (Some key) None x n f h = absurd (cc)
-  carried_apart id i past (Some key) (Some z) x n f h =
+  carried_released : (id : ℕ) (past : List Item) (gone : Option ℕ) (o : Option Exchange) (x : Exchange) →
+      ((z : Exchange) → o ≡ Some z → Carried id past z) → released_by gone o ≡ Some x → Carried id past x
+  carried_released id past None o x f h = f x h
+  carried_released id past (Some i) None x f h = absurd (cc)
+  carried_released id past (Some i) (Some z) x f h =
+      let c = f z refl in
+      let same : release i z ≡ x = same_Some (release i z) x h in
+      subst (Carried id past) same (releases i z past c.0, release_id i z ∙ c.1)
+
+  carried_overtaken : (id : ℕ) (past : List Item) (key : Option Key) (o : Option Exchange) (x : Exchange) →
+      ((z : Exchange) → o ≡ Some z → Carried id past z) → overtaken_by key o ≡ Some x → Carried id past x
+  carried_overtaken id past None o x f h = f x h
+  carried_overtaken id past (Some key) None x f h = absurd (cc)
+  carried_overtaken id past (Some key) (Some z) x f h =
       let c = f z refl in
       let same : overtake key z ≡ x = same_Some (overtake key z) x h in
-      subst (Carried id (i ∷ past)) same (
-        further i (overtake key z) past (ap (eqb (id_of i.event)) (overtake_id key z ∙ c.1) ∙ n) (overtakes key z past c.0),
-        overtake_id key z ∙ c.1,
-      )
+      subst (Carried id past) same (overtakes key z past c.0, overtake_id key z ∙ c.1)
+
+  carried_apart : (id : ℕ) (i : Item) (past : List Item) (key : Option Key) (gone : Option ℕ) (o : Option Exchange) (x : Exchange) → eqb (id_of i.event) id ≡ false →
+      ((z : Exchange) → o ≡ Some z → Carried id past z) → changed_by key gone o ≡ Some x → Carried id (i ∷ past) x
+  carried_apart id i past key gone o x n f h =
+      let c = carried_overtaken id past key (released_by gone o) x (λ z q. carried_released id past gone o z f q) h in
+      (further i x past (ap (eqb (id_of i.event)) c.1 ∙ n) c.0, c.1)
 
 module _ (table : Table) (limit first : ℕ) where
   abbrev exchange : ℕ → List Item → Option Exchange
@@ -221,40 +324,123 @@ module _ (table : Table) (limit first : ℕ) where
 
   -- at the arrival
   carried_first : (past : List Item) → IsGood (begun table limit first) past → (now id : ℕ) (asked : Asked) (o : Outcome) (x : Exchange) →
-      o ≡ arrived table (left (begun table limit first) past).entries now asked (verdict_of table.lines asked.method asked.target) → exchange id past ≡ None →
+      Goes table (left (begun table limit first) past).entries (left (begun table limit first) past).exchanges now asked o → exchange id past ≡ None →
       find_exchange id (open_after table (left (begun table limit first) past).entries (left (begun table limit first) past).exchanges (Arrive now id asked) o) ≡ Some x →
       Carried table limit id (record { event = Arrive now id asked; outcome = o } ∷ past) x
+  unfolding Goes
   carried_first past g now id asked (Reply r) x h free found = absurd (none_some _ x free found)
   carried_first past g now id asked Ended x h free found = absurd (none_some _ x free found)
-  carried_first past g now id asked (Forward line bytes) x h free found =
+  carried_first past g now id asked (Waits leader) x on free found =
       let s = left (begun table limit first) past in
-      let y = opened table s.entries now id asked line in
-      let w = went_by table s.entries now asked line bytes (verdict_of table.lines asked.method asked.target) refl (sym h) in
+      let line = line_of (verdict_of table.lines asked.method asked.target) in
+      let y = queued table s.entries now id asked line leader in
       let here : y ≡ x = same_Some y x (sym (find-push id s.exchanges y free ∙ ap (λ b. cond b (Some y) (find_exchange id s.exchanges)) (eq-eqb id id refl)) ∙ found) in
       let held = entries_are_held table limit first past g in
-      let named = names_the_least (caches_of table.lines line) s.entries asked now w.rule w.against w.decided in
-      let rule : y.rule ≡ w.rule = ap rule_of w.decided in
-      let condition : y.condition ≡ condition_at s.entries w.against = ap (λ (d : Decision). condition_at s.entries (named_by d)) w.decided in
+      let named = names_the_least (caches_of table.lines line) s.entries asked now on.rule on.against on.decided in
+      let rule : y.rule ≡ on.rule = ap rule_of on.decided in
+      let condition : y.condition ≡ condition_at s.entries on.against = ap (λ (d : Decision). condition_at s.entries (named_by d)) on.decided in
+      subst (Carried table limit id (record { event = Arrive now id asked; outcome = Waits leader } ∷ past)) here (
+        record {
+          since = [];
+          before = past;
+          item = record { event = Arrive now id asked; outcome = Waits leader };
+          now = now;
+          past_is = refl;
+          judged = inl refl;
+          none_since = tt;
+          line_allows = on.line_allows;
+          rule_is_least = subst (λ (es : List Stored). IsLeast (caches_of table.lines line) es asked now y.rule) held (subst (λ (q : ReuseRule). IsLeast (caches_of table.lines line) s.entries asked now q) (sym rule) named.0);
+          went = inr (inr (record {
+            leader = leader;
+            outcome_is = refl;
+            stage = inl refl;
+            since_then = refl;
+            against = on.against;
+            names = subst (λ (es : List Stored). NamesTheResponse es asked y.rule on.against) held (subst (λ (q : ReuseRule). NamesTheResponse s.entries asked q on.against) (sym rule) named.1);
+            condition = condition ∙ ap (λ (es : List Stored). condition_at es on.against) held;
+          }));
+        },
+        refl,
+      )
+  carried_first past g now id asked (Forward line bytes) x w free found =
+      let s = left (begun table limit first) past in
+      let y = opened table s.entries now id asked line in
+      let on = w.on in
+      let here : y ≡ x = same_Some y x (sym (find-push id s.exchanges y free ∙ ap (λ b. cond b (Some y) (find_exchange id s.exchanges)) (eq-eqb id id refl)) ∙ found) in
+      let held = entries_are_held table limit first past g in
+      let named = names_the_least (caches_of table.lines line) s.entries asked now on.rule on.against on.decided in
+      let rule : y.rule ≡ on.rule = ap rule_of on.decided in
+      let condition : y.condition ≡ condition_at s.entries on.against = ap (λ (d : Decision). condition_at s.entries (named_by d)) on.decided in
       subst (Carried table limit id (record { event = Arrive now id asked; outcome = Forward line bytes } ∷ past)) here (
         record {
           since = [];
           before = past;
+          item = record { event = Arrive now id asked; outcome = Forward line bytes };
           now = now;
-          bytes = bytes;
           past_is = refl;
+          judged = inl refl;
           none_since = tt;
-          line_allows = w.line_allows;
+          line_allows = on.line_allows;
           rule_is_least = subst (λ (es : List Stored). IsLeast (caches_of table.lines line) es asked now y.rule) held (subst (λ (q : ReuseRule). IsLeast (caches_of table.lines line) s.entries asked now q) (sym rule) named.0);
           went = inl (record {
+            stage = refl;
             since_then = refl;
             request_time = refl;
-            against = w.against;
-            names = subst (λ (es : List Stored). NamesTheResponse es asked y.rule w.against) held (subst (λ (q : ReuseRule). NamesTheResponse s.entries asked q w.against) (sym rule) named.1);
-            condition = condition ∙ ap (λ (es : List Stored). condition_at es w.against) held;
-            bytes_are = w.bytes_are ∙ ap (forward_text table asked) (sym condition);
+            against = on.against;
+            names = subst (λ (es : List Stored). NamesTheResponse es asked y.rule on.against) held (subst (λ (q : ReuseRule). NamesTheResponse s.entries asked q on.against) (sym rule) named.1);
+            condition = condition ∙ ap (λ (es : List Stored). condition_at es on.against) held;
+            outcome_is = ap (λ (b : List ℕ). Forward line b) (w.bytes_are ∙ ap (forward_text table asked) (sym condition));
           });
         },
         refl,
+      )
+
+  -- when it is woken
+  carried_woken : (past : List Item) → IsGood (begun table limit first) past → (now id : ℕ) (z : Exchange) (o : Outcome) (x : Exchange) (d : Decision) → Carried table limit id past z →
+      exchange id past ≡ Some z → decision_of (caches_of table.lines z.line) (left (begun table limit first) past).entries z.asked now ≡ d → o ≡ woken table (left (begun table limit first) past).entries now z d →
+      goes_forward o ≡ true →
+      find_exchange id (open_after table (left (begun table limit first) past).entries (left (begun table limit first) past).exchanges (Wake now id) o) ≡ Some x →
+      Carried table limit id (record { event = Wake now id; outcome = o } ∷ past) x
+  carried_woken past g now id z o x (decision.Hit t) c z_is d h out found = absurd (false≢true (sym (ap goes_forward h) ∙ out))
+  carried_woken past g now id z o x (decision.Forward rule against) c z_is d h out found =
+      let s = left (begun table limit first) past in
+      let es = s.entries in
+      let xs = s.exchanges in
+      let bytes = forward_text table z.asked (condition_at es against) in
+      let q = rule_of (decision_of (caches_of table.lines z.line) es z.asked now) in
+      let k = condition_at es (named_by (decision_of (caches_of table.lines z.line) es z.asked now)) in
+      let y = woken_form table es now z in
+      let at : find_exchange id (woken_out table es id now (find_exchange id xs) xs) ≡ Some y =
+      ap (λ (w : Option Exchange). find_exchange id (woken_out table es id now w xs)) z_is
+      ∙ (find-map (sent_out id now q k) (sent_out-id id now q k) id xs
+      ∙ (ap (option_map (sent_out id now q k)) z_is ∙ ap (λ b. Some (cond b (goes_out now q k z) z)) (found-id id xs z z_is))) in
+      let here : y ≡ x = same_Some y x (sym at ∙ (ap (λ (o : Outcome). find_exchange id (open_after table es xs (Wake now id) o)) (sym h) ∙ found)) in
+      let held = entries_are_held table limit first past g in
+      let named = names_the_least (caches_of table.lines z.line) es z.asked now rule against d in
+      let rule_is : y.rule ≡ rule = ap rule_of d in
+      let condition : y.condition ≡ condition_at es against = ap (λ (d : Decision). condition_at es (named_by d)) d in
+      subst (Carried table limit id (record { event = Wake now id; outcome = o } ∷ past)) here (
+        record {
+          since = [];
+          before = past;
+          item = record { event = Wake now id; outcome = o };
+          now = now;
+          past_is = refl;
+          judged = inr (ap (λ n. Wake now n) (sym c.1));
+          none_since = tt;
+          line_allows = c.0.line_allows;
+          rule_is_least = subst (λ (es : List Stored). IsLeast (caches_of table.lines z.line) es z.asked now y.rule) held (subst (λ (q : ReuseRule). IsLeast (caches_of table.lines z.line) es z.asked now q) (sym rule_is) named.0);
+          went = inl (record {
+            stage = refl;
+            since_then = refl;
+            request_time = refl;
+            against = against;
+            names = subst (λ (es : List Stored). NamesTheResponse es z.asked y.rule against) held (subst (λ (q : ReuseRule). NamesTheResponse es z.asked q against) (sym rule_is) named.1);
+            condition = condition ∙ ap (λ (es : List Stored). condition_at es against) held;
+            outcome_is = h ∙ ap (λ (c : Option Condition). Forward z.line (forward_text table z.asked c)) (sym condition);
+          });
+        },
+        c.1,
       )
 
   -- behind an answer
@@ -277,13 +463,15 @@ module _ (table : Table) (limit first : ℕ) where
         record {
           since = item ∷ h.since;
           before = h.before;
+          item = h.item;
           now = h.now;
-          bytes = h.bytes;
           past_is = ap (λ zs. item ∷ zs) h.past_is;
+          judged = h.judged;
           none_since = (and_none (eqb id z.id), h.none_since);
           line_allows = h.line_allows;
           rule_is_least = h.rule_is_least;
-          went = inr (record {
+          went = inr (inl (record {
+            stage = refl;
             later = [];
             between = h.since;
             now = now;
@@ -292,13 +480,13 @@ module _ (table : Table) (limit first : ℕ) where
             since_then = refl;
             request_time = refl;
             condition = refl;
-          });
+          }));
         },
         c.1,
       )
 
   again_at : (past : List Item) (id : ℕ) (i : Item) (z x : Exchange) → Carried table limit id past z → exchange id past ≡ Some z → eqb (id_of i.event) id ≡ true →
-      is_arrival i.event ≡ false → goes_forward i.outcome ≡ true →
+      judges i.event ≡ false → goes_forward i.outcome ≡ true →
       i.outcome ≡ outcome_of table (left (begun table limit first) past).entries (left (begun table limit first) past).exchanges (exchange (id_of i.event) past) (left (begun table limit first) past).next i.event →
       find_exchange id (open_after table (left (begun table limit first) past).entries (left (begun table limit first) past).exchanges i.event i.outcome) ≡ Some x →
       Carried table limit id (i ∷ past) x
@@ -316,13 +504,14 @@ module _ (table : Table) (limit first : ℕ) where
       by_answer : (now n : ℕ) (r : Response) (o : Outcome) → n ≡ id → goes_forward o ≡ true → o ≡ answered table es now z r next (decision_of (caches_of table.lines z.line) es z.asked now) →
           find_exchange id (open_after table es xs (Answer now n r) o) ≡ Some x → Carried table limit id (record { event = Answer now n r; outcome = o } ∷ past) x
       by_answer now n r (Reply reply) e out is found = absurd (false≢true out)
+      by_answer now n r (Waits leader) e out is found = absurd (false≢true out)
       by_answer now n r Ended e out is found = absurd (false≢true out)
       by_answer now n r (Forward line bytes) e out is found =
           subst (λ m. Carried table limit id (record { event = Answer now m r; outcome = Forward line bytes } ∷ past) x) (sym e)
           (carried_again past now id r z line bytes x c z_is (subst (IsAgain table z) (sym is) (again_by table es now z r next (decision_of (caches_of table.lines z.line) es z.asked now)))
           (ap (λ m. find_exchange id (map (gone_out m now) xs)) (sym e) ∙ found))
 
-      by_event : (event : Event) (o : Outcome) → eqb (id_of event) id ≡ true → is_arrival event ≡ false → goes_forward o ≡ true →
+      by_event : (event : Event) (o : Outcome) → eqb (id_of event) id ≡ true → judges event ≡ false → goes_forward o ≡ true →
           o ≡ outcome_of table es xs (exchange (id_of event) past) next event → find_exchange id (open_after table es xs event o) ≡ Some x →
           Carried table limit id (record { event = event; outcome = o } ∷ past) x
       by_event (Arrive now n asked) o same late out is found = absurd (false≢true (sym late))
@@ -335,6 +524,7 @@ module _ (table : Table) (limit first : ℕ) where
           ap goes_forward (is ∙ ap (λ (w : Option Exchange). outcome_of table es xs w next (Fail now n kind)) w)
           ∙ failed_back table es now z kind None (fallback_for es z.asked now (decision_of (caches_of table.lines z.line) es z.asked now)) in
           absurd (false≢true (sym back ∙ out))
+      by_event (Wake now n) o same late out is found = absurd (false≢true (sym late))
       by_event (Abandon n) o same late out is found = absurd (false≢true (sym (ap goes_forward is) ∙ out))
 
   carries : (past : List Item) → IsGood (begun table limit first) past → (id : ℕ) (x : Exchange) → exchange id past ≡ Some x → Carried table limit id past x
@@ -347,19 +537,34 @@ module _ (table : Table) (limit first : ℕ) where
       at_table : find_exchange id (open_after table s.entries s.exchanges i.event i.outcome) ≡ exchange id (i ∷ past)
       at_table = ap (λ (t : Table). find_exchange id (open_after t s.entries s.exchanges i.event i.outcome)) (sym (same_table (begun table limit first) past))
 
+      at_arrival : (now : ℕ) (asked : Asked) → i.event ≡ Arrive now id asked → exchange id past ≡ None → find_exchange id (open_after table s.entries s.exchanges (Arrive now id asked) i.outcome) ≡ Some x →
+          Carried table limit id (record { event = Arrive now id asked; outcome = i.outcome } ∷ past) x
+      at_arrival now asked e x_is found =
+          carried_first past g.1 now id asked i.outcome x
+          (subst (Goes table s.entries s.exchanges now asked) (sym (g.0.outcome_is ∙ ap (λ (v : Event). outcome_of table s.entries s.exchanges (find_exchange (id_of v) s.exchanges) s.next v) e))
+          (goes_by table s.entries s.exchanges now asked (verdict_of table.lines asked.method asked.target) refl)) x_is found
+
       by_move : ((z : Exchange) → exchange id past ≡ Some z → Carried table limit id past z) → (y : Option Exchange) → Move id (find_exchange (id_of i.event) s.exchanges) i.event i.outcome (exchange id past) y → y ≡ Some x → exchange id (i ∷ past) ≡ y →
           Carried table limit id (i ∷ past) x
       by_move was y (apart n e) h k =
-          carried_apart table limit id i past _ (exchange id past) x n was (sym e ∙ h)
+          carried_apart table limit id i past (key_by_step (asked_of (find_exchange (id_of i.event) s.exchanges)) i.event i.outcome) (ended_by i.event i.outcome) (exchange id past) x n was (sym e ∙ h)
       by_move was y (opens at es now asked line e x_is f q) h k =
           let item : record { event = Arrive now id asked; outcome = i.outcome } ≡ i = ap (λ (v : Event). record { event = v; outcome = i.outcome }) (sym e) in
           subst (λ (j : Item). Carried table limit id (j ∷ past) x) item
-          (carried_first past g.1 now id asked i.outcome x
-          (g.0.outcome_is ∙ ap (λ (v : Event). outcome_of table s.entries s.exchanges (find_exchange (id_of v) s.exchanges) s.next v) e) x_is
-          (ap (λ (v : Event). find_exchange id (open_after table s.entries s.exchanges v i.outcome)) (sym e) ∙ at_table ∙ k ∙ h))
+          (at_arrival now asked e x_is (ap (λ (v : Event). find_exchange id (open_after table s.entries s.exchanges v i.outcome)) (sym e) ∙ at_table ∙ k ∙ h))
+      by_move was y (queues at es now asked line leader e x_is f l q) h k =
+          let item : record { event = Arrive now id asked; outcome = i.outcome } ≡ i = ap (λ (v : Event). record { event = v; outcome = i.outcome }) (sym e) in
+          subst (λ (j : Item). Carried table limit id (j ∷ past) x) item
+          (at_arrival now asked e x_is (ap (λ (v : Event). find_exchange id (open_after table s.entries s.exchanges v i.outcome)) (sym e) ∙ at_table ∙ k ∙ h))
       by_move was y (passes t e x_is f q) h k = absurd (none_some y x q h)
-      by_move was y (again z now t e z_is c f q) h k =
-          again_at past id i z x (was z z_is) z_is t e f g.0.outcome_is (at_table ∙ k ∙ h)
+      by_move was y (again z now t e z_is c f q j r) h k =
+          again_at past id i z x (was z z_is) z_is t j f g.0.outcome_is (at_table ∙ k ∙ h)
+      by_move was y (wakes at es z now e z_is r f q) h k =
+          let item : record { event = Wake now id; outcome = i.outcome } ≡ i = ap (λ (v : Event). record { event = v; outcome = i.outcome }) (sym e) in
+          subst (λ (j : Item). Carried table limit id (j ∷ past) x) item
+          (carried_woken past g.1 now id z i.outcome x (decision_of (caches_of table.lines z.line) s.entries z.asked now) (was z z_is) z_is refl
+          (g.0.outcome_is ∙ (ap (λ (v : Event). outcome_of table s.entries s.exchanges (find_exchange (id_of v) s.exchanges) s.next v) e ∙ ap (λ (w : Option Exchange). outcome_of table s.entries s.exchanges w s.next (Wake now id)) z_is)) f
+          (ap (λ (v : Event). find_exchange id (open_after table s.entries s.exchanges v i.outcome)) (sym e) ∙ at_table ∙ k ∙ h))
       by_move was y (closes z t e x_is f q) h k = absurd (none_some y x q h)
 
 pub carries_its_arrival : CarriesItsArrival
@@ -367,17 +572,17 @@ carries_its_arrival table limit first id trace x g h =
     let p = good_plain table limit first trace g in
     carries table limit first trace p id x (ap (find_exchange id) (exchanges_are_open table limit first trace p) ∙ h)
 
-pub least_at_its_arrival : (table : Table) (limit first id : ℕ) (trace : List Item) (x : Exchange) → IsGoodHistory table limit first trace →
-    find_exchange id (open_exchanges table limit trace) ≡ Some x → LeastAtItsArrival table limit x trace
-least_at_its_arrival table limit first id trace x g h =
+pub least_when_judged : (table : Table) (limit first id : ℕ) (trace : List Item) (x : Exchange) → IsGoodHistory table limit first trace →
+    find_exchange id (open_exchanges table limit trace) ≡ Some x → LeastWhenJudged table limit x trace
+least_when_judged table limit first id trace x g h =
     let a = (carries_its_arrival table limit first id trace x g h).0 in
     record {
       since = a.since;
       before = a.before;
-      arrival = arrival_of x a.now a.bytes;
+      item = a.item;
       now = a.now;
       past_is = a.past_is;
-      arrives = refl;
+      judged = a.judged;
       none_since = a.none_since;
       least = a.rule_is_least;
     }

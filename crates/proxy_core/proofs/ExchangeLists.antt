@@ -6,9 +6,14 @@ use Rattle.hx_target.specs.declared.keys.Key.{Key}
 use Rattle.hx_target.specs.Keys.{same_key}
 use Rattle.proxy_core.specs.declared.exchange.Exchange.{Exchange}
 use Rattle.proxy_core.specs.Outcomes.{find_exchange}
-use Rattle.proxy_core.specs.State.{closed, overtake, left_open, goes_out, gone_out}
+use Rattle.std.specs.Prelude.{filter}
+use Rattle.hx_reuse.specs.declared.rule.ReuseRule.{ReuseRule}
+use Rattle.proxy_core.specs.declared.condition.Condition.{Condition}
+use Rattle.proxy_core.specs.declared.stage.Stage.TheVariants.{Released}
+use Rattle.proxy_core.specs.Leading.{waits_for}
+use Rattle.proxy_core.specs.State.{closed, release, overtake, left_open, goes_out, gone_out, sent_out}
 
-find-map : (f : Exchange → Exchange) → ((x : Exchange) → (f x).id ≡ x.id) → (id : ℕ) (xs : List Exchange) →
+pub find-map : (f : Exchange → Exchange) → ((x : Exchange) → (f x).id ≡ x.id) → (id : ℕ) (xs : List Exchange) →
     find_exchange id (map f xs) ≡ option_map f (find_exchange id xs)
 find-map f k id [] = refl
 find-map f k id (x ∷ xs) =
@@ -20,6 +25,18 @@ find-map f k id (x ∷ xs) =
 
 pub gone_out-id : (i now : ℕ) (x : Exchange) → (gone_out i now x).id ≡ x.id
 gone_out-id i now x = elim (eqb x.id i) as (λ b. (cond b (goes_out now x.rule None x) x).id ≡ x.id) [
+  | true ↦ refl
+  | false ↦ refl
+]
+
+pub sent_out-id : (i now : ℕ) (rule : ReuseRule) (condition : Option Condition) (x : Exchange) → (sent_out i now rule condition x).id ≡ x.id
+sent_out-id i now rule condition x = elim (eqb x.id i) as (λ b. (cond b (goes_out now rule condition x) x).id ≡ x.id) [
+  | true ↦ refl
+  | false ↦ refl
+]
+
+pub release-id : (i : ℕ) (x : Exchange) → (release i x).id ≡ x.id
+release-id i x = elim (waits_for i x.stage) as (λ b. (cond b (record x { stage = Released }) x).id ≡ x.id) [
   | true ↦ refl
   | false ↦ refl
 ]
@@ -38,6 +55,15 @@ find-gone_out i now id xs = find-map (gone_out i now) (gone_out-id i now) id xs
 abbrev pub overtaken_by : Option Key → Option Exchange → Option Exchange
 overtaken_by None o = o
 overtaken_by (Some key) o = option_map (overtake key) o
+
+-- what the end of another does to it
+abbrev pub released_by : Option ℕ → Option Exchange → Option Exchange
+released_by None o = o
+released_by (Some i) o = option_map (release i) o
+
+-- and what a step of another does
+abbrev pub changed_by : Option Key → Option ℕ → Option Exchange → Option Exchange
+changed_by key gone o = overtaken_by key (released_by gone o)
 
 find-overtake : (key : Key) (id : ℕ) (xs : List Exchange) → find_exchange id (map (overtake key) xs) ≡ option_map (overtake key) (find_exchange id xs)
 find-overtake key id xs = find-map (overtake key) (overtake-id key) id xs
@@ -61,30 +87,44 @@ nones false = refl
 pub not_both : (a b id : ℕ) → eqb a b ≡ false → eqb a id ≡ true → eqb b id ≡ false
 not_both a b id h k = false_from_ne_true _ (λ q. false≢true (sym h ∙ eq-eqb a b (eqb-true a id k ∙ sym (eqb-true b id q))))
 
-pub find-closed : (i id : ℕ) (xs : List Exchange) → find_exchange id (closed i xs) ≡ cond (eqb i id) None (find_exchange id xs)
-find-closed i id [] = nones (eqb i id)
-find-closed i id (x ∷ xs) =
-    let rest = closed i xs in
+-- one is taken out
+abbrev but : ℕ → List Exchange → List Exchange
+but i xs = filter (λ (x : Exchange). not (eqb x.id i)) xs
+
+find-but : (i id : ℕ) (xs : List Exchange) → find_exchange id (but i xs) ≡ cond (eqb i id) None (find_exchange id xs)
+find-but i id [] = nones (eqb i id)
+find-but i id (x ∷ xs) =
+    let rest = but i xs in
     elim (cases_Bool (eqb x.id i)) [
       | inl t ↦ (
           let e : eqb x.id id ≡ eqb i id = ap (λ n. eqb n id) (eqb-true x.id i t) in
           ap (λ b. find_exchange id (cond (not b) (x ∷ rest) rest)) t
-          ∙ find-closed i id xs
+          ∙ find-but i id xs
           ∙ sym (ap (λ b. cond (eqb i id) None (cond b (Some x) (find_exchange id xs))) e ∙ collapse (eqb i id) None (Some x) (find_exchange id xs))
           )
       | inr f ↦ (
           ap (λ b. find_exchange id (cond (not b) (x ∷ rest) rest)) f
-          ∙ ap (λ o. cond (eqb x.id id) (Some x) o) (find-closed i id xs)
+          ∙ ap (λ o. cond (eqb x.id id) (Some x) o) (find-but i id xs)
           ∙ swap (eqb x.id id) (eqb i id) (Some x) None (find_exchange id xs) (λ k. not_both x.id i id f k)
           )
     ]
 
+pub find-closed : (i id : ℕ) (xs : List Exchange) → find_exchange id (closed i xs) ≡ cond (eqb i id) None (released_by (Some i) (find_exchange id xs))
+find-closed i id xs =
+    find-map (release i) (release-id i) id (but i xs)
+    ∙ ap (option_map (release i)) (find-but i id xs)
+    ∙ elim (eqb i id) as (λ b. option_map (release i) (cond b None (find_exchange id xs)) ≡ cond b None (option_map (release i) (find_exchange id xs))) [
+      | true ↦ refl
+      | false ↦ refl
+    ]
+
 -- an end, by which others may be overtaken
-pub find-left_open : (key : Option Key) (i id : ℕ) (xs : List Exchange) → find_exchange id (left_open key i xs) ≡ cond (eqb i id) None (overtaken_by key (find_exchange id xs))
+pub find-left_open : (key : Option Key) (i id : ℕ) (xs : List Exchange) →
+    find_exchange id (left_open key i xs) ≡ cond (eqb i id) None (changed_by key (Some i) (find_exchange id xs))
 find-left_open None i id xs = find-closed i id xs
 find-left_open (Some key) i id xs =
     find-overtake key id (closed i xs) ∙ ap (option_map (overtake key)) (find-closed i id xs)
-    ∙ elim (eqb i id) as (λ b. option_map (overtake key) (cond b None (find_exchange id xs)) ≡ cond b None (option_map (overtake key) (find_exchange id xs))) [
+    ∙ elim (eqb i id) as (λ b. option_map (overtake key) (cond b None (released_by (Some i) (find_exchange id xs))) ≡ cond b None (option_map (overtake key) (released_by (Some i) (find_exchange id xs)))) [
       | true ↦ refl
       | false ↦ refl
     ]

@@ -26,19 +26,21 @@ use Rattle.hx_reuse.proofs.MeaningLemmas.{names_the_least}
 use Rattle.hx_reuse.proofs.OnErrorLemmas.{least_on_error}
 use Rattle.hx_status.specs.declared.cause.FailKind.{FailKind}
 use Rattle.hx_status.specs.declared.cause.FailKind.TheVariants.{BadAnswer}
+use Rattle.proxy_core.specs.declared.condition.Condition.{Condition}
 use Rattle.proxy_core.specs.declared.exchange.Exchange.{Exchange}
 use Rattle.proxy_core.specs.declared.fallback.Fallback.{Fallback}
 use Rattle.proxy_core.specs.declared.fallback.Fallback.TheVariants.{Sends, Refuses}
 use Rattle.proxy_core.specs.declared.event.Event.{Event}
-use Rattle.proxy_core.specs.declared.event.Event.TheVariants.{Arrive, Answer, Fail, Abandon}
+use Rattle.proxy_core.specs.declared.event.Event.TheVariants.{Arrive, Answer, Fail, Wake, Abandon}
 use Rattle.proxy_core.specs.Validating.{condition_at, is_validation, validated}
 use Rattle.proxy_core.specs.Storing.{is_unasked}
-use Rattle.proxy_core.specs.Outcomes.{find_exchange, id_of, arrived, allowed, unanswered, is_only_if_cached, error_rule_at, fallback_by, fallback_for, failed, is_error_status, passed_unless, revalidated, answered, outcome_of}
+use Rattle.proxy_core.specs.Leading.{leader_for}
+use Rattle.proxy_core.specs.Outcomes.{find_exchange, id_of, arrived, allowed, sent_on, unanswered, woken, is_only_if_cached, error_rule_at, fallback_by, fallback_for, failed, is_error_status, passed_unless, revalidated, answered, outcome_of}
 use Rattle.proxy_core.specs.Traces.{Item}
 use Rattle.proxy_core.specs.Histories.{IsGoodHistory, done_by, held_entries, open_exchanges, next_serial}
-use Rattle.proxy_core.specs.Carrying.{LeastAtItsArrival}
+use Rattle.proxy_core.specs.Carrying.{LeastWhenJudged}
 use Rattle.proxy_core.specs.Naming.{NamesErrorRule, NamesFirst, NamesFirstRules}
-use Rattle.proxy_core.proofs.Carries.{least_at_its_arrival}
+use Rattle.proxy_core.proofs.Carries.{least_when_judged}
 use Rattle.proxy_core.proofs.HeldLaw.{good_plain, entries_are_held, stands_for}
 
 module _ (caches : Bool) (es : List Stored) (distinct : Distinct (serials es)) (now : ℕ) (asked : Asked) where
@@ -97,21 +99,25 @@ module _ (table : Table) (limit : ℕ) (past : List Item) (distinct : Distinct (
   abbrev es : List Stored
   es = held_entries table limit past
 
-  arrival_names : (x : Option Exchange) (now id : ℕ) (asked : Asked) → NamesFirst table limit past x (Arrive now id asked) (arrived table es now asked (verdict_of table.lines asked.method asked.target))
-  arrival_names x now id asked = by_verdict (verdict_of table.lines asked.method asked.target) refl
+  arrival_names : (xs : List Exchange) (x : Option Exchange) (now id : ℕ) (asked : Asked) → NamesFirst table limit past x (Arrive now id asked) (arrived table es xs now asked (verdict_of table.lines asked.method asked.target))
+  arrival_names xs x now id asked = by_verdict (verdict_of table.lines asked.method asked.target) refl
     where
+      on : (line : ℕ) (condition : Option Condition) (leader : Option ℕ) → NamesFirst table limit past x (Arrive now id asked) (sent_on table line asked condition leader)
+      on line condition None = tt
+      on line condition (Some leader) = tt
+
       unless : (line : ℕ) (rule : ReuseRule) (against : Option ℕ) (b : Bool) → verdict_of table.lines asked.method asked.target ≡ verdict.Allowed line →
           decision_of (caches_of table.lines line) es asked now ≡ decision.Forward rule against → is_only_if_cached asked ≡ b →
-          NamesFirst table limit past x (Arrive now id asked) (unanswered table line now asked rule (condition_at es against) b)
+          NamesFirst table limit past x (Arrive now id asked) (unanswered table xs line now asked rule (condition_at es against) b)
       unless line rule against true v d k = λ h. inr (inr (line, rule, v, k, (names_the_least (caches_of table.lines line) es asked now rule against d).0, refl))
-      unless line rule against false v d k = tt
+      unless line rule against false v d k = on line (condition_at es against) (leader_for xs asked rule)
 
       by_decision : (line : ℕ) (d : Decision) → verdict_of table.lines asked.method asked.target ≡ verdict.Allowed line → decision_of (caches_of table.lines line) es asked now ≡ d →
-          NamesFirst table limit past x (Arrive now id asked) (allowed table es line now asked d)
+          NamesFirst table limit past x (Arrive now id asked) (allowed table es xs line now asked d)
       by_decision line (decision.Hit s) v k = λ h. absurd (false≢true h)
       by_decision line (decision.Forward rule against) v k = unless line rule against (is_only_if_cached asked) v k refl
 
-      by_verdict : (v : Verdict) → verdict_of table.lines asked.method asked.target ≡ v → NamesFirst table limit past x (Arrive now id asked) (arrived table es now asked v)
+      by_verdict : (v : Verdict) → verdict_of table.lines asked.method asked.target ≡ v → NamesFirst table limit past x (Arrive now id asked) (arrived table es xs now asked v)
       by_verdict (verdict.Allowed line) v = by_decision line (decision_of (caches_of table.lines line) es asked now) v refl
       by_verdict (verdict.DeniedBy line) v = λ h. inl (line, v, refl)
       by_verdict verdict.NoLine v = λ h. inr (inl (v, refl))
@@ -123,7 +129,7 @@ module _ (table : Table) (limit : ℕ) (past : List Item) (distinct : Distinct (
       let r = refuses_is (caches_of table.lines x.line) es distinct now x.asked (decision_of (caches_of table.lines x.line) es x.asked now) rule error refl k in
       (rule, error, r.least, r.named, refl)
 
-  module _ (x : Exchange) (kept : LeastAtItsArrival table limit x past) (now id : ℕ) (r : Response) (next : Option ℕ) where
+  module _ (x : Exchange) (kept : LeastWhenJudged table limit x past) (now id : ℕ) (r : Response) (next : Option ℕ) where
     unasked_names : (fallback : Fallback) → is_unasked x.asked r ≡ true → fallback_for es x.asked now (decision_of (caches_of table.lines x.line) es x.asked now) ≡ fallback →
         NamesFirst table limit past (Some x) (Answer now id r) (failed table es now x BadAnswer (Some r.status) fallback)
     unasked_names (Sends s detail) u k = λ h. absurd (false≢true h)
@@ -156,13 +162,19 @@ module _ (table : Table) (limit : ℕ) (past : List Item) (distinct : Distinct (
         by_304 true = validation_names (validated es x r now) (decision_of (caches_of table.lines x.line) es x.asked now)
         by_304 false = by_unasked (is_unasked x.asked r) refl
 
-  names_by_event : (xs : List Exchange) (x : Option Exchange) (next : Option ℕ) (event : Event) → ((z : Exchange) → x ≡ Some z → LeastAtItsArrival table limit z past) →
+  woken_names : (x : Exchange) (now id : ℕ) (d : Decision) → NamesFirst table limit past (Some x) (Wake now id) (woken table es now x d)
+  woken_names x now id (decision.Hit s) = λ h. absurd (false≢true h)
+  woken_names x now id (decision.Forward rule against) = tt
+
+  names_by_event : (xs : List Exchange) (x : Option Exchange) (next : Option ℕ) (event : Event) → ((z : Exchange) → x ≡ Some z → LeastWhenJudged table limit z past) →
       NamesFirst table limit past x event (outcome_of table es xs x next event)
-  names_by_event xs x next (Arrive now id asked) kept = arrival_names x now id asked
+  names_by_event xs x next (Arrive now id asked) kept = arrival_names xs x now id asked
   names_by_event xs (Some x) next (Answer now id r) kept = answer_names x (kept x refl) now id r next
   names_by_event xs None next (Answer now id r) kept = tt
   names_by_event xs (Some x) next (Fail now id kind) kept = failure_names x now id kind (fallback_for es x.asked now (decision_of (caches_of table.lines x.line) es x.asked now)) refl
   names_by_event xs None next (Fail now id kind) kept = tt
+  names_by_event xs (Some x) next (Wake now id) kept = woken_names x now id (decision_of (caches_of table.lines x.line) es x.asked now)
+  names_by_event xs None next (Wake now id) kept = tt
   names_by_event xs x next (Abandon id) kept = tt
 
 -- no serial is held twice
@@ -178,4 +190,4 @@ names_first_rules table limit first item past g =
     let x = find_exchange (id_of item.event) xs in
     subst (NamesFirst table limit past x item.event) (sym g.0.outcome_is)
     (names_by_event table limit past (held_distinct table limit first past g.1) xs x (next_serial first past) item.event
-    (λ z h. least_at_its_arrival table limit first (id_of item.event) past z g.1 h))
+    (λ z h. least_when_judged table limit first (id_of item.event) past z g.1 h))

@@ -11,9 +11,11 @@ use Rattle.proxy_core.specs.declared.exchange.Exchange.{Exchange}
 use Rattle.proxy_core.specs.declared.outcome.Outcome.{Outcome}
 use Rattle.proxy_core.specs.declared.outcome.Outcome.TheVariants.{Forward, Ended}
 use Rattle.proxy_core.specs.declared.event.Event.{Event}
-use Rattle.proxy_core.specs.declared.event.Event.TheVariants.{Arrive, Answer, Fail, Abandon}
-use Rattle.proxy_core.specs.Outcomes.{find_exchange, id_of, outcome_by, outcome_of, fallback_for}
+use Rattle.proxy_core.specs.declared.event.Event.TheVariants.{Arrive, Answer, Fail, Wake, Abandon}
+use Rattle.proxy_core.specs.Outcomes.{find_exchange, id_of, outcome_by, outcome_of, fallback_for, woken}
 use Rattle.hx_reuse.specs.Rules.{decision_of}
+use Rattle.hx_reuse.specs.declared.decision.Decision.{Decision}
+use Rattle.hx_reuse.specs.declared.decision.Decision.TheVariants as decision
 use Rattle.proxy_core.specs.Traces.{Item, begun}
 use Rattle.proxy_core.specs.Histories.{held_entries, open_exchanges, next_serial, IsGoodHistory}
 use Rattle.proxy_core.specs.Promises.{goes_forward, asked_at, asked_by}
@@ -63,6 +65,18 @@ module _ (table : Table) (limit first : ℕ) where
       by_failure now id kind (Some x) o =
           not_forward _ line bytes (failed_back table (held_entries table limit past) now x kind None (fallback_for (held_entries table limit past) x.asked now (decision_of (caches_of table.lines x.line) (held_entries table limit past) x.asked now))) (sym o)
 
+      by_wake : (now id : ℕ) (w : Option Exchange) → find_exchange id xs ≡ w →
+          Forward line bytes ≡ outcome_of table (held_entries table limit past) xs w (next_serial first past) (Wake now id) → Goes table past line (Wake now id)
+      by_wake now id None w_is o = absurd (cc)
+      by_wake now id (Some x) w_is o = by_decision (decision_of (caches_of table.lines x.line) (held_entries table limit past) x.asked now) o
+        where
+          by_decision : (d : Decision) → Forward line bytes ≡ woken table (held_entries table limit past) now x d → Goes table past line (Wake now id)
+          by_decision (decision.Hit s) h = absurd (cc)
+          by_decision (decision.Forward rule against) h =
+              let same : line ≡ x.line = cc in
+              let carried = (carries_its_arrival table limit first id past x g.1 w_is).0 in
+              (x.asked, has_its_request table limit first id past x g.1 w_is, carried.line_allows ∙ ap (λ n. Allowed n) (sym same))
+
       by_event : (event : Event) → item.event ≡ event → Goes table past line item.event
       by_event (Arrive now id asked) e =
           let goes = forwards_nothing_else table limit first now id line asked bytes item past g e h in
@@ -73,6 +87,9 @@ module _ (table : Table) (limit first : ℕ) where
       by_event (Fail now id kind) e =
           subst (Goes table past line) (sym e)
           (by_failure now id kind (find_exchange id xs) (sym h ∙ outcome_at (Fail now id kind) e))
+      by_event (Wake now id) e =
+          subst (Goes table past line) (sym e)
+          (by_wake now id (find_exchange id xs) refl (sym h ∙ outcome_at (Wake now id) e))
       by_event (Abandon id) e =
           let none : Forward line bytes ≡ Ended = sym h ∙ outcome_at (Abandon id) e in
           absurd (cc)

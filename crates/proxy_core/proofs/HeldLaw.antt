@@ -16,7 +16,7 @@ use Rattle.hx_store.proofs.EntryLists.{find-serial, find_holds, length-without, 
 use Rattle.proxy_core.specs.declared.exchange.Exchange.{Exchange}
 use Rattle.proxy_core.specs.declared.outcome.Outcome.{Outcome}
 use Rattle.proxy_core.specs.declared.event.Event.{Event}
-use Rattle.proxy_core.specs.declared.event.Event.TheVariants.{Arrive, Answer, Fail, Abandon}
+use Rattle.proxy_core.specs.declared.event.Event.TheVariants.{Arrive, Answer, Fail, Wake, Abandon}
 use Rattle.proxy_core.specs.declared.fault.CoreFault.{CoreFault}
 use Rattle.proxy_core.specs.Validating.{is_answered, refreshed}
 use Rattle.proxy_core.specs.Outcomes.{find_exchange, id_of, outcome_by, fault_by}
@@ -49,6 +49,7 @@ used_serial (Some x) (Answer now id r) e = elim (is_answered x r now e) as (λ b
   | false ↦ refl
 ]
 used_serial (Some x) (Fail now id kind) e = refl
+used_serial (Some x) (Wake now id) e = refl
 used_serial (Some x) (Abandon id) e = refl
 
 -- what has to be known of the list after a step

@@ -9,15 +9,18 @@ use Rattle.hx_allow.specs.Lines.{Table}
 use Rattle.hx_store.specs.Stored.{Stored}
 use Rattle.proxy_core.specs.declared.exchange.Exchange.{Exchange}
 use Rattle.proxy_core.specs.declared.outcome.Outcome.{Outcome}
-use Rattle.proxy_core.specs.declared.outcome.Outcome.TheVariants.{Reply, Forward, Ended}
+use Rattle.proxy_core.specs.declared.outcome.Outcome.TheVariants.{Reply, Forward, Waits, Ended}
 use Rattle.proxy_core.specs.declared.event.Event.{Event}
-use Rattle.proxy_core.specs.declared.event.Event.TheVariants.{Arrive, Answer, Fail, Abandon}
+use Rattle.proxy_core.specs.declared.event.Event.TheVariants.{Arrive, Answer, Fail, Wake, Abandon}
 use Rattle.proxy_core.specs.Outcomes.{find_exchange, id_of, fault_of}
-use Rattle.proxy_core.specs.State.{overtake, left_open, closed, opened, gone_out, invalidated_by, open_after}
+use Rattle.hx_allow.specs.Matching.{verdict_of, caches_of}
+use Rattle.hx_reuse.specs.Rules.{decision_of}
+use Rattle.proxy_core.specs.Validating.{condition_at}
+use Rattle.proxy_core.specs.State.{overtake, release, left_open, closed, opened, queued, line_of, rule_of, named_by, gone_out, sent_out, woken_out, invalidated_by, open_after}
 use Rattle.proxy_core.specs.Traces.{Item, begun, left, IsGood}
 use Rattle.proxy_core.specs.Promises.{is_arrival, NoneArrives}
 use Rattle.proxy_core.specs.Carrying.{ArrivesBefore, StandInOrder, ids_of, OpenInOrderOfArrival}
-use Rattle.proxy_core.proofs.ExchangeLists.{gone_out-id, overtake-id}
+use Rattle.proxy_core.proofs.ExchangeLists.{gone_out-id, sent_out-id, release-id, overtake-id}
 use Rattle.proxy_core.proofs.Moves.{and_none}
 use Rattle.proxy_core.proofs.HeldLaw.{good_plain, exchanges_are_open}
 
@@ -30,17 +33,28 @@ ids-map f k (x ∷ xs) = ap (λ n. n ∷ ids_of (map f xs)) (k x) ∙ ap (λ ns.
 abbrev but : ℕ → List ℕ → List ℕ
 but id ids = filter (λ n. not (eqb n id)) ids
 
-ids-closed : (id : ℕ) (xs : List Exchange) → ids_of (closed id xs) ≡ but id (ids_of xs)
-ids-closed id [] = refl
-ids-closed id (x ∷ xs) = by_id (eqb x.id id) (ids-closed id xs)
+abbrev left_by : ℕ → List Exchange → List Exchange
+left_by id xs = filter (λ (x : Exchange). not (eqb x.id id)) xs
+
+ids-left : (id : ℕ) (xs : List Exchange) → ids_of (left_by id xs) ≡ but id (ids_of xs)
+ids-left id [] = refl
+ids-left id (x ∷ xs) = by_id (eqb x.id id) (ids-left id xs)
   where
-    by_id : (b : Bool) → ids_of (closed id xs) ≡ but id (ids_of xs) → ids_of (cond (not b) (x ∷ closed id xs) (closed id xs)) ≡ cond (not b) (x.id ∷ but id (ids_of xs)) (but id (ids_of xs))
+    by_id : (b : Bool) → ids_of (left_by id xs) ≡ but id (ids_of xs) → ids_of (cond (not b) (x ∷ left_by id xs) (left_by id xs)) ≡ cond (not b) (x.id ∷ but id (ids_of xs)) (but id (ids_of xs))
     by_id true rest = rest
     by_id false rest = ap (λ ns. x.id ∷ ns) rest
+
+ids-closed : (id : ℕ) (xs : List Exchange) → ids_of (closed id xs) ≡ but id (ids_of xs)
+ids-closed id xs = ids-map (release id) (release-id id) (left_by id xs) ∙ ids-left id xs
 
 ids-left_open : (key : Option Key) (id : ℕ) (xs : List Exchange) → ids_of (left_open key id xs) ≡ but id (ids_of xs)
 ids-left_open None id xs = ids-closed id xs
 ids-left_open (Some key) id xs = ids-map (overtake key) (overtake-id key) (closed id xs) ∙ ids-closed id xs
+
+ids-woken : (table : Table) (es : List Stored) (id now : ℕ) (w : Option Exchange) (xs : List Exchange) → ids_of (woken_out table es id now w xs) ≡ ids_of xs
+ids-woken table es id now None xs = refl
+ids-woken table es id now (Some x) xs =
+    ids-map _ (sent_out-id id now (rule_of (decision_of (caches_of table.lines x.line) es x.asked now)) (condition_at es (named_by (decision_of (caches_of table.lines x.line) es x.asked now)))) xs
 
 ids-push : (xs : List Exchange) (x : Exchange) → ids_of (xs ++ x ∷ []) ≡ ids_of xs ++ x.id ∷ []
 ids-push [] x = refl
@@ -210,6 +224,9 @@ stand_step table es xs past (Arrive now id asked) o free h = by_outcome o (was_f
     by_outcome (Forward line bytes) f =
         let i : Item = record { event = Arrive now id asked; outcome = Forward line bytes } in
         same_ids (ids-push xs (opened table es now id asked line)) (with_one i past (ids_of xs) refl (new_apart now id asked (Forward line bytes) xs f) h)
+    by_outcome (Waits leader) f =
+        let i : Item = record { event = Arrive now id asked; outcome = Waits leader } in
+        same_ids (ids-push xs (queued table es now id asked (line_of (verdict_of table.lines asked.method asked.target)) leader)) (with_one i past (ids_of xs) refl (new_apart now id asked (Waits leader) xs f) h)
     by_outcome (Reply r) f = further (record { event = Arrive now id asked; outcome = Reply r }) past (ids_of xs) (new_apart now id asked (Reply r) xs f) h
     by_outcome Ended f = further (record { event = Arrive now id asked; outcome = Ended }) past (ids_of xs) (new_apart now id asked Ended xs f) h
 stand_step table es xs past (Answer now id r) (Forward line bytes) free h =
@@ -218,11 +235,26 @@ stand_step table es xs past (Answer now id r) (Forward line bytes) free h =
 stand_step table es xs past (Answer now id r) (Reply reply) free h =
     let i : Item = record { event = Answer now id r; outcome = Reply reply } in
     same_ids (ids-left_open (invalidated_by (find_exchange id xs) r) id xs) (without_one id (ids_of xs) (i ∷ past) (further i past (ids_of xs) (late_apart i (ids_of xs) refl) h))
+stand_step table es xs past (Answer now id r) (Waits leader) free h =
+    let i : Item = record { event = Answer now id r; outcome = Waits leader } in
+    same_ids (ids-left_open (invalidated_by (find_exchange id xs) r) id xs) (without_one id (ids_of xs) (i ∷ past) (further i past (ids_of xs) (late_apart i (ids_of xs) refl) h))
 stand_step table es xs past (Answer now id r) Ended free h =
     let i : Item = record { event = Answer now id r; outcome = Ended } in
     same_ids (ids-left_open (invalidated_by (find_exchange id xs) r) id xs) (without_one id (ids_of xs) (i ∷ past) (further i past (ids_of xs) (late_apart i (ids_of xs) refl) h))
 stand_step table es xs past (Fail now id kind) o free h =
     let i : Item = record { event = Fail now id kind; outcome = o } in
+    same_ids (ids-closed id xs) (without_one id (ids_of xs) (i ∷ past) (further i past (ids_of xs) (late_apart i (ids_of xs) refl) h))
+stand_step table es xs past (Wake now id) (Forward line bytes) free h =
+    let i : Item = record { event = Wake now id; outcome = Forward line bytes } in
+    same_ids (ids-woken table es id now (find_exchange id xs) xs) (further i past (ids_of xs) (late_apart i (ids_of xs) refl) h)
+stand_step table es xs past (Wake now id) (Reply reply) free h =
+    let i : Item = record { event = Wake now id; outcome = Reply reply } in
+    same_ids (ids-closed id xs) (without_one id (ids_of xs) (i ∷ past) (further i past (ids_of xs) (late_apart i (ids_of xs) refl) h))
+stand_step table es xs past (Wake now id) (Waits leader) free h =
+    let i : Item = record { event = Wake now id; outcome = Waits leader } in
+    same_ids (ids-closed id xs) (without_one id (ids_of xs) (i ∷ past) (further i past (ids_of xs) (late_apart i (ids_of xs) refl) h))
+stand_step table es xs past (Wake now id) Ended free h =
+    let i : Item = record { event = Wake now id; outcome = Ended } in
     same_ids (ids-closed id xs) (without_one id (ids_of xs) (i ∷ past) (further i past (ids_of xs) (late_apart i (ids_of xs) refl) h))
 stand_step table es xs past (Abandon id) o free h =
     let i : Item = record { event = Abandon id; outcome = o } in

@@ -15,7 +15,7 @@ use Rattle.hx_hop.specs.Answering.{answered_of}
 use Rattle.proxy_core.specs.declared.condition.Condition.{Condition}
 use Rattle.proxy_core.specs.declared.exchange.Exchange.{Exchange}
 use Rattle.proxy_core.specs.declared.event.Event.{Event}
-use Rattle.proxy_core.specs.declared.event.Event.TheVariants.{Answer, Fail}
+use Rattle.proxy_core.specs.declared.event.Event.TheVariants.{Answer, Fail, Wake}
 use Rattle.proxy_core.specs.declared.pending.Change.{Change}
 use Rattle.proxy_core.specs.declared.pending.Change.TheVariants.{Keep, Use, Freshen, Remove, Store}
 use Rattle.proxy_core.specs.declared.pending.PendingReply.{PendingReply}
@@ -58,17 +58,21 @@ module _ (limit : ℕ) (es : List Stored) (x : Exchange) (now id : ℕ) where
   makes_leaves r t h m =
       made_by r t.removed t.change (λ e. ap (λ b. cond b (refreshed x r now e) e) (unanswered x r now e h)) m
 
-  plain_by : (kind : FailKind) (removed : List ℕ) (c : Change) → IsPlain c
-      → entries_by limit removed c es ≡ stored_list (Some x) (Fail now id kind) (stored_by c) removed limit (used_list (Some x) (Fail now id kind) (used_by c) es)
-  plain_by kind removed Keep m = refl
-  plain_by kind removed (Use serial) m = ap (taken removed) (same_used (Fail now id kind) serial (λ e. refl))
-  plain_by kind removed (Freshen e) m = absurd m
-  plain_by kind removed (Remove serial) m = absurd m
-  plain_by kind removed (Store e) m = absurd m
+  plain_by : (event : Event) (same : (e : Stored) → used_form (Some x) event e ≡ e) (removed : List ℕ) (c : Change) → IsPlain c
+      → entries_by limit removed c es ≡ stored_list (Some x) event (stored_by c) removed limit (used_list (Some x) event (used_by c) es)
+  plain_by event same removed Keep m = refl
+  plain_by event same removed (Use serial) m = ap (taken removed) (same_used event serial same)
+  plain_by event same removed (Freshen e) m = absurd m
+  plain_by event same removed (Remove serial) m = absurd m
+  plain_by event same removed (Store e) m = absurd m
 
   -- a failure
   pub fail_leaves : (kind : FailKind) (t : PendingReply) → IsPlain t.change → Leaves limit es x (Fail now id kind) t
-  fail_leaves kind t m = plain_by kind t.removed t.change m
+  fail_leaves kind t m = plain_by (Fail now id kind) (λ e. refl) t.removed t.change m
+
+  -- a wake
+  pub wake_leaves : (t : PendingReply) → IsPlain t.change → Leaves limit es x (Wake now id) t
+  wake_leaves t m = plain_by (Wake now id) (λ e. refl) t.removed t.change m
 
 -- a pending reply that stores and freshens nothing
 pub plain_makes : (x : Exchange) (r : Response) (now : ℕ) (c : Change) → IsPlain c → Makes x r now c

@@ -22,3 +22,4 @@ pub mod SentResponses
 pub mod Uncached
 pub mod Headlines
 pub mod Driven
+pub mod Waits

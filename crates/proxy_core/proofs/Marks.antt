@@ -9,13 +9,16 @@ use Rattle.hx_allow.specs.Lines.{Table}
 use Rattle.proxy_core.specs.declared.exchange.Exchange.{Exchange}
 use Rattle.proxy_core.specs.declared.outcome.Outcome.{Outcome}
 use Rattle.proxy_core.specs.declared.event.Event.{Event}
-use Rattle.proxy_core.specs.declared.event.Event.TheVariants.{Arrive, Answer, Fail, Abandon}
+use Rattle.proxy_core.specs.declared.event.Event.TheVariants.{Arrive, Answer, Fail, Wake, Abandon}
 use Rattle.proxy_core.specs.Outcomes.{find_exchange, id_of, fault_of}
 use Rattle.proxy_core.specs.State.{overtake}
 use Rattle.proxy_core.specs.Traces.{Item, begun, left, IsGood}
 use Rattle.proxy_core.specs.Promises.{goes_forward, is_arrival, times, asked_at, asked_by, key_by_step, is_key, invalidates_key, NoneInvalidates, some_invalidates}
-use Rattle.proxy_core.proofs.ExchangeLists.{overtaken_by}
-use Rattle.proxy_core.proofs.Moves.{Move, apart, opens, passes, again, closes, asked_of, move_of}
+use Rattle.proxy_core.specs.declared.stage.Stage.TheVariants.{Forwarded, Waiting, Released}
+use Rattle.proxy_core.specs.Leading.{waits_for}
+use Rattle.proxy_core.specs.State.{release}
+use Rattle.proxy_core.proofs.ExchangeLists.{overtaken_by, released_by, changed_by}
+use Rattle.proxy_core.proofs.Moves.{Move, apart, opens, queues, passes, again, wakes, closes, asked_of, ended_by, move_of}
 use Rattle.proxy_core.proofs.Tracing.{same_table}
 
 -- ---- the request of an open exchange is that of the latest arrival of its id
@@ -35,13 +38,26 @@ asked_apart : (id : ℕ) (event : Event) (b : Option Asked) → eqb (id_of event
 asked_apart id (Arrive now i asked) b n = ap (λ c. cond c (Some asked) b) n
 asked_apart id (Answer now i r) b n = refl
 asked_apart id (Fail now i kind) b n = refl
+asked_apart id (Wake now i) b n = refl
 asked_apart id (Abandon i) b n = refl
 
 asked_late : (id : ℕ) (event : Event) (b : Option Asked) → is_arrival event ≡ false → asked_at id event b ≡ b
 asked_late id (Arrive now i asked) b n = absurd (false≢true (sym n))
 asked_late id (Answer now i r) b n = refl
 asked_late id (Fail now i kind) b n = refl
+asked_late id (Wake now i) b n = refl
 asked_late id (Abandon i) b n = refl
+
+release_asked : (i : ℕ) (x : Exchange) → (release i x).asked ≡ x.asked
+release_asked i x = elim (waits_for i x.stage) as (λ b. (cond b (record x { stage = Released }) x).asked ≡ x.asked) [
+  | true ↦ refl
+  | false ↦ refl
+]
+
+asked_released : (gone : Option ℕ) (x : Option Exchange) → asked_of (released_by gone x) ≡ asked_of x
+asked_released None x = refl
+asked_released (Some i) None = refl
+asked_released (Some i) (Some x) = ap (λ (a : Asked). Some a) (release_asked i x)
 
 none_asked : (y : Option Exchange) (a : Asked) → y ≡ None → asked_of y ≡ Some a → ⊥
 none_asked None a h g = cc
@@ -50,11 +66,14 @@ none_asked (Some z) a h g = cc
 asked_more : (id : ℕ) (w : Option Exchange) (event : Event) (o : Outcome) (x y : Option Exchange) (b : Option Asked) (a : Asked) → Move id w event o x y →
     ((a : Asked) → asked_of x ≡ Some a → b ≡ Some a) → asked_of y ≡ Some a → asked_at id event b ≡ Some a
 asked_more id w event o x y b a (apart n h) f g =
-    asked_apart id event b n ∙ f a (sym (asked_overtaken (key_by_step (asked_of w) event o) x) ∙ sym (ap asked_of h) ∙ g)
+    asked_apart id event b n ∙ f a (sym (asked_released (ended_by event o) x) ∙ sym (asked_overtaken (key_by_step (asked_of w) event o) (released_by (ended_by event o) x)) ∙ sym (ap asked_of h) ∙ g)
 asked_more id w event o x y b a (opens table es now asked line e x_is k h) f g =
     ap (λ v. asked_at id v b) e ∙ ap (λ c. cond c (Some asked) b) (eq-eqb id id refl) ∙ sym (ap asked_of h) ∙ g
+asked_more id w event o x y b a (queues table es now asked line leader e x_is k l h) f g =
+    ap (λ v. asked_at id v b) e ∙ ap (λ c. cond c (Some asked) b) (eq-eqb id id refl) ∙ sym (ap asked_of h) ∙ g
 asked_more id w event o x y b a (passes t e x_is k h) f g = absurd (none_asked y a h g)
-asked_more id w event o x y b a (again z now t e q c k h) f g = asked_late id event b e ∙ f a (ap asked_of q ∙ sym (ap asked_of h) ∙ g)
+asked_more id w event o x y b a (again z now t e q c k h j s) f g = asked_late id event b e ∙ f a (ap asked_of q ∙ sym (ap asked_of h) ∙ g)
+asked_more id w event o x y b a (wakes table es z now e q s k h) f g = ap (λ v. asked_at id v b) e ∙ f a (ap asked_of q ∙ sym (ap asked_of h) ∙ g)
 asked_more id w event o x y b a (closes z t e q k h) f g = absurd (none_asked y a h g)
 
 pub asked_is : (table : Table) (limit first : ℕ) (past : List Item) → IsGood (begun table limit first) past → (id : ℕ) (a : Asked) →
@@ -72,6 +91,7 @@ key_is None (Arrive now i asked) o None f h = refl
 key_is None (Arrive now i asked) o (Some a) f h = refl
 key_is None (Answer now i r) o b f h = absurd (cc)
 key_is None (Fail now i kind) o b f h = absurd (cc)
+key_is None (Wake now i) o b f h = absurd (cc)
 key_is None (Abandon i) o b f h = absurd (cc)
 
 pub same_key_of_step : (table : Table) (limit first : ℕ) (i : Item) (past : List Item) → IsGood (begun table limit first) (i ∷ past) →
@@ -86,6 +106,7 @@ record Unmarked (key : Option Key) (x : Option Exchange) (z : Exchange) : Type 0
   x_is : x ≡ Some was
   asked : z.asked ≡ was.asked
   overtaken : z.overtaken ≡ (was.overtaken || is_key key was.asked.target.key)
+  stage : z.stage ≡ was.stage
 
 or_none : (b : Bool) → b ≡ (b || false)
 or_none true = refl
@@ -102,8 +123,14 @@ overtake_marks key x =
       | false ↦ or_none x.overtaken
     ]
 
+overtake_stage : (key : Key) (x : Exchange) → (overtake key x).stage ≡ x.stage
+overtake_stage key x = elim (same_key x.asked.target.key key) as (λ b. (cond b (record x { overtaken = true }) x).stage ≡ x.stage) [
+  | true ↦ refl
+  | false ↦ refl
+]
+
 unmarked : (key : Option Key) (x : Option Exchange) (z : Exchange) → overtaken_by key x ≡ Some z → Unmarked key x z
-unmarked None x z h = record { was = z; x_is = h; asked = refl; overtaken = or_none z.overtaken }
+unmarked None x z h = record { was = z; x_is = h; asked = refl; overtaken = or_none z.overtaken; stage = refl }
 unmarked (Some key) None z h = absurd (cc)
 unmarked (Some key) (Some u) z h =
     let e : overtake key u ≡ z = same_Some (overtake key u) z h in
@@ -112,7 +139,20 @@ unmarked (Some key) (Some u) z h =
       x_is = refl;
       asked = ap (λ (z : Exchange). z.asked) (sym e) ∙ overtake_asked key u;
       overtaken = ap (λ (z : Exchange). z.overtaken) (sym e) ∙ overtake_marks key u;
+      stage = ap (λ (z : Exchange). z.stage) (sym e) ∙ overtake_stage key u;
     }
+
+-- where the request is at the origin the end of another changes nothing
+unreleased : (gone : Option ℕ) (x : Option Exchange) (z : Exchange) → released_by gone x ≡ Some z → z.stage ≡ Forwarded → x ≡ Some z
+unreleased None x z h s = h
+unreleased (Some i) None z h s = absurd (cc)
+unreleased (Some i) (Some u) z h s = by_test (waits_for i u.stage) refl (same_Some (release i u) z h)
+  where
+    by_test : (b : Bool) → waits_for i u.stage ≡ b → cond b (record u { stage = Released }) u ≡ z → Some u ≡ Some z
+    by_test true k e =
+        let no : Released ≡ Forwarded = ap (λ (z : Exchange). z.stage) e ∙ s in
+        absurd (cc)
+    by_test false k e = ap (λ (y : Exchange). Some y) e
 
 none_more : (b : Bool) (n : ℕ) → cond b (n + 1) n ≡ 0 → (b ≡ false) × (n ≡ 0)
 none_more true n h = absurd (omega arith)
@@ -126,8 +166,10 @@ out_now : (id : ℕ) (w : Option Exchange) (event : Event) (o : Outcome) (x y : 
     eqb (id_of event) id ≡ true → goes_forward o ≡ true → y ≡ Some z → z.overtaken ≡ false
 out_now id w event o x y z (apart n h) t f g = absurd (false≢true (sym n ∙ t))
 out_now id w event o x y z (opens table es now asked line e x_is q h) t f g = ap (λ (z : Exchange). z.overtaken) (same_Some z _ (sym g ∙ h))
+out_now id w event o x y z (queues table es now asked line leader e x_is q l h) t f g = absurd (false≢true (sym (ap goes_forward q) ∙ f))
 out_now id w event o x y z (passes u e x_is q h) t f g = absurd (none_some y z h g)
-out_now id w event o x y z (again v now u e q c p h) t f g = ap (λ (z : Exchange). z.overtaken) (same_Some z _ (sym g ∙ h))
+out_now id w event o x y z (again v now u e q c p h j s) t f g = ap (λ (z : Exchange). z.overtaken) (same_Some z _ (sym g ∙ h))
+out_now id w event o x y z (wakes table es v now e q s p h) t f g = ap (λ (z : Exchange). z.overtaken) (same_Some z _ (sym g ∙ h))
 out_now id w event o x y z (closes v u e q p h) t f g = absurd (none_some y z h g)
 
 or_swap : (a b : Bool) → (a || b) ≡ (b || a)
@@ -145,19 +187,20 @@ module _ (table : Table) (limit first : ℕ) (f : Item) (before : List Item) (id
   abbrev exchange : List Item → Option Exchange
   exchange items = find_exchange id (left (begun table limit first) (items ++ f ∷ before)).exchanges
 
-  -- the exchange, where it is open: its request, and its mark
+  -- the exchange, where its request is at the origin: that request, and its mark
   abbrev IsOut : List Item → Type 0
-  IsOut items = (z : Exchange) → exchange items ≡ Some z →
+  IsOut items = (z : Exchange) → exchange items ≡ Some z → z.stage ≡ Forwarded →
       (asked_by id (f ∷ before) ≡ Some z.asked) × (z.overtaken ≡ some_invalidates z.asked.target.key items (f ∷ before))
 
   out_step : (i : Item) (items : List Item) → IsGood (begun table limit first) (i ∷ (items ++ f ∷ before)) → (eqb (id_of i.event) id && goes_forward i.outcome) ≡ false →
       IsOut items → (y : Option Exchange) →
       Move id (find_exchange (id_of i.event) (left (begun table limit first) (items ++ f ∷ before)).exchanges) i.event i.outcome (exchange items) y →
-      (z : Exchange) → y ≡ Some z → (asked_by id (f ∷ before) ≡ Some z.asked) × (z.overtaken ≡ some_invalidates z.asked.target.key (i ∷ items) (f ∷ before))
-  out_step i items g n out y (apart a e) z q =
+      (z : Exchange) → y ≡ Some z → z.stage ≡ Forwarded → (asked_by id (f ∷ before) ≡ Some z.asked) × (z.overtaken ≡ some_invalidates z.asked.target.key (i ∷ items) (f ∷ before))
+  out_step i items g n out y (apart a e) z q stage =
       let key = key_by_step (asked_of (find_exchange (id_of i.event) (left (begun table limit first) (items ++ f ∷ before)).exchanges)) i.event i.outcome in
-      let u = unmarked key (exchange items) z (sym e ∙ q) in
-      let was = out u.was u.x_is in (
+      let u = unmarked key (released_by (ended_by i.event i.outcome) (exchange items)) z (sym e ∙ q) in
+      let stays = sym u.stage ∙ stage in
+      let was = out u.was (unreleased (ended_by i.event i.outcome) (exchange items) u.was u.x_is stays) stays in (
         was.0 ∙ ap (λ r. Some r) (sym u.asked),
         u.overtaken
             ∙ ap (λ b. b || is_key key u.was.asked.target.key) was.1
@@ -165,21 +208,28 @@ module _ (table : Table) (limit first : ℕ) (f : Item) (before : List Item) (id
             ∙ ap (λ o. is_key o u.was.asked.target.key || some_invalidates u.was.asked.target.key items (f ∷ before)) (sym (same_key_of_step table limit first i (items ++ f ∷ before) g))
             ∙ ap (λ (r : Asked). some_invalidates r.target.key (i ∷ items) (f ∷ before)) (sym u.asked),
       )
-  out_step i items g n out y (opens table es now asked line e x_is q p) z r =
+  out_step i items g n out y (queues table es now asked line leader e x_is q l p) z r stage =
+      let no : Waiting leader ≡ Forwarded = ap (λ (z : Exchange). z.stage) (same_Some _ z (sym p ∙ r)) ∙ stage in
+      absurd (cc)
+  out_step i items g n out y (wakes table es v now e q s u p) z r stage =
+      let t : (eqb (id_of i.event) id && goes_forward i.outcome) ≡ true =
+      ap (λ v. eqb (id_of v) id && goes_forward i.outcome) e ∙ ap (λ b. eqb id id && b) u ∙ ap (λ b. b && true) (eq-eqb id id refl) in
+      absurd (false≢true (sym n ∙ t))
+  out_step i items g n out y (opens table es now asked line e x_is q p) z r stage =
       let t : (eqb (id_of i.event) id && goes_forward i.outcome) ≡ true =
       ap (λ v. eqb (id_of v) id && goes_forward i.outcome) e ∙ ap (λ b. eqb id id && b) q ∙ ap (λ b. b && true) (eq-eqb id id refl) in
       absurd (false≢true (sym n ∙ t))
-  out_step i items g n out y (passes u e x_is q p) z r = absurd (none_some y z p r)
-  out_step i items g n out y (again v now u e q c p t) z r =
+  out_step i items g n out y (passes u e x_is q p) z r stage = absurd (none_some y z p r)
+  out_step i items g n out y (again v now u e q c p t j s) z r stage =
       let t : (eqb (id_of i.event) id && goes_forward i.outcome) ≡ true = ap (λ b. eqb (id_of i.event) id && b) p ∙ ap (λ b. b && true) u in
       absurd (false≢true (sym n ∙ t))
-  out_step i items g n out y (closes v u e q p t) z r = absurd (none_some y z t r)
+  out_step i items g n out y (closes v u e q p t) z r stage = absurd (none_some y z t r)
 
   -- since f, by which the exchange went forward last
   pub out_since : (items : List Item) → IsGood (begun table limit first) (items ++ f ∷ before) → goes_forward f.outcome ≡ true → id_of f.event ≡ id →
-      times goes_forward id items ≡ 0 → (z : Exchange) → exchange items ≡ Some z →
+      times goes_forward id items ≡ 0 → (z : Exchange) → exchange items ≡ Some z → z.stage ≡ Forwarded →
       (asked_by id (f ∷ before) ≡ Some z.asked) × (z.overtaken ≡ some_invalidates z.asked.target.key items (f ∷ before))
-  out_since [] g o e n = λ z q. (
+  out_since [] g o e n = λ z q stage. (
     asked_is table limit first (f ∷ before) g id z.asked (ap asked_of q),
     out_now id _ f.event f.outcome _ _ z (move_of table (left (begun table limit first) before) f id (same_table (begun table limit first) before) g.0) (eq-eqb (id_of f.event) id e) o q,
   )

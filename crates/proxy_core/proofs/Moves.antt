@@ -1,33 +1,41 @@
 -- What an accepted step does to the exchange of an id.
 use Rattle.std.proofs.Common.{◌≡◌, ℕ, Bool, true, false, not, cond, ◌&&◌, ◌||◌, ◌==◌, eqb, Option, None, Some, is_some, List, refl, sym, ◌∙◌, ap, subst, arith, inl, inr}
-use Rattle.std.specs.Prelude.{option_map, nat_le}
+use Rattle.std.specs.Prelude.{option_map, nat_le, map}
 use Rattle.std.proofs.lemmas.Bool.{cases_Bool, eqb-true, false≢true}
 use Rattle.std.proofs.lemmas.Bool.Decides.{nat_tests}
 use Rattle.http.specs.Method.{safe_methods, is_among}
 use Rattle.hx_framing.specs.declared.responses.Response.{Response}
 use Rattle.hx_hop.specs.declared.asked_for.Asked.{Asked}
 use Rattle.hx_allow.specs.Lines.{Table}
-use Rattle.hx_allow.specs.Matching.{caches_of}
+use Rattle.hx_allow.specs.Matching.{verdict_of, caches_of}
 use Rattle.hx_store.specs.Stored.{Stored}
 use Rattle.hx_reuse.specs.Rules.{decision_of}
+use Rattle.hx_reuse.specs.declared.rule.ReuseRule.{ReuseRule}
+use Rattle.proxy_core.specs.declared.condition.Condition.{Condition}
+use Rattle.proxy_core.specs.declared.fault.CoreFault.TheVariants.{NotForwarded, NotReady}
 use Rattle.hx_reuse.specs.declared.decision.Decision.{Decision}
 use Rattle.hx_reuse.specs.declared.decision.Decision.TheVariants as decision
 use Rattle.hx_status.specs.declared.cause.FailKind.{FailKind}
 use Rattle.hx_status.specs.declared.cause.FailKind.TheVariants.{BadAnswer}
+use Rattle.proxy_core.specs.declared.stage.Stage.{Stage}
 use Rattle.proxy_core.specs.declared.exchange.Exchange.{Exchange}
+use Rattle.proxy_core.specs.declared.fault.CoreFault.{CoreFault}
+use Rattle.proxy_core.specs.Moments.{too_late}
+use Rattle.proxy_core.specs.Leading.{is_forwarded, is_released}
 use Rattle.proxy_core.specs.declared.fallback.Fallback.{Fallback}
 use Rattle.proxy_core.specs.declared.fallback.Fallback.TheVariants.{Sends, Refuses}
 use Rattle.proxy_core.specs.declared.outcome.Outcome.{Outcome}
-use Rattle.proxy_core.specs.declared.outcome.Outcome.TheVariants.{Reply, Forward, Ended}
+use Rattle.proxy_core.specs.declared.outcome.Outcome.TheVariants.{Reply, Forward, Waits, Ended}
 use Rattle.proxy_core.specs.declared.event.Event.{Event}
-use Rattle.proxy_core.specs.declared.event.Event.TheVariants.{Arrive, Answer, Fail, Abandon}
-use Rattle.proxy_core.specs.Validating.{is_validation, validated}
+use Rattle.proxy_core.specs.declared.event.Event.TheVariants.{Arrive, Answer, Fail, Wake, Abandon}
+use Rattle.proxy_core.specs.Validating.{condition_at, is_validation, validated}
 use Rattle.proxy_core.specs.Storing.{is_unasked, key_invalidated}
-use Rattle.proxy_core.specs.Outcomes.{find_exchange, id_of, fallback_for, failed, is_error_status, passed_unless, revalidated, answered, outcome_of, fault_of}
-use Rattle.proxy_core.specs.State.{State, after, open_after, opened, goes_out, gone_out, invalidated_by}
+use Rattle.proxy_core.specs.Outcomes.{find_exchange, id_of, fallback_for, failed, is_error_status, passed_unless, revalidated, answered, woken, outcome_of, or_fault, not_forwarded, not_ready, fault_of}
+use Rattle.proxy_core.specs.State.{State, after, open_after, opened, queued, line_of, rule_of, named_by, goes_out, gone_out, sent_out, woken_out, invalidated_by}
 use Rattle.proxy_core.specs.Traces.{Item, Accepts}
-use Rattle.proxy_core.specs.Promises.{goes_forward, is_reply, is_arrival, sends_nothing_held, key_by_answer, key_by_step}
-use Rattle.proxy_core.proofs.ExchangeLists.{find-closed, find-push, find-gone_out, find-left_open, found-id, overtaken_by}
+use Rattle.proxy_core.specs.Promises.{goes_forward, is_reply, ends, is_arrival, sends_nothing_held, key_by_answer, key_by_step}
+use Rattle.proxy_core.specs.Carrying.{judges}
+use Rattle.proxy_core.proofs.ExchangeLists.{find-map, find-closed, find-push, find-gone_out, find-left_open, found-id, sent_out-id, overtaken_by, changed_by}
 
 abbrev pub asked_of : Option Exchange → Option Asked
 asked_of None = None
@@ -37,14 +45,39 @@ asked_of (Some x) = Some x.asked
 abbrev pub out_again : ℕ → Exchange → Exchange
 out_again now z = goes_out now z.rule None z
 
+-- the exchange that was woken and went forward
+abbrev pub woken_form : Table → List Stored → ℕ → Exchange → Exchange
+woken_form table es now z =
+    goes_out now (rule_of (decision_of (caches_of table.lines z.line) es z.asked now)) (condition_at es (named_by (decision_of (caches_of table.lines z.line) es z.asked now))) z
+
+-- the exchange that ends by a step
+abbrev pub ended_by : Event → Outcome → Option ℕ
+ended_by event o = cond (not (is_arrival event) && ends o) (Some (id_of event)) None
+
+pub ends_back : (o : Outcome) → ends o ≡ true → goes_forward o ≡ false
+ends_back (Reply r) h = refl
+ends_back (Forward line bytes) h = absurd (false≢true h)
+ends_back (Waits leader) h = refl
+ends_back Ended h = refl
+
+pub forward_goes_on : (o : Outcome) → goes_forward o ≡ true → ends o ≡ false
+forward_goes_on (Reply r) h = absurd (false≢true h)
+forward_goes_on (Forward line bytes) h = refl
+forward_goes_on (Waits leader) h = refl
+forward_goes_on Ended h = absurd (false≢true h)
+
 -- of a step of the exchange w of its own id, what becomes of the exchange x of an id
 pub data Move (id : ℕ) (w : Option Exchange) (event : Event) (o : Outcome) (x y : Option Exchange) : Type 0 where
-  apart : eqb (id_of event) id ≡ false → y ≡ overtaken_by (key_by_step (asked_of w) event o) x → Move id w event o x y
+  apart : eqb (id_of event) id ≡ false → y ≡ changed_by (key_by_step (asked_of w) event o) (ended_by event o) x → Move id w event o x y
   opens : (table : Table) (es : List Stored) (now : ℕ) (asked : Asked) (line : ℕ) → event ≡ Arrive now id asked → x ≡ None → goes_forward o ≡ true → y ≡ Some (opened table es now id asked line) → Move id w event o x y
-  passes : eqb (id_of event) id ≡ true → is_arrival event ≡ true → x ≡ None → goes_forward o ≡ false → y ≡ None → Move id w event o x y
+  queues : (table : Table) (es : List Stored) (now : ℕ) (asked : Asked) (line leader : ℕ) → event ≡ Arrive now id asked → x ≡ None → o ≡ Waits leader →
+      line ≡ line_of (verdict_of table.lines asked.method asked.target) → y ≡ Some (queued table es now id asked line leader) → Move id w event o x y
+  passes : eqb (id_of event) id ≡ true → is_arrival event ≡ true → x ≡ None → ends o ≡ true → y ≡ None → Move id w event o x y
   again : (z : Exchange) (now : ℕ) → eqb (id_of event) id ≡ true → is_arrival event ≡ false → x ≡ Some z → is_some z.condition ≡ true →
-      goes_forward o ≡ true → y ≡ Some (out_again now z) → Move id w event o x y
-  closes : (z : Exchange) → eqb (id_of event) id ≡ true → is_arrival event ≡ false → x ≡ Some z → goes_forward o ≡ false → y ≡ None → Move id w event o x y
+      goes_forward o ≡ true → y ≡ Some (out_again now z) → judges event ≡ false → is_forwarded z.stage ≡ true → Move id w event o x y
+  wakes : (table : Table) (es : List Stored) (z : Exchange) (now : ℕ) → event ≡ Wake now id → x ≡ Some z → is_released z.stage ≡ true → goes_forward o ≡ true →
+      y ≡ Some (woken_form table es now z) → Move id w event o x y
+  closes : (z : Exchange) → eqb (id_of event) id ≡ true → is_arrival event ≡ false → x ≡ Some z → ends o ≡ true → y ≡ None → Move id w event o x y
 
 -- ---- what an answer gives
 
@@ -55,6 +88,10 @@ and_none false = refl
 failed_reply : (table : Table) (es : List Stored) (now : ℕ) (x : Exchange) (kind : FailKind) (came : Option ℕ) (fallback : Fallback) → is_reply (failed table es now x kind came fallback) ≡ true
 failed_reply table es now x kind came (Sends serial detail) = refl
 failed_reply table es now x kind came (Refuses rule error) = refl
+
+failed_ends : (table : Table) (es : List Stored) (now : ℕ) (x : Exchange) (kind : FailKind) (came : Option ℕ) (fallback : Fallback) → ends (failed table es now x kind came fallback) ≡ true
+failed_ends table es now x kind came (Sends serial detail) = refl
+failed_ends table es now x kind came (Refuses rule error) = refl
 
 pub failed_back : (table : Table) (es : List Stored) (now : ℕ) (x : Exchange) (kind : FailKind) (came : Option ℕ) (fallback : Fallback) → goes_forward (failed table es now x kind came fallback) ≡ false
 failed_back table es now x kind came (Sends serial detail) = refl
@@ -141,17 +178,43 @@ other_out i now id (Some z) n h =
     let off : eqb z.id i ≡ false = grind (arith, nat_tests) in
     ap (λ b. Some (cond b (out_again now z) z)) off
 
+other_sent : (i now : ℕ) (q : ReuseRule) (c : Option Condition) (id : ℕ) (o : Option Exchange) → eqb i id ≡ false → ((z : Exchange) → o ≡ Some z → eqb z.id id ≡ true) →
+    option_map (sent_out i now q c) o ≡ o
+other_sent i now q c id None n h = refl
+other_sent i now q c id (Some z) n h =
+    let e = eqb-true z.id id (h z refl) in
+    let off : eqb z.id i ≡ false = grind (arith, nat_tests) in
+    ap (λ b. Some (cond b (goes_out now q c z) z)) off
+
+-- no fault stands of an answer or a failure
+pub forwarded_by : (a : Option CoreFault) (s : Stage) → or_fault a (not_forwarded s) ≡ None → is_forwarded s ≡ true
+forwarded_by (Some fault) s h = absurd (cc)
+forwarded_by None s h = by_test (is_forwarded s) h
+  where
+    by_test : (b : Bool) → cond b None (Some NotForwarded) ≡ None → b ≡ true
+    by_test true h = refl
+    by_test false h = absurd (cc)
+
+-- nor of a wake
+pub released_from : (a : Option CoreFault) (s : Stage) → or_fault a (not_ready s) ≡ None → is_released s ≡ true
+released_from (Some fault) s h = absurd (cc)
+released_from None s h = by_test (is_released s) h
+  where
+    by_test : (b : Bool) → cond b None (Some NotReady) ≡ None → b ≡ true
+    by_test true h = refl
+    by_test false h = absurd (cc)
+
 no_key : (asked : Asked) (r : Response) (line : ℕ) (bytes : List ℕ) → key_by_answer asked r (Forward line bytes) ≡ None
 no_key asked r line bytes = ap (λ b. cond b (Some asked.target.key) None)
     (ap (λ b. not (is_among safe_methods asked.method) && b) (and_none (nat_le 200 r.status && nat_le r.status 399)) ∙ and_none (not (is_among safe_methods asked.method)))
 
-is_either : Outcome → Bool
+abbrev pub is_either : Outcome → Bool
 is_either (Reply r) = true
 is_either (Forward line bytes) = true
+is_either (Waits leader) = false
 is_either Ended = false
 
-answer_either : (table : Table) (es : List Stored) (now : ℕ) (x : Exchange) (r : Response) (next : Option ℕ) (d : Decision) → is_either (answered table es now x r next d) ≡ true
-unfolding is_either
+pub answer_either : (table : Table) (es : List Stored) (now : ℕ) (x : Exchange) (r : Response) (next : Option ℕ) (d : Decision) → is_either (answered table es now x r next d) ≡ true
 answer_either table es now x r next d = by_304 (is_validation x r)
   where
     again_or_sent : (o : Option Stored) (d : Decision) → is_either (revalidated table es now x r o d) ≡ true
@@ -181,15 +244,16 @@ answer_either table es now x r next d = by_304 (is_validation x r)
 
 module _ (table : Table) (es : List Stored) (xs : List Exchange) (next : Option ℕ) (id : ℕ) where
   -- the exchange of the step's id ends
-  gone : (w : Exchange) (event : Event) (o : Outcome) → find_exchange (id_of event) xs ≡ Some w → is_arrival event ≡ false → goes_forward o ≡ false →
+  gone : (w : Exchange) (event : Event) (o : Outcome) → find_exchange (id_of event) xs ≡ Some w → is_arrival event ≡ false → ends o ≡ true →
       (y : Option Exchange) →
-      y ≡ cond (eqb (id_of event) id) None (overtaken_by (key_by_step (Some w.asked) event o) (find_exchange id xs)) →
+      y ≡ cond (eqb (id_of event) id) None (changed_by (key_by_step (Some w.asked) event o) (Some (id_of event)) (find_exchange id xs)) →
       Move id (Some w) event o (find_exchange id xs) y
   gone w event o f a g y h =
-      let rest = overtaken_by (key_by_step (Some w.asked) event o) (find_exchange id xs) in
+      let rest = changed_by (key_by_step (Some w.asked) event o) (Some (id_of event)) (find_exchange id xs) in
+      let by : Some (id_of event) ≡ ended_by event o = sym (ap (λ b. cond (not b && ends o) (Some (id_of event)) None) a ∙ ap (λ b. cond b (Some (id_of event)) None) g) in
       elim (cases_Bool (eqb (id_of event) id)) [
         | inl t ↦ closes w t a (ap (λ n. find_exchange n xs) (sym (eqb-true (id_of event) id t)) ∙ f) g (h ∙ ap (λ b. cond b None rest) t)
-        | inr n ↦ apart n (h ∙ ap (λ b. cond b None rest) n)
+        | inr n ↦ apart n (h ∙ ap (λ b. cond b None rest) n ∙ ap (λ k. changed_by (key_by_step (Some w.asked) event o) k (find_exchange id xs)) by)
       ]
 
   arrives : (now i : ℕ) (asked : Asked) (o : Outcome) → find_exchange i xs ≡ None →
@@ -204,6 +268,17 @@ module _ (table : Table) (es : List Stored) (xs : List Exchange) (next : Option 
             )
         | inr n ↦ apart n (p ∙ ap (λ b. cond b (Some (opened table es now i asked line)) (find_exchange id xs)) n)
       ]
+  arrives now i asked (Waits leader) f =
+      let line : ℕ = line_of (verdict_of table.lines asked.method asked.target) in
+      let p = find-push id xs (queued table es now i asked line leader) f in
+      elim (cases_Bool (eqb i id)) [
+        | inl t ↦ (
+            let same = eqb-true i id t in
+            queues table es now asked line leader (ap (λ n. Arrive now n asked) same) (ap (λ n. find_exchange n xs) (sym same) ∙ f) refl refl
+            (p ∙ ap (λ b. cond b (Some (queued table es now i asked line leader)) (find_exchange id xs)) t ∙ ap (λ n. Some (queued table es now n asked line leader)) same)
+            )
+        | inr n ↦ apart n (p ∙ ap (λ b. cond b (Some (queued table es now i asked line leader)) (find_exchange id xs)) n)
+      ]
   arrives now i asked (Reply r) f = elim (cases_Bool (eqb i id)) [
     | inl t ↦ passes t refl (ap (λ n. find_exchange n xs) (sym (eqb-true i id t)) ∙ f) refl (ap (λ n. find_exchange n xs) (sym (eqb-true i id t)) ∙ f)
     | inr n ↦ apart n refl
@@ -213,10 +288,9 @@ module _ (table : Table) (es : List Stored) (xs : List Exchange) (next : Option 
     | inr n ↦ apart n refl
   ]
 
-  answers : (now i : ℕ) (r : Response) (z : Exchange) (o : Outcome) → find_exchange i xs ≡ Some z → o ≡ answered table es now z r next (decision_of (caches_of table.lines z.line) es z.asked now) →
+  answers : (now i : ℕ) (r : Response) (z : Exchange) (o : Outcome) → find_exchange i xs ≡ Some z → is_forwarded z.stage ≡ true → o ≡ answered table es now z r next (decision_of (caches_of table.lines z.line) es z.asked now) →
       Move id (Some z) (Answer now i r) o (find_exchange id xs) (find_exchange id (open_after table es xs (Answer now i r) o))
-  unfolding is_either
-  answers now i r z (Forward line bytes) f h =
+  answers now i r z (Forward line bytes) f s h =
       let d = decision_of (caches_of table.lines z.line) es z.asked now in
       let p = find-gone_out i now id xs in
       let v = again_asked table es now z r next d (ap goes_forward (sym h)) in
@@ -224,29 +298,67 @@ module _ (table : Table) (es : List Stored) (xs : List Exchange) (next : Option 
         | inl t ↦ (
             let x_is : find_exchange id xs ≡ Some z = ap (λ n. find_exchange n xs) (sym (eqb-true i id t)) ∙ f in
             again z now t refl x_is (and_right (r.status == 304) (is_some z.condition) v) refl
-            (p ∙ ap (option_map (gone_out i now)) x_is ∙ ap (λ b. Some (cond b (out_again now z) z)) (found-id i xs z f))
+            (p ∙ ap (option_map (gone_out i now)) x_is ∙ ap (λ b. Some (cond b (out_again now z) z)) (found-id i xs z f)) refl s
             )
         | inr n ↦ apart n (p ∙ other_out i now id (find_exchange id xs) n (λ z g. found-id id xs z g)
             ∙ sym (ap (λ k. overtaken_by k (find_exchange id xs)) (no_key z.asked r line bytes)))
       ]
-  answers now i r z (Reply p) f h = gone z (Answer now i r) (Reply p) f refl refl _ (
+  answers now i r z (Reply p) f s h = gone z (Answer now i r) (Reply p) f refl refl _ (
       find-left_open (invalidated_by (find_exchange i xs) r) i id xs
-      ∙ ap (λ k. cond (eqb i id) None (overtaken_by k (find_exchange id xs)))
+      ∙ ap (λ k. cond (eqb i id) None (changed_by k (Some i) (find_exchange id xs)))
       (ap (λ w. invalidated_by w r) f ∙ same_key_invalidated table es now z r next (decision_of (caches_of table.lines z.line) es z.asked now) ∙ ap (key_by_answer z.asked r) (sym h))
       )
-  answers now i r z Ended f h = absurd (false≢true (ap is_either h ∙ answer_either table es now z r next (decision_of (caches_of table.lines z.line) es z.asked now)))
+  answers now i r z (Waits leader) f s h = absurd (false≢true (ap is_either h ∙ answer_either table es now z r next (decision_of (caches_of table.lines z.line) es z.asked now)))
+  answers now i r z Ended f s h = absurd (false≢true (ap is_either h ∙ answer_either table es now z r next (decision_of (caches_of table.lines z.line) es z.asked now)))
+
+  -- what waited and is woken
+  wakes_up : (now i : ℕ) (z : Exchange) (o : Outcome) (d : Decision) → decision_of (caches_of table.lines z.line) es z.asked now ≡ d → find_exchange i xs ≡ Some z → is_released z.stage ≡ true →
+      o ≡ woken table es now z d → Move id (Some z) (Wake now i) o (find_exchange id xs) (find_exchange id (open_after table es xs (Wake now i) o))
+  wakes_up now i z o (decision.Hit serial) d_is f s h =
+      subst (λ (o : Outcome). Move id (Some z) (Wake now i) o (find_exchange id xs) (find_exchange id (open_after table es xs (Wake now i) o))) (sym h)
+      (gone z (Wake now i) (woken table es now z (decision.Hit serial)) f refl refl _ (find-closed i id xs))
+  wakes_up now i z o (decision.Forward rule against) d_is f s h =
+      subst (λ (o : Outcome). Move id (Some z) (Wake now i) o (find_exchange id xs) (find_exchange id (open_after table es xs (Wake now i) o))) (sym h)
+      (by_id (ap (λ (w : Option Exchange). find_exchange id (woken_out table es i now w xs)) f ∙ find-map out (sent_out-id i now q c) id xs))
+    where
+      q : ReuseRule
+      q = rule_of (decision_of (caches_of table.lines z.line) es z.asked now)
+
+      c : Option Condition
+      c = condition_at es (named_by (decision_of (caches_of table.lines z.line) es z.asked now))
+
+      out : Exchange → Exchange
+      out x = sent_out i now q c x
+
+      o' : Outcome
+      o' = woken table es now z (decision.Forward rule against)
+
+      by_id : find_exchange id (woken_out table es i now (find_exchange i xs) xs) ≡ option_map (sent_out i now q c) (find_exchange id xs) →
+          Move id (Some z) (Wake now i) (woken table es now z (decision.Forward rule against)) (find_exchange id xs) (find_exchange id (woken_out table es i now (find_exchange i xs) xs))
+      by_id p = elim (cases_Bool (eqb i id)) [
+        | inl t ↦ (
+            let same = eqb-true i id t in
+            let x_is : find_exchange id xs ≡ Some z = ap (λ n. find_exchange n xs) (sym same) ∙ f in
+            wakes table es z now (ap (λ n. Wake now n) same) x_is s refl
+            (p ∙ ap (option_map (sent_out i now q c)) x_is ∙ ap (λ b. Some (cond b (goes_out now q c z) z)) (found-id i xs z f))
+            )
+        | inr n ↦ apart n (p ∙ other_sent i now q c id (find_exchange id xs) n (λ y g. found-id id xs y g))
+      ]
 
   step : (event : Event) (o : Outcome) (w : Option Exchange) → find_exchange (id_of event) xs ≡ w → fault_of w event ≡ None → o ≡ outcome_of table es xs w next event →
       Move id w event o (find_exchange id xs) (find_exchange id (open_after table es xs event o))
   step (Arrive now i asked) o None f a h = arrives now i asked o f
   step (Arrive now i asked) o (Some w) f a h = absurd (cc)
   step (Answer now i r) o None f a h = absurd (cc)
-  step (Answer now i r) o (Some w) f a h = answers now i r w o f h
+  step (Answer now i r) o (Some w) f a h = answers now i r w o f (forwarded_by (too_late now) w.stage a) h
   step (Fail now i kind) o None f a h = absurd (cc)
   step (Fail now i kind) o (Some w) f a h =
-      gone w (Fail now i kind) o f refl (ap goes_forward h ∙ failed_back table es now w kind None (fallback_for es w.asked now (decision_of (caches_of table.lines w.line) es w.asked now))) _ (find-closed i id xs)
+      gone w (Fail now i kind) o f refl (ap ends h ∙ failed_ends table es now w kind None (fallback_for es w.asked now (decision_of (caches_of table.lines w.line) es w.asked now))) _ (find-closed i id xs)
+  step (Wake now i) o None f a h = absurd (cc)
+  step (Wake now i) o (Some w) f a h =
+      wakes_up now i w o (decision_of (caches_of table.lines w.line) es w.asked now) refl f (released_from (too_late now) w.stage a) h
   step (Abandon i) o None f a h = absurd (cc)
-  step (Abandon i) o (Some w) f a h = gone w (Abandon i) o f refl (ap goes_forward h) _ (find-closed i id xs)
+  step (Abandon i) o (Some w) f a h = gone w (Abandon i) o f refl (ap ends h) _ (find-closed i id xs)
 
 pub move_of : (table : Table) (s : State) (i : Item) (id : ℕ) → s.table ≡ table → Accepts table s.entries s.exchanges s.next i →
     Move id (find_exchange (id_of i.event) s.exchanges) i.event i.outcome (find_exchange id s.exchanges) (find_exchange id (after s i.event i.outcome).exchanges)

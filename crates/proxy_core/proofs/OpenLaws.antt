@@ -5,23 +5,26 @@ use Rattle.hx_target.specs.declared.keys.Key.{Key}
 use Rattle.hx_target.specs.Keys.{same_key}
 use Rattle.hx_hop.specs.declared.asked_for.Asked.{Asked}
 use Rattle.hx_allow.specs.Lines.{Table}
-use Rattle.hx_allow.specs.Matching.{caches_of}
+use Rattle.hx_allow.specs.Matching.{verdict_of, caches_of}
 use Rattle.hx_store.specs.Stored.{Stored}
 use Rattle.hx_reuse.specs.Rules.{decision_of}
 use Rattle.hx_reuse.specs.declared.rule.ReuseRule.{ReuseRule}
 use Rattle.proxy_core.specs.declared.exchange.Exchange.{Exchange}
 use Rattle.proxy_core.specs.declared.outcome.Outcome.{Outcome}
-use Rattle.proxy_core.specs.declared.outcome.Outcome.TheVariants.{Reply, Forward, Ended}
+use Rattle.proxy_core.specs.declared.outcome.Outcome.TheVariants.{Reply, Forward, Waits, Ended}
 use Rattle.proxy_core.specs.declared.event.Event.{Event}
 use Rattle.proxy_core.specs.declared.event.Event.TheVariants.{Arrive}
 use Rattle.proxy_core.specs.Outcomes.{find_exchange, id_of, fault_of}
-use Rattle.proxy_core.specs.State.{State, overtake, opened, rule_of, open_after}
+use Rattle.proxy_core.specs.declared.stage.Stage.TheVariants.{Released}
+use Rattle.proxy_core.specs.Leading.{waits_for}
+use Rattle.proxy_core.specs.State.{State, release, overtake, opened, queued, line_of, rule_of, open_after}
 use Rattle.proxy_core.specs.Traces.{Item, begun, left, IsGood}
 use Rattle.proxy_core.specs.Histories.{held_entries, open_exchanges}
-use Rattle.proxy_core.specs.Promises.{goes_forward, is_arrival, NoneArrives, key_by_step}
-use Rattle.proxy_core.specs.Meaning.{has_ended, OpenFromArrivalToEnd, OpenByArrivalAlone, HasItsRequest, KeepsItsRule, OvertakenWhereInvalidated}
-use Rattle.proxy_core.proofs.ExchangeLists.{overtaken_by, find-push}
-use Rattle.proxy_core.proofs.Moves.{Move, apart, opens, passes, again, closes, asked_of, move_of, and_none}
+use Rattle.proxy_core.specs.Promises.{goes_forward, ends, is_arrival, NoneArrives, key_by_step}
+use Rattle.proxy_core.specs.Carrying.{judges, NoneJudged}
+use Rattle.proxy_core.specs.Meaning.{has_ended, starts, OpenFromArrivalToEnd, OpenByArrivalAlone, HasItsRequest, KeepsItsRule, OvertakenWhereInvalidated}
+use Rattle.proxy_core.proofs.ExchangeLists.{overtaken_by, released_by, changed_by, find-push}
+use Rattle.proxy_core.proofs.Moves.{Move, apart, opens, queues, passes, again, wakes, closes, asked_of, ended_by, ends_back, forward_goes_on, move_of, and_none}
 use Rattle.proxy_core.proofs.Tracing.{same_table}
 use Rattle.proxy_core.proofs.TwiceForward.{not_both, fresh_arrival, part}
 use Rattle.proxy_core.proofs.HeldLaw.{good_plain, entries_are_held, exchanges_are_open}
@@ -32,34 +35,60 @@ some_overtaken None x = refl
 some_overtaken (Some key) None = refl
 some_overtaken (Some key) (Some x) = refl
 
+some_released : (gone : Option ℕ) (x : Option Exchange) → is_some (released_by gone x) ≡ is_some x
+some_released None x = refl
+some_released (Some i) None = refl
+some_released (Some i) (Some x) = refl
+
+some_changed : (key : Option Key) (gone : Option ℕ) (x : Option Exchange) → is_some (changed_by key gone x) ≡ is_some x
+some_changed key gone x = some_overtaken key (released_by gone x) ∙ some_released gone x
+
 -- one step more of the exchange of an id, no new arrival
 open_step : (id : ℕ) (w : Option Exchange) (event : Event) (o : Outcome) (x y : Option Exchange) (b e : Bool) → Move id w event o x y →
     (eqb (id_of event) id && is_arrival event) ≡ false → is_some x ≡ (b && not e) →
-    is_some y ≡ (b && not ((eqb (id_of event) id && not (goes_forward o)) || e))
+    is_some y ≡ (b && not ((eqb (id_of event) id && ends o) || e))
 open_step id w event o x y b e (apart n h) a i =
-    ap is_some h ∙ some_overtaken (key_by_step (asked_of w) event o) x ∙ i ∙ sym (ap (λ c. b && not ((c && not (goes_forward o)) || e)) n)
+    ap is_some h ∙ some_changed (key_by_step (asked_of w) event o) (ended_by event o) x ∙ i ∙ sym (ap (λ c. b && not ((c && ends o) || e)) n)
 open_step id w event o x y b e (opens table es now asked line ev x_is f h) a i = absurd (fresh_arrival id now asked event ev a)
+open_step id w event o x y b e (queues table es now asked line leader ev x_is f l h) a i = absurd (fresh_arrival id now asked event ev a)
 open_step id w event o x y b e (passes t ev x_is f h) a i = absurd (not_both _ _ t ev a)
-open_step id w event o x y b e (again z now t ev x_is c f h) a i =
+open_step id w event o x y b e (again z now t ev x_is c f h j s) a i =
     ap is_some h ∙ sym (ap is_some x_is) ∙ i
-    ∙ sym (ap (λ c. b && not (c || e)) (ap (λ c. eqb (id_of event) id && not c) f ∙ and_none (eqb (id_of event) id)))
+    ∙ sym (ap (λ c. b && not (c || e)) (ap (λ c. eqb (id_of event) id && c) (forward_goes_on o f) ∙ and_none (eqb (id_of event) id)))
+open_step id w event o x y b e (wakes table es z now ev x_is s f h) a i =
+    ap is_some h ∙ sym (ap is_some x_is) ∙ i
+    ∙ sym (ap (λ c. b && not (c || e)) (ap (λ c. eqb (id_of event) id && c) (forward_goes_on o f) ∙ and_none (eqb (id_of event) id)))
 open_step id w event o x y b e (closes z t ev x_is f h) a i =
-    ap is_some h ∙ sym (ap (λ c. b && not (c || e)) (ap (λ c. c && not (goes_forward o)) t ∙ ap not f) ∙ and_none b)
+    ap is_some h ∙ sym (ap (λ c. b && not (c || e)) (ap (λ c. c && ends o) t ∙ f) ∙ and_none b)
 
 open_first : (id : ℕ) (w : Option Exchange) (event : Event) (o : Outcome) (x y : Option Exchange) → Move id w event o x y →
-    eqb (id_of event) id ≡ true → is_arrival event ≡ true → is_some y ≡ (goes_forward o && true)
+    eqb (id_of event) id ≡ true → is_arrival event ≡ true → is_some y ≡ (starts o && true)
 open_first id w event o x y (apart n h) t a = absurd (false≢true (sym n ∙ t))
-open_first id w event o x y (opens table es now asked line ev x_is f h) t a = ap is_some h ∙ sym (ap (λ b. b && true) f)
-open_first id w event o x y (passes u ev x_is f h) t a = ap is_some h ∙ sym (ap (λ b. b && true) f)
-open_first id w event o x y (again z now u ev x_is c f h) t a = absurd (false≢true (sym ev ∙ a))
+open_first id w event o x y (opens table es now asked line ev x_is f h) t a = ap is_some h ∙ sym (ap (λ b. b && true) (forward_starts o f))
+  where
+    forward_starts : (o : Outcome) → goes_forward o ≡ true → starts o ≡ true
+    forward_starts (Reply r) h = absurd (false≢true h)
+    forward_starts (Forward line bytes) h = refl
+    forward_starts (Waits leader) h = refl
+    forward_starts Ended h = absurd (false≢true h)
+open_first id w event o x y (queues table es now asked line leader ev x_is f l h) t a = ap is_some h ∙ sym (ap (λ (o : Outcome). starts o && true) f)
+open_first id w event o x y (passes u ev x_is f h) t a = ap is_some h ∙ sym (ap (λ b. b && true) (none_starts o f))
+  where
+    none_starts : (o : Outcome) → ends o ≡ true → starts o ≡ false
+    none_starts (Reply r) h = refl
+    none_starts (Forward line bytes) h = absurd (false≢true h)
+    none_starts (Waits leader) h = absurd (false≢true h)
+    none_starts Ended h = refl
+open_first id w event o x y (again z now u ev x_is c f h j s) t a = absurd (false≢true (sym ev ∙ a))
+open_first id w event o x y (wakes table es z now ev x_is s f h) t a = absurd (false≢true (sym (ap is_arrival ev) ∙ a))
 open_first id w event o x y (closes z u ev x_is f h) t a = absurd (false≢true (sym ev ∙ a))
 
 module _ (start : State) (before : List Item) (arrival : Item) where
   open_plain : (items : List Item) → IsGood start (items ++ arrival ∷ before) → is_arrival arrival.event ≡ true → NoneArrives (id_of arrival.event) items →
-      is_some (find_exchange (id_of arrival.event) (left start (items ++ arrival ∷ before)).exchanges) ≡ (goes_forward arrival.outcome && not (has_ended (id_of arrival.event) items))
+      is_some (find_exchange (id_of arrival.event) (left start (items ++ arrival ∷ before)).exchanges) ≡ (starts arrival.outcome && not (has_ended (id_of arrival.event) items))
   open_plain [] g a n = open_first _ _ _ _ _ _ (move_of start.table (left start before) arrival (id_of arrival.event) (same_table start before) g.0) (eq-eqb (id_of arrival.event) (id_of arrival.event) refl) a
   open_plain (i ∷ items) g a n =
-      open_step _ _ _ _ _ _ (goes_forward arrival.outcome) (has_ended (id_of arrival.event) items)
+      open_step _ _ _ _ _ _ (starts arrival.outcome) (has_ended (id_of arrival.event) items)
       (move_of start.table (left start (items ++ arrival ∷ before)) i (id_of arrival.event) (same_table start (items ++ arrival ∷ before)) g.0) n.0 (open_plain items g.1 a n.1)
 
 pub open_from_arrival_to_end : OpenFromArrivalToEnd
@@ -72,14 +101,18 @@ open_from_arrival_to_end table limit first items before arrival g a n =
 
 none_step : (id : ℕ) (w : Option Exchange) (event : Event) (o : Outcome) (x y : Option Exchange) → Move id w event o x y →
     (eqb (id_of event) id && is_arrival event) ≡ false → x ≡ None → y ≡ None
-none_step id w event o x y (apart n h) a i = h ∙ ap (overtaken_by (key_by_step (asked_of w) event o)) i ∙ none_marked (key_by_step (asked_of w) event o)
+none_step id w event o x y (apart n h) a i = h ∙ ap (changed_by (key_by_step (asked_of w) event o) (ended_by event o)) i ∙ none_changed (key_by_step (asked_of w) event o) (ended_by event o)
   where
-    none_marked : (key : Option Key) → overtaken_by key None ≡ None
-    none_marked None = refl
-    none_marked (Some key) = refl
+    none_changed : (key : Option Key) (gone : Option ℕ) → changed_by key gone None ≡ None
+    none_changed None None = refl
+    none_changed None (Some j) = refl
+    none_changed (Some key) None = refl
+    none_changed (Some key) (Some j) = refl
 none_step id w event o x y (opens table es now asked line ev x_is f h) a i = absurd (fresh_arrival id now asked event ev a)
+none_step id w event o x y (queues table es now asked line leader ev x_is f l h) a i = absurd (fresh_arrival id now asked event ev a)
 none_step id w event o x y (passes t ev x_is f h) a i = h
-none_step id w event o x y (again z now t ev x_is c f h) a i = absurd (false≢true (ap is_some (sym i ∙ x_is)))
+none_step id w event o x y (wakes table es z now ev x_is s f h) a i = absurd (false≢true (ap is_some (sym i ∙ x_is)))
+none_step id w event o x y (again z now t ev x_is c f h j s) a i = absurd (false≢true (ap is_some (sym i ∙ x_is)))
 none_step id w event o x y (closes z t ev x_is f h) a i = h
 
 none_plain : (table : Table) (limit first id : ℕ) (trace : List Item) → IsGood (begun table limit first) trace → NoneArrives id trace →
@@ -101,10 +134,10 @@ has_its_request table limit first id trace x g h =
     asked_is table limit first trace p id x.asked (ap asked_of (ap (find_exchange id) (exchanges_are_open table limit first trace p) ∙ h))
 
 pub overtaken_where_invalidated : OvertakenWhereInvalidated
-overtaken_where_invalidated table limit first items before f x g o n h =
+overtaken_where_invalidated table limit first items before f x g o n h stage =
     let p = good_plain table limit first (items ++ f ∷ before) g in
     (out_since table limit first f before (id_of f.event) items p o refl n x
-    (ap (find_exchange (id_of f.event)) (exchanges_are_open table limit first (items ++ f ∷ before) p) ∙ h)).1
+    (ap (find_exchange (id_of f.event)) (exchanges_are_open table limit first (items ++ f ∷ before) p) ∙ h) stage).1
 
 overtake_rule : (rule : ℕ → ReuseRule) (key : Key) (x : Exchange) → x.rule ≡ rule x.line → (overtake key x).rule ≡ rule (overtake key x).line
 overtake_rule rule key x h = elim (same_key x.asked.target.key key) as (λ b. (cond b (record x { overtaken = true }) x).rule ≡ rule (cond b (record x { overtaken = true }) x).line) [
@@ -121,19 +154,37 @@ HasRule rule (Some x) = x.rule ≡ rule x.line
 abbrev rule_for : Table → List Stored → Asked → ℕ → ℕ → ReuseRule
 rule_for table es asked now line = rule_of (decision_of (caches_of table.lines line) es asked now)
 
+release_rule : (rule : ℕ → ReuseRule) (i : ℕ) (x : Exchange) → x.rule ≡ rule x.line → (release i x).rule ≡ rule (release i x).line
+release_rule rule i x h = elim (waits_for i x.stage) as (λ b. (cond b (record x { stage = Released }) x).rule ≡ rule (cond b (record x { stage = Released }) x).line) [
+  | true ↦ h
+  | false ↦ h
+]
+
+rule_released : (rule : ℕ → ReuseRule) (gone : Option ℕ) (x : Option Exchange) → HasRule rule x → HasRule rule (released_by gone x)
+unfolding HasRule
+rule_released rule None x h = h
+rule_released rule (Some i) None h = tt
+rule_released rule (Some i) (Some x) h = release_rule rule i x h
+
 rule_marked : (rule : ℕ → ReuseRule) (key : Option Key) (x : Option Exchange) → HasRule rule x → HasRule rule (overtaken_by key x)
 unfolding HasRule
 rule_marked rule None x h = h
 rule_marked rule (Some key) None h = tt
 rule_marked rule (Some key) (Some x) h = overtake_rule rule key x h
 
+judged_now : (id : ℕ) (event : Event) → (eqb (id_of event) id && judges event) ≡ true → (eqb (id_of event) id && judges event) ≡ false → ⊥
+judged_now id event h a = false≢true (sym a ∙ h)
+
 rule_step : (rule : ℕ → ReuseRule) (id : ℕ) (w : Option Exchange) (event : Event) (o : Outcome) (x y : Option Exchange) → Move id w event o x y →
-    (eqb (id_of event) id && is_arrival event) ≡ false → HasRule rule x → HasRule rule y
+    (eqb (id_of event) id && judges event) ≡ false → HasRule rule x → HasRule rule y
 unfolding HasRule
-rule_step rule id w event o x y (apart n h) a i = subst (HasRule rule) (sym h) (rule_marked rule (key_by_step (asked_of w) event o) x i)
-rule_step rule id w event o x y (opens table es now asked line ev x_is f h) a i = absurd (fresh_arrival id now asked event ev a)
+rule_step rule id w event o x y (apart n h) a i =
+    subst (HasRule rule) (sym h) (rule_marked rule (key_by_step (asked_of w) event o) (released_by (ended_by event o) x) (rule_released rule (ended_by event o) x i))
+rule_step rule id w event o x y (opens table es now asked line ev x_is f h) a i = absurd (judged_now id event (ap (λ v. eqb (id_of v) id && judges v) ev ∙ ap (λ b. b && true) (eq-eqb id id refl)) a)
+rule_step rule id w event o x y (queues table es now asked line leader ev x_is f l h) a i = absurd (judged_now id event (ap (λ v. eqb (id_of v) id && judges v) ev ∙ ap (λ b. b && true) (eq-eqb id id refl)) a)
+rule_step rule id w event o x y (wakes table es z now ev x_is s f h) a i = absurd (judged_now id event (ap (λ v. eqb (id_of v) id && judges v) ev ∙ ap (λ b. b && true) (eq-eqb id id refl)) a)
 rule_step rule id w event o x y (passes t ev x_is f h) a i = subst (HasRule rule) (sym h) tt
-rule_step rule id w event o x y (again z now t ev x_is c f h) a i =
+rule_step rule id w event o x y (again z now t ev x_is c f h j s) a i =
     let was : HasRule rule (Some z) = subst (HasRule rule) x_is i in
     subst (HasRule rule) (sym h) was
 rule_step rule id w event o x y (closes z t ev x_is f h) a i = subst (HasRule rule) (sym h) tt
@@ -148,11 +199,14 @@ rule_first table es xs now id asked (Forward line bytes) f =
     find-push id xs (opened table es now id asked line) f ∙ ap (λ b. cond b (Some (opened table es now id asked line)) (find_exchange id xs)) (eq-eqb id id refl)
     in
     subst (HasRule rule) (sym here) refl
+rule_first table es xs now id asked (Waits leader) f =
+    let line : ℕ = line_of (verdict_of table.lines asked.method asked.target) in
+    subst (HasRule (rule_for table es asked now)) (sym (find-push id xs (queued table es now id asked line leader) f ∙ ap (λ b. cond b (Some (queued table es now id asked line leader)) (find_exchange id xs)) (eq-eqb id id refl))) refl
 rule_first table es xs now id asked (Reply r) f = subst (HasRule (rule_for table es asked now)) (sym f) tt
 rule_first table es xs now id asked Ended f = subst (HasRule (rule_for table es asked now)) (sym f) tt
 
 -- what arrives has an id that is free
-id_was_free : (w : Option Exchange) (now id : ℕ) (asked : Asked) → fault_of w (Arrive now id asked) ≡ None → w ≡ None
+pub id_was_free : (w : Option Exchange) (now id : ℕ) (asked : Asked) → fault_of w (Arrive now id asked) ≡ None → w ≡ None
 id_was_free None now id asked h = refl
 id_was_free (Some x) now id asked h = absurd (cc)
 
@@ -163,7 +217,7 @@ module _ (table : Table) (limit first now id : ℕ) (asked : Asked) (before : Li
   abbrev start : State
   start = begun table limit first
 
-  rule_plain : (items : List Item) → IsGood start (items ++ arrival ∷ before) → NoneArrives id items →
+  rule_plain : (items : List Item) → IsGood start (items ++ arrival ∷ before) → NoneJudged id items →
       HasRule (rule_for table (left start before).entries asked now) (find_exchange id (left start (items ++ arrival ∷ before)).exchanges)
   rule_plain [] g n =
       let s = left start before in
@@ -173,7 +227,7 @@ module _ (table : Table) (limit first now id : ℕ) (asked : Asked) (before : Li
       rule_step (rule_for table (left start before).entries asked now) id _ _ _ _ _
       (move_of table (left start (items ++ arrival ∷ before)) i id (same_table start (items ++ arrival ∷ before)) g.0) n.0 (rule_plain items g.1 n.1)
 
-  rule_held : (items : List Item) (x : Exchange) → IsGood start (items ++ arrival ∷ before) → NoneArrives id items →
+  rule_held : (items : List Item) (x : Exchange) → IsGood start (items ++ arrival ∷ before) → NoneJudged id items →
       find_exchange id (open_exchanges table limit (items ++ arrival ∷ before)) ≡ Some x → x.rule ≡ rule_of (decision_of (caches_of table.lines x.line) (held_entries table limit before) asked now)
   unfolding HasRule
   rule_held items x p n h =

@@ -36,12 +36,13 @@ use Rattle.proxy_core.specs.declared.exchange.Exchange.{Exchange}
 use Rattle.proxy_core.specs.declared.fallback.Fallback.{Fallback}
 use Rattle.proxy_core.specs.declared.fallback.Fallback.TheVariants.{Sends, Refuses}
 use Rattle.proxy_core.specs.declared.outcome.Outcome.{Outcome}
-use Rattle.proxy_core.specs.declared.outcome.Outcome.TheVariants.{Forward}
+use Rattle.proxy_core.specs.declared.outcome.Outcome.TheVariants.{Forward, Waits}
 use Rattle.proxy_core.specs.declared.event.Event.{Event}
-use Rattle.proxy_core.specs.declared.event.Event.TheVariants.{Arrive, Answer, Fail, Abandon}
+use Rattle.proxy_core.specs.declared.event.Event.TheVariants.{Arrive, Answer, Fail, Wake, Abandon}
 use Rattle.proxy_core.specs.Validating.{condition_at, is_validation, validated, refreshed}
 use Rattle.proxy_core.specs.Storing.{is_unasked}
-use Rattle.proxy_core.specs.Outcomes.{find_exchange, id_of, arrived, allowed, unanswered, is_only_if_cached, error_rule_at, fallback_by, fallback_for, failed, is_error_status, passed_unless, revalidated, answered, outcome_of, outcome_by, forward_text}
+use Rattle.proxy_core.specs.Leading.{leader_for}
+use Rattle.proxy_core.specs.Outcomes.{find_exchange, id_of, arrived, allowed, sent_on, unanswered, woken, is_only_if_cached, error_rule_at, fallback_by, fallback_for, failed, is_error_status, passed_unless, revalidated, answered, outcome_of, outcome_by, forward_text}
 use Rattle.proxy_core.specs.State.{used_in}
 use Rattle.proxy_core.specs.Traces.{Item}
 use Rattle.proxy_core.specs.Histories.{IsGoodHistory, held_entries, open_exchanges, next_serial}
@@ -203,7 +204,7 @@ module _ (caches : Bool) (es : List Stored) (distinct : Distinct (serials es)) (
 
 -- ---- what each step uses
 
-module _ (table : Table) (es : List Stored) (distinct : Distinct (serials es)) where
+module _ (table : Table) (es : List Stored) (distinct : Distinct (serials es)) (xs : List Exchange) where
   failed_uses : (now : ℕ) (x : Exchange) (kind : FailKind) (came : Option ℕ) (s : ℕ) → IsFallback (caches_of table.lines x.line) es x.asked now s →
       used_in (failed table es now x kind came (fallback_for es x.asked now (decision_of (caches_of table.lines x.line) es x.asked now))) ≡ Some s
   failed_uses now x kind came s may =
@@ -216,15 +217,19 @@ module _ (table : Table) (es : List Stored) (distinct : Distinct (serials es)) w
   used_failed now x kind came s (Refuses rule error) k h = absurd (never_one s h)
 
   -- an arrival
-  used_arrived : (now : ℕ) (asked : Asked) (s : ℕ) (v : Verdict) → verdict_of table.lines asked.method asked.target ≡ v → used_in (arrived table es now asked v) ≡ Some s →
+  used_arrived : (now : ℕ) (asked : Asked) (s : ℕ) (v : Verdict) → verdict_of table.lines asked.method asked.target ≡ v → used_in (arrived table es xs now asked v) ≡ Some s →
       (line : ℕ) × (verdict_of table.lines asked.method asked.target ≡ verdict.Allowed line) × IsReusable (caches_of table.lines line) es asked now s
   used_arrived now asked s (verdict.Allowed line) v h = (line, v, by_decision (decision_of (caches_of table.lines line) es asked now) refl h)
     where
-      unless : (rule : ReuseRule) (condition : Option Condition) (b : Bool) → used_in (unanswered table line now asked rule condition b) ≡ Some s → ⊥
-      unless rule condition true h = never_one s h
-      unless rule condition false h = never_one s h
+      on : (condition : Option Condition) (leader : Option ℕ) → used_in (sent_on table line asked condition leader) ≡ Some s → ⊥
+      on condition None h = never_one s h
+      on condition (Some leader) h = never_one s h
 
-      by_decision : (d : Decision) → decision_of (caches_of table.lines line) es asked now ≡ d → used_in (allowed table es line now asked d) ≡ Some s → IsReusable (caches_of table.lines line) es asked now s
+      unless : (rule : ReuseRule) (condition : Option Condition) (b : Bool) → used_in (unanswered table xs line now asked rule condition b) ≡ Some s → ⊥
+      unless rule condition true h = never_one s h
+      unless rule condition false h = on condition (leader_for xs asked rule) h
+
+      by_decision : (d : Decision) → decision_of (caches_of table.lines line) es asked now ≡ d → used_in (allowed table es xs line now asked d) ≡ Some s → IsReusable (caches_of table.lines line) es asked now s
       by_decision (decision.Hit t) k h = subst (λ n. IsReusable (caches_of table.lines line) es asked now n) (same_Some t s h) (reused_is_allowed (caches_of table.lines line) es asked now t k)
       by_decision (decision.Forward rule against) k h = absurd (unless rule (condition_at es against) (is_only_if_cached asked) h)
   used_arrived now asked s (verdict.DeniedBy line) v h = absurd (never_one s h)
@@ -304,23 +309,33 @@ module _ (table : Table) (es : List Stored) (distinct : Distinct (serials es)) w
         (passed_unless table es now x r next (is_error_status r.status) (fallback_for es x.asked now d))))) may.0
         ∙ fallback_uses (is_unasked x.asked r) (is_error_status r.status) may.1 may.2
 
-  may_be_used : (xs : List Exchange) (x : Option Exchange) (next : Option ℕ) (event : Event) (s : ℕ) → MayBeSentAt table es x event s → used_in (outcome_of table es xs x next event) ≡ Some s
-  may_be_used xs x next (Arrive now id asked) s may =
-      ap (λ (v : Verdict). used_in (arrived table es now asked v)) may.1
-      ∙ ap (λ (d : Decision). used_in (allowed table es may.0 now asked d)) (reusable_hit (caches_of table.lines may.0) es distinct asked now s may.2)
-  may_be_used xs (Some x) next (Answer now id r) s may = answered_uses x now id r next s may
-  may_be_used xs None next (Answer now id r) s may = absurd may
-  may_be_used xs (Some x) next (Fail now id kind) s may = failed_uses now x kind None s may
-  may_be_used xs None next (Fail now id kind) s may = absurd may
-  may_be_used xs x next (Abandon id) s may = absurd may
+  -- a request that waited
+  used_woken : (now : ℕ) (x : Exchange) (s : ℕ) (d : Decision) → decision_of (caches_of table.lines x.line) es x.asked now ≡ d → used_in (woken table es now x d) ≡ Some s →
+      IsReusable (caches_of table.lines x.line) es x.asked now s
+  used_woken now x s (decision.Hit t) k h = subst (λ n. IsReusable (caches_of table.lines x.line) es x.asked now n) (same_Some t s h) (reused_is_allowed (caches_of table.lines x.line) es x.asked now t k)
+  used_woken now x s (decision.Forward rule against) k h = absurd (never_one s h)
 
-  used_may_be : (xs : List Exchange) (x : Option Exchange) (next : Option ℕ) (event : Event) (s : ℕ) → used_in (outcome_of table es xs x next event) ≡ Some s → MayBeSentAt table es x event s
-  used_may_be xs x next (Arrive now id asked) s h = used_arrived now asked s (verdict_of table.lines asked.method asked.target) refl h
-  used_may_be xs (Some x) next (Answer now id r) s h = used_answered x now id r next s h
-  used_may_be xs None next (Answer now id r) s h = absurd (never_one s h)
-  used_may_be xs (Some x) next (Fail now id kind) s h = used_failed now x kind None s (fallback_for es x.asked now (decision_of (caches_of table.lines x.line) es x.asked now)) refl h
-  used_may_be xs None next (Fail now id kind) s h = absurd (never_one s h)
-  used_may_be xs x next (Abandon id) s h = absurd (never_one s h)
+  may_be_used : (x : Option Exchange) (next : Option ℕ) (event : Event) (s : ℕ) → MayBeSentAt table es x event s → used_in (outcome_of table es xs x next event) ≡ Some s
+  may_be_used x next (Arrive now id asked) s may =
+      ap (λ (v : Verdict). used_in (arrived table es xs now asked v)) may.1
+      ∙ ap (λ (d : Decision). used_in (allowed table es xs may.0 now asked d)) (reusable_hit (caches_of table.lines may.0) es distinct asked now s may.2)
+  may_be_used (Some x) next (Answer now id r) s may = answered_uses x now id r next s may
+  may_be_used None next (Answer now id r) s may = absurd may
+  may_be_used (Some x) next (Fail now id kind) s may = failed_uses now x kind None s may
+  may_be_used None next (Fail now id kind) s may = absurd may
+  may_be_used (Some x) next (Wake now id) s may = ap (λ (d : Decision). used_in (woken table es now x d)) (reusable_hit (caches_of table.lines x.line) es distinct x.asked now s may)
+  may_be_used None next (Wake now id) s may = absurd may
+  may_be_used x next (Abandon id) s may = absurd may
+
+  used_may_be : (x : Option Exchange) (next : Option ℕ) (event : Event) (s : ℕ) → used_in (outcome_of table es xs x next event) ≡ Some s → MayBeSentAt table es x event s
+  used_may_be x next (Arrive now id asked) s h = used_arrived now asked s (verdict_of table.lines asked.method asked.target) refl h
+  used_may_be (Some x) next (Answer now id r) s h = used_answered x now id r next s h
+  used_may_be None next (Answer now id r) s h = absurd (never_one s h)
+  used_may_be (Some x) next (Fail now id kind) s h = used_failed now x kind None s (fallback_for es x.asked now (decision_of (caches_of table.lines x.line) es x.asked now)) refl h
+  used_may_be None next (Fail now id kind) s h = absurd (never_one s h)
+  used_may_be (Some x) next (Wake now id) s h = used_woken now x s (decision_of (caches_of table.lines x.line) es x.asked now) refl h
+  used_may_be None next (Wake now id) s h = absurd (never_one s h)
+  used_may_be x next (Abandon id) s h = absurd (never_one s h)
 
 pub sends_what_may_be_sent : SendsStoredWhereItMay
 sends_what_may_be_sent table limit first s item past g may =
@@ -337,60 +352,74 @@ sends_nothing_else table limit first s item past g h =
 -- ---- going forward
 
 pub arrival_is : (table : Table) (limit first now id : ℕ) (asked : Asked) (item : Item) (past : List Item) → IsGoodHistory table limit first (item ∷ past) → item.event ≡ Arrive now id asked →
-    item.outcome ≡ arrived table (held_entries table limit past) now asked (verdict_of table.lines asked.method asked.target)
+    item.outcome ≡ arrived table (held_entries table limit past) (open_exchanges table limit past) now asked (verdict_of table.lines asked.method asked.target)
 arrival_is table limit first now id asked item past g e =
     g.0.outcome_is ∙ ap (λ (v : Event). outcome_by table (held_entries table limit past) (open_exchanges table limit past) (next_serial first past) v) e
 
 pub forwards_where_allowed : ForwardsWhereAllowed
-forwards_where_allowed table limit first now id line asked rule item past g e v least other =
+forwards_where_allowed table limit first now id line asked rule item past g e v least other none =
     let es = held_entries table limit past in
+    let xs = open_exchanges table limit past in
     let d = forwards (caches_of table.lines line) es asked now rule least in (
       forward_text table asked (condition_at es d.0),
       arrival_is table limit first now id asked item past g e
-          ∙ ap (λ (v : Verdict). arrived table es now asked v) v
-          ∙ ap (λ (d : Decision). allowed table es line now asked d) d.1
-          ∙ ap (λ b. unanswered table line now asked rule (condition_at es d.0) b) other,
+          ∙ ap (λ (v : Verdict). arrived table es xs now asked v) v
+          ∙ ap (λ (d : Decision). allowed table es xs line now asked d) d.1
+          ∙ ap (λ b. unanswered table xs line now asked rule (condition_at es d.0) b) other
+          ∙ ap (λ (leader : Option ℕ). sent_on table line asked (condition_at es d.0) leader) none,
     )
 
-forward_parts : (table : Table) (es : List Stored) (now line : ℕ) (asked : Asked) (bytes : List ℕ) (v : Verdict) → verdict_of table.lines asked.method asked.target ≡ v →
-    arrived table es now asked v ≡ Forward line bytes →
-    (verdict_of table.lines asked.method asked.target ≡ verdict.Allowed line) × ((rule : ReuseRule) × IsLeast (caches_of table.lines line) es asked now rule) × (is_only_if_cached asked ≡ false)
-forward_parts table es now line asked bytes (verdict.Allowed n) v h = by_decision (decision_of (caches_of table.lines n) es asked now) refl h
-  where
-    unless : (rule : ReuseRule) (against : Option ℕ) (b : Bool) → is_only_if_cached asked ≡ b → decision_of (caches_of table.lines n) es asked now ≡ decision.Forward rule against →
-        unanswered table n now asked rule (condition_at es against) b ≡ Forward line bytes →
-        (verdict_of table.lines asked.method asked.target ≡ verdict.Allowed line) × ((rule : ReuseRule) × IsLeast (caches_of table.lines line) es asked now rule) × (is_only_if_cached asked ≡ false)
-    unless rule against true k d h = absurd (cc)
-    unless rule against false k d h =
-        let same : n ≡ line = cc in
-        (v ∙ ap (λ m. verdict.Allowed m) same, (rule, subst (λ m. IsLeast (caches_of table.lines m) es asked now rule) same (names_the_least (caches_of table.lines n) es asked now rule against d).0), k)
+-- what is known of a request that goes forward at its arrival
+abbrev GoesOn : Table → List Stored → List Exchange → ℕ → ℕ → Asked → Type 0
+GoesOn table es xs now line asked =
+    (verdict_of table.lines asked.method asked.target ≡ verdict.Allowed line)
+    × ((rule : ReuseRule) × IsLeast (caches_of table.lines line) es asked now rule × (leader_for xs asked rule ≡ None)) × (is_only_if_cached asked ≡ false)
 
-    by_decision : (d : Decision) → decision_of (caches_of table.lines n) es asked now ≡ d → allowed table es n now asked d ≡ Forward line bytes →
-        (verdict_of table.lines asked.method asked.target ≡ verdict.Allowed line) × ((rule : ReuseRule) × IsLeast (caches_of table.lines line) es asked now rule) × (is_only_if_cached asked ≡ false)
+forward_parts : (table : Table) (es : List Stored) (xs : List Exchange) (now line : ℕ) (asked : Asked) (bytes : List ℕ) (v : Verdict) → verdict_of table.lines asked.method asked.target ≡ v →
+    arrived table es xs now asked v ≡ Forward line bytes → GoesOn table es xs now line asked
+forward_parts table es xs now line asked bytes (verdict.Allowed n) v h = by_decision (decision_of (caches_of table.lines n) es asked now) refl h
+  where
+    on : (rule : ReuseRule) (against leader : Option ℕ) → leader_for xs asked rule ≡ leader → is_only_if_cached asked ≡ false →
+        decision_of (caches_of table.lines n) es asked now ≡ decision.Forward rule against → sent_on table n asked (condition_at es against) leader ≡ Forward line bytes → GoesOn table es xs now line asked
+    on rule against (Some leader) l k d h = absurd (cc)
+    on rule against None l k d h =
+        let same : n ≡ line = cc in
+        (v ∙ ap (λ m. verdict.Allowed m) same, (rule, subst (λ m. IsLeast (caches_of table.lines m) es asked now rule) same (names_the_least (caches_of table.lines n) es asked now rule against d).0, l), k)
+
+    unless : (rule : ReuseRule) (against : Option ℕ) (b : Bool) → is_only_if_cached asked ≡ b → decision_of (caches_of table.lines n) es asked now ≡ decision.Forward rule against →
+        unanswered table xs n now asked rule (condition_at es against) b ≡ Forward line bytes → GoesOn table es xs now line asked
+    unless rule against true k d h = absurd (cc)
+    unless rule against false k d h = on rule against (leader_for xs asked rule) refl k d h
+
+    by_decision : (d : Decision) → decision_of (caches_of table.lines n) es asked now ≡ d → allowed table es xs n now asked d ≡ Forward line bytes → GoesOn table es xs now line asked
     by_decision (decision.Hit t) k h = absurd (cc)
     by_decision (decision.Forward rule against) k h = unless rule against (is_only_if_cached asked) refl k h
-forward_parts table es now line asked bytes (verdict.DeniedBy n) v h = absurd (cc)
-forward_parts table es now line asked bytes verdict.NoLine v h = absurd (cc)
+forward_parts table es xs now line asked bytes (verdict.DeniedBy n) v h = absurd (cc)
+forward_parts table es xs now line asked bytes verdict.NoLine v h = absurd (cc)
 
 pub forwards_nothing_else : ForwardsNowhereElse
 forwards_nothing_else table limit first now id line asked bytes item past g e h =
-    forward_parts table (held_entries table limit past) now line asked bytes (verdict_of table.lines asked.method asked.target) refl
+    forward_parts table (held_entries table limit past) (open_exchanges table limit past) now line asked bytes (verdict_of table.lines asked.method asked.target) refl
     (sym (arrival_is table limit first now id asked item past g e) ∙ h)
 
 -- ---- reaching cache or origin
 
-module _ (table : Table) (es : List Stored) (now : ℕ) (asked : Asked) where
-  reach_unless : (line : ℕ) (rule : ReuseRule) (against : Option ℕ) (b : Bool) → is_only_if_cached asked ≡ b → decision_of (caches_of table.lines line) es asked now ≡ decision.Forward rule against →
-      IsReached table es now asked line (unanswered table line now asked rule (condition_at es against) b)
-  reach_unless line rule against true k d = inr (inr (rule, k, (names_the_least (caches_of table.lines line) es asked now rule against d).0, refl))
-  reach_unless line rule against false k d = inr (inl (forward_text table asked (condition_at es against), refl))
+module _ (table : Table) (es : List Stored) (xs : List Exchange) (now : ℕ) (asked : Asked) where
+  reach_on : (line : ℕ) (condition : Option Condition) (leader : Option ℕ) → IsReached table es now asked line (sent_on table line asked condition leader)
+  reach_on line condition None = inr (inl (forward_text table asked condition, refl))
+  reach_on line condition (Some leader) = inr (inr (inl (leader, refl)))
 
-  reach : (line : ℕ) (d : Decision) → decision_of (caches_of table.lines line) es asked now ≡ d → IsReached table es now asked line (allowed table es line now asked d)
+  reach_unless : (line : ℕ) (rule : ReuseRule) (against : Option ℕ) (b : Bool) → is_only_if_cached asked ≡ b → decision_of (caches_of table.lines line) es asked now ≡ decision.Forward rule against →
+      IsReached table es now asked line (unanswered table xs line now asked rule (condition_at es against) b)
+  reach_unless line rule against true k d = inr (inr (inr (rule, k, (names_the_least (caches_of table.lines line) es asked now rule against d).0, refl)))
+  reach_unless line rule against false k d = reach_on line (condition_at es against) (leader_for xs asked rule)
+
+  reach : (line : ℕ) (d : Decision) → decision_of (caches_of table.lines line) es asked now ≡ d → IsReached table es now asked line (allowed table es xs line now asked d)
   reach line (decision.Hit s) d = inl (s, refl)
   reach line (decision.Forward rule against) d = reach_unless line rule against (is_only_if_cached asked) refl d
 
   refuse : (v : Verdict) → verdict_of table.lines asked.method asked.target ≡ v → ((line : ℕ) → verdict_of table.lines asked.method asked.target ≢ verdict.Allowed line) →
-      IsTurnedAway table now asked (arrived table es now asked v)
+      IsTurnedAway table now asked (arrived table es xs now asked v)
   refuse (verdict.Allowed line) v n = absurd (n line v)
   refuse (verdict.DeniedBy line) v n = inl (line, v, refl)
   refuse verdict.NoLine v n = inr (v, refl)
@@ -398,12 +427,14 @@ module _ (table : Table) (es : List Stored) (now : ℕ) (asked : Asked) where
 pub reaches_where_allowed : ReachesWhereAllowed
 reaches_where_allowed table limit first now id line asked item past g e v =
     let es = held_entries table limit past in
+    let xs = open_exchanges table limit past in
     subst (IsReached table es now asked line)
-    (sym (arrival_is table limit first now id asked item past g e ∙ ap (λ (v : Verdict). arrived table es now asked v) v))
-    (reach table es now asked line (decision_of (caches_of table.lines line) es asked now) refl)
+    (sym (arrival_is table limit first now id asked item past g e ∙ ap (λ (v : Verdict). arrived table es xs now asked v) v))
+    (reach table es xs now asked line (decision_of (caches_of table.lines line) es asked now) refl)
 
 pub refuses_where_not_allowed : RefusesWhereNotAllowed
 refuses_where_not_allowed table limit first now id asked item past g e n =
     let es = held_entries table limit past in
+    let xs = open_exchanges table limit past in
     subst (IsTurnedAway table now asked) (sym (arrival_is table limit first now id asked item past g e))
-    (refuse table es now asked (verdict_of table.lines asked.method asked.target) refl n)
+    (refuse table es xs now asked (verdict_of table.lines asked.method asked.target) refl n)

@@ -28,11 +28,12 @@ use Rattle.proxy_core.specs.declared.fallback.Fallback.{Fallback}
 use Rattle.proxy_core.specs.declared.fallback.Fallback.TheVariants.{Sends, Refuses}
 use Rattle.proxy_core.specs.declared.outcome.Outcome.{Outcome}
 use Rattle.proxy_core.specs.declared.event.Event.{Event}
-use Rattle.proxy_core.specs.declared.event.Event.TheVariants.{Arrive, Answer, Fail, Abandon}
+use Rattle.proxy_core.specs.declared.event.Event.TheVariants.{Arrive, Answer, Fail, Wake, Abandon}
 use Rattle.proxy_core.specs.Replies.{stored_text}
 use Rattle.proxy_core.specs.Validating.{condition_at, is_validation, validated, refreshed}
 use Rattle.proxy_core.specs.Storing.{is_unasked}
-use Rattle.proxy_core.specs.Outcomes.{find_exchange, id_of, sent, sent_text, as_hit, forwarded_as, arrived, allowed, unanswered, is_only_if_cached, error_rule_at, fallback_by, fallback_for, failed, is_error_status, passed_unless, revalidated, answered, outcome_of}
+use Rattle.proxy_core.specs.Leading.{leader_for}
+use Rattle.proxy_core.specs.Outcomes.{find_exchange, id_of, sent, sent_text, as_hit, forwarded_as, collapsed_as, arrived, allowed, sent_on, unanswered, woken, is_only_if_cached, error_rule_at, fallback_by, fallback_for, failed, is_error_status, passed_unless, revalidated, answered, outcome_of}
 use Rattle.proxy_core.specs.State.{used_in, used_form}
 use Rattle.proxy_core.specs.Histories.{held_entries, open_exchanges, next_serial}
 use Rattle.proxy_core.specs.Sending.{IsAbout, TellsHow, IsThatResponse, SendsWhatIsHeld}
@@ -92,24 +93,29 @@ module _ (table : Table) (es : List Stored) (distinct : Distinct (serials es)) w
   as_arrived None now id asked e = refl
   as_arrived (Some x) now id asked e = refl
 
-  arrival_sends : (x : Option Exchange) (now id : ℕ) (asked : Asked) (s : ℕ) (v : Verdict) → used_in (arrived table es now asked v) ≡ Some s →
-      IsThatResponse table es x (Arrive now id asked) (arrived table es now asked v) s
-  arrival_sends x now id asked s (verdict.Allowed line) h = by_decision (decision_of (caches_of table.lines line) es asked now) refl h
+  arrival_sends : (xs : List Exchange) (x : Option Exchange) (now id : ℕ) (asked : Asked) (s : ℕ) (v : Verdict) → used_in (arrived table es xs now asked v) ≡ Some s →
+      IsThatResponse table es x (Arrive now id asked) (arrived table es xs now asked v) s
+  arrival_sends xs x now id asked s (verdict.Allowed line) h = by_decision (decision_of (caches_of table.lines line) es asked now) refl h
     where
-      unless : (rule : ReuseRule) (condition : Option Condition) (b : Bool) → used_in (unanswered table line now asked rule condition b) ≡ Some s →
-          IsThatResponse table es x (Arrive now id asked) (unanswered table line now asked rule condition b) s
-      unless rule condition true h = absurd (never_one s h)
-      unless rule condition false h = absurd (never_one s h)
+      on : (condition : Option Condition) (leader : Option ℕ) → used_in (sent_on table line asked condition leader) ≡ Some s →
+          IsThatResponse table es x (Arrive now id asked) (sent_on table line asked condition leader) s
+      on condition None h = absurd (never_one s h)
+      on condition (Some leader) h = absurd (never_one s h)
 
-      by_decision : (d : Decision) → decision_of (caches_of table.lines line) es asked now ≡ d → used_in (allowed table es line now asked d) ≡ Some s →
-          IsThatResponse table es x (Arrive now id asked) (allowed table es line now asked d) s
+      unless : (rule : ReuseRule) (condition : Option Condition) (b : Bool) → used_in (unanswered table xs line now asked rule condition b) ≡ Some s →
+          IsThatResponse table es x (Arrive now id asked) (unanswered table xs line now asked rule condition b) s
+      unless rule condition true h = absurd (never_one s h)
+      unless rule condition false h = on condition (leader_for xs asked rule) h
+
+      by_decision : (d : Decision) → decision_of (caches_of table.lines line) es asked now ≡ d → used_in (allowed table es xs line now asked d) ≡ Some s →
+          IsThatResponse table es x (Arrive now id asked) (allowed table es xs line now asked d) s
       by_decision (decision.Hit t) k h =
           let f = found_hit (caches_of table.lines line) asked now t k in
           at_serial x (Arrive now id asked) (sent table es t now as_hit asked) t s (same_Some t s h)
           (as_held x (Arrive now id asked) t now as_hit asked f (as_arrived x now id asked f.0) (refl, refl) refl)
       by_decision (decision.Forward rule against) k h = unless rule (condition_at es against) (is_only_if_cached asked) h
-  arrival_sends x now id asked s (verdict.DeniedBy line) h = absurd (never_one s h)
-  arrival_sends x now id asked s verdict.NoLine h = absurd (never_one s h)
+  arrival_sends xs x now id asked s (verdict.DeniedBy line) h = absurd (never_one s h)
+  arrival_sends xs x now id asked s verdict.NoLine h = absurd (never_one s h)
 
   -- after an error
   fallback_sends : (x : Exchange) (event : Event) (now : ℕ) (kind : FailKind) (came : Option ℕ) (s : ℕ) (fallback : Fallback) →
@@ -180,14 +186,24 @@ module _ (table : Table) (es : List Stored) (distinct : Distinct (serials es)) w
         by_304 true k = validates (validated es x r now) (decision_of (caches_of table.lines x.line) es x.asked now) refl refl
         by_304 false k = by_unasked (is_unasked x.asked r) k
 
+  woken_sends : (x : Exchange) (now id s : ℕ) (d : Decision) → decision_of (caches_of table.lines x.line) es x.asked now ≡ d → used_in (woken table es now x d) ≡ Some s →
+      IsThatResponse table es (Some x) (Wake now id) (woken table es now x d) s
+  woken_sends x now id s (decision.Hit t) k h =
+      let f = found_hit (caches_of table.lines x.line) x.asked now t k in
+      at_serial (Some x) (Wake now id) (sent table es t now (collapsed_as x) x.asked) t s (same_Some t s h)
+      (as_held (Some x) (Wake now id) t now (collapsed_as x) x.asked f refl (refl, refl) refl)
+  woken_sends x now id s (decision.Forward rule against) k h = absurd (never_one s h)
+
   sends_by_event : (xs : List Exchange) (x : Option Exchange) (next : Option ℕ) (event : Event) (s : ℕ) → used_in (outcome_of table es xs x next event) ≡ Some s →
       IsThatResponse table es x event (outcome_of table es xs x next event) s
-  sends_by_event xs x next (Arrive now id asked) s h = arrival_sends x now id asked s (verdict_of table.lines asked.method asked.target) h
+  sends_by_event xs x next (Arrive now id asked) s h = arrival_sends xs x now id asked s (verdict_of table.lines asked.method asked.target) h
   sends_by_event xs (Some x) next (Answer now id r) s h = answer_sends x now id r next s h
   sends_by_event xs None next (Answer now id r) s h = absurd (never_one s h)
   sends_by_event xs (Some x) next (Fail now id kind) s h =
       fallback_sends x (Fail now id kind) now kind None s (fallback_for es x.asked now (decision_of (caches_of table.lines x.line) es x.asked now)) refl (λ e. refl) (refl, refl) (λ detail. (detail, refl)) h
   sends_by_event xs None next (Fail now id kind) s h = absurd (never_one s h)
+  sends_by_event xs (Some x) next (Wake now id) s h = woken_sends x now id s (decision_of (caches_of table.lines x.line) es x.asked now) refl h
+  sends_by_event xs None next (Wake now id) s h = absurd (never_one s h)
   sends_by_event xs x next (Abandon id) s h = absurd (never_one s h)
 
 pub sends_what_is_held : SendsWhatIsHeld

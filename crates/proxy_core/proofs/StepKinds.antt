@@ -32,10 +32,11 @@ use Rattle.proxy_core.specs.declared.fallback.Fallback.{Fallback}
 use Rattle.proxy_core.specs.declared.fallback.Fallback.TheVariants.{Sends, Refuses}
 use Rattle.proxy_core.specs.declared.outcome.Outcome.{Outcome}
 use Rattle.proxy_core.specs.declared.event.Event.{Event}
-use Rattle.proxy_core.specs.declared.event.Event.TheVariants.{Arrive, Answer, Fail, Abandon}
+use Rattle.proxy_core.specs.declared.event.Event.TheVariants.{Arrive, Answer, Fail, Wake, Abandon}
 use Rattle.proxy_core.specs.Validating.{condition_at, is_validation, validated, refreshed}
 use Rattle.proxy_core.specs.Storing.{is_unasked, is_storable, replaced_by, nominates, made}
-use Rattle.proxy_core.specs.Outcomes.{find_exchange, id_of, sent, allowed, arrived, unanswered, is_only_if_cached, error_rule_at, fallback_by, fallback_for, failed, is_error_status, passed, passed_unless, revalidated, answered, outcome_of}
+use Rattle.proxy_core.specs.Leading.{leader_for}
+use Rattle.proxy_core.specs.Outcomes.{find_exchange, id_of, sent, allowed, arrived, sent_on, unanswered, woken, is_only_if_cached, error_rule_at, fallback_by, fallback_for, failed, is_error_status, passed, passed_unless, revalidated, answered, outcome_of}
 use Rattle.proxy_core.specs.State.{State, NoneFrom, stored_in, used_in, removed_in, stored_form}
 use Rattle.proxy_core.specs.Traces.{Item, Accepts}
 use Rattle.proxy_core.proofs.Leaving.{validated_is, serial_stays}
@@ -97,21 +98,31 @@ module _ (table : Table) (es : List Stored) (x : Option Exchange) (event : Event
   unfolding KindOf
   kind_sent s now info asked f = uses s f.0 refl refl f.1
 
-  kind_unanswered : (line now : ℕ) (asked : Asked) (rule : ReuseRule) (condition : Option Condition) (b : Bool) → KindOf es x event next (unanswered table line now asked rule condition b)
+  kind_sent_on : (line : ℕ) (asked : Asked) (condition : Option Condition) (leader : Option ℕ) → KindOf es x event next (sent_on table line asked condition leader)
   unfolding KindOf
-  kind_unanswered line now asked rule condition true = idle refl refl
-  kind_unanswered line now asked rule condition false = idle refl refl
+  kind_sent_on line asked condition None = idle refl refl
+  kind_sent_on line asked condition (Some leader) = idle refl refl
 
-  kind_allowed : (line now : ℕ) (asked : Asked) (d : Decision) → ((s : ℕ) → d ≡ decision.Hit s → IsFound es s) → KindOf es x event next (allowed table es line now asked d)
+  kind_unanswered : (xs : List Exchange) (line now : ℕ) (asked : Asked) (rule : ReuseRule) (condition : Option Condition) (b : Bool) → KindOf es x event next (unanswered table xs line now asked rule condition b)
   unfolding KindOf
-  kind_allowed line now asked (decision.Hit s) f = let r = f s refl in uses s r.0 refl refl r.1
-  kind_allowed line now asked (decision.Forward rule against) f = kind_unanswered line now asked rule (condition_at es against) (is_only_if_cached asked)
+  kind_unanswered xs line now asked rule condition true = idle refl refl
+  kind_unanswered xs line now asked rule condition false = kind_sent_on line asked condition (leader_for xs asked rule)
 
-  kind_arrived : (now : ℕ) (asked : Asked) (v : Verdict) → KindOf es x event next (arrived table es now asked v)
+  kind_allowed : (xs : List Exchange) (line now : ℕ) (asked : Asked) (d : Decision) → ((s : ℕ) → d ≡ decision.Hit s → IsFound es s) → KindOf es x event next (allowed table es xs line now asked d)
   unfolding KindOf
-  kind_arrived now asked (verdict.Allowed line) = kind_allowed line now asked (decision_of (caches_of table.lines line) es asked now) (λ s h. hit_found (caches_of table.lines line) es asked now s h)
-  kind_arrived now asked (verdict.DeniedBy line) = idle refl refl
-  kind_arrived now asked verdict.NoLine = idle refl refl
+  kind_allowed xs line now asked (decision.Hit s) f = let r = f s refl in uses s r.0 refl refl r.1
+  kind_allowed xs line now asked (decision.Forward rule against) f = kind_unanswered xs line now asked rule (condition_at es against) (is_only_if_cached asked)
+
+  kind_arrived : (xs : List Exchange) (now : ℕ) (asked : Asked) (v : Verdict) → KindOf es x event next (arrived table es xs now asked v)
+  unfolding KindOf
+  kind_arrived xs now asked (verdict.Allowed line) = kind_allowed xs line now asked (decision_of (caches_of table.lines line) es asked now) (λ s h. hit_found (caches_of table.lines line) es asked now s h)
+  kind_arrived xs now asked (verdict.DeniedBy line) = idle refl refl
+  kind_arrived xs now asked verdict.NoLine = idle refl refl
+
+  kind_woken : (now : ℕ) (z : Exchange) (d : Decision) → ((s : ℕ) → d ≡ decision.Hit s → IsFound es s) → KindOf es x event next (woken table es now z d)
+  unfolding KindOf
+  kind_woken now z (decision.Hit s) f = let r = f s refl in uses s r.0 refl refl r.1
+  kind_woken now z (decision.Forward rule against) f = idle refl refl
 
   -- what is sent after a failure is held
   fallback_found : (caches : Bool) (asked : Asked) (now s : ℕ) (detail : Detail) (d : Decision) → decision_of caches es asked now ≡ d → fallback_for es asked now d ≡ Sends s detail → IsFound es s
@@ -184,13 +195,15 @@ module _ (table : Table) (es : List Stored) (now id : ℕ) (x : Exchange) (r : R
 kind_of : (table : Table) (es : List Stored) (xs : List Exchange) (x : Option Exchange) (event : Event) (next : Option ℕ) → NoneFrom next es →
     KindOf es x event next (outcome_of table es xs x next event)
 unfolding KindOf
-kind_of table es xs x (Arrive now id asked) next h = kind_arrived table es x (Arrive now id asked) next now asked (verdict_of table.lines asked.method asked.target)
+kind_of table es xs x (Arrive now id asked) next h = kind_arrived table es x (Arrive now id asked) next xs now asked (verdict_of table.lines asked.method asked.target)
 kind_of table es xs (Some x) (Answer now id r) next h = kind_answered table es now id x r next h
 kind_of table es xs None (Answer now id r) next h = idle refl refl
 kind_of table es xs (Some x) (Fail now id kind) next h =
     kind_failed table es (Some x) (Fail now id kind) next now x kind None (fallback_for es x.asked now (decision_of (caches_of table.lines x.line) es x.asked now))
     (λ s detail k. fallback_found table es (Some x) (Fail now id kind) next (caches_of table.lines x.line) x.asked now s detail (decision_of (caches_of table.lines x.line) es x.asked now) refl k)
 kind_of table es xs None (Fail now id kind) next h = idle refl refl
+kind_of table es xs (Some x) (Wake now id) next h = kind_woken table es (Some x) (Wake now id) next now x (decision_of (caches_of table.lines x.line) es x.asked now) (λ s k. hit_found (caches_of table.lines x.line) es x.asked now s k)
+kind_of table es xs None (Wake now id) next h = idle refl refl
 kind_of table es xs x (Abandon id) next h = idle refl refl
 
 -- of an accepted step

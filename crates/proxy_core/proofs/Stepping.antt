@@ -18,14 +18,19 @@ use Rattle.proxy_core.specs.declared.exchange.Exchange.{Exchange}
 use Rattle.proxy_core.specs.declared.outcome.Outcome.{Outcome}
 use Rattle.proxy_core.specs.declared.outcome.Outcome.TheVariants.{Forward}
 use Rattle.proxy_core.specs.declared.event.Event.{Event}
-use Rattle.proxy_core.specs.declared.event.Event.TheVariants.{Arrive, Answer, Fail}
+use Rattle.proxy_core.specs.declared.event.Event.TheVariants.{Arrive, Answer, Fail, Wake}
 use Rattle.proxy_core.specs.declared.pending.PendingReply.{PendingReply}
+use Rattle.proxy_core.specs.declared.fault.CoreFault.{CoreFault}
 use Rattle.proxy_core.specs.Moments.{too_late}
 use Rattle.proxy_core.specs.Storing.{key_invalidated}
-use Rattle.proxy_core.specs.Outcomes.{find_exchange, fault_of, outcome_of, arrived, fallback_for, failed, answered}
-use Rattle.proxy_core.specs.State.{State, Steps, after, taken, entries_after, left_open, invalidated_by, next_after, gone_out}
+use Rattle.proxy_core.specs.Outcomes.{find_exchange, or_fault, not_forwarded, not_ready, fault_of, outcome_of, arrived, fallback_for, failed, answered, woken, forward_text}
+use Rattle.hx_reuse.specs.declared.rule.ReuseRule.{ReuseRule}
+use Rattle.hx_reuse.specs.declared.decision.Decision.{Decision}
+use Rattle.hx_reuse.specs.declared.decision.Decision.TheVariants as decision
+use Rattle.proxy_core.specs.Validating.{condition_at}
+use Rattle.proxy_core.specs.State.{State, Steps, after, taken, entries_after, left_open, invalidated_by, next_after, gone_out, sent_out, woken_out, rule_of, named_by}
 use Rattle.proxy_core.specs.Pending.{stored_by, reply_of, finished, IsPlain, Leaves}
-use Rattle.proxy_core.proofs.Leaving.{fail_leaves}
+use Rattle.proxy_core.proofs.Leaving.{fail_leaves, wake_leaves}
 
 taken_rest : (s : ℕ) (rest : List ℕ) (es : List Stored) → without rest (without (s ∷ []) es) ≡ without (s ∷ rest) es
 taken_rest s rest [] = refl
@@ -56,23 +61,23 @@ st table limit es xs next = record { table = table; limit = limit; entries = es;
 module _ (s : State) (now id : ℕ) (early : too_late now ≡ None) where
   -- a request that arrived
   pub arrive_done : (asked : Asked) (v : Verdict) (o : Outcome) (t : State) → find_exchange id s.exchanges ≡ None → v ≡ verdict_of s.table.lines asked.method asked.target
-      → o ≡ arrived s.table s.entries now asked v → t ≡ after s (Arrive now id asked) o → Steps s (Arrive now id asked) o t
+      → o ≡ arrived s.table s.entries s.exchanges now asked v → t ≡ after s (Arrive now id asked) o → Steps s (Arrive now id asked) o t
   arrive_done asked v o t free judged is leaves = record {
     allowed = ap (λ (x : Option Exchange). fault_of x (Arrive now id asked)) free ∙ early;
-    outcome_is = is ∙ ap (λ (v : Verdict). arrived s.table s.entries now asked v) judged;
+    outcome_is = is ∙ ap (λ (v : Verdict). arrived s.table s.entries s.exchanges now asked v) judged;
     leaves = leaves;
   }
 
   -- an exchange that an answer ends
-  pub answer_done : (x : Exchange) (r : Response) (pending : PendingReply) (gone : Option Key) (o : Outcome) (t : State) → find_exchange id s.exchanges ≡ Some x
+  pub answer_done : (x : Exchange) (r : Response) (pending : PendingReply) (gone : Option Key) (o : Outcome) (t : State) → find_exchange id s.exchanges ≡ Some x → not_forwarded x.stage ≡ None
       → reply_of pending ≡ answered s.table s.entries now x r s.next (decision_of (caches_of s.table.lines x.line) s.entries x.asked now) → Leaves s.limit s.entries x (Answer now x.id r) pending
       → gone ≡ key_invalidated x r → o ≡ reply_of pending → t ≡ finished s id pending gone → Steps s (Answer now id r) o t
-  answer_done x r pending gone o t here reply leaves gone_is is t_is =
+  answer_done x r pending gone o t here stage reply leaves gone_is is t_is =
       let next = next_after s.next (stored_by pending.change) in
       let event : Event = Answer now id r in
       let left : Leaves s.limit s.entries x event pending = subst (λ (k : ℕ). Leaves s.limit s.entries x (Answer now k r) pending) (find_id id s.exchanges x here) leaves in
       record {
-        allowed = ap (λ (x : Option Exchange). fault_of x event) here ∙ early;
+        allowed = ap (λ (x : Option Exchange). fault_of x event) here ∙ (ap (λ (a : Option CoreFault). or_fault a (not_forwarded x.stage)) early ∙ stage);
         outcome_is = is ∙ (reply ∙ ap (λ (x : Option Exchange). outcome_of s.table s.entries s.exchanges x s.next event) (sym here));
         leaves = t_is
             ∙ (ap (λ (es : List Stored). st s.table s.limit es (left_open gone id s.exchanges) next)
@@ -83,28 +88,59 @@ module _ (s : State) (now id : ℕ) (early : too_late now ≡ None) where
       }
 
   -- one whose request goes forward once more
-  pub answer_again : (x : Exchange) (r : Response) (bytes : List ℕ) (o : Outcome) (t : State) → find_exchange id s.exchanges ≡ Some x
+  pub answer_again : (x : Exchange) (r : Response) (bytes : List ℕ) (o : Outcome) (t : State) → find_exchange id s.exchanges ≡ Some x → not_forwarded x.stage ≡ None
       → Forward x.line bytes ≡ answered s.table s.entries now x r s.next (decision_of (caches_of s.table.lines x.line) s.entries x.asked now)
       → o ≡ Forward x.line bytes → t ≡ st s.table s.limit s.entries (map (gone_out id now) s.exchanges) s.next → Steps s (Answer now id r) o t
-  answer_again x r bytes o t here forward is t_is =
+  answer_again x r bytes o t here stage forward is t_is =
       let event : Event = Answer now id r in
       record {
-        allowed = ap (λ (x : Option Exchange). fault_of x event) here ∙ early;
+        allowed = ap (λ (x : Option Exchange). fault_of x event) here ∙ (ap (λ (a : Option CoreFault). or_fault a (not_forwarded x.stage)) early ∙ stage);
         outcome_is = is ∙ (forward ∙ ap (λ (x : Option Exchange). outcome_of s.table s.entries s.exchanges x s.next event) (sym here));
         leaves = t_is ∙ ap (λ (q : Outcome). after s event q) (sym is);
       }
 
   -- and one that failed
-  pub fail_done : (x : Exchange) (kind : FailKind) (pending : PendingReply) (o : Outcome) (t : State) → find_exchange id s.exchanges ≡ Some x
+  pub fail_done : (x : Exchange) (kind : FailKind) (pending : PendingReply) (o : Outcome) (t : State) → find_exchange id s.exchanges ≡ Some x → not_forwarded x.stage ≡ None
       → reply_of pending ≡ failed s.table s.entries now x kind None (fallback_for s.entries x.asked now (decision_of (caches_of s.table.lines x.line) s.entries x.asked now)) → IsPlain pending.change
       → o ≡ reply_of pending → t ≡ finished s id pending None → Steps s (Fail now id kind) o t
-  fail_done x kind pending o t here reply plain is t_is =
+  fail_done x kind pending o t here stage reply plain is t_is =
       let event : Event = Fail now id kind in
       record {
-        allowed = ap (λ (x : Option Exchange). fault_of x event) here ∙ early;
+        allowed = ap (λ (x : Option Exchange). fault_of x event) here ∙ (ap (λ (a : Option CoreFault). or_fault a (not_forwarded x.stage)) early ∙ stage);
         outcome_is = is ∙ (reply ∙ ap (λ (x : Option Exchange). outcome_of s.table s.entries s.exchanges x s.next event) (sym here));
         leaves = t_is
             ∙ (ap (λ (es : List Stored). st s.table s.limit es (left_open None id s.exchanges) (next_after s.next (stored_by pending.change)))
             (fail_leaves s.limit s.entries x now id kind pending plain ∙ ap (λ (y : Option Exchange). entries_after s.limit s.entries y event (reply_of pending)) (sym here))
             ∙ ap (λ (q : Outcome). after s event q) (sym is));
+      }
+
+  -- a request that waited is answered from the store
+  pub wake_done : (x : Exchange) (pending : PendingReply) (o : Outcome) (t : State) → find_exchange id s.exchanges ≡ Some x → not_ready x.stage ≡ None
+      → reply_of pending ≡ woken s.table s.entries now x (decision_of (caches_of s.table.lines x.line) s.entries x.asked now) → IsPlain pending.change
+      → o ≡ reply_of pending → t ≡ finished s id pending None → Steps s (Wake now id) o t
+  wake_done x pending o t here stage reply plain is t_is =
+      let event : Event = Wake now id in
+      record {
+        allowed = ap (λ (x : Option Exchange). fault_of x event) here ∙ (ap (λ (a : Option CoreFault). or_fault a (not_ready x.stage)) early ∙ stage);
+        outcome_is = is ∙ (reply ∙ ap (λ (x : Option Exchange). outcome_of s.table s.entries s.exchanges x s.next event) (sym here));
+        leaves = t_is
+            ∙ (ap (λ (es : List Stored). st s.table s.limit es (left_open None id s.exchanges) (next_after s.next (stored_by pending.change)))
+            (wake_leaves s.limit s.entries x now id pending plain ∙ ap (λ (y : Option Exchange). entries_after s.limit s.entries y event (reply_of pending)) (sym here))
+            ∙ ap (λ (q : Outcome). after s event q) (sym is));
+      }
+
+  -- or goes forward
+  pub wake_out : (x : Exchange) (rule : ReuseRule) (against : Option ℕ) (o : Outcome) (t : State) → find_exchange id s.exchanges ≡ Some x → not_ready x.stage ≡ None
+      → decision_of (caches_of s.table.lines x.line) s.entries x.asked now ≡ decision.Forward rule against
+      → o ≡ Forward x.line (forward_text s.table x.asked (condition_at s.entries against))
+      → t ≡ st s.table s.limit s.entries (map (sent_out id now rule (condition_at s.entries against)) s.exchanges) s.next → Steps s (Wake now id) o t
+  wake_out x rule against o t here stage d is t_is =
+      let event : Event = Wake now id in
+      record {
+        allowed = ap (λ (x : Option Exchange). fault_of x event) here ∙ (ap (λ (a : Option CoreFault). or_fault a (not_ready x.stage)) early ∙ stage);
+        outcome_is = is ∙ (ap (λ (d : Decision). woken s.table s.entries now x d) (sym d) ∙ ap (λ (x : Option Exchange). outcome_of s.table s.entries s.exchanges x s.next event) (sym here));
+        leaves = t_is
+            ∙ (ap (λ (d : Decision). st s.table s.limit s.entries (map (sent_out id now (rule_of d) (condition_at s.entries (named_by d))) s.exchanges) s.next) (sym d)
+            ∙ (ap (λ (w : Option Exchange). st s.table s.limit s.entries (woken_out s.table s.entries id now w s.exchanges) s.next) (sym here)
+            ∙ ap (λ (q : Outcome). after s event q) (sym is)));
       }

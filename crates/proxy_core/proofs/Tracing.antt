@@ -9,8 +9,9 @@ use Rattle.hx_allow.specs.declared.verdicts.Verdict.TheVariants.{Allowed, Denied
 use Rattle.hx_hop.specs.declared.asked_for.Asked.{Asked}
 use Rattle.hx_store.specs.Stored.{Stored}
 use Rattle.proxy_core.specs.declared.outcome.Outcome.{Outcome}
+use Rattle.proxy_core.specs.declared.exchange.Exchange.{Exchange}
 use Rattle.proxy_core.specs.declared.event.Event.{Event}
-use Rattle.proxy_core.specs.declared.event.Event.TheVariants.{Arrive, Answer, Fail, Abandon}
+use Rattle.proxy_core.specs.declared.event.Event.TheVariants.{Arrive, Answer, Fail, Wake, Abandon}
 use Rattle.proxy_core.specs.declared.fault.CoreFault.{CoreFault}
 use Rattle.proxy_core.specs.declared.fault.CoreFault.TheVariants.{OutOfMemory}
 use Rattle.proxy_core.specs.Outcomes.{arrived, fault_by}
@@ -66,15 +67,16 @@ same_good start events outcomes more m g = subst (λ (os : List Outcome). IsGood
 
 -- ---- a denied request leaves no trace
 
-denied_by : (table : Table) (es : List Stored) (now : ℕ) (asked : Asked) (v : Verdict) → ((line : ℕ) → v ≢ Allowed line) → LeavesNoTrace (arrived table es now asked v)
-denied_by table es now asked (Allowed line) n = absurd (n line refl)
-denied_by table es now asked (DeniedBy line) n = (refl, refl, refl)
-denied_by table es now asked NoLine n = (refl, refl, refl)
+denied_by : (table : Table) (es : List Stored) (xs : List Exchange) (now : ℕ) (asked : Asked) (v : Verdict) → ((line : ℕ) → v ≢ Allowed line) → LeavesNoTrace (arrived table es xs now asked v)
+denied_by table es xs now asked (Allowed line) n = absurd (n line refl)
+denied_by table es xs now asked (DeniedBy line) n = (refl, refl, refl)
+denied_by table es xs now asked NoLine n = (refl, refl, refl)
 
 denied_item : (table : Table) (s : State) (event : Event) (outcome : Outcome) → Accepts table s.entries s.exchanges s.next (record { event = event; outcome = outcome }) → IsDenied table event → LeavesNoTrace outcome
-denied_item table s (Arrive now id asked) outcome a d = subst LeavesNoTrace (sym a.outcome_is) (denied_by table s.entries now asked (verdict_of table.lines asked.method asked.target) d)
+denied_item table s (Arrive now id asked) outcome a d = subst LeavesNoTrace (sym a.outcome_is) (denied_by table s.entries s.exchanges now asked (verdict_of table.lines asked.method asked.target) d)
 denied_item table s (Answer now id r) outcome a d = absurd d
 denied_item table s (Fail now id kind) outcome a d = absurd d
+denied_item table s (Wake now id) outcome a d = absurd d
 denied_item table s (Abandon id) outcome a d = absurd d
 
 pub denied_leave_no_trace : (start : State) (trace : List Item) → IsGood start trace → DeniedLeaveNoTrace start.table trace

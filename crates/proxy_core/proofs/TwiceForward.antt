@@ -6,15 +6,18 @@ use Rattle.hx_target.specs.Keys.{same_key}
 use Rattle.hx_hop.specs.declared.asked_for.Asked.{Asked}
 use Rattle.proxy_core.specs.declared.exchange.Exchange.{Exchange}
 use Rattle.proxy_core.specs.declared.outcome.Outcome.{Outcome}
-use Rattle.proxy_core.specs.declared.outcome.Outcome.TheVariants.{Reply, Forward, Ended}
+use Rattle.proxy_core.specs.declared.outcome.Outcome.TheVariants.{Reply, Forward, Waits, Ended}
 use Rattle.proxy_core.specs.declared.event.Event.{Event}
-use Rattle.proxy_core.specs.declared.event.Event.TheVariants.{Arrive}
+use Rattle.proxy_core.specs.declared.event.Event.TheVariants.{Arrive, Wake}
 use Rattle.proxy_core.specs.Outcomes.{find_exchange, id_of}
-use Rattle.proxy_core.specs.State.{State, overtake, opened}
+use Rattle.proxy_core.specs.declared.stage.Stage.{Stage}
+use Rattle.proxy_core.specs.declared.stage.Stage.TheVariants.{Forwarded, Waiting, Released}
+use Rattle.proxy_core.specs.Leading.{is_forwarded, is_released, waits_for}
+use Rattle.proxy_core.specs.State.{State, release, overtake, opened, queued}
 use Rattle.proxy_core.specs.Traces.{Item, left, IsGood}
 use Rattle.proxy_core.specs.Promises.{goes_forward, is_reply, is_arrival, key_by_step, times, NoneArrives, TwiceForwardOneReply}
-use Rattle.proxy_core.proofs.ExchangeLists.{overtaken_by}
-use Rattle.proxy_core.proofs.Moves.{Move, apart, opens, passes, again, closes, asked_of, move_of, and_none}
+use Rattle.proxy_core.proofs.ExchangeLists.{overtaken_by, released_by, changed_by}
+use Rattle.proxy_core.proofs.Moves.{Move, apart, opens, queues, passes, again, wakes, closes, woken_form, asked_of, ended_by, ends_back, move_of, and_none}
 use Rattle.proxy_core.proofs.Tracing.{same_table}
 
 -- a part of a good trace
@@ -22,10 +25,16 @@ pub part : (start : State) (later past : List Item) → IsGood start (later ++ p
 part start [] past g = g
 part start (i ∷ later) past g = part start later past g.1
 
+-- one that waits may go forward twice
+by_stage : Stage → ℕ → ℕ
+by_stage Forwarded n = n
+by_stage (Waiting leader) n = 2
+by_stage Released n = 2
+
 -- how often an exchange may still go forward
 forwards_left : Option Exchange → ℕ
 forwards_left None = 0
-forwards_left (Some x) = cond (is_some x.condition) 1 0
+forwards_left (Some x) = by_stage x.stage (cond (is_some x.condition) 1 0)
 
 replies_left : Option Exchange → ℕ
 replies_left None = 0
@@ -39,18 +48,52 @@ record Budget (id : ℕ) (event : Event) (o : Outcome) (x y : Option Exchange) :
   forwards : one (eqb (id_of event) id && goes_forward o) + forwards_left y ≤ forwards_left x
   replies : one (eqb (id_of event) id && is_reply o) + replies_left y ≤ replies_left x
 
-overtake_condition : (key : Key) (x : Exchange) → is_some (overtake key x).condition ≡ is_some x.condition
-overtake_condition key x = elim (same_key x.asked.target.key key) as (λ b. is_some (cond b (record x { overtaken = true }) x).condition ≡ is_some x.condition) [
+overtake_left : (key : Key) (x : Exchange) → by_stage (overtake key x).stage (cond (is_some (overtake key x).condition) 1 0) ≡ by_stage x.stage (cond (is_some x.condition) 1 0)
+overtake_left key x = elim (same_key x.asked.target.key key) as (λ b. by_stage (cond b (record x { overtaken = true }) x).stage (cond (is_some (cond b (record x { overtaken = true }) x).condition) 1 0) ≡ by_stage x.stage (cond (is_some x.condition) 1 0)) [
   | true ↦ refl
   | false ↦ refl
 ]
+
+left_of_a_waiter : (i : ℕ) (s : Stage) (n : ℕ) → waits_for i s ≡ true → 2 ≡ by_stage s n
+unfolding by_stage
+left_of_a_waiter i Forwarded n h = absurd (false≢true h)
+left_of_a_waiter i (Waiting leader) n h = refl
+left_of_a_waiter i Released n h = absurd (false≢true h)
+
+left_when_released : (i : ℕ) (x : Exchange) (b : Bool) → waits_for i x.stage ≡ b →
+    by_stage (cond b (record x { stage = Released }) x).stage (cond (is_some (cond b (record x { stage = Released }) x).condition) 1 0) ≡ by_stage x.stage (cond (is_some x.condition) 1 0)
+unfolding by_stage
+left_when_released i x true h = left_of_a_waiter i x.stage (cond (is_some x.condition) 1 0) h
+left_when_released i x false h = refl
+
+release_left : (i : ℕ) (x : Exchange) → by_stage (release i x).stage (cond (is_some (release i x).condition) 1 0) ≡ by_stage x.stage (cond (is_some x.condition) 1 0)
+release_left i x = left_when_released i x (waits_for i x.stage) refl
+
+budget_released : (gone : Option ℕ) (x : Option Exchange) →
+    (forwards_left (released_by gone x) ≡ forwards_left x) × (replies_left (released_by gone x) ≡ replies_left x)
+unfolding forwards_left replies_left
+budget_released None x = (refl, refl)
+budget_released (Some i) None = (refl, refl)
+budget_released (Some i) (Some x) = (release_left i x, refl)
 
 budget_overtaken : (key : Option Key) (x : Option Exchange) →
     (forwards_left (overtaken_by key x) ≡ forwards_left x) × (replies_left (overtaken_by key x) ≡ replies_left x)
 unfolding forwards_left replies_left
 budget_overtaken None x = (refl, refl)
 budget_overtaken (Some key) None = (refl, refl)
-budget_overtaken (Some key) (Some x) = (ap (λ b. cond b 1 0) (overtake_condition key x), refl)
+budget_overtaken (Some key) (Some x) = (overtake_left key x, refl)
+
+forwarded_left : (s : Stage) (n : ℕ) → is_forwarded s ≡ true → by_stage s n ≡ n
+unfolding by_stage
+forwarded_left Forwarded n h = refl
+forwarded_left (Waiting leader) n h = absurd (false≢true h)
+forwarded_left Released n h = absurd (false≢true h)
+
+released_left : (s : Stage) (n : ℕ) → is_released s ≡ true → by_stage s n ≡ 2
+unfolding by_stage
+released_left Forwarded n h = absurd (false≢true h)
+released_left (Waiting leader) n h = absurd (false≢true h)
+released_left Released n h = refl
 
 one_most : (b : Bool) → one b ≤ 1
 unfolding one
@@ -68,30 +111,42 @@ fresh_arrival id now asked event e a =
 forward_only : (o : Outcome) → goes_forward o ≡ true → is_reply o ≡ false
 forward_only (Reply r) h = absurd (false≢true h)
 forward_only (Forward line bytes) h = refl
+forward_only (Waits leader) h = refl
 forward_only Ended h = refl
 
 budget : (id : ℕ) (w : Option Exchange) (event : Event) (o : Outcome) (x y : Option Exchange) → Move id w event o x y →
     (eqb (id_of event) id && is_arrival event) ≡ false → Budget id event o x y
-unfolding one forwards_left replies_left
+unfolding one forwards_left replies_left by_stage
 budget id w event o x y (apart n h) a =
-    let m = budget_overtaken (key_by_step (asked_of w) event o) x in
+    let m = budget_overtaken (key_by_step (asked_of w) event o) (released_by (ended_by event o) x) in
+    let k = budget_released (ended_by event o) x in
     let f0 : one (eqb (id_of event) id && goes_forward o) ≡ 0 = ap (λ b. one (b && goes_forward o)) n in
     let r0 : one (eqb (id_of event) id && is_reply o) ≡ 0 = ap (λ b. one (b && is_reply o)) n in
-    let f1 : forwards_left y ≡ forwards_left x = ap forwards_left h ∙ m.0 in
-    let r1 : replies_left y ≡ replies_left x = ap replies_left h ∙ m.1 in
+    let f1 : forwards_left y ≡ forwards_left x = ap forwards_left h ∙ (m.0 ∙ k.0) in
+    let r1 : replies_left y ≡ replies_left x = ap replies_left h ∙ (m.1 ∙ k.1) in
     record { forwards = omega arith; replies = omega arith }
 budget id w event o x y (opens table es now asked line e x_is f h) a = absurd (fresh_arrival id now asked event e a)
+budget id w event o x y (queues table es now asked line leader e x_is f l h) a = absurd (fresh_arrival id now asked event e a)
 budget id w event o x y (passes t e x_is g h) a = absurd (not_both _ _ t e a)
-budget id w event o x y (again z now t e f c k h) a =
+budget id w event o x y (again z now t e f c k h j s) a =
     let f0 = one_most (eqb (id_of event) id && goes_forward o) in
     let r0 : one (eqb (id_of event) id && is_reply o) ≡ 0 = ap (λ b. one (eqb (id_of event) id && b)) (forward_only o k) ∙ ap one (and_none (eqb (id_of event) id)) in
     let f1 : forwards_left y ≡ 0 = ap forwards_left h in
-    let f2 : forwards_left x ≡ 1 = ap forwards_left f ∙ ap (λ b. cond b 1 0) c in
+    let f2 : forwards_left x ≡ 1 = ap forwards_left f ∙ (forwarded_left z.stage (cond (is_some z.condition) 1 0) s ∙ ap (λ b. cond b 1 0) c) in
+    let r1 : replies_left y ≡ 1 = ap replies_left h in
+    let r2 : replies_left x ≡ 1 = ap replies_left f in
+    record { forwards = omega arith; replies = omega arith }
+budget id w event o x y (wakes table es z now e f s k h) a =
+    let f0 = one_most (eqb (id_of event) id && goes_forward o) in
+    let r0 : one (eqb (id_of event) id && is_reply o) ≡ 0 = ap (λ b. one (eqb (id_of event) id && b)) (forward_only o k) ∙ ap one (and_none (eqb (id_of event) id)) in
+    let f1 : forwards_left y ≡ one (is_some (woken_form table es now z).condition) = ap forwards_left h in
+    let f2 = one_most (is_some (woken_form table es now z).condition) in
+    let f3 : forwards_left x ≡ 2 = ap forwards_left f ∙ released_left z.stage (cond (is_some z.condition) 1 0) s in
     let r1 : replies_left y ≡ 1 = ap replies_left h in
     let r2 : replies_left x ≡ 1 = ap replies_left f in
     record { forwards = omega arith; replies = omega arith }
 budget id w event o x y (closes z t e f g h) a =
-    let f0 : one (eqb (id_of event) id && goes_forward o) ≡ 0 = ap (λ b. one (eqb (id_of event) id && b)) g ∙ ap one (and_none (eqb (id_of event) id)) in
+    let f0 : one (eqb (id_of event) id && goes_forward o) ≡ 0 = ap (λ b. one (eqb (id_of event) id && b)) (ends_back o g) ∙ ap one (and_none (eqb (id_of event) id)) in
     let r0 = one_most (eqb (id_of event) id && is_reply o) in
     let f1 : forwards_left y ≡ 0 = ap forwards_left h in
     let r1 : replies_left y ≡ 0 = ap replies_left h in
@@ -105,7 +160,7 @@ record Opening (o : Outcome) (y : Option Exchange) : Type 0 where
 
 opening : (id : ℕ) (w : Option Exchange) (event : Event) (o : Outcome) (x y : Option Exchange) → Move id w event o x y →
     eqb (id_of event) id ≡ true → is_arrival event ≡ true → Opening o y
-unfolding one forwards_left replies_left
+unfolding one forwards_left replies_left by_stage
 opening id w event o x y (apart n h) t a = absurd (false≢true (sym n ∙ t))
 opening id w event o x y (opens table es now asked line e x_is f h) t a =
     let f0 = one_most (goes_forward o) in
@@ -114,13 +169,20 @@ opening id w event o x y (opens table es now asked line e x_is f h) t a =
     let f2 = one_most (is_some (opened table es now id asked line).condition) in
     let r1 : replies_left y ≡ 1 = ap replies_left h in
     record { forwards = omega arith; replies = omega arith }
+opening id w event o x y (queues table es now asked line leader e x_is f l h) t a =
+    let f0 : one (goes_forward o) ≡ 0 = ap (λ (o : Outcome). one (goes_forward o)) f in
+    let r0 : one (is_reply o) ≡ 0 = ap (λ (o : Outcome). one (is_reply o)) f in
+    let f1 : forwards_left y ≡ 2 = ap forwards_left h in
+    let r1 : replies_left y ≡ 1 = ap replies_left h in
+    record { forwards = omega arith; replies = omega arith }
 opening id w event o x y (passes u e x_is g h) t a =
     let f0 = one_most (goes_forward o) in
     let r0 = one_most (is_reply o) in
     let f1 : forwards_left y ≡ 0 = ap forwards_left h in
     let r1 : replies_left y ≡ 0 = ap replies_left h in
     record { forwards = omega arith; replies = omega arith }
-opening id w event o x y (again z now u e f c k h) t a = absurd (false≢true (sym e ∙ a))
+opening id w event o x y (wakes table es z now e f s k h) t a = absurd (false≢true (sym (ap is_arrival e) ∙ a))
+opening id w event o x y (again z now u e f c k h j s) t a = absurd (false≢true (sym e ∙ a))
 opening id w event o x y (closes z u e f g h) t a = absurd (false≢true (sym e ∙ a))
 
 one_more : (b : Bool) (n : ℕ) → cond b (n + 1) n ≡ one b + n

@@ -1,5 +1,5 @@
 -- Over a line without cache nothing is stored and nothing is sent from the store.
-use Rattle.std.proofs.Common.{◌≡◌, ◌⊎◌, inl, inr, ℕ, Bool, true, false, Option, None, Some, List, refl, sym, ◌∙◌, ap, subst}
+use Rattle.std.proofs.Common.{◌≡◌, ◌⊎◌, inl, inr, ℕ, Bool, true, false, cond, Option, None, Some, List, refl, sym, ◌∙◌, ap, subst}
 use Rattle.std.specs.Prelude.{◌==◌, ◌&&◌, is_some}
 use Rattle.std.proofs.lemmas.Bool.{false≢true}
 use Rattle.hx_framing.specs.declared.responses.Response.{Response}
@@ -18,13 +18,14 @@ use Rattle.hx_reuse.proofs.RuleLemmas.{by_operator}
 use Rattle.proxy_core.specs.declared.condition.Condition.{Condition}
 use Rattle.proxy_core.specs.declared.exchange.Exchange.{Exchange}
 use Rattle.proxy_core.specs.declared.event.Event.{Event}
-use Rattle.proxy_core.specs.declared.event.Event.TheVariants.{Arrive, Answer, Fail, Abandon}
+use Rattle.proxy_core.specs.declared.event.Event.TheVariants.{Arrive, Answer, Fail, Wake, Abandon}
 use Rattle.proxy_core.specs.Validating.{condition_at, is_validation}
-use Rattle.proxy_core.specs.Outcomes.{find_exchange, id_of, arrived, allowed, unanswered, is_only_if_cached}
+use Rattle.proxy_core.specs.Leading.{leader, is_get}
+use Rattle.proxy_core.specs.Outcomes.{find_exchange, id_of, arrived, allowed, sent_on, unanswered, is_only_if_cached}
 use Rattle.proxy_core.specs.State.{stored_in, used_in}
 use Rattle.proxy_core.specs.Traces.{Item}
 use Rattle.proxy_core.specs.Histories.{held_entries, open_exchanges, next_serial}
-use Rattle.proxy_core.specs.Carrying.{WentOnce, WentAgain, Arrived}
+use Rattle.proxy_core.specs.Carrying.{WentOnce, WentAgain, StillWaits, Judged}
 use Rattle.proxy_core.specs.Sending.{IsReusable, IsFallback, MayBeSentAt}
 use Rattle.proxy_core.specs.Uncached.{IsOver, IsToldByTheOperator, StoresNothingOverIt, SendsNothingOverIt, GoesForwardOverIt}
 use Rattle.proxy_core.proofs.Carries.{carries_its_arrival}
@@ -52,7 +53,7 @@ module _ (table : Table) (line : ℕ) (off : caches_of table.lines line ≡ fals
   no_fallback held asked now s n same (inr may) = no_word n same may.1.operator_allows
 
   -- an exchange over the line asks about no held response
-  no_condition : (limit : ℕ) (x : Exchange) (past : List Item) → x.line ≡ line → Arrived table limit x past → x.condition ≡ None
+  no_condition : (limit : ℕ) (x : Exchange) (past : List Item) → x.line ≡ line → Judged table limit x past → x.condition ≡ None
   no_condition limit x past same a = by_going a.went
     where
       late : names_entry x.rule ≡ true → ⊥
@@ -62,14 +63,15 @@ module _ (table : Table) (line : ℕ) (off : caches_of table.lines line ≡ fals
       by_name against (inl low) = low.1
       by_name against (inr high) = absurd (late high.0)
 
-      by_going : WentOnce table limit x a.since a.before a.now a.bytes ⊎ WentAgain table x a.since → x.condition ≡ None
+      by_going : WentOnce table limit x a.since a.before a.now a.item.outcome ⊎ (WentAgain table x a.since ⊎ StillWaits table limit x a.since a.before a.item.outcome) → x.condition ≡ None
       by_going (inl once) = once.condition ∙ ap (condition_at (held_entries table limit a.before)) (by_name once.against once.names)
-      by_going (inr more) = more.condition
+      by_going (inr (inl more)) = more.condition
+      by_going (inr (inr waits)) = waits.condition ∙ ap (condition_at (held_entries table limit a.before)) (by_name waits.against waits.names)
 
   no_validation : (x : Exchange) (r : Response) → x.condition ≡ None → is_validation x r ≡ true → ⊥
   no_validation x r none h = false≢true (sym (and_none (r.status == 304)) ∙ ap (λ (c : Option Condition). (r.status == 304) && is_some c) (sym none) ∙ h)
 
-  nothing_sent : (limit s : ℕ) (past : List Item) (x : Option Exchange) (event : Event) → ((z : Exchange) → x ≡ Some z → Arrived table limit z past) →
+  nothing_sent : (limit s : ℕ) (past : List Item) (x : Option Exchange) (event : Event) → ((z : Exchange) → x ≡ Some z → Judged table limit z past) →
       IsOver table x event line → MayBeSentAt table (held_entries table limit past) x event s → ⊥
   nothing_sent limit s past x (Arrive now id asked) carries over may =
       not_reusable (held_entries table limit past) asked now s may.0 (same_line may.0 line (sym may.1 ∙ over)) may.2
@@ -79,6 +81,8 @@ module _ (table : Table) (line : ℕ) (off : caches_of table.lines line ≡ fals
   nothing_sent limit s past (Some x) (Fail now id kind) carries over may = no_fallback (held_entries table limit past) x.asked now s x.line over may
   nothing_sent limit s past None (Answer now id r) carries over may = over
   nothing_sent limit s past None (Fail now id kind) carries over may = over
+  nothing_sent limit s past (Some x) (Wake now id) carries over may = not_reusable (held_entries table limit past) x.asked now s x.line over may
+  nothing_sent limit s past None (Wake now id) carries over may = over
   nothing_sent limit s past (Some x) (Abandon id) carries over may = may
   nothing_sent limit s past None (Abandon id) carries over may = may
 
@@ -103,14 +107,15 @@ stores_nothing_over_it table limit first line item past g over off =
 pub goes_forward_over_it : GoesForwardOverIt
 goes_forward_over_it table limit first now id line asked item past g e v off =
     let es = held_entries table limit past in
+    let xs = open_exchanges table limit past in
     let d : decision_of (caches_of table.lines line) es asked now ≡ decision.Forward Operator None = sym (by_operator (caches_of table.lines line) es asked now off) in
-    let is : item.outcome ≡ unanswered table line now asked Operator None (is_only_if_cached asked) =
+    let is : item.outcome ≡ unanswered table xs line now asked Operator None (is_only_if_cached asked) =
     arrival_is table limit first now id asked item past g e
-    ∙ ap (λ (w : Verdict). arrived table es now asked w) v
-    ∙ ap (λ (k : Decision). allowed table es line now asked k) d
+    ∙ ap (λ (w : Verdict). arrived table es xs now asked w) v
+    ∙ ap (λ (k : Decision). allowed table es xs line now asked k) d
     in
     by_word (is_only_if_cached asked) refl is
   where
-    by_word : (b : Bool) → is_only_if_cached asked ≡ b → item.outcome ≡ unanswered table line now asked Operator None b → IsToldByTheOperator table now asked line item.outcome
+    by_word : (b : Bool) → is_only_if_cached asked ≡ b → item.outcome ≡ unanswered table (open_exchanges table limit past) line now asked Operator None b → IsToldByTheOperator table now asked line item.outcome
     by_word true k is = inr (k, is)
-    by_word false k is = inl (k, is)
+    by_word false k is = inl (k, is ∙ ap (λ (b : Bool). sent_on table line asked None (cond b (leader asked.target.key (open_exchanges table limit past)) None)) (and_none (is_get asked)))

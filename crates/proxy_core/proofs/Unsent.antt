@@ -35,10 +35,11 @@ use Rattle.proxy_core.specs.declared.fallback.Fallback.{Fallback}
 use Rattle.proxy_core.specs.declared.fallback.Fallback.TheVariants.{Sends, Refuses}
 use Rattle.proxy_core.specs.declared.outcome.Outcome.{Outcome}
 use Rattle.proxy_core.specs.declared.event.Event.{Event}
-use Rattle.proxy_core.specs.declared.event.Event.TheVariants.{Arrive, Answer, Fail, Abandon}
+use Rattle.proxy_core.specs.declared.event.Event.TheVariants.{Arrive, Answer, Fail, Wake, Abandon}
 use Rattle.proxy_core.specs.Validating.{condition_at, is_validation, is_answered, validated, refreshed}
 use Rattle.proxy_core.specs.Storing.{facts_of, is_storable, is_unasked, invalidates, key_invalidated}
-use Rattle.proxy_core.specs.Outcomes.{find_exchange, id_of, arrived, allowed, unanswered, is_only_if_cached, fallback_for, failed, is_error_status, passed, passed_unless, removed_by, stored_serial, revalidated, answered, outcome_of}
+use Rattle.proxy_core.specs.Leading.{leader_for, is_forwarded}
+use Rattle.proxy_core.specs.Outcomes.{find_exchange, id_of, arrived, allowed, sent_on, unanswered, woken, fault_of, is_only_if_cached, fallback_for, failed, is_error_status, passed, passed_unless, removed_by, stored_serial, revalidated, answered, outcome_of}
 use Rattle.proxy_core.specs.State.{stored_in, used_in, removed_in, next_after, next_of, stored_form, used_form}
 use Rattle.proxy_core.specs.Traces.{Item, begun, left, IsGood}
 use Rattle.proxy_core.specs.Histories.{held_serials, held_entry, done_by, seen}
@@ -48,7 +49,10 @@ use Rattle.proxy_core.proofs.Leaving.{key_stays}
 use Rattle.proxy_core.proofs.HeldEntries.{EachIs-find, held_found, some_of_key}
 use Rattle.proxy_core.proofs.StepKinds.{Kind, idle, uses, stores, kind_in}
 use Rattle.proxy_core.proofs.HeldLaw.{look_after, stands_for}
-use Rattle.proxy_core.proofs.Moves.{asked_of, same_key_invalidated, error_is_none}
+use Rattle.proxy_core.specs.declared.stage.Stage.{Stage}
+use Rattle.proxy_core.specs.declared.stage.Stage.TheVariants.{Forwarded, Waiting, Released}
+use Rattle.proxy_core.specs.Moments.{too_late}
+use Rattle.proxy_core.proofs.Moves.{asked_of, same_key_invalidated, error_is_none, forwarded_by}
 use Rattle.proxy_core.proofs.TwiceForward.{part}
 use Rattle.proxy_core.proofs.Marks.{same_key_of_step, out_since, none_of_some}
 
@@ -100,18 +104,22 @@ pub record Storing (table : Table) (w : Option Exchange) (event : Event) (next :
 none_stored : (s : ℕ) → ◌≡◌ {A = Option ℕ} None (Some s) → ⊥
 none_stored s h = cc
 
-stored_arrival : (table : Table) (es : List Stored) (now : ℕ) (asked : Asked) (v : Verdict) (s : ℕ) → stored_in (arrived table es now asked v) ≡ Some s → ⊥
-stored_arrival table es now asked (verdict.Allowed line) s h = by_decision (decision_of (caches_of table.lines line) es asked now) h
+stored_arrival : (table : Table) (es : List Stored) (xs : List Exchange) (now : ℕ) (asked : Asked) (v : Verdict) (s : ℕ) → stored_in (arrived table es xs now asked v) ≡ Some s → ⊥
+stored_arrival table es xs now asked (verdict.Allowed line) s h = by_decision (decision_of (caches_of table.lines line) es asked now) h
   where
-    unless : (rule : ReuseRule) (condition : Option Condition) (b : Bool) → stored_in (unanswered table line now asked rule condition b) ≡ Some s → ⊥
-    unless rule condition true h = none_stored s h
-    unless rule condition false h = none_stored s h
+    on : (condition : Option Condition) (leader : Option ℕ) → stored_in (sent_on table line asked condition leader) ≡ Some s → ⊥
+    on condition None h = none_stored s h
+    on condition (Some leader) h = none_stored s h
 
-    by_decision : (d : Decision) → stored_in (allowed table es line now asked d) ≡ Some s → ⊥
+    unless : (rule : ReuseRule) (condition : Option Condition) (b : Bool) → stored_in (unanswered table xs line now asked rule condition b) ≡ Some s → ⊥
+    unless rule condition true h = none_stored s h
+    unless rule condition false h = on condition (leader_for xs asked rule) h
+
+    by_decision : (d : Decision) → stored_in (allowed table es xs line now asked d) ≡ Some s → ⊥
     by_decision (decision.Hit t) h = none_stored s h
     by_decision (decision.Forward rule against) h = unless rule (condition_at es against) (is_only_if_cached asked) h
-stored_arrival table es now asked (verdict.DeniedBy line) s h = none_stored s h
-stored_arrival table es now asked verdict.NoLine s h = none_stored s h
+stored_arrival table es xs now asked (verdict.DeniedBy line) s h = none_stored s h
+stored_arrival table es xs now asked verdict.NoLine s h = none_stored s h
 
 stored_failure : (table : Table) (es : List Stored) (now : ℕ) (x : Exchange) (kind : FailKind) (came : Option ℕ) (fallback : Fallback) (s : ℕ) → stored_in (failed table es now x kind came fallback) ≡ Some s → ⊥
 stored_failure table es now x kind came (Sends serial detail) s h = none_stored s h
@@ -148,11 +156,17 @@ module _ (table : Table) (es : List Stored) (now i : ℕ) (x : Exchange) (r : Re
 
 pub storing_of : (table : Table) (es : List Stored) (xs : List Exchange) (w : Option Exchange) (next : Option ℕ) (event : Event) (s : ℕ) →
     stored_in (outcome_of table es xs w next event) ≡ Some s → Storing table w event next s
-storing_of table es xs w next (Arrive now i asked) s h = absurd (stored_arrival table es now asked (verdict_of table.lines asked.method asked.target) s h)
+storing_of table es xs w next (Arrive now i asked) s h = absurd (stored_arrival table es xs now asked (verdict_of table.lines asked.method asked.target) s h)
 storing_of table es xs None next (Answer now i r) s h = absurd (none_stored s h)
 storing_of table es xs (Some z) next (Answer now i r) s h = stored_answer table es now i z r next s (decision_of (caches_of table.lines z.line) es z.asked now) h
 storing_of table es xs None next (Fail now i kind) s h = absurd (none_stored s h)
 storing_of table es xs (Some z) next (Fail now i kind) s h = absurd (stored_failure table es now z kind None (fallback_for es z.asked now (decision_of (caches_of table.lines z.line) es z.asked now)) s h)
+storing_of table es xs None next (Wake now i) s h = absurd (none_stored s h)
+storing_of table es xs (Some z) next (Wake now i) s h = absurd (stored_wake (decision_of (caches_of table.lines z.line) es z.asked now) h)
+  where
+    stored_wake : (d : Decision) → stored_in (woken table es now z d) ≡ Some s → ⊥
+    stored_wake (decision.Hit t) h = none_stored s h
+    stored_wake (decision.Forward rule against) h = none_stored s h
 storing_of table es xs w next (Abandon i) s h = absurd (none_stored s h)
 
 -- ---- what an item that invalidates removes
@@ -211,6 +225,7 @@ removes_key table es xs (Some z) next (Answer now i r) o k e h =
     ap removed_in e
     ∙ answer_removes table es now z r next d k (same_key_invalidated table es now z r next d ∙ ap (key_by_answer z.asked r) (sym e) ∙ h)
 removes_key table es xs (Some z) next (Fail now i kind) o k e h = absurd (cc)
+removes_key table es xs (Some z) next (Wake now i) o k e h = absurd (cc)
 removes_key table es xs (Some z) next (Abandon i) o k e h = absurd (cc)
 
 -- ---- serials from below
@@ -265,6 +280,7 @@ used_key (Some x) (Answer now id r) e = elim (is_answered x r now e) as (λ b. (
   | false ↦ refl
 ]
 used_key (Some x) (Fail now id kind) e = refl
+used_key (Some x) (Wake now id) e = refl
 used_key (Some x) (Abandon id) e = refl
 
 key_kept : (x : Option Exchange) (event : Event) (st us : Option ℕ) (look : ℕ → Option Stored) (s : ℕ) → is_the st s ≡ false →
@@ -355,6 +371,7 @@ module _ (table : Table) (limit first : ℕ) where
   record Known (s : ℕ) (storing : Item) (past : List Item) : Type 0 where
     z : Exchange
     w_is : find_exchange (id_of storing.event) (left (begun table limit first) past).exchanges ≡ Some z
+    stage : z.stage ≡ Forwarded
     in_time : z.overtaken ≡ false
     since_then : Since s z.asked.target.key storing past []
     clean : (k : Key) → invalidates_key k storing past ≡ false
@@ -376,6 +393,7 @@ module _ (table : Table) (limit first : ℕ) where
       record {
         z = z;
         w_is = d.w_is;
+        stage = out_stage z.stage (forwarded_by (too_late d.now) z.stage (sym (ap (λ (w : Option Exchange). fault_of w (Answer d.now d.i d.r)) d.w_is) ∙ (ap (λ (v : Event). fault_of w v) (sym d.event_is) ∙ g.0.allowed)));
         in_time = d.plain.in_time;
         since_then = record {
           below = subst (Below s) (sym (ap (λ o. next_after st.next o) e)) (below_next s s (omega arith));
@@ -395,6 +413,11 @@ module _ (table : Table) (limit first : ℕ) where
       no_key key true rest h = absurd (false≢true (sym h))
       no_key key false rest h = refl
 
+      out_stage : (t : Stage) → is_forwarded t ≡ true → t ≡ Forwarded
+      out_stage Forwarded h = refl
+      out_stage (Waiting leader) h = absurd (false≢true h)
+      out_stage Released h = absurd (false≢true h)
+
 sent_held : (es : List Stored) (x : Option Exchange) (event : Event) (next st us : Option ℕ) (rm : List ℕ) (s : ℕ) → Kind es x event next st us rm → us ≡ Some s → holds s es ≡ true
 sent_held es x event next st us rm s (idle a b) h = absurd (cc)
 sent_held es x event next st us rm s (uses t e a b f) h =
@@ -410,7 +433,7 @@ nothing_invalidated_is_sent table limit first trace g later middle between befor
     in
     let at_storing : IsGood (begun table limit first) (storing ∷ base) = part (begun table limit first) middle (storing ∷ base) at_sending.1 in
     let d = stored_is table limit first s storing base at_storing stored in
-    let o = out_since table limit first f before (id_of storing.event) between at_storing.1 forward same none d.z d.w_is in
+    let o = out_since table limit first f before (id_of storing.event) between at_storing.1 forward same none d.z d.w_is d.stage in
     let st = left (begun table limit first) (middle ++ storing ∷ base) in
     let p = stands_for table limit first (middle ++ storing ∷ base) at_sending.1 in
     let i = since table limit first s d.z.asked.target.key storing base middle at_sending.1 d.since_then in

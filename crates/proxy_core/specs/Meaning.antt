@@ -14,12 +14,23 @@ use Rattle.proxy_core.specs.Outcomes.{find_exchange, id_of}
 use Rattle.proxy_core.specs.State.{stored_in, rule_of}
 use Rattle.proxy_core.specs.Traces.{Item, begun, left, IsGood}
 use Rattle.proxy_core.specs.Histories.{held_entries, open_exchanges, next_serial, IsGoodHistory}
-use Rattle.proxy_core.specs.Promises.{goes_forward, is_arrival, times, NoneArrives, asked_by, some_invalidates}
+use Rattle.proxy_core.specs.Carrying.{NoneJudged}
+use Rattle.proxy_core.specs.declared.stage.Stage.TheVariants.{Forwarded}
+use Rattle.proxy_core.specs.declared.outcome.Outcome.{Outcome}
+use Rattle.proxy_core.specs.declared.outcome.Outcome.TheVariants.{Reply, Forward, Waits, Ended}
+use Rattle.proxy_core.specs.Promises.{goes_forward, ends, is_arrival, times, NoneArrives, asked_by, some_invalidates}
 
--- some item of this id doesn't go forward: a reply, or the client went away
+-- some item of this id is a reply, or the client went away
 abbrev pub has_ended : ℕ → List Item → Bool
 has_ended id [] = false
-has_ended id (i ∷ items) = (id_of i.event == id && not (goes_forward i.outcome)) || has_ended id items
+has_ended id (i ∷ items) = (id_of i.event == id && ends i.outcome) || has_ended id items
+
+-- an arrival opens an exchange: its request goes forward, or waits
+abbrev pub starts : Outcome → Bool
+starts (Reply r) = false
+starts (Forward line bytes) = true
+starts (Waits leader) = true
+starts Ended = false
 
 abbrev pub number_stored : List Item → ℕ
 number_stored [] = 0
@@ -30,13 +41,13 @@ events_of trace = map (λ (i : Item). i.event) trace
 
 -- ---- the statements
 
--- An exchange is open from its arrival, where the request goes forward, until an item of its id doesn't go forward.
+-- An exchange is open from its arrival, where the request goes forward or waits, until an item of its id ends it.
 abbrev pub OpenFromArrivalToEnd : Type 0
 OpenFromArrivalToEnd = (table : Table) (limit first : ℕ) (items before : List Item) (arrival : Item) →
     IsGoodHistory table limit first (items ++ arrival ∷ before) →
     is_arrival arrival.event ≡ true →
     NoneArrives (id_of arrival.event) items →
-    is_some (find_exchange (id_of arrival.event) (open_exchanges table limit (items ++ arrival ∷ before))) ≡ (goes_forward arrival.outcome && not (has_ended (id_of arrival.event) items))
+    is_some (find_exchange (id_of arrival.event) (open_exchanges table limit (items ++ arrival ∷ before))) ≡ (starts arrival.outcome && not (has_ended (id_of arrival.event) items))
 
 -- none is open of which no request arrived
 abbrev pub OpenByArrivalAlone : Type 0
@@ -48,22 +59,24 @@ abbrev pub HasItsRequest : Type 0
 HasItsRequest = (table : Table) (limit first id : ℕ) (trace : List Item) (x : Exchange) →
     IsGoodHistory table limit first trace → find_exchange id (open_exchanges table limit trace) ≡ Some x → asked_by id trace ≡ Some x.asked
 
--- and the rule that stood against a stored response when that arrived, by the word of its line
+-- and while it isn't woken the rule that stood against a stored response when that arrived, by the word of its line
 abbrev pub KeepsItsRule : Type 0
 KeepsItsRule = (table : Table) (limit first now id : ℕ) (asked : Asked) (items before : List Item) (arrival : Item) (x : Exchange) →
     IsGoodHistory table limit first (items ++ arrival ∷ before) →
     arrival.event ≡ Arrive now id asked →
-    NoneArrives id items →
+    NoneJudged id items →
     find_exchange id (open_exchanges table limit (items ++ arrival ∷ before)) ≡ Some x →
     x.rule ≡ rule_of (decision_of (caches_of table.lines x.line) (held_entries table limit before) asked now)
 
--- An open exchange is overtaken exactly where an item after its latest going forward invalidates its key.
+-- An open exchange whose request is at the origin is overtaken exactly where an item after its latest going forward invalidates
+-- its key.
 abbrev pub OvertakenWhereInvalidated : Type 0
 OvertakenWhereInvalidated = (table : Table) (limit first : ℕ) (items before : List Item) (f : Item) (x : Exchange) →
     IsGoodHistory table limit first (items ++ f ∷ before) →
     goes_forward f.outcome ≡ true →
     times goes_forward (id_of f.event) items ≡ 0 →
     find_exchange (id_of f.event) (open_exchanges table limit (items ++ f ∷ before)) ≡ Some x →
+    x.stage ≡ Forwarded →
     x.overtaken ≡ some_invalidates x.asked.target.key items (f ∷ before)
 
 -- The next serial is the first plus the number stored, while there is such a serial.

@@ -2,7 +2,7 @@
 -- RFC 9211).
 --
 -- NamesAtArrival: the line of the table that denies, that none allows, or the rule where only-if-cached stands
--- NamesOnError: why nothing is sent in place of an error          NamesItsRule: of an answer that is passed on, that of its arrival
+-- NamesOnError: why nothing is sent in place of an error          NamesItsRule: of an answer that is passed on, the one it has kept
 -- NamesFirst: of an item                                          NamesFirstRules: of each item of a good trace
 use Rattle.std.specs.Prelude.{◌≡◌, ◌⊎◌, ℕ, true, false, List, ◌∷◌, Option, Some, None, is_some}
 use Rattle.hx_directives.specs.Occurrences.{occurrences_of}
@@ -24,16 +24,16 @@ use Rattle.hx_status.specs.declared.cause.FailKind.TheVariants.{BadAnswer}
 use Rattle.hx_status.specs.declared.cause.Cause.TheVariants.{Denied, NoLine, OnlyIfCached, Origin}
 use Rattle.proxy_core.specs.declared.exchange.Exchange.{Exchange}
 use Rattle.proxy_core.specs.declared.outcome.Outcome.{Outcome}
-use Rattle.proxy_core.specs.declared.outcome.Outcome.TheVariants.{Reply, Forward, Ended}
+use Rattle.proxy_core.specs.declared.outcome.Outcome.TheVariants.{Reply, Forward, Waits, Ended}
 use Rattle.proxy_core.specs.declared.event.Event.{Event}
-use Rattle.proxy_core.specs.declared.event.Event.TheVariants.{Arrive, Answer, Fail, Abandon}
+use Rattle.proxy_core.specs.declared.event.Event.TheVariants.{Arrive, Answer, Fail, Wake, Abandon}
 use Rattle.proxy_core.specs.Replies.{passed_text, refused_text, is_head}
 use Rattle.proxy_core.specs.Storing.{is_unasked}
 use Rattle.proxy_core.specs.Outcomes.{find_exchange, id_of, is_only_if_cached}
 use Rattle.proxy_core.specs.Traces.{Item}
 use Rattle.proxy_core.specs.Histories.{held_entries, open_exchanges, IsGoodHistory}
 use Rattle.proxy_core.specs.Promises.{sends_nothing_held}
-use Rattle.proxy_core.specs.Carrying.{LeastAtItsArrival}
+use Rattle.proxy_core.specs.Carrying.{LeastWhenJudged}
 
 -- To a request that arrives the proxy answers by itself alone: the line of the table that denies it; that none matches; or
 -- the least reuse rule that stands, where the request takes no response but a stored one.
@@ -57,10 +57,11 @@ NamesOnError table held now x kind bytes =
     (rule : ReuseRule) × (error : Option ErrorRule) × IsLeast (caches_of table.lines x.line) held x.asked now rule × NamesErrorRule held now x.asked rule error
     × (bytes ≡ refused_text (date_text_of now) (Origin kind rule error) x.asked.close (is_head x.asked))
 
--- an answer that is passed on: the least rule that stood at the arrival of its exchange, which it has kept, in Cache-Status
+-- an answer that is passed on: the least rule that stood when its request was judged, at its arrival or when it was woken, which
+-- its exchange has kept, in Cache-Status
 abbrev pub NamesItsRule : Table → ℕ → List Item → ℕ → Exchange → Response → List ℕ → Option ℕ → Type 0
 NamesItsRule table limit past now x r bytes stored =
-    LeastAtItsArrival table limit x past × (bytes ≡ passed_text table.name x r now (is_some stored))
+    LeastWhenJudged table limit x past × (bytes ≡ passed_text table.name x r now (is_some stored))
 
 -- by its event and the exchange that it is of; a 304 that nobody asked for is a failure
 abbrev pub NamesByEvent : Table → ℕ → List Item → Option Exchange → Event → List ℕ → Option ℕ → Type 0
@@ -69,14 +70,17 @@ NamesByEvent table limit past (Some x) (Answer now id r) bytes stored =
     ((is_unasked x.asked r ≡ false) × NamesItsRule table limit past now x r bytes stored)
     ⊎ ((is_unasked x.asked r ≡ true) × NamesOnError table (held_entries table limit past) now x BadAnswer bytes)
 NamesByEvent table limit past (Some x) (Fail now id kind) bytes stored = NamesOnError table (held_entries table limit past) now x kind bytes
+NamesByEvent table limit past (Some x) (Wake now id) bytes stored = ⊥
 NamesByEvent table limit past None (Answer now id r) bytes stored = ⊥
 NamesByEvent table limit past None (Fail now id kind) bytes stored = ⊥
+NamesByEvent table limit past None (Wake now id) bytes stored = ⊥
 NamesByEvent table limit past x (Abandon id) bytes stored = ⊥
 
 -- an item whose reply is no stored response, behind those before it
 abbrev pub NamesFirst : Table → ℕ → List Item → Option Exchange → Event → Outcome → Type 0
 NamesFirst table limit past x event (Reply r) = sends_nothing_held (Reply r) ≡ true → NamesByEvent table limit past x event r.bytes r.stored
 NamesFirst table limit past x event (Forward line bytes) = Unit {0}
+NamesFirst table limit past x event (Waits leader) = Unit {0}
 NamesFirst table limit past x event Ended = Unit {0}
 
 -- ---- the statement

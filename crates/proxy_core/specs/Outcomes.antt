@@ -1,7 +1,7 @@
 -- What a step gives: the cases, over the held responses, the open exchanges and the next serial.
 --
 -- find_exchange: the open exchange of an id        id_of: of an event
--- fallback_for: what is held instead of an answer  arrived, answered, failed: the cases
+-- fallback_for: what is held instead of an answer  arrived, answered, failed, woken: the cases
 -- outcome_of, outcome_by: of an event
 -- fault_by: the least fault that stands, want of memory aside
 use Rattle.std.specs.Prelude.{ℕ, ◌==◌, Bool, true, false, ◌||◌, List, [], ◌∷◌, Option, Some, None, cond, is_some}
@@ -34,17 +34,19 @@ use Rattle.hx_status.specs.declared.cause.FailKind.TheVariants.{BadAnswer}
 use Rattle.hx_status.specs.declared.cause.Cause.{Cause}
 use Rattle.hx_status.specs.declared.cause.Cause.TheVariants.{Denied, NoLine, OnlyIfCached, Origin}
 use Rattle.proxy_core.specs.declared.condition.Condition.{Condition}
+use Rattle.proxy_core.specs.declared.stage.Stage.{Stage}
 use Rattle.proxy_core.specs.declared.exchange.Exchange.{Exchange}
 use Rattle.proxy_core.specs.declared.fallback.Fallback.{Fallback}
 use Rattle.proxy_core.specs.declared.fallback.Fallback.TheVariants.{Sends, Refuses}
 use Rattle.proxy_core.specs.declared.stored_reply.CacheStatusInfo.{CacheStatusInfo}
 use Rattle.proxy_core.specs.declared.outcome.Outcome.{Outcome}
-use Rattle.proxy_core.specs.declared.outcome.Outcome.TheVariants.{Reply, Forward, Ended}
+use Rattle.proxy_core.specs.declared.outcome.Outcome.TheVariants.{Reply, Forward, Waits, Ended}
 use Rattle.proxy_core.specs.declared.event.Event.{Event}
-use Rattle.proxy_core.specs.declared.event.Event.TheVariants.{Arrive, Answer, Fail, Abandon}
+use Rattle.proxy_core.specs.declared.event.Event.TheVariants.{Arrive, Answer, Fail, Wake, Abandon}
 use Rattle.proxy_core.specs.declared.fault.CoreFault.{CoreFault}
-use Rattle.proxy_core.specs.declared.fault.CoreFault.TheVariants.{IdTaken, UnknownId}
+use Rattle.proxy_core.specs.declared.fault.CoreFault.TheVariants.{IdTaken, UnknownId, NotForwarded, NotReady}
 use Rattle.proxy_core.specs.Moments.{too_late}
+use Rattle.proxy_core.specs.Leading.{is_forwarded, is_released, leader_for}
 use Rattle.proxy_core.specs.Replies.{stored_text, passed_text, refused_text, is_head}
 use Rattle.proxy_core.specs.Validating.{sent_with, condition_at, is_validation, validated, refreshed, is_kept}
 use Rattle.proxy_core.specs.Storing.{is_storable, replaced_by, is_unasked, invalidates}
@@ -77,29 +79,38 @@ forward_text table asked condition = request_text (forwarded_of asked table.name
 abbrev pub is_only_if_cached : Asked → Bool
 is_only_if_cached asked = has_directive (occurrences_of asked.fields) OnlyIfHeld
 
+-- a request waits for the exchange that leads, or where none does goes forward
+abbrev pub sent_on : Table → ℕ → Asked → Option Condition → Option ℕ → Outcome
+sent_on table line asked condition (Some leader) = Waits leader
+sent_on table line asked condition None = Forward line (forward_text table asked condition)
+
 -- a rule keeps each stored response back
-abbrev pub unanswered : Table → ℕ → ℕ → Asked → ReuseRule → Option Condition → Bool → Outcome
-unanswered table line now asked rule condition true = refused now (OnlyIfCached rule) asked
-unanswered table line now asked rule condition false = Forward line (forward_text table asked condition)
+abbrev pub unanswered : Table → List Exchange → ℕ → ℕ → Asked → ReuseRule → Option Condition → Bool → Outcome
+unanswered table xs line now asked rule condition true = refused now (OnlyIfCached rule) asked
+unanswered table xs line now asked rule condition false = sent_on table line asked condition (leader_for xs asked rule)
 
 abbrev pub as_hit : CacheStatusInfo
-as_hit = record { how = Hit; came = None; detail = None }
+as_hit = record { how = Hit; came = None; detail = None; collapsed = false }
 
--- an allowed request: the stored response that no rule keeps back is sent, else the request goes forward
-abbrev pub allowed : Table → List Stored → ℕ → ℕ → Asked → Decision → Outcome
-allowed table es line now asked (decision.Hit serial) = sent table es serial now as_hit asked
-allowed table es line now asked (decision.Forward rule against) =
-    unanswered table line now asked rule (condition_at es against) (is_only_if_cached asked)
+-- an allowed request: the stored response that no rule keeps back is sent, else the request waits or goes forward
+abbrev pub allowed : Table → List Stored → List Exchange → ℕ → ℕ → Asked → Decision → Outcome
+allowed table es xs line now asked (decision.Hit serial) = sent table es serial now as_hit asked
+allowed table es xs line now asked (decision.Forward rule against) =
+    unanswered table xs line now asked rule (condition_at es against) (is_only_if_cached asked)
 
-abbrev pub arrived : Table → List Stored → ℕ → Asked → Verdict → Outcome
-arrived table es now asked (verdict.Allowed line) = allowed table es line now asked (decision_of (caches_of table.lines line) es asked now)
-arrived table es now asked (verdict.DeniedBy line) = refused now (Denied line) asked
-arrived table es now asked verdict.NoLine = refused now NoLine asked
+abbrev pub arrived : Table → List Stored → List Exchange → ℕ → Asked → Verdict → Outcome
+arrived table es xs now asked (verdict.Allowed line) = allowed table es xs line now asked (decision_of (caches_of table.lines line) es asked now)
+arrived table es xs now asked (verdict.DeniedBy line) = refused now (Denied line) asked
+arrived table es xs now asked verdict.NoLine = refused now NoLine asked
 
 -- what is told of a stored response that is sent after going forward: the rule at arrival, the status of an answer
 -- that came, and the word of the step
 abbrev pub forwarded_as : Exchange → Option ℕ → Option Detail → CacheStatusInfo
-forwarded_as x came detail = record { how = Fwd x.rule; came = came; detail = detail }
+forwarded_as x came detail = record { how = Fwd x.rule; came = came; detail = detail; collapsed = false }
+
+-- and of one that is sent to a request that waited for another's answer (RFC 9211, section 2.6)
+abbrev pub collapsed_as : Exchange → CacheStatusInfo
+collapsed_as x = record { how = Fwd x.rule; came = None; detail = None; collapsed = true }
 
 -- the error rule against the held response of a serial
 abbrev pub error_rule_at : List Stored → ℕ → Asked → ℕ → Option ErrorRule
@@ -174,29 +185,52 @@ abbrev pub id_of : Event → ℕ
 id_of (Arrive now id asked) = id
 id_of (Answer now id r) = id
 id_of (Fail now id kind) = id
+id_of (Wake now id) = id
 id_of (Abandon id) = id
+
+-- A request that waited is judged anew: the stored response that no rule keeps back now is sent, else the request goes
+-- forward. It doesn't wait again.
+abbrev pub woken : Table → List Stored → ℕ → Exchange → Decision → Outcome
+woken table es now x (decision.Hit serial) = sent table es serial now (collapsed_as x) x.asked
+woken table es now x (decision.Forward rule against) = Forward x.line (forward_text table x.asked (condition_at es against))
 
 -- the outcome of an event, by cases; x is the open exchange of its id
 abbrev pub outcome_of : Table → List Stored → List Exchange → Option Exchange → Option ℕ → Event → Outcome
-outcome_of table es xs x next (Arrive now id asked) = arrived table es now asked (verdict_of table.lines asked.method asked.target)
+outcome_of table es xs x next (Arrive now id asked) = arrived table es xs now asked (verdict_of table.lines asked.method asked.target)
 outcome_of table es xs (Some x) next (Answer now id r) = answered table es now x r next (decision_of (caches_of table.lines x.line) es x.asked now)
 outcome_of table es xs None next (Answer now id r) = Ended
 outcome_of table es xs (Some x) next (Fail now id kind) = failed table es now x kind None (fallback_for es x.asked now (decision_of (caches_of table.lines x.line) es x.asked now))
 outcome_of table es xs None next (Fail now id kind) = Ended
+outcome_of table es xs (Some x) next (Wake now id) = woken table es now x (decision_of (caches_of table.lines x.line) es x.asked now)
+outcome_of table es xs None next (Wake now id) = Ended
 outcome_of table es xs x next (Abandon id) = Ended
 
 -- over the held responses, all open exchanges in the order of arrival, and the next serial
 abbrev pub outcome_by : Table → List Stored → List Exchange → Option ℕ → Event → Outcome
 outcome_by table es xs next event = outcome_of table es xs (find_exchange (id_of event) xs) next event
 
+abbrev pub or_fault : Option CoreFault → Option CoreFault → Option CoreFault
+or_fault (Some fault) later = Some fault
+or_fault None later = later
+
+-- no origin was asked
+abbrev pub not_forwarded : Stage → Option CoreFault
+not_forwarded stage = cond (is_forwarded stage) None (Some NotForwarded)
+
+-- it doesn't wait, or what it waits for is open
+abbrev pub not_ready : Stage → Option CoreFault
+not_ready stage = cond (is_released stage) None (Some NotReady)
+
 -- the least fault that stands, want of memory aside
 abbrev pub fault_of : Option Exchange → Event → Option CoreFault
 fault_of (Some x) (Arrive now id asked) = Some IdTaken
 fault_of None (Arrive now id asked) = too_late now
-fault_of (Some x) (Answer now id r) = too_late now
+fault_of (Some x) (Answer now id r) = or_fault (too_late now) (not_forwarded x.stage)
 fault_of None (Answer now id r) = Some UnknownId
-fault_of (Some x) (Fail now id kind) = too_late now
+fault_of (Some x) (Fail now id kind) = or_fault (too_late now) (not_forwarded x.stage)
 fault_of None (Fail now id kind) = Some UnknownId
+fault_of (Some x) (Wake now id) = or_fault (too_late now) (not_ready x.stage)
+fault_of None (Wake now id) = Some UnknownId
 fault_of (Some x) (Abandon id) = None
 fault_of None (Abandon id) = Some UnknownId
 

@@ -10,9 +10,9 @@ use Rattle.hx_target.specs.declared.keys.Key.{Key}
 use Rattle.hx_target.specs.Keys.{same_key}
 use Rattle.hx_hop.specs.declared.asked_for.Asked.{Asked}
 use Rattle.proxy_core.specs.declared.outcome.Outcome.{Outcome}
-use Rattle.proxy_core.specs.declared.outcome.Outcome.TheVariants.{Reply, Forward, Ended}
+use Rattle.proxy_core.specs.declared.outcome.Outcome.TheVariants.{Reply, Forward, Waits, Ended}
 use Rattle.proxy_core.specs.declared.event.Event.{Event}
-use Rattle.proxy_core.specs.declared.event.Event.TheVariants.{Arrive, Answer, Fail, Abandon}
+use Rattle.proxy_core.specs.declared.event.Event.TheVariants.{Arrive, Answer, Fail, Wake, Abandon}
 use Rattle.proxy_core.specs.Storing.{is_unasked}
 use Rattle.proxy_core.specs.Outcomes.{id_of}
 use Rattle.proxy_core.specs.State.{stored_in, used_in}
@@ -20,18 +20,28 @@ use Rattle.proxy_core.specs.Traces.{Item}
 
 abbrev pub goes_forward : Outcome → Bool
 goes_forward (Forward line bytes) = true
+goes_forward (Waits leader) = false
 goes_forward (Reply r) = false
 goes_forward Ended = false
 
 abbrev pub is_reply : Outcome → Bool
 is_reply (Reply r) = true
 is_reply (Forward line bytes) = false
+is_reply (Waits leader) = false
 is_reply Ended = false
+
+-- the exchange ends by it: by a reply, or since the client went away
+abbrev pub ends : Outcome → Bool
+ends (Reply r) = true
+ends (Forward line bytes) = false
+ends (Waits leader) = false
+ends Ended = true
 
 abbrev pub is_arrival : Event → Bool
 is_arrival (Arrive now id asked) = true
 is_arrival (Answer now id r) = false
 is_arrival (Fail now id kind) = false
+is_arrival (Wake now id) = false
 is_arrival (Abandon id) = false
 
 -- how many of these items are of this id and have such an outcome
@@ -59,6 +69,7 @@ abbrev pub asked_at : ℕ → Event → Option Asked → Option Asked
 asked_at id (Arrive now i asked) before = cond (i == id) (Some asked) before
 asked_at id (Answer now i r) before = before
 asked_at id (Fail now i kind) before = before
+asked_at id (Wake now i) before = before
 asked_at id (Abandon i) before = before
 
 abbrev pub asked_by : ℕ → List Item → Option Asked
@@ -69,6 +80,7 @@ asked_by id (i ∷ past) = asked_at id i.event (asked_by id past)
 abbrev pub sends_nothing_held : Outcome → Bool
 sends_nothing_held (Reply r) = is_none r.used
 sends_nothing_held (Forward line bytes) = false
+sends_nothing_held (Waits leader) = false
 sends_nothing_held Ended = false
 
 -- an answer of the origin is passed on: it isn't replaced by a stored response, nor by the proxy's own where nobody asked
@@ -87,6 +99,7 @@ key_by_step None event outcome = None
 key_by_step (Some asked) (Answer now id r) outcome = key_by_answer asked r outcome
 key_by_step (Some asked) (Arrive now id other) outcome = None
 key_by_step (Some asked) (Fail now id kind) outcome = None
+key_by_step (Some asked) (Wake now id) outcome = None
 key_by_step (Some asked) (Abandon id) outcome = None
 
 abbrev pub is_key : Option Key → Key → Bool

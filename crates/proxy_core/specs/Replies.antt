@@ -45,7 +45,7 @@ status_sent status e now info = record {
   fwd_status = fwd_status_of info.came status;
   ttl = Some (ttl_at e now);
   stored = false;
-  collapsed = false;
+  collapsed = info.collapsed;
   detail = info.detail;
 }
 

@@ -24,13 +24,14 @@ use Rattle.proxy_core.specs.declared.exchange.Exchange.{Exchange}
 use Rattle.proxy_core.specs.declared.stored_reply.CacheStatusInfo.{CacheStatusInfo}
 use Rattle.proxy_core.specs.declared.outcome.Reply.{Reply}
 use Rattle.proxy_core.specs.declared.outcome.Outcome.{Outcome}
-use Rattle.proxy_core.specs.declared.outcome.Outcome.TheVariants.{Reply as Replied, Forward}
+use Rattle.proxy_core.specs.declared.outcome.Outcome.TheVariants.{Reply as Replied, Forward, Waits}
 use Rattle.proxy_core.specs.declared.event.Event.{Event}
-use Rattle.proxy_core.specs.declared.event.Event.TheVariants.{Arrive, Answer, Fail, Abandon}
+use Rattle.proxy_core.specs.declared.event.Event.TheVariants.{Arrive, Answer, Fail, Wake, Abandon}
 use Rattle.proxy_core.specs.Storing.{is_unasked}
 use Rattle.proxy_core.specs.Validating.{is_validation, validated}
 use Rattle.proxy_core.specs.Replies.{stored_text}
-use Rattle.proxy_core.specs.Outcomes.{find_exchange, id_of, is_only_if_cached, is_error_status, refused, as_hit, forwarded_as}
+use Rattle.proxy_core.specs.Outcomes.{find_exchange, id_of, is_only_if_cached, is_error_status, refused, as_hit, forwarded_as, collapsed_as}
+use Rattle.proxy_core.specs.Leading.{leader_for}
 use Rattle.proxy_core.specs.State.{used_in, used_form}
 use Rattle.proxy_core.specs.Traces.{Item}
 use Rattle.proxy_core.specs.Histories.{held_entries, open_exchanges, IsGoodHistory}
@@ -54,7 +55,7 @@ IsFallback caches held asked now s =
 
 -- At an event, of an exchange that is open, the response of this serial may be sent: at an arrival that the table allows;
 -- at a 304 to the proxy's conditions, the one that it answers, or where it answers none one that may be sent anyway; at a
--- 304 that nobody asked for, a 500, 502, 503 or 504, and at a failure.
+-- 304 that nobody asked for, a 500, 502, 503 or 504, and at a failure; and to a request that waited, when it is woken.
 abbrev pub MayBeSentAt : Table → List Stored → Option Exchange → Event → ℕ → Type 0
 MayBeSentAt table held x (Arrive now id asked) s =
     (line : ℕ) × (verdict_of table.lines asked.method asked.target ≡ Allowed line) × IsReusable (caches_of table.lines line) held asked now s
@@ -63,19 +64,22 @@ MayBeSentAt table held (Some x) (Answer now id r) s =
     ⊎ (((is_validation x r ≡ true) × (validated held x r now ≡ None) × IsReusable (caches_of table.lines x.line) held x.asked now s)
     ⊎ ((is_validation x r ≡ false) × ((is_unasked x.asked r || is_error_status r.status) ≡ true) × IsFallback (caches_of table.lines x.line) held x.asked now s))
 MayBeSentAt table held (Some x) (Fail now id kind) s = IsFallback (caches_of table.lines x.line) held x.asked now s
+MayBeSentAt table held (Some x) (Wake now id) s = IsReusable (caches_of table.lines x.line) held x.asked now s
 MayBeSentAt table held None (Answer now id r) s = ⊥
 MayBeSentAt table held None (Fail now id kind) s = ⊥
+MayBeSentAt table held None (Wake now id) s = ⊥
 MayBeSentAt table held x (Abandon id) s = ⊥
 
 -- ---- an item
 
--- A request that is allowed reaches the cache, which sends a stored response, or the origin of that line; or it takes no
--- response but a stored one, and is told the rule against that.
+-- A request that is allowed reaches the cache, which sends a stored response, or the origin of that line; or it waits for the
+-- answer to another request for its target; or it takes no response but a stored one, and is told the rule against that.
 abbrev pub IsReached : Table → List Stored → ℕ → Asked → ℕ → Outcome → Type 0
 IsReached table held now asked line outcome =
     ((s : ℕ) × (used_in outcome ≡ Some s))
     ⊎ (((bytes : List ℕ) × (outcome ≡ Forward line bytes))
-    ⊎ ((rule : ReuseRule) × (is_only_if_cached asked ≡ true) × IsLeast (caches_of table.lines line) held asked now rule × (outcome ≡ refused now (OnlyIfCached rule) asked)))
+    ⊎ (((leader : ℕ) × (outcome ≡ Waits leader))
+    ⊎ ((rule : ReuseRule) × (is_only_if_cached asked ≡ true) × IsLeast (caches_of table.lines line) held asked now rule × (outcome ≡ refused now (OnlyIfCached rule) asked))))
 
 -- any other is turned away, by the line that denies it or because none matches
 abbrev pub IsTurnedAway : Table → ℕ → Asked → Outcome → Type 0
@@ -88,8 +92,10 @@ abbrev pub TellsHow : Option Exchange → Event → CacheStatusInfo → Type 0
 TellsHow x (Arrive now id asked) h = h ≡ as_hit
 TellsHow (Some x) (Answer now id r) h = (detail : Option Detail) × (h ≡ forwarded_as x (Some r.status) detail)
 TellsHow (Some x) (Fail now id kind) h = (detail : Option Detail) × (h ≡ forwarded_as x None detail)
+TellsHow (Some x) (Wake now id) h = h ≡ collapsed_as x
 TellsHow None (Answer now id r) h = ⊥
 TellsHow None (Fail now id kind) h = ⊥
+TellsHow None (Wake now id) h = ⊥
 TellsHow x (Abandon id) h = ⊥
 
 -- the moment of an event, and the request that it is about
@@ -97,8 +103,10 @@ abbrev pub IsAbout : Option Exchange → Event → ℕ → Asked → Type 0
 IsAbout x (Arrive t id a) now asked = (t ≡ now) × (a ≡ asked)
 IsAbout (Some x) (Answer t id r) now asked = (t ≡ now) × (x.asked ≡ asked)
 IsAbout (Some x) (Fail t id kind) now asked = (t ≡ now) × (x.asked ≡ asked)
+IsAbout (Some x) (Wake t id) now asked = (t ≡ now) × (x.asked ≡ asked)
 IsAbout None (Answer t id r) now asked = ⊥
 IsAbout None (Fail t id kind) now asked = ⊥
+IsAbout None (Wake t id) now asked = ⊥
 IsAbout x (Abandon id) now asked = ⊥
 
 -- What is sent is the held response of this serial, freshened where the 304 answers it: its content, its head, or its 304 to the
@@ -126,22 +134,23 @@ abbrev pub SendsStoredNowhereElse : Type 0
 SendsStoredNowhereElse = (table : Table) (limit first s : ℕ) (item : Item) (past : List Item) → IsGoodHistory table limit first (item ∷ past) →
     used_in item.outcome ≡ Some s → MayBeSentAt table (held_entries table limit past) (find_exchange (id_of item.event) (open_exchanges table limit past)) item.event s
 
--- A request reaches the origin of a line exactly where that is the table's first line that matches and it allows, a rule
--- stands against a stored response, and the request takes others too.
+-- A request that arrives goes to the origin of a line exactly where that is the table's first line that matches and it allows,
+-- a rule stands against a stored response, the request takes others too, and there is none for whose answer it waits.
 abbrev pub ForwardsWhereAllowed : Type 0
 ForwardsWhereAllowed = (table : Table) (limit first now id line : ℕ) (asked : Asked) (rule : ReuseRule) (item : Item) (past : List Item) →
     IsGoodHistory table limit first (item ∷ past) → item.event ≡ Arrive now id asked →
     verdict_of table.lines asked.method asked.target ≡ Allowed line → IsLeast (caches_of table.lines line) (held_entries table limit past) asked now rule → is_only_if_cached asked ≡ false →
+    leader_for (open_exchanges table limit past) asked rule ≡ None →
     (bytes : List ℕ) × (item.outcome ≡ Forward line bytes)
 
 abbrev pub ForwardsNowhereElse : Type 0
 ForwardsNowhereElse = (table : Table) (limit first now id line : ℕ) (asked : Asked) (bytes : List ℕ) (item : Item) (past : List Item) →
     IsGoodHistory table limit first (item ∷ past) → item.event ≡ Arrive now id asked → item.outcome ≡ Forward line bytes →
     (verdict_of table.lines asked.method asked.target ≡ Allowed line)
-    × ((rule : ReuseRule) × IsLeast (caches_of table.lines line) (held_entries table limit past) asked now rule) × (is_only_if_cached asked ≡ false)
+    × ((rule : ReuseRule) × IsLeast (caches_of table.lines line) (held_entries table limit past) asked now rule × (leader_for (open_exchanges table limit past) asked rule ≡ None)) × (is_only_if_cached asked ≡ false)
 
--- A request that the table allows reaches the cache, which sends a stored response, or the origin of that line; or it takes
--- no response but a stored one, and is told the rule against that.
+-- A request that the table allows reaches the cache, which sends a stored response, or the origin of that line; or it waits for
+-- the answer to another; or it takes no response but a stored one, and is told the rule against that.
 abbrev pub ReachesWhereAllowed : Type 0
 ReachesWhereAllowed = (table : Table) (limit first now id line : ℕ) (asked : Asked) (item : Item) (past : List Item) →
     IsGoodHistory table limit first (item ∷ past) → item.event ≡ Arrive now id asked →

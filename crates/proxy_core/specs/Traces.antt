@@ -9,9 +9,9 @@ use Rattle.hx_allow.specs.Lines.{Table}
 use Rattle.hx_allow.specs.Matching.{verdict_of}
 use Rattle.hx_allow.specs.declared.verdicts.Verdict.TheVariants.{Allowed}
 use Rattle.proxy_core.specs.declared.outcome.Outcome.{Outcome}
-use Rattle.proxy_core.specs.declared.outcome.Outcome.TheVariants.{Reply, Forward, Ended}
+use Rattle.proxy_core.specs.declared.outcome.Outcome.TheVariants.{Reply, Forward, Waits, Ended}
 use Rattle.proxy_core.specs.declared.event.Event.{Event}
-use Rattle.proxy_core.specs.declared.event.Event.TheVariants.{Arrive, Answer, Fail, Abandon}
+use Rattle.proxy_core.specs.declared.event.Event.TheVariants.{Arrive, Answer, Fail, Wake, Abandon}
 use Rattle.proxy_core.specs.declared.fault.CoreFault.{CoreFault}
 use Rattle.proxy_core.specs.declared.exchange.Exchange.{Exchange}
 use Rattle.hx_store.specs.Stored.{Stored}
@@ -63,12 +63,14 @@ abbrev pub IsDenied : Table → Event → Type 0
 IsDenied table (Arrive now id asked) = (line : ℕ) → verdict_of table.lines asked.method asked.target ≢ Allowed line
 IsDenied table (Answer now id r) = ⊥
 IsDenied table (Fail now id kind) = ⊥
+IsDenied table (Wake now id) = ⊥
 IsDenied table (Abandon id) = ⊥
 
 -- nothing is stored, used or removed, and no exchange opens
 abbrev pub LeavesNoTrace : Outcome → Type 0
 LeavesNoTrace (Reply r) = (r.stored ≡ None) × (r.used ≡ None) × (r.removed ≡ [])
 LeavesNoTrace (Forward line bytes) = ⊥
+LeavesNoTrace (Waits leader) = ⊥
 LeavesNoTrace Ended = ⊥
 
 -- a denied request leaves no trace

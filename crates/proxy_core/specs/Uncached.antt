@@ -13,7 +13,7 @@ use Rattle.proxy_core.specs.declared.exchange.Exchange.{Exchange}
 use Rattle.proxy_core.specs.declared.outcome.Outcome.{Outcome}
 use Rattle.proxy_core.specs.declared.outcome.Outcome.TheVariants.{Forward}
 use Rattle.proxy_core.specs.declared.event.Event.{Event}
-use Rattle.proxy_core.specs.declared.event.Event.TheVariants.{Arrive, Answer, Fail, Abandon}
+use Rattle.proxy_core.specs.declared.event.Event.TheVariants.{Arrive, Answer, Fail, Wake, Abandon}
 use Rattle.proxy_core.specs.Outcomes.{find_exchange, id_of, refused, forward_text, is_only_if_cached}
 use Rattle.proxy_core.specs.State.{stored_in, used_in}
 use Rattle.proxy_core.specs.Traces.{Item}
@@ -24,9 +24,11 @@ abbrev pub IsOver : Table → Option Exchange → Event → ℕ → Type 0
 IsOver table x (Arrive now id asked) line = verdict_of table.lines asked.method asked.target ≡ Allowed line
 IsOver table (Some x) (Answer now id r) line = x.line ≡ line
 IsOver table (Some x) (Fail now id kind) line = x.line ≡ line
+IsOver table (Some x) (Wake now id) line = x.line ≡ line
 IsOver table (Some x) (Abandon id) line = x.line ≡ line
 IsOver table None (Answer now id r) line = ⊥
 IsOver table None (Fail now id kind) line = ⊥
+IsOver table None (Wake now id) line = ⊥
 IsOver table None (Abandon id) line = ⊥
 
 -- a request goes forward as the client's own, or where it takes no response but a stored one it is told the operator's rule

@@ -15,7 +15,7 @@ use crate::moments::moment_fault;
 use crate::origin_answer::OriginAnswer;
 use crate::outcome::Outcome;
 use crate::pending::{AfterAnswer, Change, PendingReply};
-use crate::proxy::Core;
+use crate::proxy::{Core, not_forwarded};
 use crate::reply_text::passed_text;
 use crate::stored_reply::CacheStatusInfo;
 use crate::storing::{NewEntry, removed_unstored, replaced_by};
@@ -166,6 +166,10 @@ impl<S: Shelf> Core<S> {
             None => return Err(CoreFault::UnknownId),
         };
         match moment_fault(now) {
+            None => {}
+            Some(fault) => return Err(fault),
+        }
+        match not_forwarded(x.stage) {
             None => {}
             Some(fault) => return Err(fault),
         }

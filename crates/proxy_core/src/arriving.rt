@@ -1,25 +1,30 @@
 //! A request arrives.
 ghost use Rattle.std.specs.Prelude.{◌≡◌, ◌<◌, ◌++◌, ◌∷◌, [], None, IfOk, IfErr, OnOk, OnErr};
 ghost use Rattle.hx_directives.specs.Occurrences.{occurrences_of};
-ghost use Rattle.hx_allow.specs.Matching.{caches_of};
+ghost use Rattle.hx_allow.specs.Matching.{caches_of, verdict_of};
+ghost use Rattle.hx_allow.specs.declared.verdicts.Verdict.TheVariants.{Allowed};
 ghost use Rattle.hx_reuse.specs.Rules.{decision_of};
-ghost use Rattle.proxy_core.specs.Outcomes.{find_exchange, refused, allowed, forward_text, is_only_if_cached};
+ghost use Rattle.proxy_core.specs.Leading.{leader_for};
+ghost use Rattle.proxy_core.specs.Outcomes.{find_exchange, refused, allowed, sent_on, forward_text, is_only_if_cached};
 ghost use Rattle.proxy_core.specs.declared.event.Event.TheVariants.{Arrive};
-ghost use Rattle.proxy_core.specs.State.{Steps, Refuses, after};
+ghost use Rattle.proxy_core.specs.declared.stage.Stage.TheVariants.{Forwarded};
+ghost use Rattle.proxy_core.specs.State.{Steps, Refuses, after, placed};
 
 use crate::condition::condition_at;
 use crate::exchange::Exchange;
 use crate::fault::CoreFault;
 use crate::judging::judge_by;
+use crate::leading::{is_get, is_uri_miss};
 use crate::moments::moment_fault;
 use crate::outcome::Outcome;
 use crate::proxy::Core;
 use crate::sending::{forward_text, refuse};
+use crate::stage::Stage;
 use crate::stored_reply::CacheStatusInfo;
 use hx_allow::Verdict;
 use hx_directives::{Directive, Directives};
 use hx_hop::Asked;
-use hx_reuse::Decision;
+use hx_reuse::{Decision, ReuseRule};
 use hx_status::{Cause, How};
 use hx_store::Shelf;
 use std::alloc::{AllocError, Global};
@@ -29,6 +34,7 @@ const AS_HIT: CacheStatusInfo = CacheStatusInfo {
     how: How::Hit,
     came: None,
     detail: None,
+    collapsed: false,
 };
 
 fn is_only_if_cached(asked_directives: &Directives, asked: &Asked) -> bool
@@ -93,7 +99,8 @@ impl<S: Shelf> Core<S> {
     ) -> Result<Outcome, AllocError>
         requires early { now < 253_402_300_800 }
         requires free { find_exchange id self.old.exchanges ≡ None }
-        ensures outcome { IfOk result (λ outcome. outcome ≡ allowed self.old.table self.old.entries line now asked.now (decision_of (caches_of self.old.table.lines line) self.old.entries asked.now now)) }
+        requires line { verdict_of self.old.table.lines asked.now.method asked.now.target ≡ Allowed line }
+        ensures outcome { IfOk result (λ outcome. outcome ≡ allowed self.old.table self.old.entries self.old.exchanges line now asked.now (decision_of (caches_of self.old.table.lines line) self.old.entries asked.now now)) }
         ensures after { IfOk result (λ outcome. self.new ≡ after self.old (Arrive now id asked.now) outcome) }
         ensures unchanged { OnErr result (self.new ≡ self.old) }
     {
@@ -118,9 +125,44 @@ impl<S: Shelf> Core<S> {
                     request_time: now,
                     condition: condition_at(alloc, &self.shelf, named)?,
                     overtaken: false,
+                    stage: Stage::Forwarded,
                 };
-                self.forward(alloc, exchange)
+                self.wait_or_forward(alloc, exchange)
             }
+        }
+    }
+
+    /// The open exchange for whose answer a request waits, which a rule keeps from the store.
+    fn leader_for(&self, asked: &Asked, rule: ReuseRule) -> Option<u64>
+        ensures { result ≡ leader_for self.now.exchanges asked.now rule }
+    {
+        if is_get(asked) && is_uri_miss(rule) {
+            self.exchanges.leader(&asked.target.key)
+        } else {
+            None
+        }
+    }
+
+    /// The exchange of a request opens, which waits or goes forward.
+    fn wait_or_forward(
+        &mut self,
+        alloc: Global,
+        exchange: Exchange,
+    ) -> Result<Outcome, AllocError>
+        requires free { find_exchange exchange.id self.old.exchanges ≡ None }
+        requires stage { exchange.stage ≡ Forwarded }
+        ensures outcome { IfOk result (λ outcome. outcome ≡ sent_on self.old.table exchange.line exchange.asked exchange.condition (leader_for self.old.exchanges exchange.asked exchange.rule)) }
+        ensures after { OnOk result (self.new ≡ record self.old { exchanges = self.old.exchanges ++ placed (leader_for self.old.exchanges exchange.asked exchange.rule) exchange ∷ [] }) }
+        ensures unchanged { OnErr result (self.new ≡ self.old) }
+    {
+        match self.leader_for(&exchange.asked, exchange.rule) {
+            Some(leader) => {
+                let mut waiting = exchange;
+                waiting.stage = Stage::Waiting(leader);
+                self.exchanges.open(waiting)?;
+                Ok(Outcome::Waits(leader))
+            }
+            None => self.forward(alloc, exchange),
         }
     }
 

@@ -10,5 +10,7 @@ pub enum Event {
     Arrive(u64, u64, Asked),
     Answer(u64, u64, Response),
     Fail(u64, u64, FailKind),
+    /// A request that waited may be answered from the store now, or goes forward.
+    Wake(u64, u64),
     Abandon(u64),
 }

@@ -1,9 +1,11 @@
-//! A request that went forward and isn't answered yet.
+//! A request that went forward, or waits for the answer to another, and isn't answered yet.
 ghost use Rattle.std.specs.Prelude.{◌≡◌};
-ghost use Rattle.proxy_core.specs.State.{goes_out, overtake};
+ghost use Rattle.proxy_core.specs.State.{goes_out, overtake, release};
 
 use crate::condition::Condition;
+use crate::stage::Stage;
 use hx_hop::Asked;
+use crate::leading::waits_for;
 use hx_reuse::ReuseRule;
 use hx_target::Key;
 
@@ -13,14 +15,15 @@ pub struct Exchange {
     pub asked: Asked,
     /// The line of the table that allowed it; lines are numbered from 1.
     pub line: u16,
-    /// The rule at arrival. It is named in the answer even if the store has changed since.
+    /// The rule at arrival, or when it was woken. It is named in the answer even if the store has changed since.
     pub rule: ReuseRule,
-    /// When it last went forward, in Unix seconds (RFC 9111, section 4.2.3: request_time).
+    /// When it last went forward, or began to wait, in Unix seconds (RFC 9111, section 4.2.3: request_time).
     pub request_time: u64,
     /// The held response that its latest request asks about, with the proxy's conditions.
     pub condition: Option<Condition>,
     /// Whether its key was invalidated since (RFC 9111, section 4.4).
     pub overtaken: bool,
+    pub stage: Stage,
 }
 
 impl Exchange {
@@ -32,6 +35,16 @@ impl Exchange {
         self.request_time = now;
         self.condition = condition;
         self.overtaken = false;
+        self.stage = Stage::Forwarded;
+    }
+
+    /// It waits no longer, if it waited for the exchange of this id.
+    pub(crate) fn release(&mut self, leader: u64)
+        ensures { self.new ≡ release leader self.old }
+    {
+        if waits_for(self.stage, leader) {
+            self.stage = Stage::Released;
+        }
     }
 
     /// Marks it, if it is of a key that was invalidated (RFC 9111, section 4.4).
@@ -55,6 +68,7 @@ impl Drop for Exchange {
             request_time: _,
             condition: _,
             overtaken: _,
+            stage: _,
         } = self;
     }
 }

@@ -2,15 +2,21 @@
 //!
 //! Each has the number of its arrival, and a second map tells the number of an id. So one is found, opened and closed in
 //! the logarithm of how many are open; only an invalidation goes through all of them.
-ghost use Rattle.std.specs.Prelude.{◌≡◌, ◌<◌, ◌++◌, ◌∷◌, [], map, None, IfOk, OnOk, OnErr, option_copied};
+ghost use Rattle.std.specs.Prelude.{◌≡◌, ◌<◌, ◌++◌, ◌∷◌, [], map, filter, not, ◌==◌, None, IfOk, OnOk, OnErr, option_copied, slice_get, IfSome};
+ghost use Rattle.proxy_core.specs.Waiting.{IsReady};
 ghost use Rattle.std.specs.List.{All};
 ghost use Rattle.std.specs.Ordering.{nat_cmp};
 ghost use Rattle.std.specs.Map.{remove_entry};
 ghost use Rattle.std.specs.BTreeMap.{keys, is_at};
 ghost use Rattle.proxy_core.specs.Outcomes.{find_exchange};
-ghost use Rattle.proxy_core.specs.State.{closed, overtake, left_open, gone_out};
+ghost use Rattle.proxy_core.specs.Leading.{leader, ready_ids};
+ghost use Rattle.proxy_core.specs.State.{closed, release, overtake, left_open, gone_out, sent_out};
 
+use crate::condition::Condition;
 use crate::exchange::Exchange;
+use crate::ids::Ids;
+use crate::leading::{is_released, leads};
+use hx_reuse::ReuseRule;
 use hx_target::Key;
 use std::alloc::{AllocError, Global};
 use std::collections::BTreeMap;
@@ -83,13 +89,68 @@ impl Exchanges {
         }
     }
 
-    /// The exchange of an id ends. No memory is taken.
+    /// The first exchange to arrive for whose answer GETs of this key wait.
+    pub(crate) fn leader(&self, key: &Key) -> Option<u64>
+        ensures { result ≡ leader key.now self.now }
+    {
+        for (_, x) in &self.by_arrival {
+            if leads(x, key) {
+                return Some(x.id);
+            }
+        }
+        None
+    }
+
+    /// The first of those that may be woken. No memory is taken.
+    pub(crate) fn first_ready(&self) -> Option<u64>
+        ensures value { result ≡ slice_get (ready_ids self.now) 0 }
+        ensures ready { IfSome result (λ id. IsReady id self.now) }
+    {
+        for (_, x) in &self.by_arrival {
+            if is_released(x.stage) {
+                return Some(x.id);
+            }
+        }
+        None
+    }
+
+    /// Those that may be woken, in the order of arrival. Fails for want of memory alone.
+    pub(crate) fn ready(&self, alloc: Global) -> Result<Ids, AllocError>
+        ensures { IfOk result (λ ids. ids ≡ ready_ids self.now) }
+    {
+        let mut ids = Ids::new(alloc);
+        for (_, x) in &self.by_arrival {
+            if is_released(x.stage) {
+                ids.push(x.id)?;
+            }
+        }
+        Ok(ids)
+    }
+
+    /// The exchange of an id ends, and releases those that wait for it. No memory is taken.
     pub(crate) fn close(&mut self, id: u64)
         ensures { self.new ≡ closed id self.old }
+    {
+        self.take_out(id);
+        self.release(id);
+    }
+
+    fn take_out(&mut self, id: u64)
+        ensures { self.new ≡ filter (λ x. not (x.id == id)) self.old }
     {
         if let Some(arrival) = self.arrivals.remove(&id) {
             remove(&mut self.by_arrival, arrival);
         }
+    }
+
+    /// Those that wait for the exchange of an id wait no longer.
+    fn release(&mut self, leader: u64)
+        ensures { self.new ≡ map (release leader) self.old }
+    {
+        self.by_arrival.retain(|_, x| {
+            x.release(leader);
+            true
+        });
     }
 
     /// The exchange of an id goes forward once more, in its place. No memory is taken.
@@ -100,6 +161,23 @@ impl Exchanges {
             if let Some(x) = self.by_arrival.get_mut(arrival) {
                 let rule = x.rule;
                 x.go_out(now, rule, None);
+            }
+        }
+    }
+
+    /// The exchange of an id goes forward with this rule and these conditions, in its place. No memory is taken.
+    pub(crate) fn send_out(
+        &mut self,
+        id: u64,
+        now: u64,
+        rule: ReuseRule,
+        condition: Option<Condition>,
+    )
+        ensures { self.new ≡ map (sent_out id now rule condition) self.old }
+    {
+        if let Some(arrival) = self.arrivals.get(&id) {
+            if let Some(x) = self.by_arrival.get_mut(arrival) {
+                x.go_out(now, rule, condition);
             }
         }
     }

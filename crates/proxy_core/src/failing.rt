@@ -6,7 +6,7 @@ ghost use Rattle.proxy_core.specs.State.{Steps, Refuses};
 use crate::fault::CoreFault;
 use crate::moments::moment_fault;
 use crate::outcome::Outcome;
-use crate::proxy::Core;
+use crate::proxy::{Core, not_forwarded};
 use hx_status::FailKind;
 use hx_store::Shelf;
 use std::alloc::Global;
@@ -30,6 +30,10 @@ impl<S: Shelf> Core<S> {
             None => return Err(CoreFault::UnknownId),
         };
         match moment_fault(now) {
+            None => {}
+            Some(fault) => return Err(fault),
+        }
+        match not_forwarded(x.stage) {
             None => {}
             Some(fault) => return Err(fault),
         }

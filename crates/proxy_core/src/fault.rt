@@ -11,4 +11,8 @@ pub enum CoreFault {
     MomentTooLate,
     /// Memory ran out.
     OutOfMemory,
+    /// An answer or a failure, and no origin was asked: the request waits.
+    NotForwarded,
+    /// A wake, and the request doesn't wait, or the one that it waits for is open.
+    NotReady,
 }

@@ -1,7 +1,7 @@
 //! What a pending reply does to the core.
 ghost use Rattle.std.specs.Prelude.{◌≡◌, ◌∷◌, [], take, map, false, IfOk, OnOk, OnErr, option_copied};
 ghost use Rattle.hx_store.specs.Shelf.{holds, without};
-ghost use Rattle.proxy_core.specs.State.{taken, next_after, gone_out};
+ghost use Rattle.proxy_core.specs.State.{taken, next_after, gone_out, sent_out};
 ghost use Rattle.proxy_core.specs.Pending.{reply_of, entries_by, finished, IsNext, IsNew, IsHeld};
 
 use crate::outcome::{Outcome, Reply};

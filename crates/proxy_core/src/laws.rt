@@ -6,6 +6,7 @@ ghost use Rattle.proxy_core.specs.Driving.{PromisesOfADrivenCore};
 ghost use Rattle.proxy_core.specs.Headline.{EveryGoodTraceHasIt};
 ghost use Rattle.proxy_core.specs.Naming.{NamesFirstRules};
 ghost use Rattle.proxy_core.specs.Sending.{SendsStoredWhereItMay, SendsStoredNowhereElse, SendsWhatIsHeld, ForwardsWhereAllowed, ForwardsNowhereElse, ReachesWhereAllowed, RefusesWhereNotAllowed};
+ghost use Rattle.proxy_core.specs.Waiting.{WaitsWhereOneLeads, WaitsNowhereElse, OneGoesForward, WaitsUntilItsLeaderEnds, WokenOnceBehindItsLeader, ReadyInOrderOfArrival, WokenExactlyWhereReady, WokenIsJudgedAnew};
 ghost use Rattle.proxy_core.specs.Uncached.{StoresNothingOverIt, SendsNothingOverIt, GoesForwardOverIt};
 
 /// After a good trace an exchange is open from its arrival to its end and not else, with the request and the rule of its
@@ -18,7 +19,8 @@ pub fn open_from_arrival_to_end()
 {}
 
 /// After a good trace an open exchange goes to the line that allows its request, names the least rule that stood at its
-/// arrival, and has the conditions and the moment with which it went forward last. Open exchanges stand in the order of arrival.
+/// arrival, or when it was woken, and has the conditions and the moment with which it went forward last. Open exchanges stand
+/// in the order of arrival.
 pub fn an_open_exchange_carries_its_arrival()
     ensures carries { CarriesItsArrival }
     ensures order { OpenInOrderOfArrival }
@@ -74,7 +76,7 @@ pub fn a_stored_response_is_sent_where_one_may_be()
 
 /// In a good trace each answer that isn't a stored response names the first rule against one: the line of the table, the
 /// least reuse rule that stands now with the least error rule, or where the answer is passed on the least that stood at the
-/// arrival.
+/// arrival, or when the request was woken.
 pub fn each_answer_names_its_first_rule()
     ensures { NamesFirstRules }
 {}
@@ -85,6 +87,24 @@ pub fn a_line_without_cache_touches_no_stored_response()
     ensures stores { StoresNothingOverIt }
     ensures sends { SendsNothingOverIt }
     ensures forwards { GoesForwardOverIt }
+{}
+
+/// In a good trace a GET waits exactly where nothing is held for its key and a GET for that is at the origin for the same
+/// reason: for the first of these to arrive. So of the GETs for one key one goes forward, as long as it is open.
+pub fn requests_for_one_target_wait_for_the_first()
+    ensures waits { WaitsWhereOneLeads }
+    ensures only { WaitsNowhereElse }
+    ensures one { OneGoesForward }
+{}
+
+/// In a good trace a request that waits does so until the exchange that it waits for has ended, and may be woken from then on,
+/// once; those that may be woken stand in the order of arrival. What a woken one gets is decided anew, and it doesn't wait again.
+pub fn a_waiting_request_is_woken_once_behind_its_leader()
+    ensures waits { WaitsUntilItsLeaderEnds }
+    ensures once { WokenOnceBehindItsLeader }
+    ensures order { ReadyInOrderOfArrival }
+    ensures ready { WokenExactlyWhereReady }
+    ensures anew { WokenIsJudgedAnew }
 {}
 
 /// Every good trace has the headline.

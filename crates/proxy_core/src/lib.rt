@@ -1,9 +1,12 @@
 //! The proxy as a machine without sockets: what each arrival, answer and failure gives, and what it leaves.
 //!
 //! ```text
-//! arrive: denied -> 403 | no rule -> the stored response      no exchange opens
-//!         a rule -> OPEN -- answer or fail --> a reply         the id is free again
-//!                   OPEN -- abandon --> nothing                the id is free again
+//! arrive: denied -> 403 | no rule -> the stored response        no exchange opens
+//!         a rule -> FORWARDED -- answer or fail --> a reply      the id is free again
+//!         a GET, nothing held for its key, and one such is FORWARDED
+//!                -> WAITING -- the reply or end of that one --> RELEASED
+//!         RELEASED -- wake --> the stored response, or FORWARDED
+//!         abandon -> nothing                                     the id is free again
 //! ```
 //! `specs/Outcomes.antt` says what a step gives, over the held responses and the open exchanges;
 //! `specs/State.antt` what it leaves. Nothing here reads a clock: each step is handed its moment.
@@ -19,8 +22,10 @@ mod failing;
 mod fallback;
 mod fault;
 mod finishing;
+mod ids;
 mod judging;
 mod laws;
+mod leading;
 mod moments;
 mod origin_answer;
 mod outcome;
@@ -30,24 +35,29 @@ mod reply_text;
 mod runs;
 mod sending;
 mod serial_numbers;
+mod stage;
 mod stored_reply;
 mod storing;
 mod validating;
+mod waking;
 
 pub use crate::condition::Condition;
 pub use crate::event::Event;
 pub use crate::exchange::Exchange;
 pub use crate::fallback::Fallback;
 pub use crate::fault::CoreFault;
+pub use crate::ids::Ids;
 pub use crate::laws::{
     a_core_keeps_what_is_held, a_driven_core_keeps_the_promises, a_good_trace_leaves_no_choice,
     a_line_without_cache_touches_no_stored_response, a_request_goes_forward_where_it_is_allowed,
     a_request_reaches_cache_or_origin_where_it_is_allowed,
-    a_stored_response_is_sent_where_one_may_be, an_open_exchange_carries_its_arrival,
-    each_answer_names_its_first_rule, every_good_trace_has_the_headline, open_from_arrival_to_end,
-    overtaken_where_invalidated, serials_are_counted,
+    a_stored_response_is_sent_where_one_may_be, a_waiting_request_is_woken_once_behind_its_leader,
+    an_open_exchange_carries_its_arrival, each_answer_names_its_first_rule,
+    every_good_trace_has_the_headline, open_from_arrival_to_end, overtaken_where_invalidated,
+    requests_for_one_target_wait_for_the_first, serials_are_counted,
 };
 pub use crate::outcome::{Outcome, Reply, Run};
 pub use crate::proxy::Core;
 pub use crate::reply_text::refused;
 pub use crate::runs::run;
+pub use crate::stage::Stage;

@@ -25,6 +25,8 @@ pub enum Outcome {
     Reply(Reply),
     /// A request for the origin of this line of the table.
     Forward(u16, Bytes),
+    /// The request waits for the answer to the exchange of this id.
+    Waits(u64),
     /// The exchange was abandoned.
     Ended,
 }

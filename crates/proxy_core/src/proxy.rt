@@ -1,6 +1,8 @@
 //! The core: the operator's table, a shelf, the open exchanges and the next serial.
-ghost use Rattle.std.specs.Prelude.{◌≡◌, ◌≤◌, [], Some, IfOk, IfErr, OnErr, option_copied};
-ghost use Rattle.proxy_core.specs.Outcomes.{find_exchange, fault_by};
+ghost use Rattle.std.specs.Prelude.{◌≡◌, ◌≤◌, [], Some, IfOk, IfErr, OnErr, option_copied, slice_get, IfSome};
+ghost use Rattle.proxy_core.specs.Waiting.{IsReady};
+ghost use Rattle.proxy_core.specs.Leading.{ready_ids};
+ghost use Rattle.proxy_core.specs.Outcomes.{find_exchange, fault_by, not_forwarded, not_ready, or_fault};
 ghost use Rattle.proxy_core.specs.declared.event.Event.TheVariants.{Abandon};
 ghost use Rattle.proxy_core.specs.State.{State, Steps, Refuses};
 
@@ -8,12 +10,47 @@ use crate::event::Event;
 use crate::exchange::Exchange;
 use crate::exchanges::Exchanges;
 use crate::fault::CoreFault;
+use crate::ids::Ids;
+use crate::leading::{is_forwarded, is_released};
 use crate::moments::moment_fault;
 use crate::outcome::Outcome;
+use crate::stage::Stage;
 use hx_allow::Config;
 use hx_store::Shelf;
-use std::alloc::Global;
+use std::alloc::{AllocError, Global};
 use std::marker::Model;
+
+/// The fault of an answer or a failure where no origin was asked.
+pub(crate) fn not_forwarded(stage: Stage) -> Option<CoreFault>
+    ensures { result ≡ not_forwarded stage }
+{
+    if is_forwarded(stage) {
+        None
+    } else {
+        Some(CoreFault::NotForwarded)
+    }
+}
+
+/// The fault of a wake where nothing waits, or what it waits for is open.
+pub(crate) fn not_ready(stage: Stage) -> Option<CoreFault>
+    ensures { result ≡ not_ready stage }
+{
+    if is_released(stage) {
+        None
+    } else {
+        Some(CoreFault::NotReady)
+    }
+}
+
+/// The first of two faults that stands.
+pub(crate) fn first_of(fault: Option<CoreFault>, later: Option<CoreFault>) -> Option<CoreFault>
+    ensures { result ≡ or_fault fault later }
+{
+    match fault {
+        Some(fault) => Some(fault),
+        None => later,
+    }
+}
 
 /// One thread's proxy. Contracts see its `State`.
 pub struct Core<S: Shelf> {
@@ -73,6 +110,21 @@ impl<S: Shelf> Core<S> {
         self.exchanges.find(id)
     }
 
+    /// The exchanges that waited and may be woken, in the order of arrival. Fails for want of memory alone.
+    pub fn ready(&self, alloc: Global) -> Result<Ids, AllocError>
+        ensures { IfOk result (λ ids. ids ≡ ready_ids self.now.exchanges) }
+    {
+        self.exchanges.ready(alloc)
+    }
+
+    /// The first of them. No memory is taken.
+    pub fn first_ready(&self) -> Option<u64>
+        ensures value { result ≡ slice_get (ready_ids self.now.exchanges) 0 }
+        ensures ready { IfSome result (λ id. IsReady id self.now.exchanges) }
+    {
+        self.exchanges.first_ready()
+    }
+
     /// The least fault that stands at an event, want of memory aside.
     pub fn fault(&self, event: &Event) -> Option<CoreFault>
         ensures { result ≡ fault_by self.now.exchanges event.now }
@@ -83,11 +135,15 @@ impl<S: Shelf> Core<S> {
                 None => moment_fault(*now),
             },
             Event::Answer(now, id, _) => match self.exchanges.find(*id) {
-                Some(_) => moment_fault(*now),
+                Some(x) => first_of(moment_fault(*now), not_forwarded(x.stage)),
                 None => Some(CoreFault::UnknownId),
             },
             Event::Fail(now, id, _) => match self.exchanges.find(*id) {
-                Some(_) => moment_fault(*now),
+                Some(x) => first_of(moment_fault(*now), not_forwarded(x.stage)),
+                None => Some(CoreFault::UnknownId),
+            },
+            Event::Wake(now, id) => match self.exchanges.find(*id) {
+                Some(x) => first_of(moment_fault(*now), not_ready(x.stage)),
                 None => Some(CoreFault::UnknownId),
             },
             Event::Abandon(id) => match self.exchanges.find(*id) {

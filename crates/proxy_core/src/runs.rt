@@ -24,6 +24,7 @@ impl<S: Shelf> Core<S> {
             Event::Arrive(now, id, asked) => self.arrive(alloc, *now, *id, asked),
             Event::Answer(now, id, response) => self.answer(alloc, *now, *id, response),
             Event::Fail(now, id, kind) => self.fail(alloc, *now, *id, *kind),
+            Event::Wake(now, id) => self.wake(alloc, *now, *id),
             Event::Abandon(id) => self.abandon(*id),
         }
     }

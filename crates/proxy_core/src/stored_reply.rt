@@ -1,6 +1,6 @@
 //! The bytes of a stored response that is sent.
 ghost use Rattle.std.specs.Prelude.{◌≡◌, IfOk};
-ghost use Rattle.proxy_core.specs.Outcomes.{forwarded_as};
+ghost use Rattle.proxy_core.specs.Outcomes.{forwarded_as, collapsed_as};
 ghost use Rattle.proxy_core.specs.Replies.{stored_text, whole_text, not_modified_text, lines_sent, fwd_status_of};
 
 use crate::exchange::Exchange;
@@ -21,6 +21,8 @@ pub(crate) struct CacheStatusInfo {
     /// The status of the origin's answer, where one came in this step.
     pub(crate) came: Option<u16>,
     pub(crate) detail: Option<Detail>,
+    /// Whether its request waited for the answer to another.
+    pub(crate) collapsed: bool,
 }
 
 impl CacheStatusInfo {
@@ -32,6 +34,19 @@ impl CacheStatusInfo {
             how: How::Fwd(exchange.rule),
             came,
             detail,
+            collapsed: false,
+        }
+    }
+
+    /// It is sent after its request waited for the answer to another (RFC 9211, section 2.6).
+    pub(crate) fn collapsed(exchange: &Exchange) -> Self
+        ensures { result ≡ collapsed_as exchange.now }
+    {
+        CacheStatusInfo {
+            how: How::Fwd(exchange.rule),
+            came: None,
+            detail: None,
+            collapsed: true,
         }
     }
 }
@@ -97,7 +112,7 @@ impl StoredReply<'_> {
             fwd_status: fwd_status_of(self.info.came, status),
             ttl: Some(ttl(Lifetime::of(&entry.fields, &entry.directives), age)),
             stored: false,
-            collapsed: false,
+            collapsed: self.info.collapsed,
             detail: self.info.detail,
         };
         let digits = age.to_string(alloc)?;

@@ -18,7 +18,7 @@ use Rattle.proxy_core.specs.Traces.{Item}
 use Rattle.proxy_script.specs.declared.effect_list.Effect.{Effect}
 use Rattle.proxy_engine.specs.Admitted.{Refusal, IsAdmitted}
 use Rattle.proxy_engine.specs.Story.{Story, with_core}
-use Rattle.proxy_engine.specs.Due.{Act, Abandons, Finishes, Serves, Gives, Breaks}
+use Rattle.proxy_engine.specs.Due.{Act, Abandons, Finishes, Wakes, Serves, Gives, Breaks}
 use Rattle.proxy_engine.specs.Acts.{came, after_on, effects_on, next_number, StepsOn, Arrives, Served, Refuses, Closes}
 use Rattle.proxy_engine.specs.Lives.{Step, Took, Worked, Leads, IsEventOf, HasNoEvent, IsTold, Adds, ActsInOneWay, HasOneTrace}
 
@@ -95,6 +95,7 @@ module _ (asked_once : (request : Request) (r s : Result Asked TargetFault) → 
   acts_in_one_way s now (Abandons i l) told more t u h k = stepped_once s _ i _ _ _ told more t u h k
   acts_in_one_way s now (Finishes j (Gives r)) told more t u h k = stepped_once s _ _ _ _ _ told more t u h.1 k.1
   acts_in_one_way s now (Finishes j (Breaks kind)) told more t u h k = stepped_once s _ _ _ _ _ told more t u h k
+  acts_in_one_way s now (Wakes i) told more t u h k = stepped_once s _ _ _ _ _ told more t u h.1 k.1
   acts_in_one_way s now (Serves i wish) told more t u h k = served_once s now i wish told more t u h k
 
   leads_once : (s : Story) (step : Step) (t u : Story) → Leads s step t → Leads s step u → t ≡ u
@@ -106,6 +107,7 @@ module _ (asked_once : (request : Request) (r s : Result Asked TargetFault) → 
   event_once s now (Abandons i l) e f h k = h ∙ sym k
   event_once s now (Finishes j (Gives r)) e f h k = h ∙ sym k
   event_once s now (Finishes j (Breaks kind)) e f h k = h ∙ sym k
+  event_once s now (Wakes i) e f h k = h ∙ sym k
   event_once s now (Serves i next.More) e f h k = absurd h
   event_once s now (Serves i next.NeedsContinue) e f h k = absurd h
   event_once s now (Serves i (next.Message r)) e f h k = h.2 ∙ (ap (λ (a : Asked). events.Arrive now (i + 1) a) (one_request r h.0 k.0 h.1 k.1) ∙ sym k.2)
@@ -115,6 +117,7 @@ module _ (asked_once : (request : Request) (r s : Result Asked TargetFault) → 
   event_or_none : {P : Type 0} (s : Story) (now : ℕ) (act : Act) (e : Event) → IsEventOf s now act e → HasNoEvent act → P
   event_or_none {P} s now (Abandons i l) e h k = absurd k
   event_or_none {P} s now (Finishes j finish) e h k = absurd k
+  event_or_none {P} s now (Wakes i) e h k = absurd k
   event_or_none {P} s now (Serves i next.More) e h k = absurd h
   event_or_none {P} s now (Serves i next.NeedsContinue) e h k = absurd h
   event_or_none {P} s now (Serves i (next.Message r)) e h k = not_both r h.0 k.0 h.1 k.1

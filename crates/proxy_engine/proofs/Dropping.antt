@@ -1,5 +1,6 @@
 -- An act drops one link at most, and tells it.
-use Rattle.std.proofs.Common.{◌≡◌, ◌⊎◌, inl, inr, ℕ, zero, suc, ◌+◌, ◌-◌, ◌<◌, ◌≤◌, List, [], ◌∷◌, ◌++◌, length, get_or, set, refl, sym, ap, ◌∙◌, subst, arith, Bool, true, false, cond, ◌||◌, Some, is_some, Result, Ok, Err}
+use Rattle.proxy_engine.specs.declared.activities.Activity.TheVariants.{Free}
+use Rattle.std.proofs.Common.{◌≡◌, ◌⊎◌, inl, inr, ℕ, zero, suc, ◌+◌, ◌-◌, ◌<◌, ◌≤◌, List, [], ◌∷◌, ◌++◌, length, get_or, set, refl, sym, ap, ◌∙◌, subst, arith, Bool, true, false, cond, ◌||◌, Some, is_some, Result, Ok, Err, None}
 use Rattle.hx_framing.specs.declared.requests.Request.{Request}
 use Rattle.hx_framing.specs.declared.fault.FrameFault.TheVariants as frame
 use Rattle.hx_framing.specs.declared.answer.Next.{Next}
@@ -12,9 +13,9 @@ use Rattle.proxy_script.specs.declared.effect_list.Effect.{Effect}
 use Rattle.proxy_script.specs.declared.effect_list.Effect.TheVariants as effects
 use Rattle.proxy_engine.specs.Admitted.{Refusal}
 use Rattle.proxy_engine.specs.Happenings.{Accepts, Sends, Hears, Ends, Leaves, Shuts, Fails}
-use Rattle.proxy_engine.specs.Story.{Story, LinkStory, no_link, opened, link_at, heard_by, shut, failed_by, with_core}
-use Rattle.proxy_engine.specs.Due.{Abandons, Finishes, Serves, Gives, Breaks}
-use Rattle.proxy_engine.specs.Acts.{Came, Replies, Forwards, Nothing, came, effects_on, next_number, after_on, freed, dropping, StepsOn, Served, Arrives, Refuses, Closes}
+use Rattle.proxy_engine.specs.Story.{Story, LinkStory, no_link, opened, link_at, heard_by, shut, failed_by, with_core, with_connection}
+use Rattle.proxy_engine.specs.Due.{Abandons, Finishes, Wakes, Serves, Gives, Breaks}
+use Rattle.proxy_engine.specs.Acts.{Came, Replies, Forwards, Nothing, came, effects_on, next_number, after_on, freed, dropping, StepsOn, Served, Arrives, Refuses, Closes, Queues, doing}
 use Rattle.proxy_engine.specs.Drops.{DropsNone, OnlyFirstDrops, ActsAreShort, ActsTellDrops, TakesDropNone}
 
 -- ---- how many effects
@@ -27,6 +28,7 @@ on_plain : (i n : ℕ) (q : Came) → IsPlain (effects_on i n q)
 on_plain i n (Replies bytes true) = (omega arith, (refl, (refl, tt)))
 on_plain i n (Replies bytes false) = (omega arith, (refl, tt))
 on_plain i n (Forwards address bytes) = (omega arith, (refl, tt))
+on_plain i n Queues = (omega arith, tt)
 on_plain i n Nothing = (omega arith, tt)
 
 abbrev IsShort : List Effect → Type 0
@@ -44,6 +46,9 @@ short_behind told said l e h = subst IsShort (sym e) (let few = h.0 in omega (ar
 
 stepped_short : (s t : Story) (i l : ℕ) (to_head : Bool) (event : Event) (told : List Effect) (after : Story) → StepsOn s t i to_head event (effects.Drop l ∷ []) told after → IsShort told
 stepped_short s t i l to_head event told after h = short_behind told _ l h.told_is (on_plain i (next_number s) (came s.core.table h.outcome))
+
+plain_short : (s t : Story) (i : ℕ) (to_head : Bool) (event : Event) (told : List Effect) (after : Story) → StepsOn s t i to_head event [] told after → IsShort told
+plain_short s t i to_head event told after h = short_of told _ h.told_is (on_plain i (next_number s) (came s.core.table h.outcome))
 
 refused_short : (s : Story) (now i : ℕ) (why : Cause) (head : Bool) (told : List Effect) (after : Story) → Refuses s now i why head told after → IsShort told
 refused_short s now i why head told after h = short_of told _ h.told_is (omega arith, (refl, (refl, tt)))
@@ -72,9 +77,11 @@ served_short s now i (next.Refused frame.Status) told after h = refused_short s 
 served_short s now i next.End told after h = closed_short s i told after h
 
 pub acts_are_short : ActsAreShort
-acts_are_short s now (Abandons i l) told after h = stepped_short s _ i _ _ _ told after h
+acts_are_short s now (Abandons i (Some l)) told after h = stepped_short s _ i _ _ _ told after h
+acts_are_short s now (Abandons i None) told after h = plain_short s _ i _ _ told after h
 acts_are_short s now (Finishes j (Gives r)) told after h = stepped_short s _ _ _ _ _ told after h.1
 acts_are_short s now (Finishes j (Breaks kind)) told after h = stepped_short s _ _ _ _ _ told after h
+acts_are_short s now (Wakes i) told after h = plain_short s _ i _ _ told after h.1
 acts_are_short s now (Serves i w) told after h = served_short s now i w told after h
 
 -- ---- what is told of a link that is dropped
@@ -102,6 +109,7 @@ dropped_push (k ∷ ks) y (suc j) e h = let d = dropped_push ks y j e (let below
 dropped_on : (i : ℕ) (to_head : Bool) (q : Came) (s : Story) (j : ℕ) → IsDropped (after_on i to_head q s).links j → IsDropped s.links j
 dropped_on i to_head (Replies bytes close) s j h = h
 dropped_on i to_head (Forwards address bytes) s j h = dropped_push s.links (opened s.core.table.max_body to_head i) j refl h
+dropped_on i to_head Queues s j h = h
 dropped_on i to_head Nothing s j h = h
 
 dropped_equal : (s t : Story) (j : ℕ) → s ≡ t → IsDropped s.links j → IsDropped t.links j
@@ -118,6 +126,10 @@ stepped_told s k c i to_head event told after j h d =
     by_place : (j ≡ k) ⊎ IsDropped s.links j → IsTold s told j
     by_place (inl e) = inr (_, h.told_is ∙ ap (λ n. effects.Drop (s.first + n) ∷ effects_on i (next_number s) (came s.core.table h.outcome)) (sym e))
     by_place (inr before) = inl before
+
+plain_told : (s : Story) (i : ℕ) (to_head : Bool) (event : Event) (told : List Effect) (after : Story) (j : ℕ) → StepsOn s (with_connection s i (doing Free)) i to_head event [] told after → IsDropped after.links j → IsDropped s.links j
+plain_told s i to_head event told after j h d =
+    dropped_on i to_head (came s.core.table h.outcome) (with_core (with_connection s i (doing Free)) h.core) j (dropped_equal after _ j h.after_is d)
 
 arrived_told : (s : Story) (now i : ℕ) (r : Request) (judged : Result Asked Refusal) (told : List Effect) (after : Story) (j : ℕ) → Arrives s now i r judged told after → IsDropped after.links j → IsDropped s.links j
 arrived_told s now i r (Ok asked) told after j h d = dropped_on i _ (came s.core.table h.1.outcome) _ j (dropped_equal after _ j h.1.after_is d)
@@ -140,9 +152,11 @@ served_told s now i (next.Refused frame.Status) told after j h d = dropped_equal
 served_told s now i next.End told after j h d = dropped_equal after _ j h.1 d
 
 pub acts_tell_drops : ActsTellDrops
-acts_tell_drops s now (Abandons i l) told after j h below d = stepped_told s l i i _ _ told after j h (below, d)
+acts_tell_drops s now (Abandons i (Some l)) told after j h below d = stepped_told s l i i _ _ told after j h (below, d)
+acts_tell_drops s now (Abandons i None) told after j h below d = inl (plain_told s i _ _ told after j h (below, d))
 acts_tell_drops s now (Finishes k (Gives r)) told after j h below d = stepped_told s k (link_at s k).connection (link_at s k).connection _ _ told after j h.1 (below, d)
 acts_tell_drops s now (Finishes k (Breaks kind)) told after j h below d = stepped_told s k (link_at s k).connection (link_at s k).connection _ _ told after j h (below, d)
+acts_tell_drops s now (Wakes i) told after j h below d = inl (plain_told s i _ _ told after j h.1 (below, d))
 acts_tell_drops s now (Serves i w) told after j h below d = inl (served_told s now i w told after j h (below, d))
 
 -- ---- what happens drops no link

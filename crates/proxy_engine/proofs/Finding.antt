@@ -6,7 +6,7 @@ use Rattle.std.proofs.lemmas.List.{get_or-map}
 use Rattle.proxy_engine.specs.Story.{ConnStory, no_connection, no_link}
 use Rattle.proxy_engine.specs.Due.{IsFirst, Lost, Stood, Wanted}
 use Rattle.proxy_engine.specs.State.{Both, ConnStands, LinkStands, NoneLost, FoundLinks, FoundConnections, finish_at, wish_at, gone_at}
-use Rattle.proxy_engine.specs.Activities.{link_of}
+use Rattle.proxy_engine.specs.Activities.{link_of, has_exchange}
 use Rattle.proxy_engine.specs.Wiring.{activity_at, activity_of, activities_of}
 use Rattle.proxy_engine.specs.Places.{listed, AllBelow}
 use Rattle.proxy_engine.specs.Marked.{may_be_lost, may_want, may_stand, NoneBelow, NoneAtAll, lost_at, StandsThere, WantsThere}
@@ -19,11 +19,11 @@ use Rattle.proxy_engine.proofs.Searching.{found_first, none_first, some_from}
 use Rattle.proxy_engine.proofs.Marking.{unlost, unlost_over, unwanted, unwanted_over, unstood, unstood_over}
 
 -- what a search for a gone connection with an open exchange found
-abbrev pub LostThere : BTreeMap ℕ Connection → List ℕ → ℕ × ℕ → Type 0
+abbrev pub LostThere : BTreeMap ℕ Connection → List ℕ → ℕ × Option ℕ → Type 0
 LostThere m places p = (lost_at (get nat_cmp m p.0) ≡ Some p.1) × NoneBelow may_be_lost m p.0 × Contains places p.0
 
 module _ (m : BTreeMap ℕ Connection) (n : ℕ) (places : List ℕ) (below : AllBelow n places) (xs : List (Option Connection)) (view : listed m n ≡ xs) where
-  pub lost_first : (r : Option (ℕ × ℕ)) → IfNone r (NoneAtAll may_be_lost m) → IfSome r (LostThere m places) → (ss : List ConnStory) → Both ConnStands xs ss → IsFirst Lost no_connection ss r
+  pub lost_first : (r : Option (ℕ × Option ℕ)) → IfNone r (NoneAtAll may_be_lost m) → IfSome r (LostThere m places) → (ss : List ConnStory) → Both ConnStands xs ss → IsFirst Lost no_connection ss r
   lost_first None none some ss both = none_first ConnStands Lost may_be_lost no_connection m n unlost unlost_over none ss (subst (λ ys. Both ConnStands ys ss) (sym view) both)
   lost_first (Some p) none some ss both =
       found_first ConnStands Lost may_be_lost no_connection m n unlost unlost_over p.0 p.1 (below p.0 some.2) (λ s h. lost (get nat_cmp m p.0) s p.1 h some.0) some.1 ss (subst (λ ys. Both ConnStands ys ss) (sym view) both)
@@ -34,21 +34,28 @@ module _ (m : BTreeMap ℕ Connection) (n : ℕ) (places : List ℕ) (below : Al
       let seen = seen_at m n i xs view (inside xs i there) in
       h i c (seen.1 ∙ e)
 
-  pub none_lost : (r : Option (ℕ × ℕ)) → IfNone r (NoneAtAll may_be_lost m) → IfNone r (NoneLost xs)
+  pub none_lost : (r : Option (ℕ × Option ℕ)) → IfNone r (NoneAtAll may_be_lost m) → IfNone r (NoneLost xs)
   none_lost None none = none_by none
   none_lost (Some p) none = tt
 
   at_place : (i : ℕ) → i < n → get_or xs i None ≡ get nat_cmp m i
   at_place i l = ap (λ (ys : List (Option Connection)). get_or ys i None) (sym view) ∙ listed_at m n i None l
 
-  pub lost_linked : (r : Option (ℕ × ℕ)) → IfSome r (LostThere m places) → IfSome r (λ p. link_of (activity_at (activities_of xs) p.0) ≡ Some p.1)
+  pub lost_linked : (r : Option (ℕ × Option ℕ)) → IfSome r (LostThere m places) → IfSome r (λ p. link_of (activity_at (activities_of xs) p.0) ≡ p.1)
   lost_linked None some = tt
   lost_linked (Some p) some =
       let within : p.0 < n = below p.0 some.2 in
       ap link_of (get_or-map activity_of xs p.0 None Free (subst (λ k. p.0 < k) (sym (listed_length m n) ∙ ap length view) within) ∙ ap activity_of (at_place p.0 within))
+      ∙ (lost_link (get nat_cmp m p.0) p.1 some.0).2
+
+  pub lost_open : (r : Option (ℕ × Option ℕ)) → IfSome r (LostThere m places) → IfSome r (λ p. has_exchange (activity_at (activities_of xs) p.0) ≡ true)
+  lost_open None some = tt
+  lost_open (Some p) some =
+      let within : p.0 < n = below p.0 some.2 in
+      ap has_exchange (get_or-map activity_of xs p.0 None Free (subst (λ k. p.0 < k) (sym (listed_length m n) ∙ ap length view) within) ∙ ap activity_of (at_place p.0 within))
       ∙ (lost_link (get nat_cmp m p.0) p.1 some.0).1
 
-  pub lost_gone : (r : Option (ℕ × ℕ)) → IfSome r (LostThere m places) → IfSome r (λ p. gone_at (get_or xs p.0 None) ≡ Some true)
+  pub lost_gone : (r : Option (ℕ × Option ℕ)) → IfSome r (LostThere m places) → IfSome r (λ p. gone_at (get_or xs p.0 None) ≡ Some true)
   lost_gone None some = tt
   lost_gone (Some p) some = ap gone_at (at_place p.0 (below p.0 some.2)) ∙ (lost_link (get nat_cmp m p.0) p.1 some.0).0
 

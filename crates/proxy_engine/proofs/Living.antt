@@ -16,8 +16,8 @@ use Rattle.proxy_script.specs.declared.effect_list.Effect.{Effect}
 use Rattle.proxy_engine.specs.Admitted.{Refusal, IsAdmitted}
 use Rattle.proxy_engine.specs.Happenings.{Said, Accepts as Accepted, Sends, Hears, Ends, Leaves, Shuts, Fails}
 use Rattle.proxy_engine.specs.Story.{Story, heard, with_core}
-use Rattle.proxy_engine.specs.Due.{Act, Abandons, Finishes, Serves, Gives, Breaks}
-use Rattle.proxy_engine.specs.Acts.{Came, Replies, Forwards, Nothing, came, after_on, effects_on, next_number, StepsOn, Does, Arrives, Served, Refuses as IsRefused, Closes as IsClosed}
+use Rattle.proxy_engine.specs.Due.{Act, Abandons, Finishes, Wakes, Serves, Gives, Breaks}
+use Rattle.proxy_engine.specs.Acts.{Came, Replies, Forwards, Nothing, came, after_on, effects_on, next_number, StepsOn, Does, Arrives, Served, Refuses as IsRefused, Closes as IsClosed, Queues}
 use Rattle.proxy_engine.specs.State.{begun}
 use Rattle.proxy_engine.specs.Lives.{Step, Took, Worked, Leads, Lives, place_of, drops_of, IsEventOf, HasNoEvent, IsTold, IsOwn, Continues, Refuses, Closes, Tells, LivesAreRuns}
 
@@ -30,6 +30,7 @@ module _ (table : Table) where
   core_after : (i : ℕ) (to_head : Bool) (q : Came) (s : Story) → (after_on i to_head q s).core ≡ s.core
   core_after i to_head (Replies bytes close) s = refl
   core_after i to_head (Forwards address bytes) s = refl
+  core_after i to_head Queues s = refl
   core_after i to_head Nothing s = refl
 
   stepped : (now : ℕ) (act : Act) (s t : Story) (to_head : Bool) (event : Event) (told : List Effect) (after : Story) → s.core.table ≡ table → IsEventOf s now act event
@@ -74,6 +75,7 @@ module _ (table : Table) where
   acts now (Abandons i l) s told after config h = stepped now (Abandons i l) s _ _ _ told after config refl h
   acts now (Finishes j (Gives r)) s told after config h = stepped now (Finishes j (Gives r)) s _ _ _ told after config refl h.1
   acts now (Finishes j (Breaks kind)) s told after config h = stepped now (Finishes j (Breaks kind)) s _ _ _ told after config refl h
+  acts now (Wakes i) s told after config h = stepped now (Wakes i) s _ _ _ told after config refl h.1
   acts now (Serves i wish) s told after config h = serves now s i wish told after config h
 
 heard_core : (s : Story) (h : Said) → (heard s h).core ≡ s.core

@@ -21,7 +21,6 @@ use Rattle.proxy_engine.specs.Marked.{ConnectionList, LinkList, may_be_lost, may
 use Rattle.proxy_engine.specs.declared.activities.Activity.{Activity}
 use Rattle.proxy_engine.specs.declared.ends.Connection.{Connection}
 use Rattle.proxy_engine.specs.declared.ends.Link.{Link}
-use Rattle.proxy_engine.proofs.ActivityCases.{free_from, none_from}
 use Rattle.proxy_engine.proofs.Keeping.{fits}
 use Rattle.proxy_engine.proofs.Falling.{falls_none}
 use Rattle.proxy_engine.proofs.Shown.{stood, wanted, wanted_busy, finish_by, wish_by}
@@ -282,17 +281,13 @@ settled (Due b) a shows e = e
 -- ---- what has no flag
 
 pub unlost : (c : Connection) (s : ConnStory) → may_be_lost c ≡ false → ConnStands (Some c) s → Lost s None
-unlost c s e h = subst (λ (b : Bool). None ≡ cond b (link_of s.activity) None) h.gone (subst (λ (a : Activity). None ≡ cond c.gone (link_of a) None) h.activity (by_mark c.gone c.activity e))
-  where
-    by_mark : (b : Bool) (a : Activity) → b && has_exchange a ≡ false → None ≡ cond b (link_of a) None
-    by_mark true a e = sym (ap link_of (free_from a e))
-    by_mark false a e = refl
+unlost c s e h = ap (λ (b : Bool). cond b (Some (link_of s.activity)) None) (sym e ∙ (ap (λ (b : Bool). b && has_exchange c.activity) h.gone ∙ ap (λ (a : Activity). s.gone && has_exchange a) h.activity))
 
 pub unlost_over : (s : ConnStory) → ConnStands None s → Lost s None
-unlost_over s h = by_gone s.gone
+unlost_over s h = by_gone s.gone ∙ ap (λ (a : Activity). cond (s.gone && has_exchange a) (Some (link_of s.activity)) None) (sym h.1)
   where
-    by_gone : (b : Bool) → None ≡ cond b (link_of s.activity) None
-    by_gone true = sym (ap link_of h.1)
+    by_gone : (b : Bool) → None ≡ cond (b && false) (Some (link_of s.activity)) None
+    by_gone true = refl
     by_gone false = refl
 
 pub unwanted : (c : Connection) (s : ConnStory) → may_want c ≡ false → ConnStands (Some c) s → Wanted s None
@@ -328,8 +323,8 @@ unstood_over s h = subst (λ (b : Bool). FinishBy b s None) (sym h) refl
 
 -- the link that was read of a gone connection
 pub no_mark : (c : Connection) → None ≡ lost_at (Some c) → may_be_lost c ≡ false
-no_mark c e = by_mark c.gone c.activity e
+no_mark c e = by_mark (may_be_lost c) (link_of c.activity) e
   where
-    by_mark : (b : Bool) (a : Activity) → None ≡ cond b (link_of a) None → b && has_exchange a ≡ false
-    by_mark true a e = none_from a (sym e)
-    by_mark false a e = refl
+    by_mark : (b : Bool) (o : Option ℕ) → None ≡ cond b (Some o) None → b ≡ false
+    by_mark true o e = absurd (cc)
+    by_mark false o e = refl

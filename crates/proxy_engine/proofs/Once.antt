@@ -1,12 +1,12 @@
 -- One act is due first.
-use Rattle.std.proofs.Common.{◌⊎◌, inl, inr, ◌≡◌, ℕ, ◌<◌, ◌≤◌, List, get_or, refl, sym, ap, ◌∙◌, subst, arith, Bool, true, false, Option, None, Some}
+use Rattle.std.proofs.Common.{◌⊎◌, inl, inr, ◌≡◌, ℕ, ◌<◌, ◌≤◌, List, get_or, refl, sym, ap, ◌∙◌, subst, arith, Bool, true, false, Option, None, Some, ◌+◌}
 use Rattle.std.proofs.lemmas.Bool.{cases_lt}
 use Rattle.hx_framing.specs.declared.requests.Request.{Request}
 use Rattle.hx_framing.specs.declared.answer.Next.{Next}
 use Rattle.hx_framing.proofs.RequestOnce.{answered_once_lem as requests_once}
 use Rattle.hx_framing.proofs.ResponseOnce.{answered_once_lem as responses_once}
 use Rattle.proxy_engine.specs.Story.{Story, ConnStory, LinkStory, no_connection, no_link}
-use Rattle.proxy_engine.specs.Due.{Act, Abandons, Finishes, Serves, Finish, IsFirst, IsDueFirst, Lost, Stood, FinishBy, Wanted, WishBy, wish_of, finish_of, is_busy}
+use Rattle.proxy_engine.specs.Due.{Act, Abandons, Finishes, Wakes, Serves, Finish, IsFirst, IsDueFirst, Lost, Stood, FinishBy, Wanted, WishBy, wish_of, finish_of, is_busy}
 
 none_some : {B : Type 0} {b : B} {C : Type 0} → ◌≡◌ {A = Option B} None (Some b) → C
 none_some h = cc
@@ -28,7 +28,7 @@ first_once {A} {B} R d xs (Some p) (Some q) once h k = by_order (cases_lt p.0 q.
         let what : p.1 ≡ q.1 = some_same (once (get_or xs q.0 d) (Some p.1) (Some q.1) (subst (λ n. R (get_or xs n d) (Some p.1)) place h.1) k.1) in
         ap (λ n. Some (n, p.1)) place ∙ ap (λ b. Some (q.0, b)) what
 
-lost_once : (x : ConnStory) (o p : Option ℕ) → Lost x o → Lost x p → o ≡ p
+lost_once : (x : ConnStory) (o p : Option (Option ℕ)) → Lost x o → Lost x p → o ≡ p
 lost_once x o p h k = h ∙ sym k
 
 stood_by : (b : Bool) (x : LinkStory) (o p : Option Finish) → FinishBy b x o → FinishBy b x p → o ≡ p
@@ -45,7 +45,7 @@ wanted_by false x o p h k = h.2 ∙ (ap wish_of (requests_once x.progress h.0 k.
 wanted_once : (x : ConnStory) (o p : Option (Next Request)) → Wanted x o → Wanted x p → o ≡ p
 wanted_once x o p h k = wanted_by (is_busy x.gone x.closed x.activity) x o p h k
 
-lost_same : (s : Story) (a b : Option (ℕ × ℕ)) → IsFirst Lost no_connection s.connections a → IsFirst Lost no_connection s.connections b → a ≡ b
+lost_same : (s : Story) (a b : Option (ℕ × Option ℕ)) → IsFirst Lost no_connection s.connections a → IsFirst Lost no_connection s.connections b → a ≡ b
 lost_same s a b h k = first_once Lost no_connection s.connections a b lost_once h k
 
 stood_same : (s : Story) (a b : Option (ℕ × Finish)) → IsFirst Stood no_link s.links a → IsFirst Stood no_link s.links b → a ≡ b
@@ -58,16 +58,28 @@ pub due_first_once : (s : Story) (a b : Option Act) → IsDueFirst s a → IsDue
 due_first_once s None None h k = refl
 due_first_once s None (Some (Abandons i l)) h k = none_some (lost_same s None (Some (i, l)) h.0 k)
 due_first_once s None (Some (Finishes j f)) h k = none_some (stood_same s None (Some (j, f)) h.1 k.1)
-due_first_once s None (Some (Serves i d)) h k = none_some (wanted_same s None (Some (i, d)) h.2 k.2)
+due_first_once s None (Some (Wakes i)) h k = none_some (sym h.2 ∙ k.2)
+due_first_once s None (Some (Serves i d)) h k = none_some (wanted_same s None (Some (i, d)) h.3 k.3)
 due_first_once s (Some (Abandons i l)) None h k = none_some (lost_same s None (Some (i, l)) k.0 h)
 due_first_once s (Some (Finishes j f)) None h k = none_some (stood_same s None (Some (j, f)) k.1 h.1)
-due_first_once s (Some (Serves i d)) None h k = none_some (wanted_same s None (Some (i, d)) k.2 h.2)
-due_first_once s (Some (Abandons i l)) (Some (Abandons j m)) h k = let e = some_same (lost_same s (Some (i, l)) (Some (j, m)) h k) in ap (λ (p : ℕ × ℕ). Some (Abandons p.0 p.1)) e
+due_first_once s (Some (Wakes i)) None h k = none_some (sym k.2 ∙ h.2)
+due_first_once s (Some (Serves i d)) None h k = none_some (wanted_same s None (Some (i, d)) k.3 h.3)
+due_first_once s (Some (Abandons i l)) (Some (Abandons j m)) h k = let e = some_same (lost_same s (Some (i, l)) (Some (j, m)) h k) in ap (λ (p : ℕ × Option ℕ). Some (Abandons p.0 p.1)) e
 due_first_once s (Some (Abandons i l)) (Some (Finishes j f)) h k = none_some (lost_same s None (Some (i, l)) k.0 h)
+due_first_once s (Some (Abandons i l)) (Some (Wakes j)) h k = none_some (lost_same s None (Some (i, l)) k.0 h)
 due_first_once s (Some (Abandons i l)) (Some (Serves j d)) h k = none_some (lost_same s None (Some (i, l)) k.0 h)
 due_first_once s (Some (Finishes j f)) (Some (Abandons i l)) h k = none_some (lost_same s None (Some (i, l)) h.0 k)
 due_first_once s (Some (Finishes j f)) (Some (Finishes i g)) h k = let e = some_same (stood_same s (Some (j, f)) (Some (i, g)) h.1 k.1) in ap (λ (p : ℕ × Finish). Some (Finishes p.0 p.1)) e
+due_first_once s (Some (Finishes j f)) (Some (Wakes i)) h k = none_some (stood_same s None (Some (j, f)) k.1 h.1)
 due_first_once s (Some (Finishes j f)) (Some (Serves i d)) h k = none_some (stood_same s None (Some (j, f)) k.1 h.1)
+due_first_once s (Some (Wakes i)) (Some (Abandons j l)) h k = none_some (lost_same s None (Some (j, l)) h.0 k)
+due_first_once s (Some (Wakes i)) (Some (Finishes j f)) h k = none_some (stood_same s None (Some (j, f)) h.1 k.1)
+due_first_once s (Some (Wakes i)) (Some (Wakes j)) h k =
+    let more : i + 1 ≡ j + 1 = some_same (sym h.2 ∙ k.2) in
+    let same : i ≡ j = omega (arith, more) in
+    ap (λ n. Some (Wakes n)) same
+due_first_once s (Some (Wakes i)) (Some (Serves j d)) h k = none_some (sym k.2 ∙ h.2)
 due_first_once s (Some (Serves i d)) (Some (Abandons j l)) h k = none_some (lost_same s None (Some (j, l)) h.0 k)
 due_first_once s (Some (Serves i d)) (Some (Finishes j f)) h k = none_some (stood_same s None (Some (j, f)) h.1 k.1)
-due_first_once s (Some (Serves i d)) (Some (Serves j e)) h k = let q = some_same (wanted_same s (Some (i, d)) (Some (j, e)) h.2 k.2) in ap (λ (p : ℕ × Next Request). Some (Serves p.0 p.1)) q
+due_first_once s (Some (Serves i d)) (Some (Wakes j)) h k = none_some (sym h.2 ∙ k.2)
+due_first_once s (Some (Serves i d)) (Some (Serves j e)) h k = let q = some_same (wanted_same s (Some (i, d)) (Some (j, e)) h.3 k.3) in ap (λ (p : ℕ × Next Request). Some (Serves p.0 p.1)) q

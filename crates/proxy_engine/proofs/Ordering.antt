@@ -1,5 +1,5 @@
 -- Stories keep their order, and effects name ends that are unshut.
-use Rattle.std.proofs.Common.{◌≡◌, ◌⊎◌, inl, inr, ℕ, zero, suc, ◌+◌, ◌-◌, ◌<◌, List, [], ◌∷◌, ◌++◌, length, get_or, set, refl, sym, ap, ◌∙◌, subst, arith, Bool, true, false, ◌||◌, cond, Option, None, Some, is_some, map, Result, Ok, Err}
+use Rattle.std.proofs.Common.{◌≡◌, ◌⊎◌, inl, inr, ℕ, zero, suc, ◌+◌, ◌-◌, ◌<◌, List, [], ◌∷◌, ◌++◌, length, get_or, set, refl, sym, ap, ◌∙◌, subst, arith, Bool, true, false, ◌||◌, ◌&&◌, cond, Option, None, Some, is_some, map, Result, Ok, Err}
 use Rattle.std.proofs.lemmas.List.{append-nil, map-set, get_or-set_same}
 use Rattle.std.proofs.Math.ListN.{get_or-append, length-map, length-set}
 use Rattle.std.proofs.Math.Seq.{map-set_same}
@@ -18,21 +18,26 @@ use Rattle.proxy_core.specs.declared.outcome.Outcome.{Outcome}
 use Rattle.proxy_core.specs.declared.outcome.Outcome.TheVariants as outcomes
 use Rattle.proxy_core.specs.Outcomes.{find_exchange}
 use Rattle.proxy_core.specs.Replies.{is_head}
-use Rattle.proxy_core.specs.State.{State as CoreState, Steps, closed, left_open, gone_out, opened as opened_exchange}
+use Rattle.proxy_core.specs.State.{State as CoreState, Steps, closed, left_open, opened as opened_exchange, queued as queued_exchange, line_of}
+use Rattle.hx_allow.specs.Matching.{verdict_of}
+use Rattle.proxy_core.specs.Leading.{is_forwarded}
+use Rattle.proxy_core.specs.Waiting.{IsReady}
+use Rattle.proxy_core.proofs.Waits.{ready_by}
 use Rattle.proxy_script.specs.declared.effect_list.Effect.{Effect}
 use Rattle.proxy_script.specs.declared.effect_list.Effect.TheVariants as effects
 use Rattle.proxy_engine.specs.Happenings.{Accepts, Sends, Hears, Ends, Leaves, Shuts, Fails}
 use Rattle.proxy_engine.specs.Story.{Story, ConnStory, LinkStory, no_connection, no_link, accepted, opened, connection_at, link_at, with_connection, with_core, heard}
-use Rattle.proxy_engine.specs.Due.{Abandons, Finishes, Serves, Finish, Gives, Breaks, FinishBy, WishBy, is_busy, IsDueFirst}
-use Rattle.proxy_engine.specs.Acts.{Does, Served, Finished, Arrives, Refuses, Closes, Replies, came, asks_head, effects_on, after_on, freed, doing, closing, dropping, passing, next_number}
-use Rattle.proxy_engine.specs.Activities.{link_of}
+use Rattle.proxy_engine.specs.Due.{Abandons, Finishes, Wakes, Serves, Finish, Gives, Breaks, FinishBy, WishBy, is_busy, IsDueFirst}
+use Rattle.proxy_engine.specs.Acts.{Does, Served, Finished, Woken, Arrives, Refuses, Closes, Replies, came, asks_head, effects_on, after_on, freed, doing, closing, dropping, passing, next_number}
+use Rattle.proxy_engine.specs.Activities.{link_of, has_exchange}
 use Rattle.proxy_engine.specs.Wiring.{Wired, activity_at, at}
 use Rattle.proxy_engine.specs.Orderly.{IsOrderly, IsOpen, Drops, NamesOpen, activity_told, owner_told, BeginsOrderly, TakesInOrder, ActsInOrder}
 use Rattle.proxy_engine.specs.declared.activities.Activity.{Activity}
-use Rattle.proxy_engine.specs.declared.activities.Activity.TheVariants.{Free, Forwarded}
-use Rattle.proxy_engine.proofs.ActivityCases.{free_from, open_from}
-use Rattle.proxy_engine.proofs.Ending.{Remains, remains}
-use Rattle.proxy_engine.proofs.Wires.{within, has_place, wired_more, wired_freed, wired_opened, wired_left, wired_again}
+use Rattle.proxy_engine.specs.declared.activities.Activity.TheVariants.{Free, Forwarded, Waiting}
+use Rattle.proxy_engine.proofs.ActivityCases.{free_from, open_from, forwarded_from, waiting_from}
+use Rattle.proxy_engine.proofs.Shown.{lost_by}
+use Rattle.proxy_engine.proofs.Ending.{Remains, Renews, renewed, remains, woken_remains}
+use Rattle.proxy_engine.proofs.Wires.{within, has_place, waits_inside, some_out, ready_waits, wired_more, wired_freed, wired_unqueued, wired_opened, wired_queued, wired_left, wired_again, wired_roused}
 
 -- what stands at a place of either list
 doing_here : (cs : List ConnStory) (i : ℕ) → activity_at (map activity_told cs) i ≡ (get_or cs i no_connection).activity
@@ -124,7 +129,7 @@ marked_link s j b d e h = link_changed s.connections s.links s.core.exchanges j 
 
 pub begins_orderly : BeginsOrderly
 begins_orderly core first none = record {
-  wired = subst (λ (xs : List Exchange). Wired [] [] xs) (sym none) record { owned = λ i j e. cc; linked = λ i j e. cc; opened = λ i. refl };
+  wired = subst (λ (xs : List Exchange). Wired [] [] xs) (sym none) record { owned = λ i j e. cc; linked = λ i j e. cc; opened = λ i. refl; numbered = refl };
   free = λ i e. refl;
 }
 
@@ -156,18 +161,36 @@ left_order cs ks xs key id h = (wired_left (map activity_told cs) (map owner_tol
 closing_order : (cs : List ConnStory) (ks : List LinkStory) (xs : List Exchange) (i : ℕ) (close : Bool) → (get_or cs i no_connection).activity ≡ Free → Order cs ks xs → Order (set cs i (closing close (get_or cs i no_connection))) ks xs
 closing_order cs ks xs i close none h = connection_changed cs ks xs i (closing close (get_or cs i no_connection)) refl (λ e. none) h
 
-opened_order : (cs : List ConnStory) (ks : List LinkStory) (xs : List Exchange) (x : Exchange) (i max_body : ℕ) (to_head : Bool) → i < length cs → (get_or cs i no_connection).activity ≡ Free → (get_or cs i no_connection).closed ≡ false → x.id ≡ i + 1 → Order cs ks xs
+opened_order : (cs : List ConnStory) (ks : List LinkStory) (xs : List Exchange) (x : Exchange) (i max_body : ℕ) (to_head : Bool) → i < length cs → (get_or cs i no_connection).activity ≡ Free → (get_or cs i no_connection).closed ≡ false → x.id ≡ i + 1 → is_forwarded x.stage ≡ true → Order cs ks xs
     → Order (set cs i (doing (Forwarded (length ks)) (get_or cs i no_connection))) (ks ++ opened max_body to_head i ∷ []) (xs ++ x ∷ [])
-opened_order cs ks xs x i max_body to_head here none unshut id h =
+opened_order cs ks xs x i max_body to_head here none unshut id staged h =
     let y = doing (Forwarded (length ks)) (get_or cs i no_connection) in
     let size : length (map owner_told ks) ≡ length ks = length-map ks owner_told in
     let most : length (map activity_told cs) ≡ length cs = length-map cs activity_told in
-    let opens = wired_opened (map activity_told cs) (map owner_told ks) xs x i (omega (arith, here, most)) (doing_here cs i ∙ none) id h.0 in
+    let opens = wired_opened (map activity_told cs) (map owner_told ks) xs x i (omega (arith, here, most)) (doing_here cs i ∙ none) id staged h.0 in
     let sized = subst (λ (n : ℕ). Wired (set (map activity_told cs) i (Forwarded n)) (map owner_told ks ++ Some i ∷ []) (xs ++ x ∷ [])) size opens in (
       subst (λ (ds : List Activity). Wired ds (map owner_told (ks ++ opened max_body to_head i ∷ [])) (xs ++ x ∷ [])) (sym (map-set activity_told cs i y))
           (subst (λ (os : List (Option ℕ)). Wired (set (map activity_told cs) i (Forwarded (length ks))) os (xs ++ x ∷ [])) (sym (map_more owner_told ks (opened max_body to_head i))) sized),
       free_set cs i y (λ e. let shut = sym unshut ∙ e in cc) h.1,
     )
+
+-- the request of the connection at i waits
+queued_order : (cs : List ConnStory) (ks : List LinkStory) (xs : List Exchange) (x : Exchange) (i : ℕ) → i < length cs → (get_or cs i no_connection).activity ≡ Free → (get_or cs i no_connection).closed ≡ false → x.id ≡ i + 1 → is_forwarded x.stage ≡ false → Order cs ks xs
+    → Order (set cs i (doing Waiting (get_or cs i no_connection))) ks (xs ++ x ∷ [])
+queued_order cs ks xs x i here none unshut id staged h =
+    let y = doing Waiting (get_or cs i no_connection) in
+    let most : length (map activity_told cs) ≡ length cs = length-map cs activity_told in (
+      subst (λ (ds : List Activity). Wired ds (map owner_told ks) (xs ++ x ∷ [])) (sym (map-set activity_told cs i y))
+          (wired_queued (map activity_told cs) (map owner_told ks) xs x i (omega (arith, here, most)) (doing_here cs i ∙ none) id staged h.0),
+      free_set cs i y (λ e. let shut = sym unshut ∙ e in cc) h.1,
+    )
+
+-- the exchange of one that waited ends
+unqueued_order : (cs : List ConnStory) (ks : List LinkStory) (xs : List Exchange) (i : ℕ) (c : ConnStory) → activity_at (map activity_told cs) i ≡ Waiting → Order cs ks xs → Order (set cs i (doing Free c)) ks (closed (i + 1) xs)
+unqueued_order cs ks xs i c here h = (
+  subst (λ (ds : List Activity). Wired ds (map owner_told ks) (closed (i + 1) xs)) (sym (map-set activity_told cs i (doing Free c))) (wired_unqueued (map activity_told cs) (map owner_told ks) xs i here h.0),
+  free_set cs i (doing Free c) (λ e. refl) h.1,
+)
 
 or_true : (b c : Bool) → c ≡ true → (b || c) ≡ true
 or_true true c e = refl
@@ -186,16 +209,16 @@ both_moved s now after told said a t h names =
     (subst (λ (x : Story). IsOrderly x) (sym a) h, subst (λ (x : Story). NamesOpen s x told) (sym a) (subst (λ (es : List Effect). NamesOpen s now es) (sym t) names))
 
 -- the connection at i has a new link for its exchange
-again_order : (cs : List ConnStory) (ks : List LinkStory) (xs : List Exchange) (i j now max_body : ℕ) (to_head : Bool) (c : ConnStory) (k : LinkStory) → link_of (activity_at (map activity_told cs) i) ≡ Some j → c.closed ≡ false → is_some (find_exchange (i + 1) xs) ≡ true → Order cs ks xs
-    → Order (set (set cs i (doing Free c)) i (doing (Forwarded (length (set ks j (dropping k)))) (get_or (set cs i (doing Free c)) i no_connection))) (set ks j (dropping k) ++ opened max_body to_head i ∷ []) (map (gone_out (i + 1) now) xs)
-again_order cs ks xs i j now max_body to_head c k here unshut there h = (
+again_order : (cs : List ConnStory) (ks : List LinkStory) (xs : List Exchange) (i j max_body : ℕ) (g : Exchange → Exchange) → Renews g → (to_head : Bool) (c : ConnStory) (k : LinkStory) → link_of (activity_at (map activity_told cs) i) ≡ Some j → c.closed ≡ false → is_some (find_exchange (i + 1) xs) ≡ true → Order cs ks xs
+    → Order (set (set cs i (doing Free c)) i (doing (Forwarded (length (set ks j (dropping k)))) (get_or (set cs i (doing Free c)) i no_connection))) (set ks j (dropping k) ++ opened max_body to_head i ∷ []) (map (renewed (i + 1) g) xs)
+again_order cs ks xs i j max_body g r to_head c k here unshut there h = (
   subst (λ (ds : List Activity). Wired ds (map owner_told (free ++ opened max_body to_head i ∷ [])) ys) (sym wires)
       (subst (λ (os : List (Option ℕ)). Wired (set (set (map activity_told cs) i Free) i (Forwarded (length free))) os ys) (sym owners) sized),
   free_set (set cs i (doing Free c)) i y (λ e. let shut = sym (still ∙ unshut) ∙ e in cc) (free_set cs i (doing Free c) (λ e. refl) h.1),
 )
   where
     ys : List Exchange
-    ys = map (gone_out (i + 1) now) xs
+    ys = map (renewed (i + 1) g) xs
 
     free : List LinkStory
     free = set ks j (dropping k)
@@ -217,13 +240,41 @@ again_order cs ks xs i j now max_body to_head c k here unshut there h = (
 
     sized : Wired (set (set (map activity_told cs) i Free) i (Forwarded (length free))) (set (map owner_told ks) j None ++ Some i ∷ []) ys
     sized = subst (λ (n : ℕ). Wired (set (set (map activity_told cs) i Free) i (Forwarded n)) (set (map owner_told ks) j None ++ Some i ∷ []) ys) size
-        (wired_again (map activity_told cs) (map owner_told ks) xs i j now here there h.0)
+        (wired_again (map activity_told cs) (map owner_told ks) xs i j g r here there h.0)
 
     wires : map activity_told (set (set cs i (doing Free c)) i y) ≡ set (set (map activity_told cs) i Free) i (Forwarded (length free))
     wires = map-set activity_told (set cs i (doing Free c)) i y ∙ ap (λ (ds : List Activity). set ds i (Forwarded (length free))) (map-set activity_told cs i (doing Free c))
 
     owners : map owner_told (free ++ opened max_body to_head i ∷ []) ≡ set (map owner_told ks) j None ++ Some i ∷ []
     owners = map_more owner_told free (opened max_body to_head i) ∙ ap (λ (os : List (Option ℕ)). os ++ Some i ∷ []) dropped
+
+-- the connection at i, whose request waited, has a link for its exchange
+roused_order : (cs : List ConnStory) (ks : List LinkStory) (xs : List Exchange) (i max_body : ℕ) (g : Exchange → Exchange) → Renews g → (to_head : Bool) (c : ConnStory) → activity_at (map activity_told cs) i ≡ Waiting → c.closed ≡ false → is_some (find_exchange (i + 1) xs) ≡ true → Order cs ks xs
+    → Order (set (set cs i (doing Free c)) i (doing (Forwarded (length ks)) (get_or (set cs i (doing Free c)) i no_connection))) (ks ++ opened max_body to_head i ∷ []) (map (renewed (i + 1) g) xs)
+roused_order cs ks xs i max_body g r to_head c here unshut there h = (
+  subst (λ (ds : List Activity). Wired ds (map owner_told (ks ++ opened max_body to_head i ∷ [])) ys) (sym wires)
+      (subst (λ (os : List (Option ℕ)). Wired (set (set (map activity_told cs) i Free) i (Forwarded (length ks))) os ys) (sym (map_more owner_told ks (opened max_body to_head i))) sized),
+  free_set (set cs i (doing Free c)) i y (λ e. let shut = sym (still ∙ unshut) ∙ e in cc) (free_set cs i (doing Free c) (λ e. refl) h.1),
+)
+  where
+    ys : List Exchange
+    ys = map (renewed (i + 1) g) xs
+
+    y : ConnStory
+    y = doing (Forwarded (length ks)) (get_or (set cs i (doing Free c)) i no_connection)
+
+    inside : i < length cs
+    inside = subst (λ n. i < n) (length-map cs activity_told) (waits_inside (map activity_told cs) i here)
+
+    still : y.closed ≡ c.closed
+    still = ap (λ (d : ConnStory). d.closed) (get_or-set_same cs i (doing Free c) no_connection inside)
+
+    sized : Wired (set (set (map activity_told cs) i Free) i (Forwarded (length ks))) (map owner_told ks ++ Some i ∷ []) ys
+    sized = subst (λ (n : ℕ). Wired (set (set (map activity_told cs) i Free) i (Forwarded n)) (map owner_told ks ++ Some i ∷ []) ys) (length-map ks owner_told)
+        (wired_roused (map activity_told cs) (map owner_told ks) xs i g r here there h.0)
+
+    wires : map activity_told (set (set cs i (doing Free c)) i y) ≡ set (set (map activity_told cs) i Free) i (Forwarded (length ks))
+    wires = map-set activity_told (set cs i (doing Free c)) i y ∙ ap (λ (ds : List Activity). set ds i (Forwarded (length ks))) (map-set activity_told cs i (doing Free c))
 
 finished_order : (s : Story) (i j : ℕ) (o : Outcome) (core : CoreState) (to_head : Bool) (told : List Effect) (after : Story) → IsOrderly s → j < length s.links → link_of (activity_at (map activity_told s.connections) i) ≡ Some j → (link_at s j).dropped ≡ false → IsOpen s (i + 1) → (connection_at s i).closed ≡ false
     → is_some (find_exchange (i + 1) s.core.exchanges) ≡ true → Remains o (i + 1) s.core.exchanges core.exchanges → told ≡ effects.Drop (s.first + j) ∷ effects_on i (next_number s) (came s.core.table o) → after ≡ after_on i to_head (came s.core.table o) (with_core (freed s j i) core)
@@ -266,16 +317,18 @@ finished_order s i j o core to_head told after h within_links here link_open uns
     by_outcome (outcomes.Forward line bytes) left told_is after_is =
         let behind = after_on i to_head (came s.core.table (outcomes.Forward line bytes)) base in
         both_moved s behind after told (effects.Drop (s.first + j) ∷ effects_on i (next_number s) (came s.core.table (outcomes.Forward line bytes))) after_is told_is
-        (orderly behind (subst (λ (xs : List Exchange). Order behind.connections behind.links xs) (sym left.1) (again_order s.connections s.links s.core.exchanges i j left.0 core.table.max_body to_head (connection_at s i) (link_at s j) here unclosed there (order_of s h))))
+        (orderly behind (subst (λ (xs : List Exchange). Order behind.connections behind.links xs) (sym left.2) (again_order s.connections s.links s.core.exchanges i j core.table.max_body left.0 left.1 to_head (connection_at s i) (link_at s j) here unclosed there (order_of s h))))
         (drops behind (opened core.table.max_body to_head i ∷ []) refl, (refl, tt))
+    by_outcome (outcomes.Waits leader) left told_is after_is = absurd left
     by_outcome outcomes.Ended left told_is after_is =
         both_moved s base after told (effects.Drop (s.first + j) ∷ []) after_is told_is (orderly base (free left.0 left.1)) (drops base [] (sym (append-nil ks)), tt)
 
 -- ---- what is known where an act is due
 
-gone_by : (b : Bool) (o : Option ℕ) (j : ℕ) → None ≡ cond b o None → o ≡ Some j → b ≡ false
-gone_by true o j e l = let none : None ≡ Some j = e ∙ l in cc
-gone_by false o j e l = refl
+gone_by : (b held : Bool) (o : Option ℕ) → None ≡ cond (b && held) (Some o) None → held ≡ true → b ≡ false
+gone_by true true o e l = absurd (cc)
+gone_by true false o e l = absurd (cc)
+gone_by false held o e l = refl
 
 closed_of : (b : Bool) (a : Activity) (j : ℕ) → (b ≡ true → a ≡ Free) → link_of a ≡ Some j → b ≡ false
 closed_of true a j f l = let none : None ≡ Some j = sym (ap link_of (f refl)) ∙ l in cc
@@ -301,10 +354,6 @@ busy_parts : (gone shut : Bool) (a : Activity) → is_busy gone shut a ≡ false
 busy_parts true shut a e = cc
 busy_parts false true a e = cc
 busy_parts false false a e = (refl, refl, free_from a e)
-
-lost_parts : (gone : Bool) (o : Option ℕ) (l : ℕ) → Some l ≡ cond gone o None → o ≡ Some l
-lost_parts true o l e = sym e
-lost_parts false o l e = cc
 
 -- the exchange on the link at j is finished
 finishes_order : (s : Story) (now j : ℕ) (f : Finish) (told : List Effect) (after : Story) → IsOrderly s → IsDueFirst s (Some (Finishes j f)) → Finished s now j (link_at s j).connection f told after → IsOrderly after × NamesOpen s after told
@@ -332,10 +381,10 @@ finishes_order s now j f told after h due done = by_finish f done
     unclosed = closed_of (connection_at s i).closed (connection_at s i).activity j (h.free i) linked_here
 
     unshut : IsOpen s (i + 1)
-    unshut = record { place = i; number = refl; closed = unclosed; gone = gone_by (connection_at s i).gone (link_of (connection_at s i).activity) j (due.0 i inside) linked_here }
+    unshut = record { place = i; number = refl; closed = unclosed; gone = gone_by (connection_at s i).gone (has_exchange (connection_at s i).activity) (link_of (connection_at s i).activity) (due.0 i inside) (open_from (connection_at s i).activity j linked_here) }
 
     is_there : is_some (find_exchange (i + 1) xs) ≡ true
-    is_there = h.wired.opened i ∙ open_from (activity_at (map activity_told s.connections) i) j here
+    is_there = some_out (find_exchange (i + 1) xs) true (h.wired.opened i ∙ forwarded_from (activity_at (map activity_told s.connections) i) j here)
 
     by_finish : (f : Finish) → Finished s now j i f told after → IsOrderly after × NamesOpen s after told
     by_finish (Gives r) d =
@@ -345,10 +394,9 @@ finishes_order s now j f told after h due done = by_finish f done
         finished_order s i j d.outcome d.core (asks_head (find_exchange (i + 1) xs)) told after h due.1.0 here link_open unshut unclosed is_there
         (remains s.core d.core now (i + 1) (Breaks kind) d.outcome is_there d.steps) d.told_is d.after_is
 
--- the exchange of the connection at i is abandoned
-abandons_order : (s : Story) (now i l : ℕ) (told : List Effect) (after : Story) → IsOrderly s → IsDueFirst s (Some (Abandons i l)) → Does s now (Abandons i l) told after → IsOrderly after × NamesOpen s after told
-abandons_order s now i l told after h due done =
-    let linked_here : link_of (connection_at s i).activity ≡ Some l = lost_parts (connection_at s i).gone (link_of (connection_at s i).activity) l due.1 in
+-- the exchange of the connection at i is abandoned, and its link
+abandons_order : (s : Story) (now i l : ℕ) (told : List Effect) (after : Story) → IsOrderly s → link_of (connection_at s i).activity ≡ Some l → Does s now (Abandons i (Some l)) told after → IsOrderly after × NamesOpen s after told
+abandons_order s now i l told after h linked_here done =
     let here : link_of (activity_at (map activity_told s.connections) i) ≡ Some l = ap link_of (doing_here s.connections i) ∙ linked_here in
     let owner : at (map owner_told s.links) l ≡ Some i = h.wired.owned i l here in
     let link_open : (link_at s l).dropped ≡ false = dropped_of (link_at s l).dropped (link_at s l).connection i (sym (owners_here s.links l) ∙ owner) in
@@ -364,6 +412,85 @@ abandons_order s now i l told after h due done =
     (done.told_is ∙ ap (λ (o : Outcome). effects.Drop (s.first + l) ∷ effects_on i (next_number s) (came s.core.table o)) ended)
     (orderly behind free)
     (record { place = l; number = refl; still = link_open; dropped = ap (λ (k : LinkStory). k.dropped) (get_or-set_same s.links l (dropping (link_at s l)) no_link inside) }, tt)
+
+-- or its request waits
+gives_up_order : (s : Story) (now i : ℕ) (told : List Effect) (after : Story) → IsOrderly s → (connection_at s i).activity ≡ Waiting → Does s now (Abandons i None) told after → IsOrderly after × NamesOpen s after told
+gives_up_order s now i told after h waiting done =
+    let here : activity_at (map activity_told s.connections) i ≡ Waiting = doing_here s.connections i ∙ waiting in
+    let cs = set s.connections i (doing Free (connection_at s i)) in
+    let free : Order cs s.links done.core.exchanges = subst (λ (xs : List Exchange). Order cs s.links xs) (sym (ap (λ (k : CoreState). k.exchanges) done.steps.leaves))
+    (unqueued_order s.connections s.links s.core.exchanges i (connection_at s i) here (order_of s h)) in
+    let behind = with_core (with_connection s i (doing Free)) done.core in
+    let ended : done.outcome ≡ outcomes.Ended = done.steps.outcome_is in
+    both_moved s behind after told []
+    (done.after_is ∙ ap (λ (o : Outcome). after_on i false (came s.core.table o) behind) ended)
+    (done.told_is ∙ ap (λ (o : Outcome). effects_on i (next_number s) (came s.core.table o)) ended)
+    (orderly behind free) tt
+
+-- the request of the connection at i, which waited, is judged anew
+wakes_order : (s : Story) (now i : ℕ) (told : List Effect) (after : Story) → IsOrderly s → IsDueFirst s (Some (Wakes i)) → Woken s now i told after → IsOrderly after × NamesOpen s after told
+wakes_order s now i told after h due d = by_outcome d.1.outcome (woken_remains s.core d.1.core now (i + 1) d.1.outcome is_there d.1.steps) d.1.told_is d.1.after_is
+  where
+    xs : List Exchange
+    xs = s.core.exchanges
+
+    ready : IsReady (i + 1) xs
+    ready = ready_by xs now (i + 1) d.1.steps.allowed
+
+    here : activity_at (map activity_told s.connections) i ≡ Waiting
+    here = ready_waits (map activity_told s.connections) (map owner_told s.links) xs i ready h.wired
+
+    waiting : (connection_at s i).activity ≡ Waiting
+    waiting = sym (doing_here s.connections i) ∙ here
+
+    is_there : is_some (find_exchange (i + 1) xs) ≡ true
+    is_there = ap is_some ready.is_open
+
+    inside : i < length s.connections
+    inside = subst (λ n. i < n) (length-map s.connections activity_told) (waits_inside (map activity_told s.connections) i here)
+
+    unclosed : (connection_at s i).closed ≡ false
+    unclosed = closed_waiting (connection_at s i).closed (connection_at s i).activity (h.free i) waiting
+      where
+        closed_waiting : (b : Bool) (a : Activity) → (b ≡ true → a ≡ Free) → a ≡ Waiting → b ≡ false
+        closed_waiting true a f w = let no : Free ≡ Waiting = sym (f refl) ∙ w in cc
+        closed_waiting false a f w = refl
+
+    unshut : IsOpen s (i + 1)
+    unshut = record { place = i; number = refl; closed = unclosed; gone = gone_by (connection_at s i).gone (has_exchange (connection_at s i).activity) (link_of (connection_at s i).activity) (due.0 i inside) (ap has_exchange waiting) }
+
+    cs : List ConnStory
+    cs = set s.connections i (doing Free (connection_at s i))
+
+    inside_now : i < length cs
+    inside_now = subst (λ n. i < n) (sym (length-set s.connections i (doing Free (connection_at s i)))) inside
+
+    none : (get_or cs i no_connection).activity ≡ Free
+    none = ap (λ (c : ConnStory). c.activity) (get_or-set_same s.connections i (doing Free (connection_at s i)) no_connection inside)
+
+    base : Story
+    base = with_core (with_connection s i (doing Free)) d.1.core
+
+    to_head : Bool
+    to_head = asks_head (find_exchange (i + 1) xs)
+
+    free : (key : Option Key) → d.1.core.exchanges ≡ left_open key (i + 1) xs → Order cs s.links d.1.core.exchanges
+    free key es = subst (λ (es : List Exchange). Order cs s.links es) (sym es) (left_order cs s.links xs key (i + 1) (unqueued_order s.connections s.links xs i (connection_at s i) here (order_of s h)))
+
+    by_outcome : (o : Outcome) → Remains o (i + 1) xs d.1.core.exchanges → told ≡ effects_on i (next_number s) (came s.core.table o) → after ≡ after_on i to_head (came s.core.table o) base → IsOrderly after × NamesOpen s after told
+    by_outcome (outcomes.Reply r) left told_is after_is =
+        let behind = with_connection base i (closing r.close) in
+        both_moved s behind after told (effects_on i (next_number s) (Replies r.bytes r.close)) after_is told_is
+        (orderly behind (closing_order cs s.links d.1.core.exchanges i r.close none (free left.0 left.1)))
+        (names_reply s behind i (next_number s) r.bytes r.close unshut (λ shut. shut_there cs i (get_or cs i no_connection) r.close inside_now shut))
+    by_outcome (outcomes.Forward line bytes) left told_is after_is =
+        let behind = after_on i to_head (came s.core.table (outcomes.Forward line bytes)) base in
+        both_moved s behind after told (effects_on i (next_number s) (came s.core.table (outcomes.Forward line bytes))) after_is told_is
+        (orderly behind (subst (λ (es : List Exchange). Order behind.connections behind.links es) (sym left.2) (roused_order s.connections s.links xs i d.1.core.table.max_body left.0 left.1 to_head (connection_at s i) here unclosed is_there (order_of s h))))
+        (refl, tt)
+    by_outcome (outcomes.Waits leader) left told_is after_is = absurd left
+    by_outcome outcomes.Ended left told_is after_is =
+        both_moved s base after told [] after_is told_is (orderly base (free left.0 left.1)) tt
 
 -- a request arrived on the connection at i
 arrived_order : (s : Story) (now i : ℕ) (m : Next Request) (asked : Asked) (o : Outcome) (core : CoreState) (to_head : Bool) (told : List Effect) (after : Story) → IsOrderly s → i < length s.connections → IsOpen s (i + 1) → (connection_at s i).closed ≡ false → (connection_at s i).activity ≡ Free
@@ -402,8 +529,14 @@ arrived_order s now i m asked o core to_head told after h inside unshut unclosed
         let more : core.exchanges ≡ s.core.exchanges ++ x ∷ [] = ap (λ (k : CoreState). k.exchanges) steps.leaves in
         let behind = after_on i to_head (came s.core.table (outcomes.Forward line bytes)) base in
         both_moved s behind after told (effects_on i (next_number s) (came s.core.table (outcomes.Forward line bytes))) after_is told_is
-        (orderly behind (subst (λ (xs : List Exchange). Order behind.connections behind.links xs) (sym more) (opened_order cs s.links s.core.exchanges x i core.table.max_body to_head inside_now none_now unclosed_now refl passed)))
+        (orderly behind (subst (λ (xs : List Exchange). Order behind.connections behind.links xs) (sym more) (opened_order cs s.links s.core.exchanges x i core.table.max_body to_head inside_now none_now unclosed_now refl refl passed)))
         (refl, tt)
+    by_outcome (outcomes.Waits leader) steps told_is after_is =
+        let x = queued_exchange s.core.table s.core.entries now (i + 1) asked (line_of (verdict_of s.core.table.lines asked.method asked.target)) leader in
+        let more : core.exchanges ≡ s.core.exchanges ++ x ∷ [] = ap (λ (k : CoreState). k.exchanges) steps.leaves in
+        let behind = after_on i to_head (came s.core.table (outcomes.Waits leader)) base in
+        both_moved s behind after told [] after_is told_is
+        (orderly behind (subst (λ (xs : List Exchange). Order behind.connections behind.links xs) (sym more) (queued_order cs s.links s.core.exchanges x i inside_now none_now unclosed_now refl refl passed))) tt
     by_outcome outcomes.Ended steps told_is after_is =
         let same : core.exchanges ≡ s.core.exchanges = ap (λ (k : CoreState). k.exchanges) steps.leaves in
         both_moved s base after told [] after_is told_is (orderly base (subst (λ (xs : List Exchange). Order cs s.links xs) (sym same) passed)) tt
@@ -420,10 +553,10 @@ serves_order : (s : Story) (now i : ℕ) (w : Next Request) (told : List Effect)
 serves_order s now i w told after h due done = by_wish w done
   where
     parts : ((connection_at s i).gone ≡ false) × ((connection_at s i).closed ≡ false) × ((connection_at s i).activity ≡ Free)
-    parts = busy_parts (connection_at s i).gone (connection_at s i).closed (connection_at s i).activity (not_busy (is_busy (connection_at s i).gone (connection_at s i).closed (connection_at s i).activity) (connection_at s i) w due.2.1)
+    parts = busy_parts (connection_at s i).gone (connection_at s i).closed (connection_at s i).activity (not_busy (is_busy (connection_at s i).gone (connection_at s i).closed (connection_at s i).activity) (connection_at s i) w due.3.1)
 
     inside : i < length s.connections
-    inside = due.2.0
+    inside = due.3.0
 
     unshut : IsOpen s (i + 1)
     unshut = record { place = i; number = refl; closed = parts.1; gone = parts.0 }
@@ -458,6 +591,11 @@ serves_order s now i w told after h due done = by_wish w done
     by_wish next.End d = closes d
 
 pub acts_in_order : ActsInOrder
-acts_in_order s now (Abandons i l) told after h due done = abandons_order s now i l told after h due done
+acts_in_order s now (Abandons i (Some l)) told after h due done =
+    abandons_order s now i l told after h (lost_by (connection_at s i).gone (has_exchange (connection_at s i).activity) (link_of (connection_at s i).activity) (Some l) (sym due.1)).2 done
+acts_in_order s now (Abandons i None) told after h due done =
+    let parts = lost_by (connection_at s i).gone (has_exchange (connection_at s i).activity) (link_of (connection_at s i).activity) None (sym due.1) in
+    gives_up_order s now i told after h (waiting_from (connection_at s i).activity parts.1 parts.2) done
 acts_in_order s now (Finishes j f) told after h due done = finishes_order s now j f told after h due done
+acts_in_order s now (Wakes i) told after h due done = wakes_order s now i told after h due done
 acts_in_order s now (Serves i w) told after h due done = serves_order s now i w told after h due done

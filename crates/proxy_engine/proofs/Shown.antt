@@ -1,5 +1,5 @@
 -- What a look shows is what stands.
-use Rattle.std.proofs.Common.{◌≡◌, ℕ, Bool, true, false, ◌||◌, refl, sym, ap, subst, ◌∙◌, cond, Option, None, Some, is_some}
+use Rattle.std.proofs.Common.{◌≡◌, ℕ, Bool, true, false, ◌||◌, refl, sym, ap, subst, ◌∙◌, cond, Option, None, Some, is_some, ◌&&◌}
 use Rattle.hx_framing.specs.declared.requests.Request.{Request}
 use Rattle.hx_framing.specs.declared.responses.Response.{Response}
 use Rattle.hx_framing.specs.declared.answer.Next.{Next}
@@ -82,16 +82,20 @@ pub none_from : {A : Type 0} (o : Option A) → false ≡ is_some o → o ≡ No
 none_from None h = refl
 none_from (Some a) h = cc
 
--- a connection that is gone, or not
-pub lost : (c : Option Connection) (s : ConnStory) (l : ℕ) → ConnStands c s → lost_at c ≡ Some l → Some l ≡ cond s.gone (link_of s.activity) None
+-- a connection that is gone with an open exchange, or not
+pub lost : (c : Option Connection) (s : ConnStory) (l : Option ℕ) → ConnStands c s → lost_at c ≡ Some l → Some l ≡ cond (s.gone && has_exchange s.activity) (Some (link_of s.activity)) None
 lost None s l h e = absurd (cc)
-lost (Some c) s l h e = sym e ∙ (ap (λ (b : Bool). cond b (link_of c.activity) None) h.gone ∙ ap (λ (a : Activity). cond s.gone (link_of a) None) h.activity)
+lost (Some c) s l h e =
+    sym e ∙ (ap (λ (b : Bool). cond (b && has_exchange c.activity) (Some (link_of c.activity)) None) h.gone ∙ ap (λ (a : Activity). cond (s.gone && has_exchange a) (Some (link_of a)) None) h.activity)
 
-gone_by : (gone : Bool) (link : Option ℕ) (l : ℕ) → cond gone link None ≡ Some l → (gone ≡ true) × (link ≡ Some l)
-gone_by true link l e = (refl, e)
-gone_by false link l e = absurd (cc)
+pub lost_by : (gone held : Bool) (link l : Option ℕ) → cond (gone && held) (Some link) None ≡ Some l → (gone ≡ true) × (held ≡ true) × (link ≡ l)
+lost_by true true link l e = let same : link ≡ l = cc in (refl, refl, same)
+lost_by true false link l e = absurd (cc)
+lost_by false held link l e = absurd (cc)
 
--- it is gone, and has that link
-pub lost_link : (o : Option Connection) (l : ℕ) → lost_at o ≡ Some l → (gone_at o ≡ Some true) × (link_of (activity_of o) ≡ Some l)
+-- it is gone, has an open exchange, and that link, if any
+pub lost_link : (o : Option Connection) (l : Option ℕ) → lost_at o ≡ Some l → (gone_at o ≡ Some true) × (has_exchange (activity_of o) ≡ true) × (link_of (activity_of o) ≡ l)
 lost_link None l e = absurd (cc)
-lost_link (Some c) l e = let both = gone_by c.gone (link_of c.activity) l e in (ap (λ (b : Bool). Some b) both.0, both.1)
+lost_link (Some c) l e =
+    let all = lost_by c.gone (has_exchange c.activity) (link_of c.activity) l e in
+    (ap (λ (b : Bool). Some b) all.0, all.1, all.2)

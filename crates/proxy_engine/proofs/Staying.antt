@@ -1,5 +1,5 @@
 -- What is closed, gone or dropped stays so.
-use Rattle.std.proofs.Common.{◌≡◌, ℕ, zero, suc, ◌-◌, ◌<◌, List, [], ◌∷◌, ◌++◌, length, get_or, set, refl, sym, ◌∙◌, subst, arith, Bool, true, false, ◌||◌, cond, Some, is_some, Result, Ok, Err}
+use Rattle.std.proofs.Common.{◌≡◌, ℕ, zero, suc, ◌-◌, ◌<◌, List, [], ◌∷◌, ◌++◌, length, get_or, set, refl, sym, ◌∙◌, subst, arith, Bool, true, false, ◌||◌, cond, Some, is_some, Result, Ok, Err, None}
 use Rattle.std.proofs.lemmas.List.{length_push}
 use Rattle.std.proofs.Math.ListN.{length-set}
 use Rattle.hx_framing.specs.declared.requests.Request.{Request}
@@ -14,10 +14,10 @@ use Rattle.proxy_core.specs.declared.event.Event.{Event}
 use Rattle.proxy_script.specs.declared.effect_list.Effect.{Effect}
 use Rattle.proxy_engine.specs.Happenings.{Accepts, Sends, Hears, Ends, Leaves, Shuts, Fails}
 use Rattle.proxy_engine.specs.Story.{Story, ConnStory, LinkStory, no_connection, no_link, accepted, opened, connection_at, with_connection, with_link, with_core, sent, ended, left, heard_by, shut, failed_by}
-use Rattle.proxy_engine.specs.Due.{Abandons, Finishes, Serves, Gives, Breaks}
-use Rattle.proxy_engine.specs.Acts.{Came, Replies, Forwards, Nothing, Served, Arrives, StepsOn, came, after_on, freed, doing, closing, dropping, passing, with_opened}
+use Rattle.proxy_engine.specs.Due.{Abandons, Finishes, Wakes, Serves, Gives, Breaks}
+use Rattle.proxy_engine.specs.Acts.{Came, Replies, Forwards, Nothing, Served, Arrives, StepsOn, came, after_on, freed, doing, closing, dropping, passing, with_opened, Queues}
 use Rattle.proxy_engine.specs.Orderly.{Stays, TakesStay, ActsStay}
-use Rattle.proxy_engine.specs.declared.activities.Activity.TheVariants.{Free, Forwarded}
+use Rattle.proxy_engine.specs.declared.activities.Activity.TheVariants.{Free, Forwarded, Waiting}
 
 stays_set : {A : Type 0} (P : A → Type 0) (d : A) (xs : List A) (i : ℕ) (y : A) (k : ℕ) → (P (get_or xs i d) → P y) → P (get_or xs k d) → P (get_or (set xs i y) k d)
 stays_set P d [] i y k keep e = e
@@ -126,6 +126,7 @@ stays_opened s i to_head =
 stays_after : (s : Story) (i : ℕ) (to_head : Bool) (o : Came) → Stays s (after_on i to_head o s)
 stays_after s i to_head (Replies bytes close) = stays_closing s i close
 stays_after s i to_head (Forwards address bytes) = stays_opened s i to_head
+stays_after s i to_head Queues = stays_connection s i (doing Waiting) (λ c e. e) (λ c e. e)
 stays_after s i to_head Nothing = stays_here s s.core
 
 stays_freed : (s : Story) (j i : ℕ) → Stays s (freed s j i)
@@ -164,7 +165,9 @@ stays_served s now i (next.Refused frame.Status) told after d = stays_equal s _ 
 stays_served s now i next.End told after d = stays_equal s _ after d.1 (stays_closing s i true)
 
 pub acts_stay : ActsStay
-acts_stay s now (Abandons i l) told after d = stays_stepped s (freed s l i) i _ _ _ told after (stays_freed s l i) d
+acts_stay s now (Abandons i (Some l)) told after d = stays_stepped s (freed s l i) i _ _ _ told after (stays_freed s l i) d
+acts_stay s now (Abandons i None) told after d = stays_stepped s (with_connection s i (doing Free)) i _ _ _ told after (stays_connection s i (doing Free) (λ c e. e) (λ c e. e)) d
 acts_stay s now (Finishes j (Gives r)) told after d = stays_stepped s (freed s j _) _ _ _ _ told after (stays_freed s j _) d.1
 acts_stay s now (Finishes j (Breaks kind)) told after d = stays_stepped s (freed s j _) _ _ _ _ told after (stays_freed s j _) d
+acts_stay s now (Wakes i) told after d = stays_stepped s (with_connection s i (doing Free)) i _ _ _ told after (stays_connection s i (doing Free) (λ c e. e) (λ c e. e)) d.1
 acts_stay s now (Serves i w) told after d = stays_served s now i w told after d

@@ -19,9 +19,10 @@ use Rattle.proxy_script.specs.declared.effect_list.Effect.TheVariants as effects
 use Rattle.hx_framing.specs.declared.responses.Response.{Response}
 use Rattle.hx_status.specs.declared.cause.FailKind.{FailKind}
 use Rattle.proxy_engine.specs.Look.{Look, Unknown, Quiet, Due}
+use Rattle.proxy_engine.specs.declared.activities.Activity.TheVariants.{Free}
 use Rattle.proxy_engine.specs.Story.{Story, link_at, with_connection, with_core}
-use Rattle.proxy_engine.specs.Due.{Abandons, Finish, Gives, Breaks, Finishes, Serves, IsDueFirst}
-use Rattle.proxy_engine.specs.Acts.{Came, StepsOn, Finished, asks_head, came, came_at, passing, freed, effects_on, after_on, next_number}
+use Rattle.proxy_engine.specs.Due.{Abandons, Finish, Gives, Breaks, Finishes, Wakes, Serves, IsDueFirst}
+use Rattle.proxy_engine.specs.Acts.{Came, StepsOn, Finished, asks_head, came, came_at, doing, passing, freed, effects_on, after_on, next_number}
 use Rattle.proxy_engine.specs.State.{LinkStands, Stands, state, finish_seen, finish_at, finish_load, link_load, Done, Failed}
 use Rattle.proxy_engine.specs.Wishes.{gives, IsFinishedBy, EndFault}
 use Rattle.proxy_engine.specs.declared.happening.EngineFault.TheVariants.{OutOfMemory, Spent}
@@ -73,7 +74,7 @@ abandoned_by table es xs (Some x) next id = refl
 
 -- a link whose connection is gone is dropped
 pub abandoned_done : (s : Story) (cs1 : List (Option Connection)) (ks1 : List (Option Link)) (core core1 : CoreState) (first now i l : ℕ) (o : Outcome) (told : List Effect) → Steps core (events.Abandon (i + 1)) o core1
-    → told ≡ effects.Drop (first + l) ∷ [] → first ≡ s.first → core ≡ s.core → Stands (state cs1 ks1 core first) (freed s l i) → Done s now (Abandons i l) told (state cs1 ks1 core1 first)
+    → told ≡ effects.Drop (first + l) ∷ [] → first ≡ s.first → core ≡ s.core → Stands (state cs1 ks1 core first) (freed s l i) → Done s now (Abandons i (Some l)) told (state cs1 ks1 core1 first)
 abandoned_done s cs1 ks1 core core1 first now i l o told steps is first_is core_is h =
     let ends : o ≡ outcomes.Ended = steps.outcome_is ∙ abandoned_by core.table core.entries core.exchanges (find_exchange (i + 1) core.exchanges) core.next (i + 1) in
     record {
@@ -86,6 +87,58 @@ abandoned_done s cs1 ks1 core core1 first now i l o told steps is first_is core_
         after_is = refl;
       };
       stands = subst (λ (q : Outcome). Stands (state cs1 ks1 core1 first) (after_on i false (came s.core.table q) (with_core (freed s l i) core1))) (sym ends) (changed_core cs1 ks1 core first core1 (freed s l i) h);
+    }
+
+-- one whose request waits has no link
+pub given_up_done : (s : Story) (cs1 : List (Option Connection)) (ks1 : List (Option Link)) (core core1 : CoreState) (first now i : ℕ) (o : Outcome) (told : List Effect) → Steps core (events.Abandon (i + 1)) o core1
+    → told ≡ [] → core ≡ s.core → Stands (state cs1 ks1 core first) (with_connection s i (doing Free)) → Done s now (Abandons i None) told (state cs1 ks1 core1 first)
+given_up_done s cs1 ks1 core core1 first now i o told steps is core_is h =
+    let ends : o ≡ outcomes.Ended = steps.outcome_is ∙ abandoned_by core.table core.entries core.exchanges (find_exchange (i + 1) core.exchanges) core.next (i + 1) in
+    let free = with_connection s i (doing Free) in
+    record {
+      after = after_on i false (came s.core.table o) (with_core free core1);
+      does = record {
+        outcome = o;
+        core = core1;
+        steps = subst (λ (k : CoreState). Steps k (events.Abandon (i + 1)) o core1) core_is steps;
+        told_is = is ∙ sym (ap (λ (q : Outcome). effects_on i (next_number s) (came s.core.table q)) ends);
+        after_is = refl;
+      };
+      stands = subst (λ (q : Outcome). Stands (state cs1 ks1 core1 first) (after_on i false (came s.core.table q) (with_core free core1))) (sym ends) (changed_core cs1 ks1 core first core1 free h);
+    }
+
+-- a request that waited was judged anew
+pub woken_done : (s : Story) (cs1 cs2 : List (Option Connection)) (ks1 ks2 : List (Option Link)) (core core1 : CoreState) (first now i max_body : ℕ) (o : Outcome) (address : List ℕ) (to_head : Bool) (told : List Effect)
+    → Steps core (events.Wake now (i + 1)) o core1 → first + length ks1 < 2 ^ 64
+    → came_at address o ≡ came core.table o → max_body ≡ core.table.max_body → to_head ≡ asks_head (find_exchange (i + 1) core.exchanges)
+    → told ≡ effects_on i (first + length ks1) (came_at address o)
+    → ((t : Story) (k : CoreState) → k.table.max_body ≡ max_body → Stands (state cs1 ks1 k first) t → Stands (state cs2 ks2 k first) (after_on i to_head (came_at address o) t))
+    → Stands (state cs1 ks1 core first) (with_connection s i (doing Free)) → Done s now (Wakes i) told (state cs2 ks2 core1 first)
+woken_done s cs1 cs2 ks1 ks2 core core1 first now i max_body o address to_head told steps small way most head tells applies before =
+    let free = with_connection s i (doing Free) in
+    let core_is : core ≡ s.core = before.core in
+    let stepped : Stands (state cs1 ks1 core1 first) (with_core free core1) = changed_core cs1 ks1 core first core1 free before in
+    let coming : came_at address o ≡ came s.core.table o = way ∙ ap (λ (k : CoreState). came k.table o) core_is in
+    let heads : to_head ≡ asks_head (find_exchange (i + 1) s.core.exchanges) = head ∙ ap (λ (k : CoreState). asks_head (find_exchange (i + 1) k.exchanges)) core_is in
+    let links : length ks1 ≡ length s.links = both_length LinkStands ks1 s.links before.links in
+    let first_is : first ≡ s.first = before.first in
+    let number : first + length ks1 ≡ next_number s = omega (arith, links, first_is) in
+    let most_after : core1.table.max_body ≡ max_body = ap (λ (k : CoreState). k.table.max_body) steps.leaves ∙ sym most in
+    let done = applies (with_core free core1) core1 most_after stepped in
+    record {
+      after = after_on i (asks_head (find_exchange (i + 1) s.core.exchanges)) (came s.core.table o) (with_core free core1);
+      does = (
+        omega (arith, number, small),
+        record {
+          outcome = o;
+          core = core1;
+          steps = subst (λ (k : CoreState). Steps k (events.Wake now (i + 1)) o core1) core_is steps;
+          told_is = tells ∙ (ap (λ n. effects_on i n (came_at address o)) number ∙ ap (effects_on i (next_number s)) coming);
+          after_is = refl;
+        },
+      );
+      stands = subst (λ (b : Bool). Stands (state cs2 ks2 core1 first) (after_on i b (came s.core.table o) (with_core free core1))) heads
+          (subst (λ (q : Came). Stands (state cs2 ks2 core1 first) (after_on i to_head q (with_core free core1))) coming done);
     }
 
 -- what stands on a link, where it goes

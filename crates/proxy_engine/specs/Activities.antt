@@ -1,16 +1,25 @@
 -- What a connection does with the last request that it took.
 --
 -- link_of: the link on which it went forward     has_exchange: its exchange is open
+-- forwarded_in: whether the request of its open exchange is at the origin
 use Rattle.std.specs.Prelude.{ℕ, Bool, true, false, Option, None, Some}
 use Rattle.proxy_engine.specs.declared.activities.Activity.{Activity}
-use Rattle.proxy_engine.specs.declared.activities.Activity.TheVariants.{Free, Forwarded}
+use Rattle.proxy_engine.specs.declared.activities.Activity.TheVariants.{Free, Forwarded, Waiting}
 
 -- the place of the link on which the request went forward
 abbrev pub link_of : Activity → Option ℕ
 link_of Free = None
 link_of (Forwarded place) = Some place
+link_of Waiting = None
 
 -- an exchange is open
 abbrev pub has_exchange : Activity → Bool
 has_exchange Free = false
 has_exchange (Forwarded place) = true
+has_exchange Waiting = true
+
+-- an exchange is open, and its request is at the origin or waits
+abbrev pub forwarded_in : Activity → Option Bool
+forwarded_in Free = None
+forwarded_in (Forwarded place) = Some true
+forwarded_in Waiting = Some false

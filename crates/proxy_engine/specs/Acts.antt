@@ -26,14 +26,15 @@ use Rattle.proxy_script.specs.declared.effect_list.Effect.{Effect}
 use Rattle.proxy_script.specs.declared.effect_list.Effect.TheVariants as effects
 use Rattle.proxy_engine.specs.Admitted.{Refusal, IsAdmitted}
 use Rattle.proxy_engine.specs.Story.{Story, ConnStory, LinkStory, opened, connection_at, link_at, with_connection, with_link, with_core}
-use Rattle.proxy_engine.specs.Due.{Finish, Gives, Breaks, Act, Abandons, Finishes, Serves}
+use Rattle.proxy_engine.specs.Due.{Finish, Gives, Breaks, Act, Abandons, Finishes, Wakes, Serves}
 use Rattle.proxy_engine.specs.declared.activities.Activity.{Activity}
-use Rattle.proxy_engine.specs.declared.activities.Activity.TheVariants.{Free, Forwarded}
+use Rattle.proxy_engine.specs.declared.activities.Activity.TheVariants.{Free, Forwarded, Waiting}
 
--- an answer to the client, a request to the origin at an address, or nothing
+-- an answer to the client, a request to the origin at an address, a request that waits, or nothing
 pub data Came : Type 0 where
   Replies : (bytes : List ℕ) (close : Bool) → Came
   Forwards : (address bytes : List ℕ) → Came
+  Queues : Came
   Nothing : Came
 
 -- the address of the origin of a line
@@ -48,12 +49,14 @@ HasRoomFor table bytes = (line : ℕ) → length (address_of table line) ≤ byt
 abbrev pub came_at : List ℕ → Outcome → Came
 came_at address (outcomes.Reply r) = Replies r.bytes r.close
 came_at address (outcomes.Forward line bytes) = Forwards address bytes
+came_at address (outcomes.Waits leader) = Queues
 came_at address outcomes.Ended = Nothing
 
 -- an outcome by this table
 abbrev pub came : Table → Outcome → Came
 came table (outcomes.Reply r) = Replies r.bytes r.close
 came table (outcomes.Forward line bytes) = Forwards (address_of table line) bytes
+came table (outcomes.Waits leader) = Queues
 came table outcomes.Ended = Nothing
 
 abbrev pub closing : Bool → ConnStory → ConnStory
@@ -71,6 +74,16 @@ dropping k = record k { dropped = true }
 -- the link at j is dropped, and the connection at i is free
 abbrev pub freed : Story → ℕ → ℕ → Story
 freed s j i = with_connection (with_link s j dropping) i (doing Free)
+
+-- the exchange of the connection at i ends: its link is dropped, if it has one
+abbrev pub freed_by : Story → Option ℕ → ℕ → Story
+freed_by s (Some j) i = freed s j i
+freed_by s None i = with_connection s i (doing Free)
+
+-- which is told
+abbrev pub drops_on : ℕ → Option ℕ → List Effect
+drops_on first (Some l) = effects.Drop (first + l) ∷ []
+drops_on first None = []
 
 -- a link is opened for the connection at i; it answers a HEAD or not
 abbrev pub with_opened : Story → ℕ → Bool → Story
@@ -90,11 +103,13 @@ asks_head (Some x) = is_head x.asked
 abbrev pub effects_on : ℕ → ℕ → Came → List Effect
 effects_on i number (Replies bytes close) = effects.Client (i + 1) bytes ∷ (if close then effects.Close (i + 1) ∷ [] else [])
 effects_on i number (Forwards address bytes) = effects.Forward number address bytes ∷ []
+effects_on i number Queues = []
 effects_on i number Nothing = []
 
 abbrev pub after_on : ℕ → Bool → Came → Story → Story
 after_on i to_head (Replies bytes close) s = with_connection s i (closing close)
 after_on i to_head (Forwards address bytes) s = with_opened s i to_head
+after_on i to_head Queues s = with_connection s i (doing Waiting)
 after_on i to_head Nothing s = s
 
 -- the number of the next link
@@ -154,17 +169,24 @@ Finished s now j i (Gives r) told after =
 Finished s now j i (Breaks kind) told after =
     StepsOn s (freed s j i) i (asks_head (find_exchange (i + 1) s.core.exchanges)) (events.Fail now (i + 1) kind) (effects.Drop (s.first + j) ∷ []) told after
 
+-- the request of the connection at i waited, and is judged anew
+abbrev pub Woken : Story → ℕ → ℕ → List Effect → Story → Type 0
+Woken s now i told after =
+    (next_number s < 2 ^ 64) × StepsOn s (with_connection s i (doing Free)) i (asks_head (find_exchange (i + 1) s.core.exchanges)) (events.Wake now (i + 1)) [] told after
+
 -- an act was done, with these effects
 abbrev pub Does : Story → ℕ → Act → List Effect → Story → Type 0
-Does s now (Abandons i l) told after = StepsOn s (freed s l i) i false (events.Abandon (i + 1)) (effects.Drop (s.first + l) ∷ []) told after
+Does s now (Abandons i l) told after = StepsOn s (freed_by s l i) i false (events.Abandon (i + 1)) (drops_on s.first l) told after
 Does s now (Finishes j finish) told after = Finished s now j (link_at s j).connection finish told after
+Does s now (Wakes i) told after = Woken s now i told after
 Does s now (Serves i wish) told after = Served s now i wish told after
 
--- an arrival or an answer, which may go forward
+-- an arrival, an answer or a wake, which may go forward
 abbrev pub MayForward : Act → Type 0
 MayForward (Abandons i l) = ⊥
 MayForward (Finishes j (Gives r)) = Unit {0}
 MayForward (Finishes j (Breaks kind)) = ⊥
+MayForward (Wakes i) = Unit {0}
 MayForward (Serves i (next.Message r)) = (asked : Asked) × IsAdmitted r (Ok asked)
 MayForward (Serves i next.More) = ⊥
 MayForward (Serves i next.NeedsContinue) = ⊥

@@ -1,8 +1,8 @@
 -- What is due at the ends of the proxy, and which act is due first.
 --
 -- Finish, finish_of: what stands on a link    Lost, Stood, Wanted: what is due at one end
--- Act, IsDueFirst: the first act that is due, or that none is
-use Rattle.std.specs.Prelude.{◌≡◌, ℕ, ◌<◌, List, length, Bool, true, false, ◌||◌, Option, None, Some, if◌then◌else◌, slice_index_or}
+-- next_ready: the first request that may be woken            Act, IsDueFirst: the first act that is due, or that none is
+use Rattle.std.specs.Prelude.{◌≡◌, ℕ, ◌<◌, List, length, Bool, true, false, ◌||◌, Option, None, Some, if◌then◌else◌, slice_index_or, ◌+◌, ◌&&◌, slice_get}
 use Rattle.std.specs.Option.{option_map}
 use Rattle.hx_framing.specs.declared.requests.Request.{Request}
 use Rattle.hx_framing.specs.declared.responses.Response.{Response}
@@ -15,6 +15,8 @@ use Rattle.hx_framing.specs.ResponseStream.{Answers as ResponseAnswers}
 use Rattle.hx_status.specs.declared.cause.FailKind.{FailKind}
 use Rattle.hx_status.specs.declared.cause.FailKind.TheVariants as kinds
 use Rattle.proxy_engine.specs.Activities.{link_of, has_exchange}
+use Rattle.proxy_core.specs.Leading.{ready_ids}
+use Rattle.proxy_core.specs.State.{State as CoreState}
 use Rattle.proxy_engine.specs.Story.{Story, ConnStory, LinkStory, no_connection, no_link}
 use Rattle.proxy_engine.specs.declared.activities.Activity.{Activity}
 
@@ -52,9 +54,9 @@ wish_of (next.Message m) = Some (next.Message m)
 wish_of (next.Refused fault) = Some (next.Refused fault)
 wish_of next.End = Some next.End
 
--- the link of a gone connection with an open exchange
-abbrev pub Lost : ConnStory → Option ℕ → Type 0
-Lost c o = o ≡ (if c.gone then link_of c.activity else None)
+-- a gone connection with an open exchange: its link, if its request went forward
+abbrev pub Lost : ConnStory → Option (Option ℕ) → Type 0
+Lost c o = o ≡ (if c.gone && has_exchange c.activity then Some (link_of c.activity) else None)
 
 abbrev pub FinishBy : Bool → LinkStory → Option Finish → Type 0
 FinishBy true k o = o ≡ None
@@ -81,17 +83,24 @@ abbrev pub IsFirst : {A B : Type 0} → (A → Option B → Type 0) → A → Li
 IsFirst R a xs None = (i : ℕ) → i < length xs → R (slice_index_or xs i a) None
 IsFirst R a xs (Some p) = (p.0 < length xs) × R (slice_index_or xs p.0 a) (Some p.1) × ((j : ℕ) → j < p.0 → R (slice_index_or xs j a) None)
 
--- an exchange is abandoned, a link is finished, a connection is served
+-- an exchange is abandoned, with its link if it has one; a link is finished; a request that waited is woken; a connection is served
 pub data Act : Type 0 where
-  Abandons : (i l : ℕ) → Act
+  Abandons : (i : ℕ) (l : Option ℕ) → Act
   Finishes : (j : ℕ) (finish : Finish) → Act
+  Wakes : (i : ℕ) → Act
   Serves : (i : ℕ) (wish : Next Request) → Act
+
+-- the id of the first request to arrive of those that waited and may be woken
+abbrev pub next_ready : CoreState → Option ℕ
+next_ready core = slice_get (ready_ids core.exchanges) 0
 
 -- the first act that is due, or that none is
 abbrev pub IsDueFirst : Story → Option Act → Type 0
 IsDueFirst s (Some (Abandons i l)) = IsFirst Lost no_connection s.connections (Some (i, l))
 IsDueFirst s (Some (Finishes j f)) = IsFirst Lost no_connection s.connections None × IsFirst Stood no_link s.links (Some (j, f))
+IsDueFirst s (Some (Wakes i)) =
+    IsFirst Lost no_connection s.connections None × IsFirst Stood no_link s.links None × (next_ready s.core ≡ Some (i + 1))
 IsDueFirst s (Some (Serves i w)) =
-    IsFirst Lost no_connection s.connections None × IsFirst Stood no_link s.links None × IsFirst Wanted no_connection s.connections (Some (i, w))
+    IsFirst Lost no_connection s.connections None × IsFirst Stood no_link s.links None × (next_ready s.core ≡ None) × IsFirst Wanted no_connection s.connections (Some (i, w))
 IsDueFirst s None =
-    IsFirst Lost no_connection s.connections None × IsFirst Stood no_link s.links None × IsFirst Wanted no_connection s.connections None
+    IsFirst Lost no_connection s.connections None × IsFirst Stood no_link s.links None × (next_ready s.core ≡ None) × IsFirst Wanted no_connection s.connections None

@@ -22,8 +22,8 @@ use Rattle.proxy_script.specs.declared.effect_list.Effect.TheVariants as effects
 use Rattle.proxy_engine.specs.Admitted.{Refusal, IsAdmitted}
 use Rattle.proxy_engine.specs.Happenings.{Said}
 use Rattle.proxy_engine.specs.Story.{Story, link_at, heard, fault_of}
-use Rattle.proxy_engine.specs.Due.{Act, Abandons, Finishes, Serves, Gives, Breaks, IsDueFirst}
-use Rattle.proxy_engine.specs.Acts.{Does, came, effects_on, continue_text, next_number}
+use Rattle.proxy_engine.specs.Due.{Act, Abandons, Finishes, Wakes, Serves, Gives, Breaks, IsDueFirst}
+use Rattle.proxy_engine.specs.Acts.{drops_on, Does, came, effects_on, continue_text, next_number}
 use Rattle.proxy_engine.specs.State.{begun}
 
 -- a happening was taken, or an act was done at a moment, with its effects
@@ -51,20 +51,23 @@ told_of (Worked now act told ∷ past) = told_of past ++ told
 abbrev pub place_of : Story → Act → ℕ
 place_of s (Abandons i l) = i
 place_of s (Finishes j finish) = (link_at s j).connection
+place_of s (Wakes i) = i
 place_of s (Serves i wish) = i
 
--- the link on which its exchange stood is dropped
+-- the link on which its exchange stood is dropped, if it had one
 abbrev pub drops_of : Story → Act → List Effect
-drops_of s (Abandons i l) = effects.Drop (s.first + l) ∷ []
+drops_of s (Abandons i l) = drops_on s.first l
 drops_of s (Finishes j finish) = effects.Drop (s.first + j) ∷ []
+drops_of s (Wakes i) = []
 drops_of s (Serves i wish) = []
 
 -- The event that an act asks the core about at a moment: the client's going away, the response that the origin's stream spells, the
--- failure, or the request that the client's stream spells.
+-- failure, the wake, or the request that the client's stream spells.
 abbrev pub IsEventOf : Story → ℕ → Act → Event → Type 0
 IsEventOf s now (Abandons i l) event = event ≡ events.Abandon (i + 1)
 IsEventOf s now (Finishes j (Gives r)) event = event ≡ events.Answer now ((link_at s j).connection + 1) r
 IsEventOf s now (Finishes j (Breaks kind)) event = event ≡ events.Fail now ((link_at s j).connection + 1) kind
+IsEventOf s now (Wakes i) event = event ≡ events.Wake now (i + 1)
 IsEventOf s now (Serves i (next.Message r)) event = (asked : Asked) × IsAdmitted r (Ok asked) × (event ≡ events.Arrive now (i + 1) asked)
 IsEventOf s now (Serves i next.More) event = ⊥
 IsEventOf s now (Serves i next.NeedsContinue) event = ⊥
@@ -75,6 +78,7 @@ IsEventOf s now (Serves i next.End) event = ⊥
 abbrev pub HasNoEvent : Act → Type 0
 HasNoEvent (Abandons i l) = ⊥
 HasNoEvent (Finishes j finish) = ⊥
+HasNoEvent (Wakes i) = ⊥
 HasNoEvent (Serves i (next.Message r)) = (refusal : Refusal) × IsAdmitted r (Err refusal)
 HasNoEvent (Serves i next.More) = ⊥
 HasNoEvent (Serves i next.NeedsContinue) = Unit {0}

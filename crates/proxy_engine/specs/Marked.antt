@@ -69,10 +69,10 @@ NoneBelow {A} flag open_ends n = (j : ℕ) (x : A) → j < n → get nat_cmp ope
 abbrev pub NoneAtAll : {A : Type 0} → (A → Bool) → BTreeMap ℕ A → Type 0
 NoneAtAll {A} flag open_ends = (j : ℕ) (x : A) → get nat_cmp open_ends j ≡ Some x → flag x ≡ false
 
--- the link of a connection that is gone
-abbrev pub lost_at : Option Connection → Option ℕ
+-- the connection is gone with an open exchange: its link, if its request went forward
+abbrev pub lost_at : Option Connection → Option (Option ℕ)
 lost_at None = None
-lost_at (Some c) = if c.gone then link_of c.activity else None
+lost_at (Some c) = if may_be_lost c then Some (link_of c.activity) else None
 
 -- a look has found something, and that is what stands there
 abbrev pub StandsThere : Option Link → Type 0

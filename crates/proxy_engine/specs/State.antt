@@ -19,7 +19,8 @@ use Rattle.proxy_engine.specs.RequestWatch.{Stands as RequestStands, load}
 use Rattle.proxy_engine.specs.ResponseWatch.{Stands as ResponseStands}
 use Rattle.proxy_engine.specs.Story.{Story, ConnStory, LinkStory, no_connection, no_link, fault_of, heard}
 use Rattle.proxy_engine.specs.Due.{Finish, Breaks, finish_of, wish_of, is_busy, IsFirst, Stood, Wanted, Act, IsDueFirst}
-use Rattle.proxy_engine.specs.declared.activities.Activity.TheVariants.{Free}
+use Rattle.proxy_engine.specs.declared.activities.Activity.{Activity}
+use Rattle.proxy_engine.specs.declared.activities.Activity.TheVariants.{Free, Forwarded, Waiting}
 use Rattle.proxy_engine.specs.declared.ends.Connection.{Connection}
 use Rattle.proxy_engine.specs.declared.ends.Link.{Link}
 use Rattle.proxy_engine.specs.declared.happening.EngineFault.{EngineFault}
@@ -166,10 +167,16 @@ wish_load (Some (next.Message m)) = 1
 wish_load (Some (next.Refused fault)) = 0
 wish_load (Some next.End) = 0
 
--- a message or a continue counts three, a connection that isn't over one
+-- a request that waits is woken, and then may go forward
+abbrev pub wait_load : Activity → ℕ
+wait_load Free = 0
+wait_load (Forwarded place) = 0
+wait_load Waiting = 2
+
+-- a message or a continue counts three, a connection that isn't over one, and one whose request waits two more
 abbrev pub connection_load : Option Connection → ℕ
 connection_load None = 0
-connection_load (Some c) = 3 * load c.watch + 1
+connection_load (Some c) = 3 * load c.watch + (1 + wait_load c.activity)
 
 -- an answer that may stand there counts one, and so does a failure
 abbrev pub finish_load : Look Response → Option FailKind → ℕ

@@ -69,4 +69,12 @@ EndFault spent (Breaks kind) Spent = ⊥
 abbrev pub goes_forward : Outcome → Bool
 goes_forward (outcomes.Reply reply) = false
 goes_forward (outcomes.Forward line bytes) = true
+goes_forward (outcomes.Waits leader) = false
 goes_forward outcomes.Ended = false
+
+-- what an outcome leaves to do: on the link of a request that goes forward, or of one that waits
+abbrev pub outcome_load : Outcome → ℕ
+outcome_load (outcomes.Reply reply) = 0
+outcome_load (outcomes.Forward line bytes) = 1
+outcome_load (outcomes.Waits leader) = 2
+outcome_load outcomes.Ended = 0

@@ -9,6 +9,8 @@ pub(crate) enum Activity {
     Free,
     /// The request went forward on the link at this place.
     Forwarded(u64),
+    /// The request waits for the answer to another.
+    Waiting,
 }
 
 impl Activity {
@@ -19,6 +21,7 @@ impl Activity {
         match self {
             Activity::Free => None,
             Activity::Forwarded(place) => Some(place),
+            Activity::Waiting => None,
         }
     }
 
@@ -28,7 +31,7 @@ impl Activity {
     {
         match self {
             Activity::Free => false,
-            Activity::Forwarded(_) => true,
+            Activity::Forwarded(_) | Activity::Waiting => true,
         }
     }
 }

@@ -1,7 +1,8 @@
-//! The first act that is due: an exchange is abandoned, else one is finished, else a connection is served.
+//! The first act that is due: an exchange is abandoned, else one is finished, else a request that waited is woken, else a
+//! connection is served.
 ghost use Rattle.std.specs.Prelude.{◌≡◌, ◌<◌, ◌≤◌, None, Some, IfOk, IfErr, OnErr};
 ghost use Rattle.proxy_engine.specs.Story.{Story, no_connection, no_link};
-ghost use Rattle.proxy_engine.specs.Due.{IsFirst, Lost, Stood};
+ghost use Rattle.proxy_engine.specs.Due.{IsFirst, Lost, Stood, next_ready};
 ghost use Rattle.proxy_engine.specs.State.{Stands, NoneLost, load_at, Did, Failed, Lessens};
 
 use crate::engine::Engine;
@@ -14,10 +15,10 @@ impl<S: Shelf> Engine<S> {
     fn serve_first(&mut self, alloc: Global, now: u64) -> Result<Work, EngineFault>
         requires early { now < 253402300800 }
         ensures ok { IfOk result (λ work. (s : Story) → IsFirst Lost no_connection s.connections None → IsFirst Stood no_link s.links None
-            → Stands self.old s → Did s now work self.new) }
+            → next_ready s.core ≡ None → Stands self.old s → Did s now work self.new) }
         ensures less { IfOk result (λ work. Lessens self.old work self.new) }
         ensures fault { IfErr result (λ fault. (s : Story) → IsFirst Lost no_connection s.connections None → IsFirst Stood no_link s.links None
-            → Stands self.old s → Failed s fault) }
+            → next_ready s.core ≡ None → Stands self.old s → Failed s fault) }
         ensures unchanged { OnErr result ((s : Story) → Stands self.old s → Stands self.new s) }
         ensures no_more { OnErr result (load_at self.new ≤ load_at self.old) }
     {
@@ -28,6 +29,27 @@ impl<S: Shelf> Engine<S> {
             },
             Ok(None) => Ok(Work::Idle),
             Err(_) => Err(EngineFault::OutOfMemory),
+        }
+    }
+
+    /// Wakes the first request to arrive of those that waited and may be woken, where no client with an exchange is gone.
+    fn wake_first(&mut self, alloc: Global, now: u64) -> Result<Work, EngineFault>
+        requires early { now < 253402300800 }
+        requires here { NoneLost self.old.connections }
+        ensures ok { IfOk result (λ work. (s : Story) → IsFirst Lost no_connection s.connections None → IsFirst Stood no_link s.links None
+            → Stands self.old s → Did s now work self.new) }
+        ensures less { IfOk result (λ work. Lessens self.old work self.new) }
+        ensures fault { IfErr result (λ fault. (s : Story) → IsFirst Lost no_connection s.connections None → IsFirst Stood no_link s.links None
+            → Stands self.old s → Failed s fault) }
+        ensures unchanged { OnErr result ((s : Story) → Stands self.old s → Stands self.new s) }
+        ensures no_more { OnErr result (load_at self.new ≤ load_at self.old) }
+    {
+        match self.core.first_ready() {
+            Some(id) => match self.wake(alloc, now, id) {
+                Ok(effects) => Ok(Work::Did(effects)),
+                Err(fault) => Err(fault),
+            },
+            None => self.serve_first(alloc, now),
         }
     }
 
@@ -48,7 +70,7 @@ impl<S: Shelf> Engine<S> {
                 Ok(effects) => Ok(Work::Did(effects)),
                 Err(fault) => Err(fault),
             },
-            Ok(None) => self.serve_first(alloc, now),
+            Ok(None) => self.wake_first(alloc, now),
             Err(_) => Err(EngineFault::OutOfMemory),
         }
     }
@@ -64,7 +86,7 @@ impl<S: Shelf> Engine<S> {
         ensures no_more { OnErr result (load_at self.new ≤ load_at self.old) }
     {
         match self.ends.connections.find_lost() {
-            Some((i, l)) => match self.abandon(alloc, i, l) {
+            Some((i, link)) => match self.abandon(alloc, i, link) {
                 Ok(effects) => Ok(Work::Did(effects)),
                 Err(_) => Err(EngineFault::OutOfMemory),
             },

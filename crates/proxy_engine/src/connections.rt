@@ -194,12 +194,13 @@ impl Connections {
         self.waiting.remove(i);
     }
 
-    /// The first connection that is gone with an open exchange, and its link.
-    pub(crate) fn find_lost(&mut self) -> Option<(u64, u64)>
+    /// The first connection that is gone with an open exchange, and its link, if its request went forward.
+    pub(crate) fn find_lost(&mut self) -> Option<(u64, Option<u64>)>
         ensures same { self.new.items ≡ self.old.items }
         ensures first { (ss : List ConnStory) → Both ConnStands self.old.items ss → IsFirst Lost no_connection ss result }
         ensures none { IfNone result (NoneLost self.old.items) }
-        ensures linked { IfSome result (λ p. link_of (activity_at (activities_of self.old.items) p.0) ≡ Some p.1) }
+        ensures open { IfSome result (λ p. has_exchange (activity_at (activities_of self.old.items) p.0) ≡ true) }
+        ensures linked { IfSome result (λ p. link_of (activity_at (activities_of self.old.items) p.0) ≡ p.1) }
         ensures gone { IfSome result (λ p. gone_at (slice_index_or self.old.items p.0 None) ≡ Some true) }
     {
         first_lost(&self.ends, &mut self.lost)

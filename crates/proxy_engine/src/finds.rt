@@ -13,14 +13,14 @@ use crate::places::Places;
 use std::alloc::{AllocError, Global};
 use std::collections::BTreeMap;
 
-/// The link of the connection at a place, if it is gone.
-fn lost_link(ends: &BTreeMap<u64, Connection>, i: u64) -> Option<u64>
+/// Whether the connection at a place is gone with an open exchange, and its link, if its request went forward.
+fn lost_link(ends: &BTreeMap<u64, Connection>, i: u64) -> Option<Option<u64>>
     ensures { result ≡ lost_at (get nat_cmp ends.now i) }
 {
     match ends.get(&i) {
         Some(connection) => {
-            if connection.gone {
-                connection.activity.link()
+            if connection.gone && connection.activity.has_exchange() {
+                Some(connection.activity.link())
             } else {
                 None
             }
@@ -29,8 +29,12 @@ fn lost_link(ends: &BTreeMap<u64, Connection>, i: u64) -> Option<u64>
     }
 }
 
-/// The first connection that is gone with an open exchange, and its link. Places are dropped where none is.
-pub(crate) fn first_lost(ends: &BTreeMap<u64, Connection>, lost: &mut Places) -> Option<(u64, u64)>
+/// The first connection that is gone with an open exchange, and its link, if its request went forward. Places are dropped where
+/// none is.
+pub(crate) fn first_lost(
+    ends: &BTreeMap<u64, Connection>,
+    lost: &mut Places,
+) -> Option<(u64, Option<u64>)>
     requires { IsMarked may_be_lost ends.now lost.old }
     ensures marked { IsMarked may_be_lost ends.now lost.new }
     ensures fewer { (q : ℕ) → Contains lost.new.places q → Contains lost.old.places q }

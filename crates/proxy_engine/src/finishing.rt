@@ -1,5 +1,5 @@
 //! An exchange ends: its origin has answered or failed, or its client is gone.
-ghost use Rattle.std.specs.Prelude.{◌≡◌, ℕ, ◌+◌, ◌<◌, ◌≤◌, ◌^◌, nat_le, List, [], length, vec_len, vec_capacity, true, false, Some, is_some, IfOk, IfErr, OnOk, OnErr, slice_index_or};
+ghost use Rattle.std.specs.Prelude.{◌≡◌, ℕ, ◌+◌, ◌<◌, ◌≤◌, ◌^◌, nat_le, List, [], None, length, vec_len, vec_capacity, true, false, Some, is_some, IfOk, IfErr, OnOk, OnErr, slice_index_or};
 ghost use Rattle.hx_framing.specs.declared.responses.Response.{Response as Told};
 ghost use Rattle.hx_framing.specs.declared.answer.Next.{Next as Answer};
 ghost use Rattle.proxy_core.specs.declared.event.Event.TheVariants.{Fail};
@@ -8,16 +8,18 @@ ghost use Rattle.proxy_engine.specs.Story.{Story};
 ghost use Rattle.proxy_engine.specs.Due.{Abandons, Finish, Finishes, kind_of, IsDueFirst};
 ghost use Rattle.proxy_engine.specs.State.{Stands, finish_at, gone_at, NoneLost, load_at, Done, Failed};
 ghost use Rattle.proxy_core.specs.Outcomes.{find_exchange};
-ghost use Rattle.proxy_engine.specs.Activities.{link_of};
-ghost use Rattle.proxy_engine.specs.Wiring.{activity_at, activities_of};
+ghost use Rattle.proxy_engine.specs.Activities.{link_of, has_exchange};
+
+ghost use Rattle.proxy_engine.specs.Wiring.{activity_at, activities_of, forwarded_at};
 ghost use Rattle.proxy_engine.specs.Acts.{asks_head, HasRoomFor};
 ghost use Rattle.proxy_engine.specs.Wishes.{IsFinishedBy, gives, EndFault};
 ghost use Rattle.proxy_engine.specs.declared.ends.Connection.{Connection};
 
+use crate::activities::Activity;
 use crate::ends::Link;
 use crate::engine::Engine;
 use crate::happening::EngineFault;
-use crate::outcomes::{Way, free, free_lost, lacks_memory, put, room};
+use crate::outcomes::{Way, free, free_lost, lacks_memory, let_go_waiting, put, room};
 use hx_framing::{FrameFault, Next};
 use hx_status::FailKind;
 use hx_store::Shelf;
@@ -37,7 +39,7 @@ fn kind_of(fault: FrameFault) -> FailKind
 }
 
 /// How the request of an open exchange goes forward once more, if it does.
-fn way_again<S: Shelf>(core: &Core<S>, alloc: Global, id: u64) -> Result<Way, AllocError>
+pub(crate) fn way_again<S: Shelf>(core: &Core<S>, alloc: Global, id: u64) -> Result<Way, AllocError>
     requires { is_some (find_exchange id core.now.exchanges) ≡ true }
     ensures empty { IfOk result (λ way. (way.address.items ≡ []) × (vec_len way.address ≡ 0)) }
     ensures room { IfOk result (λ way. HasRoomFor core.now.table (vec_capacity way.address)) }
@@ -58,7 +60,7 @@ fn fail<S: Shelf>(
     id: u64,
     kind: FailKind,
 ) -> Result<Outcome, AllocError>
-    requires open { is_some (find_exchange id core.old.exchanges) ≡ true }
+    requires open { forwarded_at id core.old.exchanges ≡ Some true }
     requires early { now < 253402300800 }
     ensures ok { IfOk result (λ outcome. Steps core.old (Fail now id kind) outcome core.new) }
     ensures err { OnErr result (core.new ≡ core.old) }
@@ -78,7 +80,7 @@ fn end<S: Shelf>(
     id: u64,
 ) -> Result<Outcome, AllocError>
     requires due { is_some (finish_at (Some link.now)) ≡ true }
-    requires open { is_some (find_exchange id core.old.exchanges) ≡ true }
+    requires open { forwarded_at id core.old.exchanges ≡ Some true }
     requires early { now < 253402300800 }
     ensures ok { IfOk result (λ outcome. (f : Finish) × (finish_at (Some link.now) ≡ Some f) × IsFinishedBy core.old now id f outcome core.new) }
     ensures err { OnErr result (core.new ≡ core.old) }
@@ -119,17 +121,53 @@ fn is_answered(link: &Link) -> bool
 }
 
 impl<S: Shelf> Engine<S> {
-    /// The exchange of a connection that is gone is abandoned, and its link is dropped.
+    /// The exchange of a connection that is gone is abandoned, and its link is dropped, if its request went forward.
     pub(crate) fn abandon(
         &mut self,
         alloc: Global,
         i: u64,
-        l: u64,
+        link: Option<u64>,
     ) -> Result<Vec<Effect>, AllocError>
+        requires open { has_exchange (activity_at (activities_of self.old.connections) i) ≡ true }
+        requires linked { link_of (activity_at (activities_of self.old.connections) i) ≡ link }
+        requires gone { gone_at (slice_index_or self.old.connections i None) ≡ Some true }
+        ensures ok { IfOk result (λ effects. (s : Story) → (now : ℕ) → Stands self.old s
+            → Done s now (Abandons i link) effects.items self.new) }
+        ensures less { OnOk result (load_at self.new < load_at self.old) }
+        ensures err { OnErr result (self.new ≡ self.old) }
+    {
+        match link {
+            Some(l) => self.abandon_link(alloc, i, l),
+            None => self.abandon_waiting(alloc, i),
+        }
+    }
+
+    /// The exchange of a connection that is gone is abandoned, whose request waits.
+    fn abandon_waiting(&mut self, alloc: Global, i: u64) -> Result<Vec<Effect>, AllocError>
+        requires waiting { activity_at (activities_of self.old.connections) i ≡ Activity.Waiting }
+        requires gone { gone_at (slice_index_or self.old.connections i None) ≡ Some true }
+        ensures ok { IfOk result (λ effects. (s : Story) → (now : ℕ) → Stands self.old s
+            → Done s now (Abandons i None) effects.items self.new) }
+        ensures less { OnOk result (load_at self.new < load_at self.old) }
+        ensures err { OnErr result (self.new ≡ self.old) }
+    {
+        let effects = room(alloc)?;
+        let count = self.ends.connections.len();
+        prove!(i < count);
+        match self.core.abandon(i + 1) {
+            Ok(_) => {}
+            Err(_) => unreachable!(),
+        }
+        let_go_waiting(&mut self.ends.connections, i);
+        Ok(effects)
+    }
+
+    /// The exchange of a connection that is gone is abandoned, and its link is dropped.
+    fn abandon_link(&mut self, alloc: Global, i: u64, l: u64) -> Result<Vec<Effect>, AllocError>
         requires linked { link_of (activity_at (activities_of self.old.connections) i) ≡ Some l }
         requires gone { gone_at (slice_index_or self.old.connections i None) ≡ Some true }
         ensures ok { IfOk result (λ effects. (s : Story) → (now : ℕ) → Stands self.old s
-            → Done s now (Abandons i l) effects.items self.new) }
+            → Done s now (Abandons i (Some l)) effects.items self.new) }
         ensures less { OnOk result (load_at self.new < load_at self.old) }
         ensures err { OnErr result (self.new ≡ self.old) }
     {

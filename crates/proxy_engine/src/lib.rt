@@ -25,6 +25,7 @@ mod request_watch;
 mod response_watch;
 mod serving;
 mod takes;
+mod waking;
 mod wishes;
 
 pub use crate::engine::Engine;

@@ -6,8 +6,8 @@ ghost use Rattle.proxy_core.specs.State.{State as CoreState};
 ghost use Rattle.proxy_engine.specs.Look.{Due, known};
 ghost use Rattle.proxy_engine.specs.Story.{Story, ConnStory, with_connection};
 ghost use Rattle.proxy_engine.specs.Acts.{closing, doing, passing};
-ghost use Rattle.proxy_engine.specs.Wiring.{activities_of};
-ghost use Rattle.proxy_engine.specs.State.{Stands, ConnStands, state, wish_at, gone_at, is_free, connection_load, wish_load};
+ghost use Rattle.proxy_engine.specs.Wiring.{activity_of, activities_of};
+ghost use Rattle.proxy_engine.specs.State.{Stands, ConnStands, state, wish_at, gone_at, is_free, connection_load, wait_load, wish_load};
 ghost use Rattle.proxy_engine.specs.declared.ends.Link.{Link};
 
 use crate::activities::Activity;
@@ -20,13 +20,24 @@ fn unlink(connection: &mut Connection)
     ensures stands { (c : ConnStory) → ConnStands (Some connection.old) c → ConnStands (Some connection.new) (doing Activity.Free c) }
     ensures activity { connection.new.activity ≡ Activity.Free }
     ensures gone { connection.new.gone ≡ false }
-    ensures load { connection_load (Some connection.new) ≡ connection_load (Some connection.old) }
+    ensures load { connection_load (Some connection.new) + wait_load connection.old.activity ≡ connection_load (Some connection.old) }
 {
     connection.activity = Activity::Free;
 }
 
+/// The connection's request, which isn't gone, waits for the answer to another.
+fn queue(connection: &mut Connection)
+    requires { connection.old.activity ≡ Activity.Free }
+    ensures stands { (c : ConnStory) → ConnStands (Some connection.old) c → ConnStands (Some connection.new) (doing Activity.Waiting c) }
+    ensures activity { connection.new.activity ≡ Activity.Waiting }
+    ensures load { connection_load (Some connection.new) ≡ connection_load (Some connection.old) + 2 }
+{
+    connection.activity = Activity::Waiting;
+}
+
 /// The connection's request went forward on the link at a place.
 fn link_to(connection: &mut Connection, place: u64)
+    requires { connection.old.activity ≡ Activity.Free }
     ensures stands { (c : ConnStory) → ConnStands (Some connection.old) c → ConnStands (Some connection.new) (doing (Activity.Forwarded place) c) }
     ensures activity { connection.new.activity ≡ Activity.Forwarded place }
     ensures load { connection_load (Some connection.new) ≡ connection_load (Some connection.old) }
@@ -73,6 +84,20 @@ pub(crate) fn link_at(connections: &mut Connections, i: u64, place: u64)
     }
 }
 
+/// The request of the connection at a place waits for the answer to another.
+pub(crate) fn queue_at(connections: &mut Connections, i: u64)
+    requires { is_free (slice_index_or connections.old.items i None) ≡ true }
+    ensures stands { (s : Story) → (links : List (Option Link)) → (core : CoreState) → (first : ℕ) → Stands (state connections.old.items links core first) s
+        → Stands (state connections.new.items links core first) (with_connection s i (doing Activity.Waiting)) }
+    ensures activities { activities_of connections.new.items ≡ slice_set (activities_of connections.old.items) i Activity.Waiting }
+    ensures load { sum_by connection_load connections.new.items ≡ sum_by connection_load connections.old.items + 2 }
+{
+    match connections.at_mut(i) {
+        Some(connection) => queue(connection),
+        None => unreachable!(),
+    }
+}
+
 /// The connection at a place, which isn't gone, has no open exchange any more.
 pub(crate) fn unlink_at(connections: &mut Connections, i: u64)
     requires { gone_at (slice_index_or connections.old.items i None) ≡ Some false }
@@ -80,7 +105,7 @@ pub(crate) fn unlink_at(connections: &mut Connections, i: u64)
         → Stands (state connections.new.items links core first) (with_connection s i (doing Activity.Free)) }
     ensures activities { activities_of connections.new.items ≡ slice_set (activities_of connections.old.items) i Activity.Free }
     ensures free { is_free (slice_index_or connections.new.items i None) ≡ true }
-    ensures load { sum_by connection_load connections.new.items ≡ sum_by connection_load connections.old.items }
+    ensures load { sum_by connection_load connections.new.items + wait_load (activity_of (slice_index_or connections.old.items i None)) ≡ sum_by connection_load connections.old.items }
 {
     match connections.at_mut(i) {
         Some(connection) => unlink(connection),

@@ -3,10 +3,10 @@ ghost use Rattle.std.specs.Prelude.{◌≡◌, ℕ, ◌+◌, ◌<◌, ◌≤◌,
 ghost use Rattle.proxy_core.specs.Replies.{is_head};
 ghost use Rattle.proxy_core.specs.State.{State as CoreState};
 ghost use Rattle.proxy_engine.specs.Story.{Story, ConnStory, with_connection};
-ghost use Rattle.proxy_engine.specs.Acts.{closing, came_at, came, HasRoomFor, effects_on, after_on, freed, with_opened};
+ghost use Rattle.proxy_engine.specs.Acts.{closing, doing, came_at, came, HasRoomFor, effects_on, after_on, freed, with_opened};
 ghost use Rattle.proxy_engine.specs.Acts.Came.{Replies};
 ghost use Rattle.proxy_engine.specs.Wiring.{activities_of, owners_of, activities_after, owners_after};
-ghost use Rattle.proxy_engine.specs.Wishes.{goes_forward};
+ghost use Rattle.proxy_engine.specs.Wishes.{goes_forward, outcome_load};
 ghost use Rattle.proxy_engine.specs.State.{Stands, ConnStands, state, is_free, gone_at, connection_load, link_load, load_of};
 ghost use Rattle.proxy_engine.specs.OpenEnds.{state_of, load_on};
 ghost use Rattle.proxy_engine.specs.declared.ends.Connection.{Connection};
@@ -52,6 +52,8 @@ pub(crate) fn lacks_memory(fault: CoreFault) -> AllocError
         CoreFault::IdTaken => unreachable!(),
         CoreFault::UnknownId => unreachable!(),
         CoreFault::MomentTooLate => unreachable!(),
+        CoreFault::NotForwarded => unreachable!(),
+        CoreFault::NotReady => unreachable!(),
     }
 }
 
@@ -162,13 +164,24 @@ pub(crate) fn free(connections: &mut Connections, links: &mut Links, j: u64, i: 
         → Stands (state connections.new.items links.new.items core first) (freed s j i) }
     ensures activities { activities_of connections.new.items ≡ slice_set (activities_of connections.old.items) i Activity.Free }
     ensures owners { owners_of links.new.items ≡ slice_set (owners_of links.old.items) j None }
-    ensures load { load_of connections.new.items links.new.items + link_load (slice_index_or links.old.items j None) ≡ load_of connections.old.items links.old.items }
+    ensures load { load_of connections.new.items links.new.items + link_load (slice_index_or links.old.items j None) ≤ load_of connections.old.items links.old.items }
     ensures free { is_free (slice_index_or connections.new.items i None) ≡ true }
     ensures room { links.new.has_room ≡ links.old.has_room }
     ensures links { length links.new.items ≡ length links.old.items }
 {
     links.let_go(j);
     marks::unlink_at(connections, i);
+}
+
+/// The exchange of a request that waited is over, and so is its connection, which is gone.
+pub(crate) fn let_go_waiting(connections: &mut Connections, i: u64)
+    requires { gone_at (slice_index_or connections.old.items i None) ≡ Some true }
+    ensures stands { (s : Story) → (links : List (Option Link)) → (core : CoreState) → (first : ℕ) → Stands (state connections.old.items links core first) s
+        → Stands (state connections.new.items links core first) (with_connection s i (doing Activity.Free)) }
+    ensures activities { activities_of connections.new.items ≡ slice_set (activities_of connections.old.items) i Activity.Free }
+    ensures load { sum_by connection_load connections.new.items < sum_by connection_load connections.old.items }
+{
+    connections.let_go(i);
 }
 
 /// The exchange of a link is over, and so is its connection, which is gone.
@@ -219,7 +232,7 @@ impl Ends {
         ensures first { self.new.first_link ≡ self.old.first_link }
         ensures activities { activities_of self.new.connections.items ≡ activities_after i (length self.old.links.items) outcome (activities_of self.old.connections.items) }
         ensures owners { owners_of self.new.links.items ≡ owners_after i outcome (owners_of self.old.links.items) }
-        ensures load { load_on self.new ≤ load_on self.old + 1 }
+        ensures load { load_on self.new ≤ load_on self.old + outcome_load outcome }
     {
         match outcome {
             Outcome::Reply(reply) => send_reply(
@@ -242,6 +255,7 @@ impl Ends {
                 let address = Bytes::from_vec(way.address);
                 put(effects, Effect::Forward(number, address, bytes));
             }
+            Outcome::Waits(_) => marks::queue_at(&mut self.connections, i),
             Outcome::Ended => {}
         }
     }

@@ -14,8 +14,8 @@ use Rattle.proxy_script.specs.declared.effect_list.Effect.{Effect}
 use Rattle.proxy_engine.specs.Admitted.{Refusal}
 use Rattle.proxy_engine.specs.Happenings.{Said, Accepts, Sends, Hears, Ends, Leaves, Shuts, Fails}
 use Rattle.proxy_engine.specs.Story.{Story, heard, with_core}
-use Rattle.proxy_engine.specs.Due.{Act, Abandons, Finishes, Serves, Gives, Breaks}
-use Rattle.proxy_engine.specs.Acts.{Does, StepsOn, Refuses, Closes, Served, Arrives, Came, Replies, Forwards, Nothing, came, after_on}
+use Rattle.proxy_engine.specs.Due.{Act, Abandons, Finishes, Wakes, Serves, Gives, Breaks}
+use Rattle.proxy_engine.specs.Acts.{Does, StepsOn, Refuses, Closes, Served, Arrives, Came, Replies, Forwards, Queues, Nothing, came, after_on}
 use Rattle.proxy_engine.specs.Orderly.{IsOrderly, BeginsOrderly, TakesInOrder, ActsInOrder}
 use Rattle.proxy_engine.specs.Lives.{Step, Took, Worked, Lives, LivesAreRuns}
 use Rattle.proxy_engine.specs.State.{begun}
@@ -41,12 +41,14 @@ steps_table s t i to_head event before told after steps =
     by : (c : Came) → (after_on i to_head c (with_core t steps.core)).core.table ≡ steps.core.table
     by (Replies bytes close) = refl
     by (Forwards address bytes) = refl
+    by Queues = refl
     by Nothing = refl
 
 does_table : (s : Story) (now : ℕ) (act : Act) (told : List Effect) (after : Story) → Does s now act told after → after.core.table ≡ s.core.table
 does_table s now (Abandons i l) told after done = steps_table s _ _ _ _ _ told after done
 does_table s now (Finishes j (Gives r)) told after done = steps_table s _ _ _ _ _ told after done.1
 does_table s now (Finishes j (Breaks kind)) told after done = steps_table s _ _ _ _ _ told after done
+does_table s now (Wakes i) told after done = steps_table s _ _ _ _ _ told after done.1
 does_table s now (Serves i wish) told after done = by_wish wish done
   where
     refuses : (why : Cause) (head : Bool) → Refuses s now i why head told after → after.core.table ≡ s.core.table

@@ -14,8 +14,9 @@ use Rattle.proxy_script.specs.declared.effect_list.Effect.{Effect}
 use Rattle.proxy_script.specs.declared.effect_list.Effect.TheVariants as effects
 use Rattle.proxy_engine.specs.Admitted.{Refusal}
 use Rattle.proxy_engine.specs.Story.{Story, ConnStory, LinkStory, no_connection, no_link, opened, connection_at, link_at, with_connection, with_core, connection_fault, link_fault, keeps_answer}
-use Rattle.proxy_engine.specs.Due.{Act, Abandons, Finishes, Serves, Gives, Breaks}
-use Rattle.proxy_engine.specs.Acts.{Does, StepsOn, Refuses, Closes, Served, Arrives, Came, Replies, Forwards, Nothing, came, effects_on, after_on, next_number, freed, dropping, passing}
+use Rattle.proxy_engine.specs.declared.activities.Activity.TheVariants.{Free}
+use Rattle.proxy_engine.specs.Due.{Act, Abandons, Finishes, Wakes, Serves, Gives, Breaks}
+use Rattle.proxy_engine.specs.Acts.{Does, StepsOn, Refuses, Closes, Served, Arrives, Came, Replies, Forwards, Queues, Nothing, came, effects_on, after_on, next_number, freed, doing, dropping, passing}
 use Rattle.proxy_engine.specs.Orderly.{IsOpen, Drops, NamesOpen, Stays}
 use Rattle.proxy_engine.specs.Reading.{places_with, is_read, link_end, client_end, ends_read}
 use Rattle.proxy_engine.specs.declared.happening.EngineFault.TheVariants.{NotAccepted, WrongNumber}
@@ -181,14 +182,17 @@ steps_open s t i to_head event before told after same apart steps e = by (came s
     by (Forwards address bytes) told_is after_is =
         let long = ap (λ (u : Story). length u.links) after_is ∙ length-append t.links (opened steps.core.table.max_body to_head i ∷ []) in
         omega (arith, same, long)
+    by Queues told_is after_is = not_both (forwards told) e (ap forwards told_is ∙ apart [])
     by Nothing told_is after_is = not_both (forwards told) e (ap forwards told_is ∙ apart [])
 
 -- an act whose effects name a new link opens it
 opens : (s : Story) (now : ℕ) (act : Act) (told : List Effect) (after : Story) → Does s now act told after → forwards told ≡ true → length s.links < length after.links
-opens s now (Abandons i l) told after done e =
+opens s now (Abandons i (Some l)) told after done e =
     steps_open s (freed s l i) i false (events.Abandon (i + 1)) (effects.Drop (s.first + l) ∷ []) told after (length-set s.links l (dropping (link_at s l))) (λ more. refl) done e
+opens s now (Abandons i None) told after done e = steps_open s (with_connection s i (doing Free)) i false (events.Abandon (i + 1)) [] told after refl (λ more. refl) done e
 opens s now (Finishes j (Gives r)) told after done e = steps_open s (freed s j (link_at s j).connection) _ _ _ (effects.Drop (s.first + j) ∷ []) told after (length-set s.links j (dropping (link_at s j))) (λ more. refl) done.1 e
 opens s now (Finishes j (Breaks kind)) told after done e = steps_open s (freed s j (link_at s j).connection) _ _ _ (effects.Drop (s.first + j) ∷ []) told after (length-set s.links j (dropping (link_at s j))) (λ more. refl) done e
+opens s now (Wakes i) told after done e = steps_open s (with_connection s i (doing Free)) i _ (events.Wake now (i + 1)) [] told after refl (λ more. refl) done.1 e
 opens s now (Serves i wish) told after done e = by_wish wish done
   where
     refuses : (why : Cause) (head : Bool) → Refuses s now i why head told after → length s.links < length after.links

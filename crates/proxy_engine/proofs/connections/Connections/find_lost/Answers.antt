@@ -1,6 +1,6 @@
 use Rattle.std.proofs.Common.{ap}
 use Rattle.proxy_engine.specs.Marked.{ConnectionList}
-use Rattle.proxy_engine.proofs.Finding.{lost_first, none_lost, lost_linked, lost_gone}
+use Rattle.proxy_engine.proofs.Finding.{lost_first, none_lost, lost_linked, lost_open, lost_gone}
 use Rattle.proxy_engine.proofs.connections.Connections.find_lost.Goals as goal
 
 pub invariant_of-self : goal.invariant_of-self
@@ -17,6 +17,10 @@ returns-clause-none c =
 pub returns-clause-linked : goal.returns-clause-linked
 returns-clause-linked c =
     lost_linked c.self.inside.ends c.self.inside.count c.self.inside.lost.places c.self.invariant.1 c.args.self.now.items (ap (λ (v : ConnectionList). v.items) c.self.view_is) c.first_lost.result c.first_lost.ensures.some
+
+pub returns-clause-open : goal.returns-clause-open
+returns-clause-open c =
+    lost_open c.self.inside.ends c.self.inside.count c.self.inside.lost.places c.self.invariant.1 c.args.self.now.items (ap (λ (v : ConnectionList). v.items) c.self.view_is) c.first_lost.result c.first_lost.ensures.some
 
 pub returns-clause-gone : goal.returns-clause-gone
 returns-clause-gone c =

@@ -12,6 +12,7 @@ use Rattle.proxy_engine.specs.declared.ends.Link.{Link}
 use Rattle.proxy_engine.proofs.Keeping.{inside}
 use Rattle.proxy_engine.proofs.Changes.{free_there, wish_free}
 use Rattle.proxy_engine.proofs.Wires.{not_open, wired_arrived, arrival_refused}
+use Rattle.proxy_engine.proofs.Ending.{two_more}
 use Rattle.proxy_engine.proofs.Stepping.{arrived_done}
 use Rattle.proxy_engine.proofs.engine.Engine.admit.Goals as goal
 
@@ -23,7 +24,7 @@ pub returns-clause-less : goal.returns-clause-less
 returns-clause-less g c = rw (← c.self.view_is) (
     λ r due.
     let one = ap wish_load due in
-    omega (arith, one, ap (sum_by link_load) c.reserve_one.ensures.items, c.pass_at.ensures.load, c.carry_out.ensures.load)
+    omega (arith, one, two_more c.in-Ok.outcome, ap (sum_by link_load) c.reserve_one.ensures.items, c.pass_at.ensures.load, c.carry_out.ensures.load)
     )
 
 pub returns-clause-ok : goal.returns-clause-ok

@@ -12,8 +12,8 @@ use Rattle.proxy_engine.proofs.Parts.{both_length, both_at}
 use Rattle.proxy_engine.proofs.Keeping.{inside}
 use Rattle.proxy_engine.proofs.Changes.{finish_there}
 use Rattle.proxy_engine.proofs.Wishing.{one_finish, told_one}
-use Rattle.proxy_engine.proofs.Ending.{goes_given, remains}
-use Rattle.proxy_engine.proofs.Wires.{within_connections, owned_link, is_open, still_here, wired_finished}
+use Rattle.proxy_engine.proofs.Ending.{goes_given, remains, one_more}
+use Rattle.proxy_engine.proofs.Wires.{within_connections, owned_link, is_open, is_out, still_here, wired_finished}
 use Rattle.proxy_engine.proofs.Stepping.{finished_done, ends_table, link_counts}
 use Rattle.proxy_engine.proofs.engine.Engine.complete.Goals as goal
 
@@ -48,7 +48,7 @@ end-requires-clause-open g c = let cs = c.self.inside.ends.connections.items in
     let xs = c.self.inside.core.exchanges in
     let x = c.at.result.now in
     let there = subst (λ (ls : List (Option Link)). get_or ls c.args.j None ≡ Some x) c.reserve_one.ensures.items c.at.ensures in
-    is_open cs ks xs x.connection c.args.j (owned_link cs ks xs c.args.j x there c.self.invariant) c.self.invariant
+    is_out cs ks xs x.connection c.args.j (owned_link cs ks xs c.args.j x there c.self.invariant) c.self.invariant
 
 pub free-requires-clause-link : goal.free-requires-clause-link
 free-requires-clause-link g c = ap (λ (ls : List (Option Link)). is_some (get_or ls c.args.j None)) c.reserve_one.ensures.items ∙ finish_there _ (rw (← c.self.view_is) at c.requires.due)
@@ -97,7 +97,14 @@ returns-clause-less g c = rw (← c.self.view_is) (
     let rooms = c.reserve_one.new.self.items in
     let ended = c.in_ok-outcome.ensures.ok in
     let counts : link_load (get_or rooms c.args.j None) ≡ 2 = link_counts (get_or rooms c.args.j None) ended.0 (ap finish_at c.at-2.ensures ∙ ended.1) in
-    omega (arith, counts, ap (sum_by link_load) c.reserve_one.ensures.items, c.free.ensures.load, c.carry_out.ensures.load)
+    let cs = c.self.inside.ends.connections.items in
+    let ks = c.self.inside.ends.links.items in
+    let core = c.self.inside.core in
+    let x = c.at.result.now in
+    let there = subst (λ (ls : List (Option Link)). get_or ls c.args.j None ≡ Some x) c.reserve_one.ensures.items c.at.ensures in
+    let is_there = is_open cs ks core.exchanges x.connection c.args.j (owned_link cs ks core.exchanges c.args.j x there c.self.invariant) c.self.invariant in
+    let few = one_more c.in_ok-outcome.outcome (x.connection + 1) core.exchanges c.end.new.core.exchanges (remains core c.end.new.core c.args.now (x.connection + 1) ended.0 c.in_ok-outcome.outcome is_there ended.2) in
+    omega (arith, counts, few, ap (sum_by link_load) c.reserve_one.ensures.items, c.free.ensures.load, c.carry_out.ensures.load)
     )
 
 pub returns-clause-ok : goal.returns-clause-ok

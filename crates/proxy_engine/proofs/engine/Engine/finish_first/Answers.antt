@@ -32,23 +32,23 @@ pub returns-in-Ok-None-clause-ok : goal.returns-in-Ok-None-clause-ok
 returns-in-Ok-None-clause-ok g c = rw (← c.self.view_is) (
     let ks = c.find_finished.new.self.items in
     let found = subst (λ (o : Option ℕ). FoundLinks ks o) c.in-Ok-None.field-0-is c.in-Ok-None.ensures.found in
-    on_ok c.serve_first.result _ _ (λ work did s lost h.
+    on_ok c.wake_first.result _ _ (λ work did s lost h.
     let looked = c.in-Ok-None.ensures.stands s.links h.links in
-    did s lost (found s.links looked) (looked_links c.self.inside.ends.connections.items c.self.inside.ends.links.items ks c.self.inside.core c.self.inside.ends.first_link s looked h)) c.serve_first.ensures.ok
+    did s lost (found s.links looked) (looked_links c.self.inside.ends.connections.items c.self.inside.ends.links.items ks c.self.inside.core c.self.inside.ends.first_link s looked h)) c.wake_first.ensures.ok
     )
 
 pub returns-in-Ok-None-clause-fault : goal.returns-in-Ok-None-clause-fault
 returns-in-Ok-None-clause-fault g c = rw (← c.self.view_is) (
     let ks = c.find_finished.new.self.items in
     let found = subst (λ (o : Option ℕ). FoundLinks ks o) c.in-Ok-None.field-0-is c.in-Ok-None.ensures.found in
-    on_err c.serve_first.result _ _ (λ fault failed s lost h.
+    on_err c.wake_first.result _ _ (λ fault failed s lost h.
     let looked = c.in-Ok-None.ensures.stands s.links h.links in
-    failed s lost (found s.links looked) (looked_links c.self.inside.ends.connections.items c.self.inside.ends.links.items ks c.self.inside.core c.self.inside.ends.first_link s looked h)) c.serve_first.ensures.fault
+    failed s lost (found s.links looked) (looked_links c.self.inside.ends.connections.items c.self.inside.ends.links.items ks c.self.inside.core c.self.inside.ends.first_link s looked h)) c.wake_first.ensures.fault
     )
 
 pub returns-in-Ok-None-clause-unchanged : goal.returns-in-Ok-None-clause-unchanged
 returns-in-Ok-None-clause-unchanged g c = rw (← c.self.view_is) (
-    stays_err c.serve_first.result _ _ (λ same s h.
+    stays_err c.wake_first.result _ _ (λ same s h.
     let looked = c.in-Ok-None.ensures.stands s.links h.links in
-    same s (looked_links c.self.inside.ends.connections.items c.self.inside.ends.links.items c.find_finished.new.self.items c.self.inside.core c.self.inside.ends.first_link s looked h)) c.serve_first.ensures.unchanged
+    same s (looked_links c.self.inside.ends.connections.items c.self.inside.ends.links.items c.find_finished.new.self.items c.self.inside.core c.self.inside.ends.first_link s looked h)) c.wake_first.ensures.unchanged
     )

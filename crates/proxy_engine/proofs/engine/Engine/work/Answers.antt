@@ -8,5 +8,5 @@ pub returns-in-Ok-clause-ok : goal.returns-in-Ok-clause-ok
 returns-in-Ok-clause-ok g c = rw (← c.self.view_is) (
     λ s h.
     let here = subst (λ (cs : List (Option Connection)). Stands (state cs c.self.inside.ends.links.items c.self.inside.core c.self.inside.ends.first_link) s) (sym c.find_lost.ensures.same) h in
-    (Abandons c.in-Some.i c.in-Some.l, c.in-Some.ensures.first s.connections h.connections, c.in-Ok.ensures.ok s c.args.now here)
+    (Abandons c.in-Some.i c.in-Some.link, c.in-Some.ensures.first s.connections h.connections, c.in-Ok.ensures.ok s c.args.now here)
     )

@@ -1,0 +1,680 @@
+-- Who waits, for whom, until when, and what a woken request gets.
+use Rattle.std.proofs.Common.{◌≡◌, ◌⊎◌, inl, inr, ℕ, Bool, true, false, not, cond, ◌&&◌, ◌||◌, eqb, Option, None, Some, List, [], ◌∷◌, ◌++◌, map, refl, sym, ◌∙◌, ap, subst}
+use Rattle.std.specs.Prelude.{option_map}
+use Rattle.std.specs.List.{AllByRecursion}
+use Rattle.std.proofs.lemmas.Bool.{cases_Bool, eqb-true, eq-eqb, false≢true, false_from_ne_true}
+use Rattle.std.proofs.lemmas.Option.{same_Some}
+use Rattle.hx_target.specs.declared.keys.Key.{Key}
+use Rattle.hx_target.specs.Keys.{same_key}
+use Rattle.hx_framing.specs.declared.responses.Response.{Response}
+use Rattle.hx_hop.specs.declared.asked_for.Asked.{Asked}
+use Rattle.hx_allow.specs.Lines.{Table}
+use Rattle.hx_allow.specs.Matching.{verdict_of, caches_of}
+use Rattle.hx_allow.specs.declared.verdicts.Verdict.{Verdict}
+use Rattle.hx_allow.specs.declared.verdicts.Verdict.TheVariants as verdict
+use Rattle.hx_store.specs.Stored.{Stored}
+use Rattle.hx_store.specs.Serials.{is_in}
+use Rattle.hx_reuse.specs.Rules.{decision_of}
+use Rattle.hx_reuse.specs.Meaning.{IsLeast}
+use Rattle.hx_reuse.specs.declared.rule.ReuseRule.{ReuseRule}
+use Rattle.hx_reuse.specs.declared.rule.ReuseRule.TheVariants as rules
+use Rattle.hx_reuse.specs.declared.decision.Decision.{Decision}
+use Rattle.hx_reuse.specs.declared.decision.Decision.TheVariants as decision
+use Rattle.hx_reuse.proofs.MeaningLemmas.{names_the_least, forwards}
+use Rattle.hx_reuse.proofs.ReusableLemmas.{reused_is_allowed}
+use Rattle.hx_status.specs.declared.cause.FailKind.{FailKind}
+use Rattle.proxy_core.specs.declared.condition.Condition.{Condition}
+use Rattle.proxy_core.specs.declared.stage.Stage.{Stage}
+use Rattle.proxy_core.specs.declared.stage.Stage.TheVariants.{Forwarded, Waiting, Released}
+use Rattle.proxy_core.specs.declared.exchange.Exchange.{Exchange}
+use Rattle.proxy_core.specs.declared.fallback.Fallback.{Fallback}
+use Rattle.proxy_core.specs.declared.fallback.Fallback.TheVariants.{Sends, Refuses}
+use Rattle.proxy_core.specs.declared.outcome.Outcome.{Outcome}
+use Rattle.proxy_core.specs.declared.outcome.Outcome.TheVariants.{Reply, Forward, Waits, Ended}
+use Rattle.proxy_core.specs.declared.event.Event.{Event}
+use Rattle.proxy_core.specs.declared.event.Event.TheVariants.{Arrive, Answer, Fail, Wake, Abandon}
+use Rattle.proxy_core.specs.declared.fault.CoreFault.{CoreFault}
+use Rattle.proxy_core.specs.Moments.{too_late}
+use Rattle.proxy_core.specs.Leading.{is_forwarded, is_released, waits_for, is_get, is_uri_miss, leads, leader, leader_for, ready_ids}
+use Rattle.proxy_core.specs.Validating.{condition_at}
+use Rattle.proxy_core.specs.Outcomes.{find_exchange, id_of, arrived, allowed, sent_on, unanswered, is_only_if_cached, fallback_for, failed, woken, outcome_of, outcome_by, or_fault, not_ready, fault_of, fault_by, forward_text}
+use Rattle.proxy_core.specs.State.{State, overtake, release, opened, queued, rule_of, open_after, used_in}
+use Rattle.proxy_core.specs.Traces.{Item, begun, left, IsGood}
+use Rattle.proxy_core.specs.Histories.{held_entries, open_exchanges, next_serial, IsGoodHistory}
+use Rattle.proxy_core.specs.Promises.{goes_forward, ends, is_arrival, NoneArrives, key_by_step}
+use Rattle.proxy_core.specs.Carrying.{ArrivesBefore, StandInOrder, ids_of}
+use Rattle.proxy_core.specs.Sending.{IsReusable}
+use Rattle.proxy_core.specs.Waiting.{CouldWait, NoneLeads, IsFirstToLead, WaitsWhereOneLeads, IsToWait, WaitsNowhereElse, has_closed, GoesForTheKey, OneGoesForward, is_wake, was_woken, NoneOf, stage_of, IsReady, WaitsUntilItsLeaderEnds, WokenOnceBehindItsLeader, ReadyInOrderOfArrival, WokenExactlyWhereReady, IsJudgedAnew, WokenIsJudgedAnew}
+use Rattle.proxy_core.proofs.ExchangeLists.{overtaken_by, released_by, changed_by, find-push}
+use Rattle.proxy_core.proofs.Moves.{Move, apart, opens, queues, passes, again, wakes, closes, asked_of, ended_by, move_of, and_none, is_either, answer_either, released_from, ends_back}
+use Rattle.proxy_core.proofs.Tracing.{same_table}
+use Rattle.proxy_core.proofs.TwiceForward.{part, not_both, fresh_arrival}
+use Rattle.proxy_core.proofs.HeldLaw.{good_plain, entries_are_held, exchanges_are_open}
+use Rattle.proxy_core.proofs.InOrder.{open_in_order_of_arrival}
+use Rattle.proxy_core.proofs.SendLaws.{arrival_is, forwards_nothing_else}
+use Rattle.proxy_core.proofs.OpenLaws.{id_was_free}
+
+-- ---- the first that leads
+
+first_is : (key : Key) (before : List Exchange) (x : Exchange) (behind : List Exchange) → leads key x ≡ true → NoneLeads key before → leader key (before ++ x ∷ behind) ≡ Some x.id
+first_is key [] x behind h n = ap (λ b. cond b (Some x.id) (leader key behind)) h
+first_is key (y ∷ before) x behind h n = ap (λ b. cond b (Some y.id) (leader key (before ++ x ∷ behind))) n.0 ∙ first_is key before x behind h n.1
+
+led_by : (key : Key) (xs : List Exchange) (l : ℕ) → leader key xs ≡ Some l → IsFirstToLead key xs l
+led_by key [] l h = absurd (cc)
+led_by key (x ∷ xs) l h = by_test (λ k. led_by key xs l k) (leads key x) refl h
+  where
+    by_test : (leader key xs ≡ Some l → IsFirstToLead key xs l) → (b : Bool) → leads key x ≡ b → cond b (Some x.id) (leader key xs) ≡ Some l → IsFirstToLead key (x ∷ xs) l
+    by_test rest true k h = record { before = []; x = x; behind = xs; open_are = refl; id = same_Some x.id l h; it_leads = k; none_before = tt }
+    by_test rest false k h =
+        let r = rest h in
+        record { before = x ∷ r.before; x = r.x; behind = r.behind; open_are = ap (λ (zs : List Exchange). x ∷ zs) r.open_are; id = r.id; it_leads = r.it_leads; none_before = (k, r.none_before) }
+
+-- where one leads there is a first
+some_leads : (key : Key) (id : ℕ) (xs : List Exchange) (z : Exchange) → find_exchange id xs ≡ Some z → leads key z ≡ true → (l : ℕ) × (leader key xs ≡ Some l)
+some_leads key id [] z f h = absurd (cc)
+some_leads key id (x ∷ xs) z f h = by_test (λ g. some_leads key id xs z g h) (leads key x) refl
+  where
+    by_id : (find_exchange id xs ≡ Some z → (l : ℕ) × (leader key xs ≡ Some l)) → leads key x ≡ false → (b : Bool) → cond b (Some x) (find_exchange id xs) ≡ Some z → (l : ℕ) × (leader key xs ≡ Some l)
+    by_id rest k true f = absurd (false≢true (sym k ∙ (ap (leads key) (same_Some x z f) ∙ h)))
+    by_id rest k false f = rest f
+
+    by_test : (find_exchange id xs ≡ Some z → (l : ℕ) × (leader key xs ≡ Some l)) → (b : Bool) → leads key x ≡ b → (l : ℕ) × (cond b (Some x.id) (leader key xs) ≡ Some l)
+    by_test rest true k = (x.id, refl)
+    by_test rest false k = by_id rest k (eqb x.id id) f
+
+is_the_miss : (rule : ReuseRule) → is_uri_miss rule ≡ true → rule ≡ rules.UriMiss
+is_the_miss rules.Operator h = absurd (false≢true h)
+is_the_miss rules.Method h = absurd (false≢true h)
+is_the_miss rules.Content h = absurd (false≢true h)
+is_the_miss rules.Range h = absurd (false≢true h)
+is_the_miss rules.Precondition h = absurd (false≢true h)
+is_the_miss rules.UriMiss h = refl
+is_the_miss rules.VaryMiss h = absurd (false≢true h)
+is_the_miss rules.ResponseNoCache h = absurd (false≢true h)
+is_the_miss rules.RequestNoCache h = absurd (false≢true h)
+is_the_miss rules.AboveMaxAge h = absurd (false≢true h)
+is_the_miss rules.BelowMinFresh h = absurd (false≢true h)
+is_the_miss rules.MustRevalidate h = absurd (false≢true h)
+is_the_miss rules.NoLifetime h = absurd (false≢true h)
+is_the_miss rules.StaleNoCache h = absurd (false≢true h)
+is_the_miss rules.NoMaxStale h = absurd (false≢true h)
+is_the_miss rules.PastMaxStale h = absurd (false≢true h)
+is_the_miss rules.StaleMaxAge h = absurd (false≢true h)
+is_the_miss rules.StaleMinFresh h = absurd (false≢true h)
+
+-- ---- who waits
+
+-- what becomes of a GET for whose key nothing is held, where one leads
+waits_for_it : (table : Table) (limit first now id line l : ℕ) (asked : Asked) (item : Item) (past : List Item) → IsGoodHistory table limit first (item ∷ past) → item.event ≡ Arrive now id asked →
+    CouldWait table limit past now line asked → leader asked.target.key (open_exchanges table limit past) ≡ Some l → item.outcome ≡ Waits l
+waits_for_it table limit first now id line l asked item past g e could led =
+    let es = held_entries table limit past in
+    let xs = open_exchanges table limit past in
+    let d = forwards (caches_of table.lines line) es asked now rules.UriMiss could.nothing_held in
+    arrival_is table limit first now id asked item past g e
+    ∙ (ap (λ (v : Verdict). arrived table es xs now asked v) could.line_allows
+    ∙ (ap (λ (d : Decision). allowed table es xs line now asked d) d.1
+    ∙ (ap (λ b. unanswered table xs line now asked rules.UriMiss (condition_at es d.0) b) could.takes_others
+    ∙ (ap (λ b. sent_on table line asked (condition_at es d.0) (cond (b && true) (leader asked.target.key xs) None)) could.gets
+    ∙ ap (λ (o : Option ℕ). sent_on table line asked (condition_at es d.0) o) led))))
+
+pub waits_where_one_leads : WaitsWhereOneLeads
+waits_where_one_leads table limit first now id line l asked item past g e could f =
+    waits_for_it table limit first now id line l asked item past g e could
+    (ap (leader asked.target.key) f.open_are ∙ (first_is asked.target.key f.before f.x f.behind f.it_leads f.none_before ∙ ap (λ n. Some n) f.id))
+
+-- what is known of a request that waits
+abbrev WaitsBy : Table → List Stored → List Exchange → ℕ → ℕ → Asked → Type 0
+WaitsBy table es xs now l asked =
+    (line : ℕ) × (verdict_of table.lines asked.method asked.target ≡ verdict.Allowed line) × (is_only_if_cached asked ≡ false) × (is_get asked ≡ true)
+    × IsLeast (caches_of table.lines line) es asked now rules.UriMiss × (leader asked.target.key xs ≡ Some l)
+
+wait_parts : (table : Table) (es : List Stored) (xs : List Exchange) (now l : ℕ) (asked : Asked) (v : Verdict) → verdict_of table.lines asked.method asked.target ≡ v →
+    arrived table es xs now asked v ≡ Waits l → WaitsBy table es xs now l asked
+wait_parts table es xs now l asked (verdict.Allowed line) v h = by_decision (decision_of (caches_of table.lines line) es asked now) refl h
+  where
+    by_tests : (rule : ReuseRule) (against : Option ℕ) (a b : Bool) → is_get asked ≡ a → is_uri_miss rule ≡ b → is_only_if_cached asked ≡ false →
+        decision_of (caches_of table.lines line) es asked now ≡ decision.Forward rule against → cond (a && b) (leader asked.target.key xs) None ≡ Some l → WaitsBy table es xs now l asked
+    by_tests rule against false b k m c d h = absurd (cc)
+    by_tests rule against true false k m c d h = absurd (cc)
+    by_tests rule against true true k m c d h =
+        (line, v, c, k, subst (λ (q : ReuseRule). IsLeast (caches_of table.lines line) es asked now q) (is_the_miss rule m) (names_the_least (caches_of table.lines line) es asked now rule against d).0, h)
+
+    by_leader : (rule : ReuseRule) (against o : Option ℕ) → leader_for xs asked rule ≡ o → is_only_if_cached asked ≡ false →
+        decision_of (caches_of table.lines line) es asked now ≡ decision.Forward rule against → sent_on table line asked (condition_at es against) o ≡ Waits l → WaitsBy table es xs now l asked
+    by_leader rule against None k c d h = absurd (cc)
+    by_leader rule against (Some m) k c d h =
+        let same : m ≡ l = cc in
+        by_tests rule against (is_get asked) (is_uri_miss rule) refl refl c d (k ∙ ap (λ n. Some n) same)
+
+    unless : (rule : ReuseRule) (against : Option ℕ) (b : Bool) → is_only_if_cached asked ≡ b → decision_of (caches_of table.lines line) es asked now ≡ decision.Forward rule against →
+        unanswered table xs line now asked rule (condition_at es against) b ≡ Waits l → WaitsBy table es xs now l asked
+    unless rule against true k d h = absurd (cc)
+    unless rule against false k d h = by_leader rule against (leader_for xs asked rule) refl k d h
+
+    by_decision : (d : Decision) → decision_of (caches_of table.lines line) es asked now ≡ d → allowed table es xs line now asked d ≡ Waits l → WaitsBy table es xs now l asked
+    by_decision (decision.Hit t) k h = absurd (cc)
+    by_decision (decision.Forward rule against) k h = unless rule against (is_only_if_cached asked) refl k h
+wait_parts table es xs now l asked (verdict.DeniedBy line) v h = absurd (cc)
+wait_parts table es xs now l asked verdict.NoLine v h = absurd (cc)
+
+-- none but a request that arrives waits
+abbrev pub is_wait : Outcome → Bool
+is_wait (Reply r) = false
+is_wait (Forward line bytes) = false
+is_wait (Waits l) = true
+is_wait Ended = false
+
+either_no_wait : (o : Outcome) → is_either o ≡ true → is_wait o ≡ false
+either_no_wait (Reply r) h = refl
+either_no_wait (Forward line bytes) h = refl
+either_no_wait (Waits l) h = absurd (false≢true h)
+either_no_wait Ended h = absurd (false≢true h)
+
+pub late_no_wait : (table : Table) (es : List Stored) (xs : List Exchange) (w : Option Exchange) (next : Option ℕ) (event : Event) → is_arrival event ≡ false → is_wait (outcome_of table es xs w next event) ≡ false
+late_no_wait table es xs w next (Arrive now id asked) h = absurd (false≢true (sym h))
+late_no_wait table es xs None next (Answer now id r) h = refl
+late_no_wait table es xs (Some x) next (Answer now id r) h =
+    either_no_wait _ (answer_either table es now x r next (decision_of (caches_of table.lines x.line) es x.asked now))
+late_no_wait table es xs None next (Fail now id kind) h = refl
+late_no_wait table es xs (Some x) next (Fail now id kind) h = by_fallback (fallback_for es x.asked now (decision_of (caches_of table.lines x.line) es x.asked now))
+  where
+    by_fallback : (fallback : Fallback) → is_wait (failed table es now x kind None fallback) ≡ false
+    by_fallback (Sends s detail) = refl
+    by_fallback (Refuses rule error) = refl
+late_no_wait table es xs None next (Wake now id) h = refl
+late_no_wait table es xs (Some x) next (Wake now id) h = by_decision (decision_of (caches_of table.lines x.line) es x.asked now)
+  where
+    by_decision : (d : Decision) → is_wait (woken table es now x d) ≡ false
+    by_decision (decision.Hit s) = refl
+    by_decision (decision.Forward rule against) = refl
+late_no_wait table es xs w next (Abandon id) h = refl
+
+wait_is : (l : ℕ) → is_wait (Waits l) ≡ true
+wait_is l = refl
+
+pub waits_nowhere_else : WaitsNowhereElse
+waits_nowhere_else table limit first l item past g h = by_event item.event refl
+  where
+    es : List Stored
+    es = held_entries table limit past
+
+    xs : List Exchange
+    xs = open_exchanges table limit past
+
+    late : is_arrival item.event ≡ false → IsToWait table limit l item past
+    late n =
+        absurd (false≢true (sym (ap is_wait g.0.outcome_is ∙ late_no_wait table (held_entries table limit past) (open_exchanges table limit past) (find_exchange (id_of item.event) (open_exchanges table limit past)) (next_serial first past) item.event n)
+        ∙ (ap is_wait h ∙ wait_is l)))
+
+    by_event : (event : Event) → item.event ≡ event → IsToWait table limit l item past
+    by_event (Arrive now id asked) e =
+        let p = wait_parts table (held_entries table limit past) (open_exchanges table limit past) now l asked (verdict_of table.lines asked.method asked.target) refl (sym (arrival_is table limit first now id asked item past g e) ∙ h) in
+        record {
+          now = now;
+          id = id;
+          asked = asked;
+          line = p.0;
+          arrives = e;
+          could = record { line_allows = p.1; takes_others = p.2; gets = p.3; nothing_held = p.4 };
+          first_leads = led_by asked.target.key (open_exchanges table limit past) l p.5;
+        }
+    by_event (Answer now id r) e = late (ap is_arrival e)
+    by_event (Fail now id kind) e = late (ap is_arrival e)
+    by_event (Wake now id) e = late (ap is_arrival e)
+    by_event (Abandon id) e = late (ap is_arrival e)
+
+-- ---- what a step of another id does to a stage
+
+abbrev stage_by : Option ℕ → Stage → Stage
+stage_by None s = s
+stage_by (Some i) s = cond (waits_for i s) Released s
+
+overtaken_stage : (key : Key) (x : Exchange) → (overtake key x).stage ≡ x.stage
+overtaken_stage key x = elim (same_key x.asked.target.key key) as (λ b. (cond b (record x { overtaken = true }) x).stage ≡ x.stage) [
+  | true ↦ refl
+  | false ↦ refl
+]
+
+released_stage : (i : ℕ) (x : Exchange) → (release i x).stage ≡ cond (waits_for i x.stage) Released x.stage
+released_stage i x = elim (waits_for i x.stage) as (λ b. (cond b (record x { stage = Released }) x).stage ≡ cond b Released x.stage) [
+  | true ↦ refl
+  | false ↦ refl
+]
+
+stage_changed : (key : Option Key) (gone : Option ℕ) (x : Exchange) (o : Option Exchange) → o ≡ Some x → (z : Exchange) × (changed_by key gone o ≡ Some z) × (z.stage ≡ stage_by gone x.stage)
+stage_changed None None x o h = (x, h, refl)
+stage_changed None (Some i) x o h = (release i x, ap (option_map (release i)) h, released_stage i x)
+stage_changed (Some key) None x o h = (overtake key x, ap (option_map (overtake key)) h, overtaken_stage key x)
+stage_changed (Some key) (Some i) x o h =
+    (overtake key (release i x), ap (λ (o : Option Exchange). option_map (overtake key) (option_map (release i) o)) h, overtaken_stage key (release i x) ∙ released_stage i x)
+
+or_true : (a : Bool) → true ≡ (a || true)
+or_true true = refl
+or_true false = refl
+
+-- one that waits for this leader, or whose leader has ended
+abbrev waiting_stage : ℕ → Bool → Stage
+waiting_stage l closed = cond closed Released (Waiting l)
+
+other_way : (a b : ℕ) → eqb a b ≡ eqb b a
+other_way a b = by_test (eqb a b) refl
+  where
+    by_test : (c : Bool) → eqb a b ≡ c → c ≡ eqb b a
+    by_test true h = sym (eq-eqb b a (sym (eqb-true a b h)))
+    by_test false h = sym (false_from_ne_true _ (λ q. false≢true (sym h ∙ eq-eqb a b (sym (eqb-true b a q)))))
+
+stage_more : (l : ℕ) (event : Event) (o : Outcome) (closed : Bool) →
+    stage_by (ended_by event o) (waiting_stage l closed) ≡ waiting_stage l ((eqb (id_of event) l && (not (is_arrival event) && ends o)) || closed)
+stage_more l event o closed = by_end (not (is_arrival event) && ends o) closed
+  where
+    none : (closed : Bool) → stage_by (cond false (Some (id_of event)) None) (waiting_stage l closed) ≡ waiting_stage l ((eqb (id_of event) l && false) || closed)
+    none closed = ap (λ b. waiting_stage l (b || closed)) (sym (and_none (eqb (id_of event) l)))
+
+    and_true : (a : Bool) → a ≡ ((a && true) || false)
+    and_true true = refl
+    and_true false = refl
+
+    by_end : (c closed : Bool) → stage_by (cond c (Some (id_of event)) None) (waiting_stage l closed) ≡ waiting_stage l ((eqb (id_of event) l && c) || closed)
+    by_end false closed = none closed
+    by_end true true = ap (waiting_stage l) (or_true (eqb (id_of event) l && true))
+    by_end true false = ap (λ b. cond b Released (Waiting l)) (other_way l (id_of event) ∙ and_true (eqb (id_of event) l))
+
+-- ---- until when it waits
+
+-- it waits still, or may be woken since its leader has ended
+record StandsBy (id l : ℕ) (items : List Item) (y : Option Exchange) : Type 0 where
+  x : Exchange
+  y_is : y ≡ Some x
+  stage : x.stage ≡ waiting_stage l (has_closed l items)
+  unwoken : was_woken id items ≡ false
+
+stands_apart : (id l : ℕ) (i : Item) (items : List Item) (key : Option Key) (x y : Option Exchange) → eqb (id_of i.event) id ≡ false → y ≡ changed_by key (ended_by i.event i.outcome) x →
+    StandsBy id l items x → StandsBy id l (i ∷ items) y
+stands_apart id l i items key x y n h s =
+    let c = stage_changed key (ended_by i.event i.outcome) s.x x s.y_is in
+    record {
+      x = c.0;
+      y_is = h ∙ c.1;
+      stage = c.2 ∙ (ap (stage_by (ended_by i.event i.outcome)) s.stage ∙ stage_more l i.event i.outcome (has_closed l items));
+      unwoken = ap (λ b. cond (b && is_wake i.event) true (was_woken id items)) n ∙ s.unwoken;
+    }
+
+module _ (table : Table) (limit first l : ℕ) (before : List Item) (arrival : Item) where
+  abbrev start : State
+  start = begun table limit first
+
+  abbrev id : ℕ
+  id = id_of arrival.event
+
+  abbrev exchange : List Item → Option Exchange
+  exchange items = find_exchange id (left start (items ++ arrival ∷ before)).exchanges
+
+  -- it waits, went forward, or is over
+  data Fate (items : List Item) (y : Option Exchange) : Type 0 where
+    stands_by : StandsBy id l items y → Fate items y
+    out : (x : Exchange) → y ≡ Some x → x.stage ≡ Forwarded → Fate items y
+    over : y ≡ None → Fate items y
+
+  at_first : IsGood start (arrival ∷ before) → arrival.outcome ≡ Waits l → StandsBy id l [] (exchange [])
+  at_first g w = by_move (exchange []) (move_of table (left start before) arrival id (same_table start before) g.0)
+    where
+      here : eqb (id_of arrival.event) (id_of arrival.event) ≡ true
+      here = eq-eqb (id_of arrival.event) (id_of arrival.event) refl
+
+      no_end : ends arrival.outcome ≡ true → ⊥
+      no_end h = false≢true (sym (ap ends w) ∙ h)
+
+      no_forward : goes_forward arrival.outcome ≡ true → ⊥
+      no_forward h = false≢true (sym (ap goes_forward w) ∙ h)
+
+      by_move : (y : Option Exchange) → Move id (find_exchange (id_of arrival.event) (left start before).exchanges) arrival.event arrival.outcome (find_exchange id (left start before).exchanges) y → StandsBy id l [] y
+      by_move y (apart n h) = absurd (false≢true (sym n ∙ here))
+      by_move y (opens at es now asked line e x_is f h) = absurd (no_forward f)
+      by_move y (queues at es now asked line m e x_is f k h) =
+          let same : m ≡ l = same_wait m l (sym f ∙ w) in
+          record { x = queued at es now id asked line m; y_is = h; stage = ap (λ n. Waiting n) same; unwoken = refl }
+        where
+          same_wait : (a b : ℕ) → Waits a ≡ Waits b → a ≡ b
+          same_wait a b q = cc
+      by_move y (passes t e x_is f h) = absurd (no_end f)
+      by_move y (again z now t e x_is c f h j s) = absurd (no_forward f)
+      by_move y (wakes at es z now e x_is s f h) = absurd (no_forward f)
+      by_move y (closes z t e x_is f h) = absurd (no_end f)
+
+  fate_more : (i : Item) (items : List Item) (x y : Option Exchange) (w : Option Exchange) → (eqb (id_of i.event) id && is_arrival i.event) ≡ false → Move id w i.event i.outcome x y → Fate items x → Fate (i ∷ items) y
+  fate_more i items x y w a (apart n h) (stands_by s) = stands_by (stands_apart id l i items (key_by_step (asked_of w) i.event i.outcome) x y n h s)
+  fate_more i items x y w a (apart n h) (out z x_is s) =
+      let c = stage_changed (key_by_step (asked_of w) i.event i.outcome) (ended_by i.event i.outcome) z x x_is in
+      out c.0 (h ∙ c.1) (c.2 ∙ (ap (stage_by (ended_by i.event i.outcome)) s ∙ stays (ended_by i.event i.outcome)))
+    where
+      stays : (gone : Option ℕ) → stage_by gone Forwarded ≡ Forwarded
+      stays None = refl
+      stays (Some j) = refl
+  fate_more i items x y w a (apart n h) (over x_is) =
+      over (h ∙ (ap (changed_by (key_by_step (asked_of w) i.event i.outcome) (ended_by i.event i.outcome)) x_is ∙ none_changed (key_by_step (asked_of w) i.event i.outcome) (ended_by i.event i.outcome)))
+    where
+      none_changed : (key : Option Key) (gone : Option ℕ) → changed_by key gone None ≡ None
+      none_changed None None = refl
+      none_changed None (Some j) = refl
+      none_changed (Some key) None = refl
+      none_changed (Some key) (Some j) = refl
+  fate_more i items x y w a (opens at es now asked line e x_is f h) s = absurd (fresh_arrival id now asked i.event e a)
+  fate_more i items x y w a (queues at es now asked line m e x_is f k h) s = absurd (fresh_arrival id now asked i.event e a)
+  fate_more i items x y w a (passes t e x_is f h) s = absurd (not_both _ _ t e a)
+  fate_more i items x y w a (again z now t e x_is c f h j r) s = out _ h (out_is z.stage r)
+    where
+      out_is : (t : Stage) → is_forwarded t ≡ true → Forwarded ≡ Forwarded
+      out_is t r = refl
+  fate_more i items x y w a (wakes at es z now e x_is r f h) s = out _ h refl
+  fate_more i items x y w a (closes z t e x_is f h) s = over h
+
+  fate : (items : List Item) → IsGood start (items ++ arrival ∷ before) → arrival.outcome ≡ Waits l → NoneArrives id items → Fate items (exchange items)
+  fate [] g w n = stands_by (at_first g w)
+  fate (i ∷ items) g w n =
+      fate_more i items (exchange items) (exchange (i ∷ items)) _ n.0 (move_of table (left start (items ++ arrival ∷ before)) i id (same_table start (items ++ arrival ∷ before)) g.0) (fate items g.1 w n.1)
+
+  -- while nothing happens to it
+  stands : (items : List Item) → IsGood start (items ++ arrival ∷ before) → arrival.outcome ≡ Waits l → NoneOf id items → StandsBy id l items (exchange items)
+  stands [] g w n = at_first g w
+  stands (i ∷ items) g w n =
+      by_move (stands items g.1 w n.1) (exchange (i ∷ items)) (move_of table (left start (items ++ arrival ∷ before)) i id (same_table start (items ++ arrival ∷ before)) g.0)
+    where
+      not_it : (e : Event) → i.event ≡ e → id_of e ≡ id → ⊥
+      not_it e q same = false≢true (sym n.0 ∙ eq-eqb (id_of i.event) id (ap id_of q ∙ same))
+
+      by_move : StandsBy id l items (exchange items) → (y : Option Exchange) → Move id (find_exchange (id_of i.event) (left start (items ++ arrival ∷ before)).exchanges) i.event i.outcome (exchange items) y → StandsBy id l (i ∷ items) y
+      by_move was y (apart k h) = stands_apart id l i items _ (exchange items) y k h was
+      by_move was y (opens at es now asked line e x_is f h) = absurd (not_it (Arrive now id asked) e refl)
+      by_move was y (queues at es now asked line m e x_is f k h) = absurd (not_it (Arrive now id asked) e refl)
+      by_move was y (passes t e x_is f h) = absurd (false≢true (sym n.0 ∙ t))
+      by_move was y (again z now t e x_is c f h j s) = absurd (false≢true (sym n.0 ∙ t))
+      by_move was y (wakes at es z now e x_is s f h) = absurd (not_it (Wake now id) e refl)
+      by_move was y (closes z t e x_is f h) = absurd (false≢true (sym n.0 ∙ t))
+
+pub waits_until_its_leader_ends : WaitsUntilItsLeaderEnds
+waits_until_its_leader_ends table limit first l items before arrival g w n =
+    let p = good_plain table limit first (items ++ arrival ∷ before) g in
+    let s = stands table limit first l before arrival items p w n in
+    ap (λ xs. stage_of (find_exchange (id_of arrival.event) xs)) (sym (exchanges_are_open table limit first (items ++ arrival ∷ before) p))
+    ∙ (ap stage_of s.y_is ∙ ap (λ (t : Stage). Some t) s.stage)
+
+-- ---- the wake
+
+pub ready_by : (xs : List Exchange) (now id : ℕ) → fault_by xs (Wake now id) ≡ None → IsReady id xs
+ready_by xs now id h = by_open (find_exchange id xs) refl h
+  where
+    by_open : (w : Option Exchange) → find_exchange id xs ≡ w → fault_of w (Wake now id) ≡ None → IsReady id xs
+    by_open None e h = absurd (cc)
+    by_open (Some x) e h = record { x = x; is_open = e; stage = released_from (too_late now) x.stage h }
+
+closed_by : (l : ℕ) (closed : Bool) → is_released (waiting_stage l closed) ≡ true → closed ≡ true
+closed_by l true h = refl
+closed_by l false h = absurd (false≢true h)
+
+pub woken_once_behind_its_leader : WokenOnceBehindItsLeader
+woken_once_behind_its_leader table limit first now l items before wake arrival g w e n =
+    let p = good_plain table limit first (wake ∷ (items ++ arrival ∷ before)) g in
+    let id = id_of arrival.event in
+    let xs = (left (begun table limit first) (items ++ arrival ∷ before)).exchanges in
+    let r = ready_by xs now id (ap (fault_by xs) (sym e) ∙ p.0.allowed) in
+    by_fate r (fate table limit first l before arrival items p.1 w n)
+  where
+    same_stage : (y : Option Exchange) (a b : Exchange) → y ≡ Some a → y ≡ Some b → a.stage ≡ b.stage
+    same_stage y a b h k = ap (λ (z : Exchange). z.stage) (same_Some a b (sym h ∙ k))
+
+    by_fate : IsReady (id_of arrival.event) (left (begun table limit first) (items ++ arrival ∷ before)).exchanges →
+        Fate table limit first l before arrival items (find_exchange (id_of arrival.event) (left (begun table limit first) (items ++ arrival ∷ before)).exchanges) →
+        (has_closed l items ≡ true) × (was_woken (id_of arrival.event) items ≡ false)
+    by_fate r (stands_by s) =
+        let same : r.x.stage ≡ waiting_stage l (has_closed l items) = same_stage _ r.x s.x r.is_open s.y_is ∙ s.stage in
+        (closed_by l (has_closed l items) (ap is_released (sym same) ∙ r.stage), s.unwoken)
+    by_fate r (out x y_is s) = absurd (false≢true (ap is_released (sym s ∙ sym (same_stage _ r.x x r.is_open y_is)) ∙ r.stage))
+    by_fate r (over y_is) =
+        let none : None ≡ Some r.x = sym y_is ∙ r.is_open in
+        absurd (cc)
+
+-- ---- those that may be woken
+
+all_ready : (P : ℕ → Type 0) (xs : List Exchange) → AllByRecursion P (ids_of xs) → AllByRecursion P (ready_ids xs)
+all_ready P [] h = tt
+all_ready P (x ∷ xs) h = by_test (is_released x.stage) (all_ready P xs h.1)
+  where
+    by_test : (b : Bool) → AllByRecursion P (ready_ids xs) → AllByRecursion P (cond b (x.id ∷ ready_ids xs) (ready_ids xs))
+    by_test true rest = (h.0, rest)
+    by_test false rest = rest
+
+ready_in_order : (xs : List Exchange) (past : List Item) → StandInOrder (ids_of xs) past → StandInOrder (ready_ids xs) past
+ready_in_order [] past h = tt
+ready_in_order (x ∷ xs) past h = by_test (is_released x.stage) (ready_in_order xs past h.1)
+  where
+    by_test : (b : Bool) → StandInOrder (ready_ids xs) past → StandInOrder (cond b (x.id ∷ ready_ids xs) (ready_ids xs)) past
+    by_test true rest = (all_ready (λ m. ArrivesBefore x.id m past) xs h.0, rest)
+    by_test false rest = rest
+
+pub ready_in_order_of_arrival : ReadyInOrderOfArrival
+ready_in_order_of_arrival table limit first trace g = ready_in_order (open_exchanges table limit trace) trace (open_in_order_of_arrival table limit first trace g)
+
+-- no id arrives before itself
+never_before_itself : (id : ℕ) (past : List Item) → ArrivesBefore id id past → ⊥
+never_before_itself id past h = not_both _ _ (eq-eqb (id_of h.later.event) id h.later_id) h.later_arrives h.none_of_it.1.0
+
+id_is_in : (id : ℕ) (P : ℕ → Type 0) (ids : List ℕ) → AllByRecursion P ids → is_in id ids ≡ true → P id
+id_is_in id P [] h m = absurd (false≢true m)
+id_is_in id P (n ∷ ids) h m = by_test (λ k. id_is_in id P ids h.1 k) (eqb n id) refl m
+  where
+    by_test : (is_in id ids ≡ true → P id) → (b : Bool) → eqb n id ≡ b → (b || is_in id ids) ≡ true → P id
+    by_test rest true e m = subst P (eqb-true n id e) h.0
+    by_test rest false e m = rest m
+
+ready_found : (id : ℕ) (xs : List Exchange) (past : List Item) → StandInOrder (ids_of xs) past → is_in id (ready_ids xs) ≡ true → IsReady id xs
+ready_found id [] past o m = absurd (false≢true m)
+ready_found id (x ∷ xs) past o m = by_id (λ k. ready_found id xs past o.1 k) (eqb x.id id) refl (is_released x.stage) refl m
+  where
+    rest : (is_in id (ready_ids xs) ≡ true → IsReady id xs) → eqb x.id id ≡ false → is_in id (ready_ids xs) ≡ true → IsReady id (x ∷ xs)
+    rest others e m =
+        let r = others m in
+        record { x = r.x; is_open = ap (λ b. cond b (Some x) (find_exchange id xs)) e ∙ r.is_open; stage = r.stage }
+
+    by_id : (is_in id (ready_ids xs) ≡ true → IsReady id xs) → (b : Bool) → eqb x.id id ≡ b → (c : Bool) → is_released x.stage ≡ c → is_in id (cond c (x.id ∷ ready_ids xs) (ready_ids xs)) ≡ true → IsReady id (x ∷ xs)
+    by_id others true e true s m = record { x = x; is_open = ap (λ b. cond b (Some x) (find_exchange id xs)) e; stage = s }
+    by_id others true e false s m =
+        let before = id_is_in id (λ n. ArrivesBefore x.id n past) (ready_ids xs) (all_ready (λ n. ArrivesBefore x.id n past) xs o.0) m in
+        absurd (never_before_itself id past (subst (λ n. ArrivesBefore n id past) (eqb-true x.id id e) before))
+    by_id others false e true s m = rest others e (sym (ap (λ b. b || is_in id (ready_ids xs)) e) ∙ m)
+    by_id others false e false s m = rest others e m
+
+found_ready : (id : ℕ) (xs : List Exchange) (z : Exchange) → find_exchange id xs ≡ Some z → is_released z.stage ≡ true → is_in id (ready_ids xs) ≡ true
+found_ready id [] z f s = absurd (cc)
+found_ready id (x ∷ xs) z f s = by_id (λ g. found_ready id xs z g s) (eqb x.id id) refl f
+  where
+    passed : (c : Bool) → is_in id (ready_ids xs) ≡ true → eqb x.id id ≡ false → is_in id (cond c (x.id ∷ ready_ids xs) (ready_ids xs)) ≡ true
+    passed true m e = ap (λ b. b || is_in id (ready_ids xs)) e ∙ m
+    passed false m e = m
+
+    by_id : (find_exchange id xs ≡ Some z → is_in id (ready_ids xs) ≡ true) → (b : Bool) → eqb x.id id ≡ b → cond b (Some x) (find_exchange id xs) ≡ Some z → is_in id (ready_ids (x ∷ xs)) ≡ true
+    by_id others true e f =
+        let released : is_released x.stage ≡ true = ap (λ (y : Exchange). is_released y.stage) (same_Some x z f) ∙ s in
+        ap (λ c. is_in id (cond c (x.id ∷ ready_ids xs) (ready_ids xs))) released ∙ ap (λ b. b || is_in id (ready_ids xs)) e
+    by_id others false e f = passed (is_released x.stage) (others f) e
+
+pub woken_exactly_where_ready : WokenExactlyWhereReady
+woken_exactly_where_ready table limit first now id trace g = (
+  λ m.
+      let r = ready_found id xs trace (open_in_order_of_arrival table limit first trace g) m in
+      ap (λ (w : Option Exchange). fault_of w (Wake now id)) r.is_open ∙ accepted r.x.stage (too_late now) r.stage,
+  λ h. let r = ready_by xs now id h in found_ready id xs r.x r.is_open r.stage,
+)
+  where
+    xs : List Exchange
+    xs = open_exchanges table limit trace
+
+    accepted : (s : Stage) (a : Option CoreFault) → is_released s ≡ true → or_fault a (not_ready s) ≡ a
+    accepted Forwarded a h = absurd (false≢true h)
+    accepted (Waiting l) a h = absurd (false≢true h)
+    accepted Released None h = refl
+    accepted Released (Some f) h = refl
+
+pub woken_is_judged_anew : WokenIsJudgedAnew
+woken_is_judged_anew table limit first now id item past g e =
+    let r = ready_by xs now id (ap (fault_by xs) (sym e) ∙ g.0.allowed) in
+    let is : item.outcome ≡ woken table es now r.x (decision_of (caches_of table.lines r.x.line) es r.x.asked now) =
+    g.0.outcome_is ∙ (ap (λ (v : Event). outcome_by table es xs (next_serial first past) v) e ∙ ap (λ (w : Option Exchange). outcome_of table es xs w (next_serial first past) (Wake now id)) r.is_open) in
+    record { x = r.x; is_open = r.is_open; gets = by_decision r.x (decision_of (caches_of table.lines r.x.line) es r.x.asked now) refl is }
+  where
+    es : List Stored
+    es = held_entries table limit past
+
+    xs : List Exchange
+    xs = open_exchanges table limit past
+
+    by_decision : (x : Exchange) (d : Decision) → decision_of (caches_of table.lines x.line) es x.asked now ≡ d → item.outcome ≡ woken table es now x d →
+        ((s : ℕ) × IsReusable (caches_of table.lines x.line) es x.asked now s × (used_in item.outcome ≡ Some s))
+        ⊎ ((rule : ReuseRule) × (bytes : List ℕ) × IsLeast (caches_of table.lines x.line) es x.asked now rule × (item.outcome ≡ Forward x.line bytes))
+    by_decision x (decision.Hit s) d is = inl (s, reused_is_allowed (caches_of table.lines x.line) es x.asked now s d, ap used_in is)
+    by_decision x (decision.Forward rule against) d is = inr (rule, forward_text table x.asked (condition_at es against), (names_the_least (caches_of table.lines x.line) es x.asked now rule against d).0, is)
+
+-- ---- one goes forward
+
+-- the exchange of an id is at the origin, for this request, since nothing was held
+record AtTheOrigin (asked : Asked) (y : Option Exchange) : Type 0 where
+  x : Exchange
+  y_is : y ≡ Some x
+  asked_is : x.asked ≡ asked
+  rule : x.rule ≡ rules.UriMiss
+  stage : x.stage ≡ Forwarded
+
+module _ (table : Table) (limit first now id : ℕ) (asked : Asked) (before : List Item) (o : Outcome) where
+  abbrev began : State
+  began = begun table limit first
+
+  abbrev first_item : Item
+  first_item = record { event = Arrive now id asked; outcome = o }
+
+  abbrev its : List Item → Option Exchange
+  its items = find_exchange id (left began (items ++ first_item ∷ before)).exchanges
+
+  overtaken_at : (key : Key) (x : Exchange) → AtTheOrigin asked (Some x) → AtTheOrigin asked (Some (overtake key x))
+  overtaken_at key x a = by_test (same_key x.asked.target.key key)
+    where
+      same : a.x ≡ x
+      same = same_Some a.x x (sym a.y_is)
+
+      by_test : (b : Bool) → AtTheOrigin asked (Some (cond b (record x { overtaken = true }) x))
+      by_test true = record {
+        x = record x { overtaken = true };
+        y_is = refl;
+        asked_is = ap (λ (z : Exchange). z.asked) (sym (same_Some a.x x (sym a.y_is))) ∙ a.asked_is;
+        rule = ap (λ (z : Exchange). z.rule) (sym (same_Some a.x x (sym a.y_is))) ∙ a.rule;
+        stage = ap (λ (z : Exchange). z.stage) (sym (same_Some a.x x (sym a.y_is))) ∙ a.stage;
+      }
+      by_test false = a
+
+  released_at : (i : ℕ) (x : Exchange) → AtTheOrigin asked (Some x) → AtTheOrigin asked (Some (release i x))
+  released_at i x a =
+      let stage : x.stage ≡ Forwarded = ap (λ (z : Exchange). z.stage) (same_Some x a.x a.y_is) ∙ a.stage in
+      subst (λ b. AtTheOrigin asked (Some (cond b (record x { stage = Released }) x))) (sym (ap (waits_for i) stage)) a
+
+  changed_at : (key : Option Key) (gone : Option ℕ) (y : Option Exchange) → AtTheOrigin asked y → AtTheOrigin asked (changed_by key gone y)
+  changed_at key gone None a =
+      let none : None ≡ Some a.x = a.y_is in
+      absurd (cc)
+  changed_at None None (Some x) a = a
+  changed_at None (Some i) (Some x) a = released_at i x a
+  changed_at (Some key) None (Some x) a = overtaken_at key x a
+  changed_at (Some key) (Some i) (Some x) a = overtaken_at key (release i x) (released_at i x a)
+
+  origin_more : (i : Item) (items : List Item) (w x y : Option Exchange) → Move id w i.event i.outcome x y → AtTheOrigin asked x → (has_closed id (i ∷ items) ≡ true) ⊎ AtTheOrigin asked y
+  origin_more i items w x y (apart n h) a = inr (subst (AtTheOrigin asked) (sym h) (changed_at (key_by_step (asked_of w) i.event i.outcome) (ended_by i.event i.outcome) x a))
+  origin_more i items w x y (opens at es t r line e x_is f h) a =
+      let none : None ≡ Some a.x = sym x_is ∙ a.y_is in
+      absurd (cc)
+  origin_more i items w x y (queues at es t r line m e x_is f k h) a =
+      let none : None ≡ Some a.x = sym x_is ∙ a.y_is in
+      absurd (cc)
+  origin_more i items w x y (passes t e x_is f h) a =
+      let none : None ≡ Some a.x = sym x_is ∙ a.y_is in
+      absurd (cc)
+  origin_more i items w x y (again z t u e x_is c f h j s) a =
+      let same : z ≡ a.x = same_Some z a.x (sym x_is ∙ a.y_is) in
+      inr (record { x = _; y_is = h; asked_is = ap (λ (v : Exchange). v.asked) same ∙ a.asked_is; rule = ap (λ (v : Exchange). v.rule) same ∙ a.rule; stage = refl })
+  origin_more i items w x y (wakes at es z t e x_is s f h) a =
+      let same : z.stage ≡ Forwarded = ap (λ (v : Exchange). v.stage) (same_Some z a.x (sym x_is ∙ a.y_is)) ∙ a.stage in
+      absurd (false≢true (ap is_released (sym same) ∙ s))
+  origin_more i items w x y (closes z t e x_is f h) a =
+      inl (ap (λ b. (b && (not (is_arrival i.event) && ends i.outcome)) || has_closed id items) t ∙ (ap (λ b. (not b && ends i.outcome) || has_closed id items) e ∙ ap (λ b. b || has_closed id items) f))
+
+  origin : (items : List Item) → IsGood began (items ++ first_item ∷ before) → AtTheOrigin asked (its []) → (has_closed id items ≡ true) ⊎ AtTheOrigin asked (its items)
+  origin [] g a = inr a
+  origin (i ∷ items) g a = by_rest (origin items g.1 a)
+    where
+      by_rest : (has_closed id items ≡ true) ⊎ AtTheOrigin asked (its items) → (has_closed id (i ∷ items) ≡ true) ⊎ AtTheOrigin asked (its (i ∷ items))
+      by_rest (inl c) = inl (ap (λ b. (eqb (id_of i.event) id && (not (is_arrival i.event) && ends i.outcome)) || b) c ∙ sym (or_true (eqb (id_of i.event) id && (not (is_arrival i.event) && ends i.outcome))))
+      by_rest (inr a) = origin_more i items _ (its items) (its (i ∷ items)) (move_of table (left began (items ++ first_item ∷ before)) i id (same_table began (items ++ first_item ∷ before)) g.0) a
+
+-- it is, right behind the arrival at which it goes there
+at_the_arrival : (table : Table) (limit first now id line : ℕ) (asked : Asked) (bytes : List ℕ) (before : List Item) (o : Outcome) → o ≡ Forward line bytes →
+    IsGood (begun table limit first) (record { event = Arrive now id asked; outcome = o } ∷ before) →
+    IsLeast (caches_of table.lines line) (held_entries table limit before) asked now rules.UriMiss →
+    AtTheOrigin asked (find_exchange id (left (begun table limit first) (record { event = Arrive now id asked; outcome = o } ∷ before)).exchanges)
+at_the_arrival table limit first now id line asked bytes before o went g least =
+    let s = left (begun table limit first) before in
+    let y = opened s.table s.entries now id asked line in
+    let d = forwards (caches_of table.lines line) (held_entries table limit before) asked now rules.UriMiss least in
+    let decided : decision_of (caches_of s.table.lines line) s.entries asked now ≡ decision.Forward rules.UriMiss d.0 =
+    ap (λ (t : Table). decision_of (caches_of t.lines line) s.entries asked now) (same_table (begun table limit first) before)
+    ∙ (ap (λ (es : List Stored). decision_of (caches_of table.lines line) es asked now) (entries_are_held table limit first before g.1) ∙ d.1) in
+    let free : find_exchange id s.exchanges ≡ None = id_was_free (find_exchange id s.exchanges) now id asked g.0.allowed in
+    record {
+      x = y;
+      y_is = ap (λ (o : Outcome). find_exchange id (open_after s.table s.entries s.exchanges (Arrive now id asked) o)) went
+          ∙ (find-push id s.exchanges y free ∙ ap (λ b. cond b (Some y) (find_exchange id s.exchanges)) (eq-eqb id id refl));
+      asked_is = refl;
+      rule = ap rule_of decided;
+      stage = refl;
+    }
+
+pub one_goes_forward : OneGoesForward
+one_goes_forward table limit first key other later earlier between before g same l e =
+    ap (λ (v : Event). has_closed (id_of v) between) e.arrives
+    ∙ by_fate (origin table limit first e.now e.id e.asked before earlier.outcome between p
+    (at_the_arrival table limit first e.now e.id e.line e.asked e.bytes before earlier.outcome e.forward (part (begun table limit first) between (item ∷ before) p) e.nothing_held))
+  where
+    item : Item
+    item = record { event = Arrive e.now e.id e.asked; outcome = earlier.outcome }
+
+    item_is : earlier ≡ record { event = Arrive e.now e.id e.asked; outcome = earlier.outcome }
+    item_is = ap (λ (v : Event). record { event = v; outcome = earlier.outcome }) e.arrives
+
+    g' : IsGoodHistory table limit first (between ++ record { event = Arrive e.now e.id e.asked; outcome = earlier.outcome } ∷ before)
+    g' = subst (λ (i : Item). IsGoodHistory table limit first (between ++ i ∷ before)) item_is g.1
+
+    p : IsGood (begun table limit first) (between ++ record { event = Arrive e.now e.id e.asked; outcome = earlier.outcome } ∷ before)
+    p = good_plain table limit first (between ++ record { event = Arrive e.now e.id e.asked; outcome = earlier.outcome } ∷ before) g'
+
+    its_leads : (x : Exchange) → x.asked ≡ e.asked → x.rule ≡ rules.UriMiss → x.stage ≡ Forwarded → leads l.asked.target.key x ≡ true
+    its_leads x a r t =
+        ap (λ (q : Asked). same_key q.target.key l.asked.target.key && (is_get q && (is_uri_miss x.rule && is_forwarded x.stage))) a
+        ∙ (ap (λ (k : Key). same_key k l.asked.target.key && (is_get e.asked && (is_uri_miss x.rule && is_forwarded x.stage))) e.of_the_key
+        ∙ (ap (λ (k : Key). same_key key k && (is_get e.asked && (is_uri_miss x.rule && is_forwarded x.stage))) l.of_the_key
+        ∙ (ap (λ b. b && (is_get e.asked && (is_uri_miss x.rule && is_forwarded x.stage))) same
+        ∙ (ap (λ b. b && (is_uri_miss x.rule && is_forwarded x.stage)) e.gets
+        ∙ (ap (λ (q : ReuseRule). is_uri_miss q && is_forwarded x.stage) r ∙ ap is_forwarded t)))))
+
+    past : List Item
+    past = between ++ earlier ∷ before
+
+    by_fate : (has_closed e.id between ≡ true) ⊎ AtTheOrigin e.asked (its table limit first e.now e.id e.asked before earlier.outcome between) → has_closed e.id between ≡ true
+    by_fate (inl c) = c
+    by_fate (inr a) =
+        let at : find_exchange e.id (open_exchanges table limit (between ++ earlier ∷ before)) ≡ Some a.x =
+        ap (λ (i : Item). find_exchange e.id (open_exchanges table limit (between ++ i ∷ before))) item_is
+        ∙ (sym (ap (find_exchange e.id) (exchanges_are_open table limit first (between ++ record { event = Arrive e.now e.id e.asked; outcome = earlier.outcome } ∷ before) p)) ∙ a.y_is) in
+        let led = some_leads l.asked.target.key e.id (open_exchanges table limit (between ++ earlier ∷ before)) a.x at (its_leads a.x a.asked_is a.rule a.stage) in
+        let went = forwards_nothing_else table limit first l.now l.id l.line l.asked l.bytes later (between ++ earlier ∷ before) g l.arrives l.forward in
+        let waits : later.outcome ≡ Waits led.0 =
+        waits_for_it table limit first l.now l.id l.line led.0 l.asked later (between ++ earlier ∷ before) g l.arrives
+        (record { line_allows = went.0; takes_others = went.2; gets = l.gets; nothing_held = l.nothing_held }) led.1 in
+        let no : Forward l.line l.bytes ≡ Waits led.0 = sym l.forward ∙ waits in
+        absurd (cc)

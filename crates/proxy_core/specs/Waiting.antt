@@ -1,0 +1,167 @@
+-- Requests for one target wait for the first of them. A trace has its latest item first.
+--
+-- CouldWait: a request that may wait        IsFirstToLead: the exchange that it waits for
+-- WaitsWhereOneLeads, WaitsNowhereElse, OneGoesForward: who waits, and what for
+-- IsReady: an exchange that may be woken
+-- WaitsUntilItsLeaderEnds, WokenOnceBehindItsLeader, ReadyInOrderOfArrival, WokenExactlyWhereReady, WokenIsJudgedAnew: how it ends
+-- The laws of `src/laws.rt` prove the statements.
+use Rattle.std.specs.Prelude.{◌≡◌, ◌⊎◌, ℕ, ◌==◌, ◌&&◌, ◌||◌, not, Bool, true, false, List, [], ◌∷◌, ◌++◌, Option, Some, None, is_some, option_map, cond}
+use Rattle.std.specs.List.{AllByRecursion}
+use Rattle.hx_target.specs.declared.keys.Key.{Key}
+use Rattle.hx_target.specs.Keys.{same_key}
+use Rattle.hx_hop.specs.declared.asked_for.Asked.{Asked}
+use Rattle.hx_allow.specs.Lines.{Table}
+use Rattle.hx_allow.specs.Matching.{verdict_of, caches_of}
+use Rattle.hx_allow.specs.declared.verdicts.Verdict.TheVariants.{Allowed}
+use Rattle.hx_store.specs.Serials.{is_in}
+use Rattle.hx_reuse.specs.Meaning.{IsLeast}
+use Rattle.hx_reuse.specs.declared.rule.ReuseRule.{ReuseRule}
+use Rattle.hx_reuse.specs.declared.rule.ReuseRule.TheVariants.{UriMiss}
+use Rattle.proxy_core.specs.declared.stage.Stage.{Stage}
+use Rattle.proxy_core.specs.declared.stage.Stage.TheVariants.{Forwarded, Waiting, Released}
+use Rattle.proxy_core.specs.declared.exchange.Exchange.{Exchange}
+use Rattle.proxy_core.specs.declared.outcome.Outcome.TheVariants.{Forward, Waits}
+use Rattle.proxy_core.specs.declared.event.Event.{Event}
+use Rattle.proxy_core.specs.declared.event.Event.TheVariants.{Arrive, Answer, Fail, Wake, Abandon}
+use Rattle.proxy_core.specs.Moments.{too_late}
+use Rattle.proxy_core.specs.Leading.{is_released, is_get, leads, ready_ids}
+use Rattle.proxy_core.specs.Outcomes.{find_exchange, id_of, fault_by, is_only_if_cached}
+use Rattle.proxy_core.specs.State.{used_in}
+use Rattle.proxy_core.specs.Traces.{Item}
+use Rattle.proxy_core.specs.Histories.{held_entries, open_exchanges, IsGoodHistory}
+use Rattle.proxy_core.specs.Promises.{ends, is_arrival, NoneArrives}
+use Rattle.proxy_core.specs.Carrying.{StandInOrder}
+use Rattle.proxy_core.specs.Sending.{IsReusable}
+
+-- ---- who waits
+
+-- A GET that the table allows and that takes an answer of the origin, where nothing is held for its key: the operator keeps the
+-- store open to it, and none of the rules before that one stands.
+pub record CouldWait (table : Table) (limit : ℕ) (past : List Item) (now line : ℕ) (asked : Asked) : Type 0 where
+  pub line_allows : verdict_of table.lines asked.method asked.target ≡ Allowed line
+  pub takes_others : is_only_if_cached asked ≡ false
+  pub gets : is_get asked ≡ true
+  pub nothing_held : IsLeast (caches_of table.lines line) (held_entries table limit past) asked now UriMiss
+
+-- none of these leads
+abbrev pub NoneLeads : Key → List Exchange → Type 0
+NoneLeads key xs = AllByRecursion (λ (x : Exchange). leads key x ≡ false) xs
+
+-- of the open exchanges, which stand in the order of arrival, the first GET of this key that went forward since nothing was held
+pub record IsFirstToLead (key : Key) (xs : List Exchange) (leader : ℕ) : Type 0 where
+  pub before : List Exchange
+  pub x : Exchange
+  pub behind : List Exchange
+  pub open_are : xs ≡ before ++ x ∷ behind
+  pub id : x.id ≡ leader
+  pub it_leads : leads key x ≡ true
+  pub none_before : NoneLeads key before
+
+-- whoever could wait does, where one leads
+abbrev pub WaitsWhereOneLeads : Type 0
+WaitsWhereOneLeads = (table : Table) (limit first now id line leader : ℕ) (asked : Asked) (item : Item) (past : List Item) →
+    IsGoodHistory table limit first (item ∷ past) → item.event ≡ Arrive now id asked → CouldWait table limit past now line asked →
+    IsFirstToLead asked.target.key (open_exchanges table limit past) leader → item.outcome ≡ Waits leader
+
+-- Whoever waits has just arrived, could wait, and waits for the first that leads.
+pub record IsToWait (table : Table) (limit leader : ℕ) (item : Item) (past : List Item) : Type 0 where
+  pub now : ℕ
+  pub id : ℕ
+  pub asked : Asked
+  pub line : ℕ
+  pub arrives : item.event ≡ Arrive now id asked
+  pub could : CouldWait table limit past now line asked
+  pub first_leads : IsFirstToLead asked.target.key (open_exchanges table limit past) leader
+
+abbrev pub WaitsNowhereElse : Type 0
+WaitsNowhereElse = (table : Table) (limit first leader : ℕ) (item : Item) (past : List Item) → IsGoodHistory table limit first (item ∷ past) →
+    item.outcome ≡ Waits leader → IsToWait table limit leader item past
+
+-- an open exchange of this id ends: by a reply that isn't given at an arrival, or since the client went away
+abbrev pub has_closed : ℕ → List Item → Bool
+has_closed id [] = false
+has_closed id (i ∷ items) = (id_of i.event == id && (not (is_arrival i.event) && ends i.outcome)) || has_closed id items
+
+-- a GET for this key arrives and goes forward, since nothing is held for it
+pub record GoesForTheKey (table : Table) (limit : ℕ) (key : Key) (item : Item) (past : List Item) : Type 0 where
+  pub now : ℕ
+  pub id : ℕ
+  pub asked : Asked
+  pub line : ℕ
+  pub bytes : List ℕ
+  pub arrives : item.event ≡ Arrive now id asked
+  pub forward : item.outcome ≡ Forward line bytes
+  pub gets : is_get asked ≡ true
+  pub of_the_key : asked.target.key ≡ key
+  pub nothing_held : IsLeast (caches_of table.lines line) (held_entries table limit past) asked now UriMiss
+
+-- Of the GETs that arrive for a key while one of them is at the origin none goes there too: before a later one does the earlier
+-- has ended.
+abbrev pub OneGoesForward : Type 0
+OneGoesForward = (table : Table) (limit first : ℕ) (key other : Key) (later earlier : Item) (between before : List Item) →
+    IsGoodHistory table limit first (later ∷ (between ++ earlier ∷ before)) → same_key key other ≡ true →
+    GoesForTheKey table limit other later (between ++ earlier ∷ before) → GoesForTheKey table limit key earlier before →
+    has_closed (id_of earlier.event) between ≡ true
+
+-- ---- until when
+
+abbrev pub is_wake : Event → Bool
+is_wake (Arrive now id asked) = false
+is_wake (Answer now id r) = false
+is_wake (Fail now id kind) = false
+is_wake (Wake now id) = true
+is_wake (Abandon id) = false
+
+-- the request of this id is woken
+abbrev pub was_woken : ℕ → List Item → Bool
+was_woken id [] = false
+was_woken id (i ∷ items) = cond (id_of i.event == id && is_wake i.event) true (was_woken id items)
+
+-- nothing has happened to the exchange of this id
+abbrev pub NoneOf : ℕ → List Item → Type 0
+NoneOf id items = AllByRecursion (λ (i : Item). (id_of i.event == id) ≡ false) items
+
+abbrev pub stage_of : Option Exchange → Option Stage
+stage_of x = option_map (λ (x : Exchange). x.stage) x
+
+-- the exchange of this id is open and may be woken
+pub record IsReady (id : ℕ) (xs : List Exchange) : Type 0 where
+  pub x : Exchange
+  pub is_open : find_exchange id xs ≡ Some x
+  pub stage : is_released x.stage ≡ true
+
+-- Who waits does so until its leader has ended, by a reply or since the client went away, and may be woken from then on.
+abbrev pub WaitsUntilItsLeaderEnds : Type 0
+WaitsUntilItsLeaderEnds = (table : Table) (limit first leader : ℕ) (items before : List Item) (arrival : Item) →
+    IsGoodHistory table limit first (items ++ arrival ∷ before) → arrival.outcome ≡ Waits leader → NoneOf (id_of arrival.event) items →
+    stage_of (find_exchange (id_of arrival.event) (open_exchanges table limit (items ++ arrival ∷ before))) ≡ Some (cond (has_closed leader items) Released (Waiting leader))
+
+-- It is woken behind the end of its leader, and once.
+abbrev pub WokenOnceBehindItsLeader : Type 0
+WokenOnceBehindItsLeader = (table : Table) (limit first now leader : ℕ) (items before : List Item) (wake arrival : Item) →
+    IsGoodHistory table limit first (wake ∷ (items ++ arrival ∷ before)) → arrival.outcome ≡ Waits leader →
+    wake.event ≡ Wake now (id_of arrival.event) → NoneArrives (id_of arrival.event) items →
+    (has_closed leader items ≡ true) × (was_woken (id_of arrival.event) items ≡ false)
+
+-- those that may be woken stand in the order of arrival, so the first of them arrived first
+abbrev pub ReadyInOrderOfArrival : Type 0
+ReadyInOrderOfArrival = (table : Table) (limit first : ℕ) (trace : List Item) → IsGoodHistory table limit first trace →
+    StandInOrder (ready_ids (open_exchanges table limit trace)) trace
+
+-- a wake is accepted exactly of those, at a moment that can be told
+abbrev pub WokenExactlyWhereReady : Type 0
+WokenExactlyWhereReady = (table : Table) (limit first now id : ℕ) (trace : List Item) → IsGoodHistory table limit first trace →
+    ((is_in id (ready_ids (open_exchanges table limit trace)) ≡ true) → fault_by (open_exchanges table limit trace) (Wake now id) ≡ too_late now)
+    × (fault_by (open_exchanges table limit trace) (Wake now id) ≡ None → is_in id (ready_ids (open_exchanges table limit trace)) ≡ true)
+
+-- What it gets is decided anew over what is held then: a stored response that may be reused, or it goes forward by the least rule
+-- against that. It doesn't wait again.
+pub record IsJudgedAnew (table : Table) (limit now id : ℕ) (item : Item) (past : List Item) : Type 0 where
+  pub x : Exchange
+  pub is_open : find_exchange id (open_exchanges table limit past) ≡ Some x
+  pub gets : ((s : ℕ) × IsReusable (caches_of table.lines x.line) (held_entries table limit past) x.asked now s × (used_in item.outcome ≡ Some s))
+    ⊎ ((rule : ReuseRule) × (bytes : List ℕ) × IsLeast (caches_of table.lines x.line) (held_entries table limit past) x.asked now rule × (item.outcome ≡ Forward x.line bytes))
+
+abbrev pub WokenIsJudgedAnew : Type 0
+WokenIsJudgedAnew = (table : Table) (limit first now id : ℕ) (item : Item) (past : List Item) → IsGoodHistory table limit first (item ∷ past) →
+    item.event ≡ Wake now id → IsJudgedAnew table limit now id item past

@@ -1,0 +1,69 @@
+//! A request that waited for the answer to another is judged anew.
+ghost use Rattle.std.specs.Prelude.{◌≡◌, ℕ, ◌+◌, ◌<◌, ◌^◌, length, Some, IfOk, IfErr, OnOk, OnErr};
+ghost use Rattle.proxy_core.specs.Waiting.{IsReady};
+ghost use Rattle.proxy_engine.specs.Story.{Story};
+ghost use Rattle.proxy_engine.specs.Due.{Wakes, IsDueFirst};
+ghost use Rattle.proxy_engine.specs.State.{Stands, NoneLost, load_at, Done, Failed};
+
+use crate::engine::Engine;
+use crate::finishing::way_again;
+use crate::happening::EngineFault;
+use crate::marks;
+use crate::outcomes::{lacks_memory, room};
+use hx_store::Shelf;
+use proxy_script::Effect;
+use std::alloc::{AllocError, Global};
+
+impl<S: Shelf> Engine<S> {
+    /// The request of the connection at a place is judged anew, where a link number is left for it. All that can fail comes
+    /// before the core's step, or is that step.
+    fn rouse(&mut self, alloc: Global, now: u64, i: u64) -> Result<Vec<Effect>, AllocError>
+        requires ready { IsReady (i + 1) self.old.core.exchanges }
+        requires here { NoneLost self.old.connections }
+        requires left { self.old.first + length self.old.links < 2 ^ 64 }
+        requires early { now < 253402300800 }
+        ensures ok { IfOk result (λ effects. (s : Story) → Stands self.old s → Done s now (Wakes i) effects.items self.new) }
+        ensures less { OnOk result (load_at self.new < load_at self.old) }
+        ensures err { OnErr result (self.new ≡ self.old) }
+    {
+        let mut effects = room(alloc)?;
+        self.ends.links.reserve_one(alloc)?;
+        let count = self.ends.connections.len();
+        prove!(i < count);
+        let mut way = way_again(&self.core, alloc, i + 1)?;
+        let outcome = match self.core.wake(alloc, now, i + 1) {
+            Ok(outcome) => outcome,
+            Err(fault) => return Err(lacks_memory(fault)),
+        };
+        way.set_address(self.core.config(), &outcome);
+        marks::unlink_at(&mut self.ends.connections, i);
+        self.ends.carry_out(&mut effects, alloc, i, way, outcome);
+        Ok(effects)
+    }
+
+    /// The request of an id is judged anew, unless no link number is left for it. That is told before any memory is asked for.
+    pub(crate) fn wake(
+        &mut self,
+        alloc: Global,
+        now: u64,
+        id: u64,
+    ) -> Result<Vec<Effect>, EngineFault>
+        requires ready { IsReady id self.old.core.exchanges }
+        requires here { NoneLost self.old.connections }
+        requires early { now < 253402300800 }
+        ensures ok { IfOk result (λ effects. (s : Story) → (i : ℕ) → id ≡ i + 1 → Stands self.old s → Done s now (Wakes i) effects.items self.new) }
+        ensures less { OnOk result (load_at self.new < load_at self.old) }
+        ensures spent { result ≡ Err EngineFault.OutOfMemory → self.old.first + length self.old.links < 2 ^ 64 }
+        ensures fault { IfErr result (λ fault. (s : Story) → (i : ℕ) → id ≡ i + 1 → IsDueFirst s (Some (Wakes i)) → Stands self.old s → Failed s fault) }
+        ensures err { OnErr result (self.new ≡ self.old) }
+    {
+        if self.ends.is_spent() {
+            return Err(EngineFault::Spent);
+        }
+        prove!(id > 0);
+        match self.rouse(alloc, now, id - 1) {
+            Ok(effects) => Ok(effects),
+            Err(_) => Err(EngineFault::OutOfMemory),
+        }
+    }
+}
