@@ -160,7 +160,7 @@ pub record IsJudgedAnew (table : Table) (limit now id : ℕ) (item : Item) (past
   pub x : Exchange
   pub is_open : find_exchange id (open_exchanges table limit past) ≡ Some x
   pub gets : ((s : ℕ) × IsReusable (caches_of table.lines x.line) (held_entries table limit past) x.asked now s × (used_in item.outcome ≡ Some s))
-    ⊎ ((rule : ReuseRule) × (bytes : List ℕ) × IsLeast (caches_of table.lines x.line) (held_entries table limit past) x.asked now rule × (item.outcome ≡ Forward x.line bytes))
+      ⊎ ((rule : ReuseRule) × (bytes : List ℕ) × IsLeast (caches_of table.lines x.line) (held_entries table limit past) x.asked now rule × (item.outcome ≡ Forward x.line bytes))
 
 abbrev pub WokenIsJudgedAnew : Type 0
 WokenIsJudgedAnew = (table : Table) (limit first now id : ℕ) (item : Item) (past : List Item) → IsGoodHistory table limit first (item ∷ past) →

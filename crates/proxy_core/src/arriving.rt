@@ -144,11 +144,7 @@ impl<S: Shelf> Core<S> {
     }
 
     /// The exchange of a request opens, which waits or goes forward.
-    fn wait_or_forward(
-        &mut self,
-        alloc: Global,
-        exchange: Exchange,
-    ) -> Result<Outcome, AllocError>
+    fn wait_or_forward(&mut self, alloc: Global, exchange: Exchange) -> Result<Outcome, AllocError>
         requires free { find_exchange exchange.id self.old.exchanges ≡ None }
         requires stage { exchange.stage ≡ Forwarded }
         ensures outcome { IfOk result (λ outcome. outcome ≡ sent_on self.old.table exchange.line exchange.asked exchange.condition (leader_for self.old.exchanges exchange.asked exchange.rule)) }

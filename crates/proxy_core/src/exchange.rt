@@ -3,9 +3,9 @@ ghost use Rattle.std.specs.Prelude.{◌≡◌};
 ghost use Rattle.proxy_core.specs.State.{goes_out, overtake, release};
 
 use crate::condition::Condition;
+use crate::leading::waits_for;
 use crate::stage::Stage;
 use hx_hop::Asked;
-use crate::leading::waits_for;
 use hx_reuse::ReuseRule;
 use hx_target::Key;
 

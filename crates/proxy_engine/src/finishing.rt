@@ -9,7 +9,6 @@ ghost use Rattle.proxy_engine.specs.Due.{Abandons, Finish, Finishes, kind_of, Is
 ghost use Rattle.proxy_engine.specs.State.{Stands, finish_at, gone_at, NoneLost, load_at, Done, Failed};
 ghost use Rattle.proxy_core.specs.Outcomes.{find_exchange};
 ghost use Rattle.proxy_engine.specs.Activities.{link_of, has_exchange};
-
 ghost use Rattle.proxy_engine.specs.Wiring.{activity_at, activities_of, forwarded_at};
 ghost use Rattle.proxy_engine.specs.Acts.{asks_head, HasRoomFor};
 ghost use Rattle.proxy_engine.specs.Wishes.{IsFinishedBy, gives, EndFault};
