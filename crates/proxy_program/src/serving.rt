@@ -49,8 +49,8 @@ pub(crate) fn serve<R: Net + Clock + Files + Eprint + AllocGlobal>(
         Err(e) => return Err(fault_of(&e, Fault::Socket)),
     };
     let record = record_of(rt, service.record, table.as_slice())?;
-    announce(rt, &sockets)?;
     let shelf = IndexedShelf::new(rt.alloc(), config.capacity())?;
+    announce(rt, &sockets)?;
     let mut server = Server::new(rt.alloc(), config, shelf, sockets, record);
     let mut told = false;
     for _ in 0..service.turns {
