@@ -19,3 +19,4 @@ pub mod Driving
 pub mod Pending
 pub mod Waking
 pub mod Validating
+pub mod Waiters

@@ -39,6 +39,7 @@ mod stage;
 mod stored_reply;
 mod storing;
 mod validating;
+mod wait_index;
 mod waking;
 
 pub use crate::condition::Condition;
