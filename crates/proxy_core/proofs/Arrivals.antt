@@ -21,7 +21,7 @@ use Rattle.hx_reuse.specs.declared.rule.ReuseRule.{ReuseRule}
 use Rattle.proxy_core.specs.declared.condition.Condition.{Condition}
 use Rattle.proxy_core.specs.State.{goes_out, gone_out, sent_out}
 use Rattle.proxy_core.proofs.ExchangeLists.{cond_none, nones, swap, not_both}
-use Rattle.proxy_core.specs.Arrivals.{arrival_of, AreApart, IsIndexed}
+use Rattle.proxy_core.specs.Arrivals.{arrival_of, on_all, AreApart, IsIndexed}
 
 abbrev Numbered : Type 0
 Numbered = List (ℕ × Exchange)
@@ -221,9 +221,6 @@ indexed_closed id n es f g s h w =
     }
 
 -- ---- changing exchanges that keep their ids
-
-abbrev pub on_all : (Exchange → Exchange) → Numbered → Numbered
-on_all f es = map (λ (e : ℕ × Exchange). (e.0, f e.1)) es
 
 pub values_on_all : (f : Exchange → Exchange) (es : Numbered) → values_of (on_all f es) ≡ map f (values_of es)
 values_on_all f [] = refl

@@ -23,3 +23,4 @@ pub mod Uncached
 pub mod Headlines
 pub mod Driven
 pub mod Waits
+pub mod Waiters

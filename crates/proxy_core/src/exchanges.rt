@@ -1,13 +1,17 @@
 //! The open exchanges, in the order of arrival.
 //!
 //! Each has the number of its arrival, and a second map tells the number of an id. So one is found, opened and closed in
-//! the logarithm of how many are open; only an invalidation goes through all of them.
+//! the logarithm of how many are open, and each that a close releases costs that too. `leader`, `first_ready`, `ready` and
+//! an invalidation go through all of them.
 ghost use Rattle.std.specs.Prelude.{◌≡◌, ◌<◌, ◌++◌, ◌∷◌, [], map, filter, not, ◌==◌, None, IfOk, OnOk, OnErr, option_copied, slice_get, IfSome};
 ghost use Rattle.proxy_core.specs.Waiting.{IsReady};
 ghost use Rattle.std.specs.List.{All};
 ghost use Rattle.std.specs.Ordering.{nat_cmp};
 ghost use Rattle.std.specs.Map.{remove_entry};
 ghost use Rattle.std.specs.BTreeMap.{keys, is_at};
+ghost use Rattle.std.specs.BTreeSet.{contains};
+ghost use Rattle.proxy_core.specs.Arrivals.{WaitersPass, on_all};
+ghost use Rattle.proxy_core.specs.Waiters.{IsEntered, IsSameBut};
 ghost use Rattle.proxy_core.specs.Outcomes.{find_exchange};
 ghost use Rattle.proxy_core.specs.Leading.{leader, ready_ids};
 ghost use Rattle.proxy_core.specs.State.{closed, release, overtake, left_open, gone_out, sent_out};
@@ -16,10 +20,11 @@ use crate::condition::Condition;
 use crate::exchange::Exchange;
 use crate::ids::Ids;
 use crate::leading::{is_released, leads};
+use crate::wait_index::WaitIndex;
 use hx_reuse::ReuseRule;
 use hx_target::Key;
 use std::alloc::{AllocError, Global};
-use std::collections::BTreeMap;
+use std::collections::{BTreeMap, BTreeSet};
 use std::marker::Model;
 
 /// The open exchanges. Contracts see their list.
@@ -28,6 +33,8 @@ pub(crate) struct Exchanges {
     by_arrival: BTreeMap<u64, Exchange>,
     /// The number of each id's arrival.
     arrivals: BTreeMap<u64, u64>,
+    /// Those that wait, by the id that they wait for.
+    waiting: WaitIndex,
 }
 
 /// One call drops it, wherever that is.
@@ -36,6 +43,7 @@ impl Drop for Exchanges {
         let Exchanges {
             by_arrival: _,
             arrivals: _,
+            waiting: _,
         } = self;
     }
 }
@@ -45,13 +53,14 @@ impl Model for Exchanges {
     ghost use Rattle.std.specs.Ordering.{nat_cmp};
     ghost use Rattle.std.specs.BTreeMap.{get, values};
     ghost use Rattle.proxy_core.specs.declared.exchange.Exchange.{Exchange};
-    ghost use Rattle.proxy_core.specs.Arrivals.{IsIndexed};
+    ghost use Rattle.proxy_core.specs.Arrivals.{AreIndexed};
+    ghost use Rattle.proxy_core.specs.Waiters.{waits_in};
 
     ghost Value = { List Exchange };
 
     ghost view = { λ x. values x.by_arrival };
 
-    ghost invariant = { λ x. IsIndexed x.by_arrival.entries (λ id. get nat_cmp x.arrivals id) };
+    ghost invariant = { λ x. AreIndexed x.by_arrival.entries (λ id. get nat_cmp x.arrivals id) (waits_in x.waiting) };
 }
 
 impl Exchanges {
@@ -61,6 +70,7 @@ impl Exchanges {
         Exchanges {
             by_arrival: BTreeMap::new(alloc),
             arrivals: BTreeMap::new(alloc),
+            waiting: WaitIndex::new(alloc),
         }
     }
 
@@ -80,7 +90,7 @@ impl Exchanges {
         let id = exchange.id;
         let arrival = arrival_after(&self.by_arrival)?;
         self.arrivals.insert(id, arrival)?;
-        match push(&mut self.by_arrival, arrival, exchange) {
+        match enter(&mut self.by_arrival, &mut self.waiting, arrival, exchange) {
             Ok(()) => Ok(()),
             Err(error) => {
                 self.arrivals.remove(&id);
@@ -139,7 +149,7 @@ impl Exchanges {
         ensures { self.new ≡ filter (λ x. not (x.id == id)) self.old }
     {
         if let Some(arrival) = self.arrivals.remove(&id) {
-            remove(&mut self.by_arrival, arrival);
+            remove(&mut self.by_arrival, &mut self.waiting, arrival);
         }
     }
 
@@ -147,10 +157,9 @@ impl Exchanges {
     fn release(&mut self, leader: u64)
         ensures { self.new ≡ map (release leader) self.old }
     {
-        self.by_arrival.retain(|_, x| {
-            x.release(leader);
-            true
-        });
+        if let Some(waiting) = self.waiting.take(leader) {
+            release_each(&mut self.by_arrival, &waiting, leader);
+        }
     }
 
     /// The exchange of an id goes forward once more, in its place. No memory is taken.
@@ -229,9 +238,48 @@ fn push(
     Ok(())
 }
 
-/// Takes the exchange of an arrival out.
-fn remove(by_arrival: &mut BTreeMap<u64, Exchange>, arrival: u64)
-    ensures { by_arrival.new.entries ≡ remove_entry (is_at (nat_cmp arrival)) by_arrival.old.entries }
+/// Puts an exchange behind the others, and into the index of those that wait.
+fn enter(
+    by_arrival: &mut BTreeMap<u64, Exchange>,
+    waiting: &mut WaitIndex,
+    arrival: u64,
+    exchange: Exchange,
+) -> Result<(), AllocError>
+    requires { All (λ k. k < arrival) (keys by_arrival.old) }
+    ensures ok { OnOk result (by_arrival.new.entries ≡ by_arrival.old.entries ++ (arrival, exchange) ∷ []) }
+    ensures entered { OnOk result (IsEntered exchange.stage arrival waiting.old waiting.new) }
+    ensures err { OnErr result (by_arrival.new.entries ≡ by_arrival.old.entries) }
+    ensures left { OnErr result (IsSameBut arrival waiting.old waiting.new) }
 {
-    by_arrival.remove(&arrival);
+    let stage = exchange.stage;
+    waiting.enter(stage, arrival)?;
+    match push(by_arrival, arrival, exchange) {
+        Ok(()) => Ok(()),
+        Err(error) => {
+            waiting.leave(stage, arrival);
+            Err(error)
+        }
+    }
+}
+
+/// Takes the exchange of an arrival out, also of the index of those that wait.
+fn remove(by_arrival: &mut BTreeMap<u64, Exchange>, waiting: &mut WaitIndex, arrival: u64)
+    ensures entries { by_arrival.new.entries ≡ remove_entry (is_at (nat_cmp arrival)) by_arrival.old.entries }
+    ensures left { IsSameBut arrival waiting.old waiting.new }
+{
+    if let Some(x) = by_arrival.remove(&arrival) {
+        waiting.leave(x.stage, arrival);
+    }
+}
+
+/// Releases those of these arrivals that wait for the exchange of an id.
+fn release_each(by_arrival: &mut BTreeMap<u64, Exchange>, waiting: &BTreeSet<u64>, leader: u64)
+    requires { WaitersPass leader (contains nat_cmp waiting.now) by_arrival.old.entries }
+    ensures { by_arrival.new.entries ≡ on_all (release leader) by_arrival.old.entries }
+{
+    for arrival in waiting {
+        if let Some(x) = by_arrival.get_mut(arrival) {
+            x.release(leader);
+        }
+    }
 }

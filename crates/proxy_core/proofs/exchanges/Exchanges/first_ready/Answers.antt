@@ -20,7 +20,7 @@ returns-then-is_released-clause-value c = first_is c
 pub returns-then-is_released-clause-ready : goal.returns-then-is_released-clause-ready
 returns-then-is_released-clause-ready c =
     subst (IsReady c.in-Some.x.now.id) c.self.view_is
-    (first_found c.in-Some.x.now.id c.self.inside.by_arrival.entries c.self.invariant.apart (first_is c ∙ ap (λ (xs : List Exchange). slice_get (ready_ids xs) 0) (sym c.self.view_is)))
+    (first_found c.in-Some.x.now.id c.self.inside.by_arrival.entries c.self.invariant.ids.apart (first_is c ∙ ap (λ (xs : List Exchange). slice_get (ready_ids xs) 0) (sym c.self.view_is)))
 
 pub loop-x-preserved : goal.loop-x-preserved
 loop-x-preserved c =

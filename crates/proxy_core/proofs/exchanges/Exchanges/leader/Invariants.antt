@@ -1,4 +1,4 @@
-use Rattle.std.proofs.Common.{◌≡◌, slice_get}
+use Rattle.std.proofs.Common.{◌≡◌}
 use Rattle.std.specs.Map.{values_of}
 use Rattle.proxy_core.specs.Leading.{leader}
 use Rattle.proxy_core.proofs.exchanges.Exchanges.leader.Given as goal

@@ -4,7 +4,9 @@ use Rattle.std.specs.BTreeMap.{get}
 use Rattle.std.specs.Map.{values_of}
 use Rattle.proxy_core.specs.declared.exchange.Exchange.{Exchange}
 use Rattle.proxy_core.specs.Outcomes.{find_exchange}
-use Rattle.proxy_core.specs.Arrivals.{IsIndexed}
+use Rattle.proxy_core.specs.Arrivals.{AreIndexed}
+use Rattle.proxy_core.specs.Waiters.{waits_in}
+use Rattle.proxy_core.proofs.Waiters.{waiters-entered, waiters-again}
 use Rattle.proxy_core.proofs.Arrivals.{indexed_opened, indexed_again}
 use Rattle.proxy_core.proofs.exchanges.Exchanges.open.Goals as goal
 
@@ -15,8 +17,11 @@ invariant_of-self-in-Ok c =
     let x = c.args.exchange in
     let n = c.in_ok-arrival.arrival in
     let free : find_exchange x.id (values_of es) ≡ None = ap (find_exchange x.id) c.self.view_is ∙ c.requires in
-    subst (λ (zs : List (ℕ × Exchange)). IsIndexed zs (λ id. get nat_cmp c.insert.new.self id)) (sym c.in-Ok.ensures.ok)
-    (indexed_opened n x es (λ id. get nat_cmp s.arrivals id) (λ id. get nat_cmp c.insert.new.self id) c.in_ok-arrival.ensures c.self.invariant free (λ q. c.in_ok-insert.ensures.updates.0 q))
+    subst (λ (zs : List (ℕ × Exchange)). AreIndexed zs (λ id. get nat_cmp c.insert.new.self id) (waits_in c.enter.new.waiting)) (sym c.in-Ok.ensures.ok)
+    (record {
+      ids = indexed_opened n x es (λ id. get nat_cmp s.arrivals id) (λ id. get nat_cmp c.insert.new.self id) c.in_ok-arrival.ensures c.self.invariant.ids free (λ q. c.in_ok-insert.ensures.updates.0 q);
+      waiters = waiters-entered n x es s.waiting c.enter.new.waiting c.in-Ok.ensures.entered c.self.invariant.waiters;
+    })
 
 pub invariant_of-self-in-Err : goal.invariant_of-self-in-Err
 invariant_of-self-in-Err c =
@@ -25,6 +30,9 @@ invariant_of-self-in-Err c =
     let x = c.args.exchange in
     let n = c.in_ok-arrival.arrival in
     let free : find_exchange x.id (values_of es) ≡ None = ap (find_exchange x.id) c.self.view_is ∙ c.requires in
-    subst (λ (zs : List (ℕ × Exchange)). IsIndexed zs (λ id. get nat_cmp c.remove.new.self id)) (sym c.in-Err.ensures.err)
-    (indexed_again x.id n es (λ id. get nat_cmp s.arrivals id) (λ id. get nat_cmp c.insert.new.self id) (λ id. get nat_cmp c.remove.new.self id) c.self.invariant free
-    (λ q. c.in_ok-insert.ensures.updates.0 q) (λ q. c.remove.ensures.updates.0 q))
+    subst (λ (zs : List (ℕ × Exchange)). AreIndexed zs (λ id. get nat_cmp c.remove.new.self id) (waits_in c.enter.new.waiting)) (sym c.in-Err.ensures.err)
+    (record {
+      ids = indexed_again x.id n es (λ id. get nat_cmp s.arrivals id) (λ id. get nat_cmp c.insert.new.self id) (λ id. get nat_cmp c.remove.new.self id) c.self.invariant.ids free
+          (λ q. c.in_ok-insert.ensures.updates.0 q) (λ q. c.remove.ensures.updates.0 q);
+      waiters = waiters-again n es s.waiting c.enter.new.waiting c.in_ok-arrival.ensures c.in-Err.ensures.left c.self.invariant.waiters;
+    })

@@ -5,9 +5,11 @@ use Rattle.std.specs.Map.{values_of}
 use Rattle.std.proofs.lemmas.Map.Made.{map_same_pairs}
 use Rattle.proxy_core.specs.declared.exchange.Exchange.{Exchange}
 use Rattle.proxy_core.specs.State.{overtake}
-use Rattle.proxy_core.specs.Arrivals.{IsIndexed}
+use Rattle.proxy_core.specs.Waiters.{waits_in}
+use Rattle.proxy_core.proofs.Waiters.{indexes-on_all, overtake-waits}
+use Rattle.proxy_core.specs.Arrivals.{on_all, AreIndexed}
 use Rattle.proxy_core.proofs.ExchangeLists.{overtake-id}
-use Rattle.proxy_core.proofs.Arrivals.{on_all, indexed_on_all, values_on_all}
+use Rattle.proxy_core.proofs.Arrivals.{values_on_all}
 use Rattle.proxy_core.proofs.exchanges.Exchanges.overtake.Goals as goal
 
 all_written : (c : goal.After-retain) → c.retain.new.self.entries ≡ on_all (overtake c.args.key.now) c.self.inside.by_arrival.entries
@@ -16,8 +18,8 @@ all_written c = map_same_pairs _ (overtake c.args.key.now) _ (λ k v b w f' t. s
 pub invariant_of-self : goal.invariant_of-self
 invariant_of-self c =
     let s = c.self.inside in
-    subst (λ (zs : List (ℕ × Exchange)). IsIndexed zs (λ id. get nat_cmp s.arrivals id)) (sym (all_written c))
-    (indexed_on_all (overtake c.args.key.now) (overtake-id c.args.key.now) s.by_arrival.entries _ c.self.invariant)
+    subst (λ (zs : List (ℕ × Exchange)). AreIndexed zs (λ id. get nat_cmp s.arrivals id) (waits_in s.waiting)) (sym (all_written c))
+    (indexes-on_all (overtake c.args.key.now) (overtake-id c.args.key.now) (overtake-waits c.args.key.now) s.by_arrival.entries _ _ c.self.invariant)
 
 pub returns : goal.returns
 returns c =
