@@ -24,3 +24,6 @@ pub mod Headlines
 pub mod Driven
 pub mod Waits
 pub mod Waiters
+pub mod Releases
+pub mod GetIndices
+pub mod Gets

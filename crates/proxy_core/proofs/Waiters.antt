@@ -22,7 +22,7 @@ use Rattle.hx_target.specs.Keys.{same_key}
 use Rattle.proxy_core.specs.declared.condition.Condition.{Condition}
 use Rattle.proxy_core.specs.State.{release, overtake, goes_out, gone_out, sent_out}
 use Rattle.proxy_core.specs.Waiters.{waits_in, IsEntered, IsSameBut, IsEmptied}
-use Rattle.proxy_core.specs.Arrivals.{on_all, AreApart, AreIndexed, WaitersPass}
+use Rattle.proxy_core.specs.Arrivals.{on_all, AreApart, AreIndexed, Pass, WaitersPass}
 use Rattle.proxy_core.proofs.ExchangeLists.{cond_none}
 use Rattle.proxy_core.proofs.Arrivals.{indexed_on_all}
 
@@ -32,21 +32,21 @@ Numbered = List (ℕ × Exchange)
 abbrev at : ℕ → ℕ → Bool
 at n k = is_at (nat_cmp n) k
 
-at_is : (n k : ℕ) → at n k ≡ eqb n k
+pub at_is : (n k : ℕ) → at n k ≡ eqb n k
 at_is n k = grind (arith, nat_tests)
 
 -- ---- other tests
 
-pub waiters-more : (id : ℕ) (p q : ℕ → Bool) (es : Numbered) → ((m : ℕ) → p m ≡ true → q m ≡ true) → WaitersPass id p es → WaitersPass id q es
-waiters-more id p q [] k h = tt
-waiters-more id p q (e ∷ es) k h = (λ w. k e.0 (h.0 w), waiters-more id p q es k h.1)
+pub pass-more : (which : Exchange → Bool) (p q : ℕ → Bool) (es : Numbered) → ((m : ℕ) → p m ≡ true → q m ≡ true) → Pass which p es → Pass which q es
+pass-more which p q [] k h = tt
+pass-more which p q (e ∷ es) k h = (λ w. k e.0 (h.0 w), pass-more which p q es k h.1)
 
 -- of a number that none has the test may say what it will
-pub waiters-but : (id n : ℕ) (p q : ℕ → Bool) (es : Numbered) → lookup (at n) es ≡ None → ((m : ℕ) → eqb n m ≡ false → p m ≡ true → q m ≡ true) → WaitersPass id p es → WaitersPass id q es
-waiters-but id n p q [] none k h = tt
-waiters-but id n p q (e ∷ es) none k h =
+pub pass-but : (which : Exchange → Bool) (n : ℕ) (p q : ℕ → Bool) (es : Numbered) → lookup (at n) es ≡ None → ((m : ℕ) → eqb n m ≡ false → p m ≡ true → q m ≡ true) → Pass which p es → Pass which q es
+pass-but which n p q [] none k h = tt
+pass-but which n p q (e ∷ es) none k h =
     let c = cond_none (at n e.0) e.1 (lookup (at n) es) none in
-    (λ w. k e.0 (sym (at_is n e.0) ∙ c.0) (h.0 w), waiters-but id n p q es c.1 k h.1)
+    (λ w. k e.0 (sym (at_is n e.0) ∙ c.0) (h.0 w), pass-but which n p q es c.1 k h.1)
 
 pub none_has : (n : ℕ) (es : Numbered) → All (λ k. k < n) (keys_of es) → lookup (at n) es ≡ None
 none_has n [] h = refl
@@ -57,41 +57,41 @@ none_has n (e ∷ es) h =
 
 -- ---- opening and closing
 
-pub waiters-opened : (id n : ℕ) (x : Exchange) (p : ℕ → Bool) (es : Numbered) → (waits_for id x.stage ≡ true → p n ≡ true) → WaitersPass id p es → WaitersPass id p (es ++ (n, x) ∷ [])
-waiters-opened id n x p [] k h = (k, tt)
-waiters-opened id n x p (e ∷ es) k h = (h.0, waiters-opened id n x p es k h.1)
+pub pass-opened : (which : Exchange → Bool) (n : ℕ) (x : Exchange) (p : ℕ → Bool) (es : Numbered) → (which x ≡ true → p n ≡ true) → Pass which p es → Pass which p (es ++ (n, x) ∷ [])
+pass-opened which n x p [] k h = (k, tt)
+pass-opened which n x p (e ∷ es) k h = (h.0, pass-opened which n x p es k h.1)
 
 pub waiters-entered : (n : ℕ) (x : Exchange) (es : Numbered) (old new : WaitIndex) → IsEntered x.stage n old new →
     ((id : ℕ) → WaitersPass id (waits_in old id) es) → (id : ℕ) → WaitersPass id (waits_in new id) (es ++ (n, x) ∷ [])
 waiters-entered n x es old new k h id =
-    waiters-opened id n x (waits_in new id) es
+    pass-opened (λ x. waits_for id x.stage) n x (waits_in new id) es
     (λ w. k id n ∙ or_left _ _ (ap (λ b. b && eqb n n) w ∙ eq-eqb n n refl))
-    (waiters-more id (waits_in old id) (waits_in new id) es (λ m t. k id m ∙ or_right _ _ t) (h id))
+    (pass-more (λ x. waits_for id x.stage) (waits_in old id) (waits_in new id) es (λ m t. k id m ∙ or_right _ _ t) (h id))
 
 pub waiters-again : (n : ℕ) (es : Numbered) (old new : WaitIndex) → All (λ k. k < n) (keys_of es) → IsSameBut n old new →
     ((id : ℕ) → WaitersPass id (waits_in old id) es) → (id : ℕ) → WaitersPass id (waits_in new id) es
-waiters-again n es old new l k h id = waiters-but id n (waits_in old id) (waits_in new id) es (none_has n es l) (λ m o t. k id m o ∙ t) (h id)
+waiters-again n es old new l k h id = pass-but (λ x. waits_for id x.stage) n (waits_in old id) (waits_in new id) es (none_has n es l) (λ m o t. k id m o ∙ t) (h id)
 
-waiters-removed : (id n : ℕ) (p q : ℕ → Bool) (es : Numbered) → AreApart es → ((m : ℕ) → eqb n m ≡ false → p m ≡ true → q m ≡ true) →
-    WaitersPass id p es → WaitersPass id q (remove_entry (at n) es)
-waiters-removed id n p q [] a k h = tt
-waiters-removed id n p q (e ∷ es) a k h = elim (cases_Bool (at n e.0)) [
-  | inl t ↦ subst (λ b. WaitersPass id q (cond b es (e ∷ remove_entry (at n) es))) (sym t)
-      (waiters-but id n p q es (ap (λ i. lookup (at i) es) (eqb-true n e.0 (sym (at_is n e.0) ∙ t)) ∙ a.0) k h.1)
-  | inr f ↦ subst (λ b. WaitersPass id q (cond b es (e ∷ remove_entry (at n) es))) (sym f)
-      (λ w. k e.0 (sym (at_is n e.0) ∙ f) (h.0 w), waiters-removed id n p q es a.2 k h.1)
+pub pass-removed : (which : Exchange → Bool) (n : ℕ) (p q : ℕ → Bool) (es : Numbered) → AreApart es → ((m : ℕ) → eqb n m ≡ false → p m ≡ true → q m ≡ true) →
+    Pass which p es → Pass which q (remove_entry (at n) es)
+pass-removed which n p q [] a k h = tt
+pass-removed which n p q (e ∷ es) a k h = elim (cases_Bool (at n e.0)) [
+  | inl t ↦ subst (λ b. Pass which q (cond b es (e ∷ remove_entry (at n) es))) (sym t)
+      (pass-but which n p q es (ap (λ i. lookup (at i) es) (eqb-true n e.0 (sym (at_is n e.0) ∙ t)) ∙ a.0) k h.1)
+  | inr f ↦ subst (λ b. Pass which q (cond b es (e ∷ remove_entry (at n) es))) (sym f)
+      (λ w. k e.0 (sym (at_is n e.0) ∙ f) (h.0 w), pass-removed which n p q es a.2 k h.1)
 ]
 
 pub waiters-closed : (n : ℕ) (es : Numbered) (old new : WaitIndex) → AreApart es → IsSameBut n old new →
     ((id : ℕ) → WaitersPass id (waits_in old id) es) → (id : ℕ) → WaitersPass id (waits_in new id) (remove_entry (at n) es)
-waiters-closed n es old new a k h id = waiters-removed id n (waits_in old id) (waits_in new id) es a (λ m o t. k id m o ∙ t) (h id)
+waiters-closed n es old new a k h id = pass-removed (λ x. waits_for id x.stage) n (waits_in old id) (waits_in new id) es a (λ m o t. k id m o ∙ t) (h id)
 
 -- ---- changing
 
-pub waiters-on_all : (id : ℕ) (p : ℕ → Bool) (f : Exchange → Exchange) → ((x : Exchange) → waits_for id (f x).stage ≡ true → waits_for id x.stage ≡ true) →
-    (es : Numbered) → WaitersPass id p es → WaitersPass id p (on_all f es)
-waiters-on_all id p f k [] h = tt
-waiters-on_all id p f k (e ∷ es) h = (λ w. h.0 (k e.1 w), waiters-on_all id p f k es h.1)
+pub pass-on_all : (which : Exchange → Bool) (p : ℕ → Bool) (f : Exchange → Exchange) → ((x : Exchange) → which (f x) ≡ true → which x ≡ true) →
+    (es : Numbered) → Pass which p es → Pass which p (on_all f es)
+pass-on_all which p f k [] h = tt
+pass-on_all which p f k (e ∷ es) h = (λ w. h.0 (k e.1 w), pass-on_all which p f k es h.1)
 
 -- ---- releasing
 
@@ -163,12 +163,12 @@ released_at q n x (e ∷ es) h = elim (cases_Bool (at n e.0)) [
       )
 ]
 
-not_at : (n m : ℕ) → eqb n m ≡ false → at m n ≡ false
+pub not_at : (n m : ℕ) → eqb n m ≡ false → at m n ≡ false
 not_at n m o = grind (arith, nat_tests, o)
 
 rest-none : (q n : ℕ) (ns : List ℕ) (es : Numbered) → lookup (at n) es ≡ None → TheRest q (n ∷ ns) es → TheRest q ns es
 rest-none q n ns es none h =
-    waiters-but q n (λ k. list_any (λ m. at k m) (n ∷ ns)) (λ k. list_any (λ m. at k m) ns) es none (λ m o t. other m o t) h
+    pass-but (λ x. waits_for q x.stage) n (λ k. list_any (λ m. at k m) (n ∷ ns)) (λ k. list_any (λ m. at k m) ns) es none (λ m o t. other m o t) h
   where
     other : (m : ℕ) → eqb n m ≡ false → (at m n || list_any (λ k. at m k) ns) ≡ true → list_any (λ k. at m k) ns ≡ true
     other m o t = sym (ap (λ b. b || list_any (λ k. at m k) ns) (not_at n m o)) ∙ t
@@ -176,7 +176,7 @@ rest-none q n ns es none h =
 pub rest-closed : (q n : ℕ) (ns : List ℕ) (es : Numbered) → None ≡ lookup (at n) es → TheRest q (n ∷ ns) es → TheRest q ns es
 rest-closed q n ns es none h = rest-none q n ns es (sym none) h
 
-none_behind : (n : ℕ) (es : Numbered) → AllByRecursion (λ k. nat_cmp n k ≡ Less) (keys_of es) → lookup (at n) es ≡ None
+pub none_behind : (n : ℕ) (es : Numbered) → AllByRecursion (λ k. nat_cmp n k ≡ Less) (keys_of es) → lookup (at n) es ≡ None
 none_behind n [] h = refl
 none_behind n (e ∷ es) h =
     let other : at n e.0 ≡ false = ap is_eq h.0 in
@@ -193,9 +193,10 @@ rest-released q n x ns (e ∷ es) s there h = elim (cases_Bool (at n e.0)) [
       (λ w. absurd (false≢true (sym (waits_on q q x w).1 ∙ eq-eqb q q refl)), rest-none q n ns es none h.1)
       )
   | inr f ↦ (
-      subst (λ b. TheRest q ns (cond b ((e.0, release q x) ∷ es) (e ∷ set_value (at n) es (release q x)))) (sym f)
-      (λ w. sym (ap (λ b. b || list_any (λ m. at e.0 m) ns) (not_at n e.0 (sym (at_is n e.0) ∙ f))) ∙ h.0 w,
-      rest-released q n x ns es (sorted_tail nat_cmp e.0 (keys_of es) s) (sym (ap (λ b. cond b (Some e.1) (lookup (at n) es)) f) ∙ there) h.1)
+      subst (λ b. TheRest q ns (cond b ((e.0, release q x) ∷ es) (e ∷ set_value (at n) es (release q x)))) (sym f) (
+        λ w. sym (ap (λ b. b || list_any (λ m. at e.0 m) ns) (not_at n e.0 (sym (at_is n e.0) ∙ f))) ∙ h.0 w,
+        rest-released q n x ns es (sorted_tail nat_cmp e.0 (keys_of es) s) (sym (ap (λ b. cond b (Some e.1) (lookup (at n) es)) f) ∙ there) h.1,
+      )
       )
 ]
 
@@ -204,7 +205,7 @@ rest-released q n x ns (e ∷ es) s there h = elim (cases_Bool (at n e.0)) [
 pub indexes-on_all : (f : Exchange → Exchange) → ((x : Exchange) → (f x).id ≡ x.id) → ((q : ℕ) (x : Exchange) → waits_for q (f x).stage ≡ true → waits_for q x.stage ≡ true) →
     (es : Numbered) (arrivals : ℕ → Option ℕ) (waiting : ℕ → ℕ → Bool) → AreIndexed es arrivals waiting → AreIndexed (on_all f es) arrivals waiting
 indexes-on_all f i k es arrivals waiting s =
-    record { ids = indexed_on_all f i es arrivals s.ids; waiters = λ q. waiters-on_all q (waiting q) f (k q) es (s.waiters q) }
+    record { ids = indexed_on_all f i es arrivals s.ids; waiters = λ q. pass-on_all (λ x. waits_for q x.stage) (waiting q) f (k q) es (s.waiters q) }
 
 pub sent_out-waits : (id now : ℕ) (rule : ReuseRule) (condition : Option Condition) (q : ℕ) (x : Exchange) → waits_for q (sent_out id now rule condition x).stage ≡ true → waits_for q x.stage ≡ true
 sent_out-waits id now rule condition q x h = elim (cases_Bool (eqb x.id id)) [

@@ -1,7 +1,8 @@
 -- Exchanges by the numbers of their arrivals, and an index of their ids.
 --
 -- arrival_of: the arrival of an id     AreApart: no two have one number, no two one id
--- IsIndexed: the index tells the arrival of each id     WaitersPass: who waits for an id passes a test
+-- IsIndexed: the index tells the arrival of each id     Pass: some exchanges have numbers that pass a test
+-- WaitersPass: so those do that wait for an id
 -- AreIndexed: what the indexes say of the exchanges
 use Rattle.std.specs.Prelude.{◌≡◌, ℕ, ◌==◌, Bool, true, List, [], ◌∷◌, map, Option, Some, None, cond}
 use Rattle.std.specs.Ordering.{nat_cmp}
@@ -25,10 +26,13 @@ pub record IsIndexed (es : List (ℕ × Exchange)) (index : ℕ → Option ℕ) 
   pub apart : AreApart es
   pub indexed : (id : ℕ) → index id ≡ arrival_of id es
 
--- each that waits for the exchange of this id has a number that passes
+-- each of these exchanges has a number that passes
+abbrev pub Pass : (Exchange → Bool) → (ℕ → Bool) → List (ℕ × Exchange) → Type 0
+Pass which test [] = Unit {0}
+Pass which test (e ∷ es) = (which e.1 ≡ true → test e.0 ≡ true) × Pass which test es
+
 abbrev pub WaitersPass : ℕ → (ℕ → Bool) → List (ℕ × Exchange) → Type 0
-WaitersPass id test [] = Unit {0}
-WaitersPass id test (e ∷ es) = (waits_for id e.1.stage ≡ true → test e.0 ≡ true) × WaitersPass id test es
+WaitersPass id test es = Pass (λ x. waits_for id x.stage) test es
 
 -- a change of each exchange, which keeps its number
 abbrev pub on_all : (Exchange → Exchange) → List (ℕ × Exchange) → List (ℕ × Exchange)

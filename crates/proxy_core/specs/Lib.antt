@@ -20,3 +20,6 @@ pub mod Pending
 pub mod Waking
 pub mod Validating
 pub mod Waiters
+pub mod Releases
+pub mod Gets
+pub mod Kept

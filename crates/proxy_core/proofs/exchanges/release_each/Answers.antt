@@ -19,22 +19,24 @@ loop-arrival-preserved-in-Some-get_mut c =
     let x = c.in-Some-get_mut.x.now in
     let there : lookup (is_at (nat_cmp n)) es ≡ Some x = sym c.in-Some-get_mut.ensures.value in
     let is : (c.get_mut.follows.lender c.release.new.self).entries ≡ set_value (is_at (nat_cmp n)) es (release q x) =
-    (c.get_mut.follows.holds c.release.new.self).0 ∙ ap (set_value (is_at (nat_cmp n)) es) c.release.ensures in
-    (ap (on_all (release q)) is ∙ (released_at q n x es there ∙ c.loop-arrival.invariant.0),
-    subst (TheRest q c.next.new.self) (sym is)
-    (rest-released q n x c.next.new.self es c.in-Some-get_mut.ensures.ordered there
-    (subst (λ ns. TheRest q ns es) c.in-Some.ensures.steps c.loop-arrival.invariant.1)))
+    (c.get_mut.follows.holds c.release.new.self).0 ∙ ap (set_value (is_at (nat_cmp n)) es) c.release.ensures in (
+      ap (on_all (release q)) is ∙ (released_at q n x es there ∙ c.loop-arrival.invariant.0),
+      subst (TheRest q c.next.new.self) (sym is)
+          (rest-released q n x c.next.new.self es c.in-Some-get_mut.ensures.ordered there
+          (subst (λ ns. TheRest q ns es) c.in-Some.ensures.steps c.loop-arrival.invariant.1)),
+    )
 
 pub loop-arrival-preserved : goal.loop-arrival-preserved
 loop-arrival-preserved c =
     let q = c.args.leader in
     let n = c.in-Some.arrival.now in
     let es = c.loop-arrival.by_arrival.entries in
-    let is : es ≡ c.get_mut.follows.lender-at-none.entries = search rules in
-    (ap (on_all (release q)) (sym is) ∙ c.loop-arrival.invariant.0,
-    subst (TheRest q c.next.new.self) is
-    (rest-closed q n c.next.new.self es c.in_default.ensures.value
-    (subst (λ ns. TheRest q ns es) c.in-Some.ensures.steps c.loop-arrival.invariant.1)))
+    let is : es ≡ c.get_mut.follows.lender-at-none.entries = search rules in (
+      ap (on_all (release q)) (sym is) ∙ c.loop-arrival.invariant.0,
+      subst (TheRest q c.next.new.self) is
+          (rest-closed q n c.next.new.self es c.in_default.ensures.value
+          (subst (λ ns. TheRest q ns es) c.in-Some.ensures.steps c.loop-arrival.invariant.1)),
+    )
 
 pub returns : goal.returns
 returns c =
