@@ -20,8 +20,8 @@ use Rattle.std.specs.Prelude.{filter}
 use Rattle.hx_reuse.specs.declared.rule.ReuseRule.{ReuseRule}
 use Rattle.proxy_core.specs.declared.condition.Condition.{Condition}
 use Rattle.proxy_core.specs.State.{goes_out, gone_out, sent_out}
-use Rattle.proxy_core.proofs.ExchangeLists.{cond_none, nones, swap, not_both}
-use Rattle.proxy_core.specs.Arrivals.{arrival_of, AreApart, IsIndexed}
+use Rattle.proxy_core.proofs.ExchangeLists.{cond_none, nones, swap, not_both, found-id}
+use Rattle.proxy_core.specs.Arrivals.{arrival_of, on_all, AreApart, IsIndexed}
 
 abbrev Numbered : Type 0
 Numbered = List (ℕ × Exchange)
@@ -222,9 +222,6 @@ indexed_closed id n es f g s h w =
 
 -- ---- changing exchanges that keep their ids
 
-abbrev pub on_all : (Exchange → Exchange) → Numbered → Numbered
-on_all f es = map (λ (e : ℕ × Exchange). (e.0, f e.1)) es
-
 pub values_on_all : (f : Exchange → Exchange) (es : Numbered) → values_of (on_all f es) ≡ map f (values_of es)
 values_on_all f [] = refl
 values_on_all f (e ∷ es) = ap (λ (xs : List Exchange). f e.1 ∷ xs) (values_on_all f es)
@@ -285,6 +282,25 @@ gone_out-others id now x h = ap (λ b. cond b (goes_out now x.rule None x) x) h
 
 pub sent_out-others : (id now : ℕ) (rule : ReuseRule) (condition : Option Condition) (x : Exchange) → eqb x.id id ≡ false → sent_out id now rule condition x ≡ x
 sent_out-others id now rule condition x h = ap (λ b. cond b (goes_out now rule condition x) x) h
+
+-- one goes forward at the arrival of its id
+pub sent_written : (id now : ℕ) (rule : ReuseRule) (condition : Option Condition) (n : ℕ) (x y : Exchange) (es : Numbered) (arrivals : ℕ → Option ℕ) → IsIndexed es arrivals →
+    Some n ≡ arrivals id → Some x ≡ lookup (at n) es → y ≡ goes_out now rule condition x → set_value (at n) es y ≡ on_all (sent_out id now rule condition) es
+sent_written id now rule condition n x y es arrivals s h there e =
+    let here : arrival_of id es ≡ Some n = sym (s.indexed id) ∙ sym h in
+    let is : find_exchange id (values_of es) ≡ Some x = sym (found id n es s.apart here) ∙ sym there in
+    let same : y ≡ sent_out id now rule condition x = e ∙ sym (ap (λ b. cond b (goes_out now rule condition x) x) (found-id id (values_of es) x is)) in
+    ap (λ (z : Exchange). set_value (at n) es z) same
+    ∙ written id (sent_out id now rule condition) (sent_out-others id now rule condition) n es x s.apart here (sym there)
+
+pub gone_written : (id now n : ℕ) (x y : Exchange) (es : Numbered) (arrivals : ℕ → Option ℕ) → IsIndexed es arrivals →
+    Some n ≡ arrivals id → Some x ≡ lookup (at n) es → y ≡ goes_out now x.rule None x → set_value (at n) es y ≡ on_all (gone_out id now) es
+gone_written id now n x y es arrivals s h there e =
+    let here : arrival_of id es ≡ Some n = sym (s.indexed id) ∙ sym h in
+    let is : find_exchange id (values_of es) ≡ Some x = sym (found id n es s.apart here) ∙ sym there in
+    let same : y ≡ gone_out id now x = e ∙ sym (ap (λ b. cond b (goes_out now x.rule None x) x) (found-id id (values_of es) x is)) in
+    ap (λ (z : Exchange). set_value (at n) es z) same
+    ∙ written id (gone_out id now) (gone_out-others id now) n es x s.apart here (sym there)
 
 -- ---- opening
 

@@ -23,3 +23,7 @@ pub mod Uncached
 pub mod Headlines
 pub mod Driven
 pub mod Waits
+pub mod Waiters
+pub mod Releases
+pub mod GetIndices
+pub mod Gets

@@ -1,12 +1,15 @@
 -- Exchanges by the numbers of their arrivals, and an index of their ids.
 --
 -- arrival_of: the arrival of an id     AreApart: no two have one number, no two one id
--- IsIndexed: the index tells the arrival of each id
-use Rattle.std.specs.Prelude.{◌≡◌, ℕ, ◌==◌, List, [], ◌∷◌, Option, Some, None, cond}
+-- IsIndexed: the index tells the arrival of each id     Pass: some exchanges have numbers that pass a test
+-- WaitersPass: so those do that wait for an id
+-- AreIndexed: what the indexes say of the exchanges
+use Rattle.std.specs.Prelude.{◌≡◌, ℕ, ◌==◌, Bool, true, List, [], ◌∷◌, map, Option, Some, None, cond}
 use Rattle.std.specs.Ordering.{nat_cmp}
 use Rattle.std.specs.BTreeMap.{is_at}
 use Rattle.std.specs.Map.{lookup}
 use Rattle.proxy_core.specs.declared.exchange.Exchange.{Exchange}
+use Rattle.proxy_core.specs.Leading.{waits_for}
 
 -- the arrival of the exchange of an id
 abbrev pub arrival_of : ℕ → List (ℕ × Exchange) → Option ℕ
@@ -22,3 +25,20 @@ AreApart (e ∷ es) = (lookup (is_at (nat_cmp e.0)) es ≡ None) × (arrival_of 
 pub record IsIndexed (es : List (ℕ × Exchange)) (index : ℕ → Option ℕ) : Type 0 where
   pub apart : AreApart es
   pub indexed : (id : ℕ) → index id ≡ arrival_of id es
+
+-- each of these exchanges has a number that passes
+abbrev pub Pass : (Exchange → Bool) → (ℕ → Bool) → List (ℕ × Exchange) → Type 0
+Pass which test [] = Unit {0}
+Pass which test (e ∷ es) = (which e.1 ≡ true → test e.0 ≡ true) × Pass which test es
+
+abbrev pub WaitersPass : ℕ → (ℕ → Bool) → List (ℕ × Exchange) → Type 0
+WaitersPass id test es = Pass (λ x. waits_for id x.stage) test es
+
+-- a change of each exchange, which keeps its number
+abbrev pub on_all : (Exchange → Exchange) → List (ℕ × Exchange) → List (ℕ × Exchange)
+on_all f es = map (λ e. (e.0, f e.1)) es
+
+-- the indexes tell the arrival of each id, and those that wait for it
+pub record AreIndexed (es : List (ℕ × Exchange)) (arrivals : ℕ → Option ℕ) (waiting : ℕ → ℕ → Bool) : Type 0 where
+  pub ids : IsIndexed es arrivals
+  pub waiters : (id : ℕ) → WaitersPass id (waiting id) es

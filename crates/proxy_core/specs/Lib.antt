@@ -19,3 +19,7 @@ pub mod Driving
 pub mod Pending
 pub mod Waking
 pub mod Validating
+pub mod Waiters
+pub mod Releases
+pub mod Gets
+pub mod Kept

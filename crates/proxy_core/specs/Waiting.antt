@@ -5,7 +5,7 @@
 -- IsReady: an exchange that may be woken
 -- WaitsUntilItsLeaderEnds, WokenOnceBehindItsLeader, ReadyInOrderOfArrival, WokenExactlyWhereReady, WokenIsJudgedAnew: how it ends
 -- The laws of `src/laws.rt` prove the statements.
-use Rattle.std.specs.Prelude.{◌≡◌, ◌⊎◌, ℕ, ◌==◌, ◌&&◌, ◌||◌, not, Bool, true, false, List, [], ◌∷◌, ◌++◌, Option, Some, None, is_some, option_map, cond}
+use Rattle.std.specs.Prelude.{◌≡◌, ◌⊎◌, ℕ, ◌==◌, ◌&&◌, ◌||◌, not, Bool, true, false, List, [], ◌∷◌, ◌++◌, Option, Some, None, option_map, cond}
 use Rattle.std.specs.List.{AllByRecursion}
 use Rattle.hx_target.specs.declared.keys.Key.{Key}
 use Rattle.hx_target.specs.Keys.{same_key}
@@ -18,7 +18,7 @@ use Rattle.hx_reuse.specs.Meaning.{IsLeast}
 use Rattle.hx_reuse.specs.declared.rule.ReuseRule.{ReuseRule}
 use Rattle.hx_reuse.specs.declared.rule.ReuseRule.TheVariants.{UriMiss}
 use Rattle.proxy_core.specs.declared.stage.Stage.{Stage}
-use Rattle.proxy_core.specs.declared.stage.Stage.TheVariants.{Forwarded, Waiting, Released}
+use Rattle.proxy_core.specs.declared.stage.Stage.TheVariants.{Waiting, Released}
 use Rattle.proxy_core.specs.declared.exchange.Exchange.{Exchange}
 use Rattle.proxy_core.specs.declared.outcome.Outcome.TheVariants.{Forward, Waits}
 use Rattle.proxy_core.specs.declared.event.Event.{Event}

@@ -1,11 +1,10 @@
 -- What was made ready for a request that is woken.
-use Rattle.std.specs.Prelude.{◌≡◌, ℕ, List, Option}
+use Rattle.std.specs.Prelude.{◌≡◌, ℕ, List}
 use Rattle.hx_allow.specs.Lines.{Table}
 use Rattle.hx_store.specs.Stored.{Stored}
 use Rattle.hx_reuse.specs.declared.decision.Decision.{Decision}
 use Rattle.hx_reuse.specs.declared.decision.Decision.TheVariants as decision
 use Rattle.proxy_core.specs.declared.exchange.Exchange.{Exchange}
-use Rattle.proxy_core.specs.declared.pending.PendingReply.{PendingReply}
 use Rattle.proxy_core.specs.declared.waking.AfterWake.{AfterWake}
 use Rattle.proxy_core.specs.declared.waking.AfterWake.TheVariants.{Ends, GoesOut}
 use Rattle.proxy_core.specs.Validating.{condition_at}

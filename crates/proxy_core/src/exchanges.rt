@@ -1,25 +1,34 @@
 //! The open exchanges, in the order of arrival.
 //!
 //! Each has the number of its arrival, and a second map tells the number of an id. So one is found, opened and closed in
-//! the logarithm of how many are open; only an invalidation goes through all of them.
+//! the logarithm of how many are open, and each that a close releases costs that too. The first that may be woken is known:
+//! `first_ready` costs that logarithm where there is one, and nothing where there is none (see `released`). `leader` looks
+//! through the GETs of its key up to the one that leads. `ready` and an invalidation go through all of them.
 ghost use Rattle.std.specs.Prelude.{◌≡◌, ◌<◌, ◌++◌, ◌∷◌, [], map, filter, not, ◌==◌, None, IfOk, OnOk, OnErr, option_copied, slice_get, IfSome};
 ghost use Rattle.proxy_core.specs.Waiting.{IsReady};
 ghost use Rattle.std.specs.List.{All};
 ghost use Rattle.std.specs.Ordering.{nat_cmp};
 ghost use Rattle.std.specs.Map.{remove_entry};
-ghost use Rattle.std.specs.BTreeMap.{keys, is_at};
+ghost use Rattle.std.specs.BTreeMap.{keys, values, is_at};
+ghost use Rattle.proxy_core.specs.Gets.{GetsPass, IsGetEntered, AreSameBut};
+ghost use Rattle.std.specs.BTreeSet.{contains};
+ghost use Rattle.proxy_core.specs.Arrivals.{WaitersPass, on_all};
+ghost use Rattle.proxy_core.specs.Waiters.{IsEntered, IsSameBut};
 ghost use Rattle.proxy_core.specs.Outcomes.{find_exchange};
 ghost use Rattle.proxy_core.specs.Leading.{leader, ready_ids};
 ghost use Rattle.proxy_core.specs.State.{closed, release, overtake, left_open, gone_out, sent_out};
 
 use crate::condition::Condition;
 use crate::exchange::Exchange;
+use crate::get_index::GetIndex;
 use crate::ids::Ids;
 use crate::leading::{is_released, leads};
+use crate::released::Released;
+use crate::wait_index::WaitIndex;
 use hx_reuse::ReuseRule;
 use hx_target::Key;
 use std::alloc::{AllocError, Global};
-use std::collections::BTreeMap;
+use std::collections::{BTreeMap, BTreeSet};
 use std::marker::Model;
 
 /// The open exchanges. Contracts see their list.
@@ -28,6 +37,12 @@ pub(crate) struct Exchanges {
     by_arrival: BTreeMap<u64, Exchange>,
     /// The number of each id's arrival.
     arrivals: BTreeMap<u64, u64>,
+    /// Those that wait, by the id that they wait for.
+    waiting: WaitIndex,
+    /// Where the released ones stand.
+    released: Released,
+    /// The GETs, by the key that they ask for: whatever may come to lead is among them.
+    gets: GetIndex,
 }
 
 /// One call drops it, wherever that is.
@@ -36,6 +51,9 @@ impl Drop for Exchanges {
         let Exchanges {
             by_arrival: _,
             arrivals: _,
+            waiting: _,
+            released: _,
+            gets: _,
         } = self;
     }
 }
@@ -45,13 +63,15 @@ impl Model for Exchanges {
     ghost use Rattle.std.specs.Ordering.{nat_cmp};
     ghost use Rattle.std.specs.BTreeMap.{get, values};
     ghost use Rattle.proxy_core.specs.declared.exchange.Exchange.{Exchange};
-    ghost use Rattle.proxy_core.specs.Arrivals.{IsIndexed};
+    ghost use Rattle.proxy_core.specs.Kept.{AreKept};
+    ghost use Rattle.proxy_core.specs.Gets.{gets_in};
+    ghost use Rattle.proxy_core.specs.Waiters.{waits_in};
 
     ghost Value = { List Exchange };
 
     ghost view = { λ x. values x.by_arrival };
 
-    ghost invariant = { λ x. IsIndexed x.by_arrival.entries (λ id. get nat_cmp x.arrivals id) };
+    ghost invariant = { λ x. AreKept x.by_arrival.entries (λ id. get nat_cmp x.arrivals id) (waits_in x.waiting) x.released (gets_in x.gets) };
 }
 
 impl Exchanges {
@@ -61,6 +81,9 @@ impl Exchanges {
         Exchanges {
             by_arrival: BTreeMap::new(alloc),
             arrivals: BTreeMap::new(alloc),
+            waiting: WaitIndex::new(alloc),
+            released: Released::new(),
+            gets: GetIndex::new(alloc),
         }
     }
 
@@ -77,11 +100,21 @@ impl Exchanges {
         ensures ok { OnOk result (self.new ≡ self.old ++ exchange ∷ []) }
         ensures err { OnErr result (self.new ≡ self.old) }
     {
-        let id = exchange.id;
+        let (id, stage) = (exchange.id, exchange.stage);
         let arrival = arrival_after(&self.by_arrival)?;
         self.arrivals.insert(id, arrival)?;
-        match push(&mut self.by_arrival, arrival, exchange) {
-            Ok(()) => Ok(()),
+        match enter(
+            &mut self.by_arrival,
+            &mut self.waiting,
+            &mut self.gets,
+            arrival,
+            exchange,
+        ) {
+            Ok(()) => {
+                self.released.enter(stage, arrival);
+                self.released.settle(&self.by_arrival);
+                Ok(())
+            }
             Err(error) => {
                 self.arrivals.remove(&id);
                 Err(error)
@@ -89,16 +122,15 @@ impl Exchanges {
         }
     }
 
-    /// The first exchange to arrive for whose answer GETs of this key wait.
+    /// The first exchange to arrive for whose answer GETs of this key wait. It looks through the open GETs of that key up to
+    /// that one, which mostly is the first of them.
     pub(crate) fn leader(&self, key: &Key) -> Option<u64>
         ensures { result ≡ leader key.now self.now }
     {
-        for (_, x) in &self.by_arrival {
-            if leads(x, key) {
-                return Some(x.id);
-            }
+        match self.gets.find(key) {
+            Some(arrivals) => first_to_lead(&self.by_arrival, arrivals, key),
+            None => None,
         }
-        None
     }
 
     /// The first of those that may be woken. No memory is taken.
@@ -106,12 +138,7 @@ impl Exchanges {
         ensures value { result ≡ slice_get (ready_ids self.now) 0 }
         ensures ready { IfSome result (λ id. IsReady id self.now) }
     {
-        for (_, x) in &self.by_arrival {
-            if is_released(x.stage) {
-                return Some(x.id);
-            }
-        }
-        None
+        Some(self.by_arrival.get(&self.released.first()?)?.id)
     }
 
     /// Those that may be woken, in the order of arrival. Fails for want of memory alone.
@@ -139,7 +166,13 @@ impl Exchanges {
         ensures { self.new ≡ filter (λ x. not (x.id == id)) self.old }
     {
         if let Some(arrival) = self.arrivals.remove(&id) {
-            remove(&mut self.by_arrival, arrival);
+            remove(
+                &mut self.by_arrival,
+                &mut self.waiting,
+                &mut self.gets,
+                arrival,
+            );
+            self.released.settle(&self.by_arrival);
         }
     }
 
@@ -147,10 +180,11 @@ impl Exchanges {
     fn release(&mut self, leader: u64)
         ensures { self.new ≡ map (release leader) self.old }
     {
-        self.by_arrival.retain(|_, x| {
-            x.release(leader);
-            true
-        });
+        if let Some(waiting) = self.waiting.take(leader) {
+            release_each(&mut self.by_arrival, &waiting, leader);
+            self.released.enter_all(&waiting);
+            self.released.settle(&self.by_arrival);
+        }
     }
 
     /// The exchange of an id goes forward once more, in its place. No memory is taken.
@@ -161,6 +195,7 @@ impl Exchanges {
             if let Some(x) = self.by_arrival.get_mut(arrival) {
                 let rule = x.rule;
                 x.go_out(now, rule, None);
+                self.released.settle(&self.by_arrival);
             }
         }
     }
@@ -178,6 +213,7 @@ impl Exchanges {
         if let Some(arrival) = self.arrivals.get(&id) {
             if let Some(x) = self.by_arrival.get_mut(arrival) {
                 x.go_out(now, rule, condition);
+                self.released.settle(&self.by_arrival);
             }
         }
     }
@@ -197,10 +233,8 @@ impl Exchanges {
     fn overtake(&mut self, key: &Key)
         ensures { self.new ≡ map (overtake key.now) self.old }
     {
-        self.by_arrival.retain(|_, x| {
-            x.overtake(key);
-            true
-        });
+        overtake_each(&mut self.by_arrival, key);
+        self.released.settle(&self.by_arrival);
     }
 }
 
@@ -215,23 +249,113 @@ fn arrival_after(by_arrival: &BTreeMap<u64, Exchange>) -> Result<u64, AllocError
     }
 }
 
-/// Puts an exchange behind the others.
+/// Puts an exchange behind the others, and into the index of GETs.
 fn push(
     by_arrival: &mut BTreeMap<u64, Exchange>,
+    gets: &mut GetIndex,
     arrival: u64,
     exchange: Exchange,
 ) -> Result<(), AllocError>
     requires { All (λ k. k < arrival) (keys by_arrival.old) }
     ensures ok { OnOk result (by_arrival.new.entries ≡ by_arrival.old.entries ++ (arrival, exchange) ∷ []) }
+    ensures entered { OnOk result (IsGetEntered exchange.asked arrival gets.old gets.new) }
     ensures err { OnErr result (by_arrival.new.entries ≡ by_arrival.old.entries) }
+    ensures left { OnErr result (AreSameBut arrival gets.old gets.new) }
 {
-    by_arrival.insert(arrival, exchange)?;
-    Ok(())
+    gets.enter(&exchange.asked, arrival)?;
+    match by_arrival.insert(arrival, exchange) {
+        Ok(_) => Ok(()),
+        Err(refused) => {
+            let (_, exchange) = refused.value;
+            gets.leave(&exchange.asked, arrival);
+            Err(AllocError)
+        }
+    }
 }
 
-/// Takes the exchange of an arrival out.
-fn remove(by_arrival: &mut BTreeMap<u64, Exchange>, arrival: u64)
-    ensures { by_arrival.new.entries ≡ remove_entry (is_at (nat_cmp arrival)) by_arrival.old.entries }
+/// Puts an exchange behind the others, and into the indexes of GETs and of those that wait.
+fn enter(
+    by_arrival: &mut BTreeMap<u64, Exchange>,
+    waiting: &mut WaitIndex,
+    gets: &mut GetIndex,
+    arrival: u64,
+    exchange: Exchange,
+) -> Result<(), AllocError>
+    requires { All (λ k. k < arrival) (keys by_arrival.old) }
+    ensures ok { OnOk result (by_arrival.new.entries ≡ by_arrival.old.entries ++ (arrival, exchange) ∷ []) }
+    ensures entered { OnOk result (IsEntered exchange.stage arrival waiting.old waiting.new) }
+    ensures asks { OnOk result (IsGetEntered exchange.asked arrival gets.old gets.new) }
+    ensures err { OnErr result (by_arrival.new.entries ≡ by_arrival.old.entries) }
+    ensures left { OnErr result (IsSameBut arrival waiting.old waiting.new) }
+    ensures asks_no_more { OnErr result (AreSameBut arrival gets.old gets.new) }
 {
-    by_arrival.remove(&arrival);
+    let stage = exchange.stage;
+    waiting.enter(stage, arrival)?;
+    match push(by_arrival, gets, arrival, exchange) {
+        Ok(()) => Ok(()),
+        Err(error) => {
+            waiting.leave(stage, arrival);
+            Err(error)
+        }
+    }
+}
+
+/// Takes the exchange of an arrival out, also of the indexes of GETs and of those that wait.
+fn remove(
+    by_arrival: &mut BTreeMap<u64, Exchange>,
+    waiting: &mut WaitIndex,
+    gets: &mut GetIndex,
+    arrival: u64,
+)
+    ensures entries { by_arrival.new.entries ≡ remove_entry (is_at (nat_cmp arrival)) by_arrival.old.entries }
+    ensures left { IsSameBut arrival waiting.old waiting.new }
+    ensures asks_no_more { AreSameBut arrival gets.old gets.new }
+{
+    if let Some(x) = by_arrival.remove(&arrival) {
+        waiting.leave(x.stage, arrival);
+        gets.leave(&x.asked, arrival);
+    }
+}
+
+/// The first of these arrivals, among which all GETs of a key are, that others wait for.
+fn first_to_lead(
+    by_arrival: &BTreeMap<u64, Exchange>,
+    arrivals: &BTreeSet<u64>,
+    key: &Key,
+) -> Option<u64>
+    requires { GetsPass key.now (contains nat_cmp arrivals.now) by_arrival.now.entries }
+    ensures { result ≡ leader key.now (values by_arrival.now) }
+{
+    // It is said of the length that the numbers ascend.
+    let _open = by_arrival.len();
+    for arrival in arrivals {
+        if let Some(x) = by_arrival.get(arrival) {
+            if leads(x, key) {
+                return Some(x.id);
+            }
+        }
+    }
+    None
+}
+
+/// Releases those of these arrivals that wait for the exchange of an id.
+fn release_each(by_arrival: &mut BTreeMap<u64, Exchange>, waiting: &BTreeSet<u64>, leader: u64)
+    requires { WaitersPass leader (contains nat_cmp waiting.now) by_arrival.old.entries }
+    ensures { by_arrival.new.entries ≡ on_all (release leader) by_arrival.old.entries }
+{
+    for arrival in waiting {
+        if let Some(x) = by_arrival.get_mut(arrival) {
+            x.release(leader);
+        }
+    }
+}
+
+/// Marks each exchange of a key that was invalidated.
+fn overtake_each(by_arrival: &mut BTreeMap<u64, Exchange>, key: &Key)
+    ensures { by_arrival.new.entries ≡ on_all (overtake key.now) by_arrival.old.entries }
+{
+    by_arrival.retain(|_, x| {
+        x.overtake(key);
+        true
+    });
 }

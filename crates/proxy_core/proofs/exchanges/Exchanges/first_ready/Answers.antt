@@ -1,31 +1,41 @@
-use Rattle.std.proofs.Common.{◌≡◌, ◌∷◌, List, ℕ, Some, cond, slice_get, ap, sym, subst, ◌∙◌}
-use Rattle.proxy_core.specs.Waiting.{IsReady}
-use Rattle.proxy_core.proofs.Arrivals.{first_found}
+use Rattle.std.proofs.Common.{◌≡◌, List, Some, None, slice_get, ap, sym, subst, ◌∙◌}
+use Rattle.std.specs.Option.{option_map}
 use Rattle.std.specs.Map.{values_of}
 use Rattle.proxy_core.specs.declared.exchange.Exchange.{Exchange}
 use Rattle.proxy_core.specs.Leading.{ready_ids}
+use Rattle.proxy_core.specs.Waiting.{IsReady}
+use Rattle.proxy_core.proofs.Arrivals.{first_found}
+use Rattle.proxy_core.proofs.Releases.{first_is, none_is}
 use Rattle.proxy_core.proofs.exchanges.Exchanges.first_ready.Goals as goal
 
-pub loop-x-init : goal.loop-x-init
-loop-x-init c = ap (λ (xs : List Exchange). slice_get (ready_ids xs) 0) (sym c.self.view_is) ∙ ap (λ (it : List (ℕ × Exchange)). slice_get (ready_ids (values_of it)) 0) (sym c.into_iter-x-iterator.ensures.into_iter_gives.0)
+pub returns-in_err-first-clause-value : goal.returns-in_err-first-clause-value
+returns-in_err-first-clause-value c =
+    let es = c.self.inside.by_arrival.entries in
+    let none : None ≡ c.self.inside.released.first = c.in_err-first.ensures in
+    c.from_residual.ensures ∙ sym (none_is es (sym (none ∙ c.self.invariant.releases.first_is)))
+    ∙ ap (λ (xs : List Exchange). slice_get (ready_ids xs) 0) c.self.view_is
 
-first_is : (c : goal.Then-is_released) → Some c.in-Some.x.now.id ≡ slice_get (ready_ids c.args.self.now) 0
-first_is c =
-    sym (c.loop-x.invariant ∙ (ap (λ (it : List (ℕ × Exchange)). slice_get (ready_ids (values_of it)) 0) c.in-Some.ensures.steps
-    ∙ ap (λ b. slice_get (cond b (c.in-Some.x.now.id ∷ (ready_ids (values_of c.next.new.self))) (ready_ids (values_of c.next.new.self))) 0) (sym c.is_released.ensures ∙ c.if-is_released.true)))
+pub returns-in_err-get-clause-value : goal.returns-in_err-get-clause-value
+returns-in_err-get-clause-value c =
+    let es = c.self.inside.by_arrival.entries in
+    let n = c.in_ok-first.field-0 in
+    let first : Some n ≡ c.self.inside.released.first = c.in_ok-first.ensures in
+    c.from_residual-in_err-get.ensures ∙ ap (option_map (λ (x : Exchange). x.id)) c.in_err-get.ensures.value
+    ∙ first_is n es c.self.invariant.indexes.ids.apart (sym (first ∙ c.self.invariant.releases.first_is))
+    ∙ ap (λ (xs : List Exchange). slice_get (ready_ids xs) 0) c.self.view_is
 
-pub returns-then-is_released-clause-value : goal.returns-then-is_released-clause-value
-returns-then-is_released-clause-value c = first_is c
-
-pub returns-then-is_released-clause-ready : goal.returns-then-is_released-clause-ready
-returns-then-is_released-clause-ready c =
-    subst (IsReady c.in-Some.x.now.id) c.self.view_is
-    (first_found c.in-Some.x.now.id c.self.inside.by_arrival.entries c.self.invariant.apart (first_is c ∙ ap (λ (xs : List Exchange). slice_get (ready_ids xs) 0) (sym c.self.view_is)))
-
-pub loop-x-preserved : goal.loop-x-preserved
-loop-x-preserved c =
-    c.loop-x.invariant ∙ (ap (λ (it : List (ℕ × Exchange)). slice_get (ready_ids (values_of it)) 0) c.in-Some.ensures.steps
-    ∙ ap (λ b. slice_get (cond b (c.in-Some.x.now.id ∷ (ready_ids (values_of c.next.new.self))) (ready_ids (values_of c.next.new.self))) 0) (sym c.is_released.ensures ∙ c.if-is_released.false))
+it_is : (c : goal.In_ok-get) → Some c.in_ok-get.field-0.now.id ≡ slice_get (ready_ids (values_of c.self.inside.by_arrival.entries)) 0
+it_is c =
+    let es = c.self.inside.by_arrival.entries in
+    let n = c.in_ok-first.field-0 in
+    let first : Some n ≡ c.self.inside.released.first = c.in_ok-first.ensures in
+    ap (option_map (λ (x : Exchange). x.id)) c.in_ok-get.ensures.value
+    ∙ first_is n es c.self.invariant.indexes.ids.apart (sym (first ∙ c.self.invariant.releases.first_is))
 
 pub returns-clause-value : goal.returns-clause-value
-returns-clause-value c = sym (c.loop-x.invariant ∙ ap (λ (it : List (ℕ × Exchange)). slice_get (ready_ids (values_of it)) 0) c.in-None.ensures.steps.0)
+returns-clause-value c = it_is c ∙ ap (λ (xs : List Exchange). slice_get (ready_ids xs) 0) c.self.view_is
+
+pub returns-clause-ready : goal.returns-clause-ready
+returns-clause-ready c =
+    subst (IsReady c.in_ok-get.field-0.now.id) c.self.view_is
+    (first_found c.in_ok-get.field-0.now.id c.self.inside.by_arrival.entries c.self.invariant.indexes.ids.apart (it_is c))

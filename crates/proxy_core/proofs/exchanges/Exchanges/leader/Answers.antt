@@ -1,21 +1,21 @@
-use Rattle.std.proofs.Common.{◌≡◌, ◌∷◌, List, ℕ, Some, cond, slice_get, ap, sym, ◌∙◌}
-use Rattle.std.specs.Map.{values_of}
-use Rattle.proxy_core.specs.declared.exchange.Exchange.{Exchange}
+use Rattle.std.proofs.Common.{◌∙◌, false, ap, sym}
 use Rattle.proxy_core.specs.Leading.{leader}
+use Rattle.proxy_core.specs.Waiters.{set_has}
+use Rattle.proxy_core.specs.Gets.{asks_for, gets_in}
+use Rattle.proxy_core.proofs.Waiters.{pass-more}
+use Rattle.proxy_core.proofs.Gets.{none_asks}
 use Rattle.proxy_core.proofs.exchanges.Exchanges.leader.Goals as goal
 
-pub loop-x-init : goal.loop-x-init
-loop-x-init c = ap (leader c.args.key.now) (sym c.self.view_is) ∙ ap (λ (it : List (ℕ × Exchange)). leader c.args.key.now (values_of it)) (sym c.into_iter-x-iterator.ensures.into_iter_gives.0)
+pub first_to_lead-requires : goal.first_to_lead-requires
+first_to_lead-requires c =
+    let key = c.args.key.now in
+    pass-more (λ x. asks_for key x.asked) (gets_in c.self.inside.gets key) _ c.self.inside.by_arrival.entries
+    (λ m t. ap (λ o. set_has o m) c.in-Some.ensures ∙ t) (c.self.invariant.asking key)
 
-pub returns-then-leads : goal.returns-then-leads
-returns-then-leads c =
-    sym (c.loop-x.invariant ∙ (ap (λ (it : List (ℕ × Exchange)). leader c.args.key.now (values_of it)) c.in-Some.ensures.steps
-    ∙ ap (λ b. cond b (Some c.in-Some.x.now.id) (leader c.args.key.now (values_of c.next.new.self))) (sym c.leads.ensures ∙ c.if-leads.true)))
-
-pub loop-x-preserved : goal.loop-x-preserved
-loop-x-preserved c =
-    c.loop-x.invariant ∙ (ap (λ (it : List (ℕ × Exchange)). leader c.args.key.now (values_of it)) c.in-Some.ensures.steps
-    ∙ ap (λ b. cond b (Some c.in-Some.x.now.id) (leader c.args.key.now (values_of c.next.new.self))) (sym c.leads.ensures ∙ c.if-leads.false))
-
-pub returns : goal.returns
-returns c = sym (c.loop-x.invariant ∙ ap (λ (it : List (ℕ × Exchange)). leader c.args.key.now (values_of it)) c.in-None.ensures.steps.0)
+pub returns-in-None : goal.returns-in-None
+returns-in-None c =
+    let key = c.args.key.now in
+    let es = c.self.inside.by_arrival.entries in
+    sym (none_asks key es (pass-more (λ x. asks_for key x.asked) (gets_in c.self.inside.gets key) (λ m. false) es
+    (λ m t. ap (λ o. set_has o m) c.in-None.ensures ∙ t) (c.self.invariant.asking key)))
+    ∙ ap (leader key) c.self.view_is

@@ -1,24 +1,38 @@
-use Rattle.std.proofs.Common.{rules, ◌≡◌, ap, sym, ◌∙◌, subst, List, ℕ, map}
+use Rattle.std.proofs.Common.{ap, sym, ◌∙◌, subst, List, ℕ, map}
 use Rattle.std.specs.Ordering.{nat_cmp}
 use Rattle.std.specs.BTreeMap.{get}
 use Rattle.std.specs.Map.{values_of}
-use Rattle.std.proofs.lemmas.Map.Made.{map_same_pairs}
 use Rattle.proxy_core.specs.declared.exchange.Exchange.{Exchange}
 use Rattle.proxy_core.specs.State.{overtake}
-use Rattle.proxy_core.specs.Arrivals.{IsIndexed}
+use Rattle.hx_target.specs.declared.keys.Key.{Key}
+use Rattle.proxy_core.specs.Gets.{gets_in, GetsPass}
+use Rattle.proxy_core.proofs.Gets.{gets-on_all, overtake-asked}
+use Rattle.proxy_core.specs.Waiters.{waits_in}
+use Rattle.proxy_core.specs.Releases.{is_within, ReleasedPass}
+use Rattle.proxy_core.proofs.Releases.{pass-changed, released-overtaken}
+use Rattle.proxy_core.proofs.Waiters.{indexes-on_all, overtake-waits}
+use Rattle.proxy_core.specs.Arrivals.{AreIndexed}
 use Rattle.proxy_core.proofs.ExchangeLists.{overtake-id}
-use Rattle.proxy_core.proofs.Arrivals.{on_all, indexed_on_all, values_on_all}
+use Rattle.proxy_core.proofs.Arrivals.{values_on_all}
 use Rattle.proxy_core.proofs.exchanges.Exchanges.overtake.Goals as goal
 
-all_written : (c : goal.After-retain) → c.retain.new.self.entries ≡ on_all (overtake c.args.key.now) c.self.inside.by_arrival.entries
-all_written c = map_same_pairs _ (overtake c.args.key.now) _ (λ k v b w f' t. search rules) _ _ c.retain.ensures.filtered
+pub settle-requires : goal.settle-requires
+settle-requires c =
+    let s = c.self.inside in
+    subst (ReleasedPass (is_within s.released)) (sym c.overtake_each.ensures)
+    (pass-changed (is_within s.released) (overtake c.args.key.now) (released-overtaken c.args.key.now) s.by_arrival.entries c.self.invariant.releases.within)
 
 pub invariant_of-self : goal.invariant_of-self
 invariant_of-self c =
     let s = c.self.inside in
-    subst (λ (zs : List (ℕ × Exchange)). IsIndexed zs (λ id. get nat_cmp s.arrivals id)) (sym (all_written c))
-    (indexed_on_all (overtake c.args.key.now) (overtake-id c.args.key.now) s.by_arrival.entries _ c.self.invariant)
+    record {
+      indexes = subst (λ (zs : List (ℕ × Exchange)). AreIndexed zs (λ id. get nat_cmp s.arrivals id) (waits_in s.waiting)) (sym c.overtake_each.ensures)
+          (indexes-on_all (overtake c.args.key.now) (overtake-id c.args.key.now) (overtake-waits c.args.key.now) s.by_arrival.entries _ _ c.self.invariant.indexes);
+      releases = c.settle.ensures;
+      asking = subst (λ (zs : List (ℕ × Exchange)). (key : Key) → GetsPass key (gets_in s.gets key) zs) (sym c.overtake_each.ensures)
+          (gets-on_all (overtake c.args.key.now) (overtake-asked c.args.key.now) s.by_arrival.entries s.gets c.self.invariant.asking);
+    }
 
 pub returns : goal.returns
 returns c =
-    ap values_of (all_written c) ∙ (values_on_all (overtake c.args.key.now) c.self.inside.by_arrival.entries ∙ ap (map (overtake c.args.key.now)) c.self.view_is)
+    ap values_of c.overtake_each.ensures ∙ (values_on_all (overtake c.args.key.now) c.self.inside.by_arrival.entries ∙ ap (map (overtake c.args.key.now)) c.self.view_is)

@@ -1,24 +1,77 @@
-use Rattle.std.proofs.Common.{rules, ◌≡◌, ap, sym, ◌∙◌, subst, List, ℕ, map}
+use Rattle.std.proofs.Common.{◌≡◌, false, ap, sym, ◌∙◌, subst, List, ℕ, map}
 use Rattle.std.specs.Ordering.{nat_cmp}
 use Rattle.std.specs.BTreeMap.{get}
 use Rattle.std.specs.Map.{values_of}
-use Rattle.std.proofs.lemmas.Map.Made.{map_same_pairs}
 use Rattle.proxy_core.specs.declared.exchange.Exchange.{Exchange}
+use Rattle.proxy_core.specs.Leading.{waits_for}
 use Rattle.proxy_core.specs.State.{release}
-use Rattle.proxy_core.specs.Arrivals.{IsIndexed}
+use Rattle.proxy_core.specs.Arrivals.{on_all, AreIndexed}
+use Rattle.std.specs.BTreeSet.{contains}
+use Rattle.hx_target.specs.declared.keys.Key.{Key}
+use Rattle.proxy_core.specs.Gets.{gets_in, GetsPass}
+use Rattle.proxy_core.proofs.Gets.{gets-on_all, release-asked}
+use Rattle.proxy_core.specs.Waiters.{waits_in}
+use Rattle.proxy_core.specs.Releases.{is_within, ReleasedPass}
+use Rattle.proxy_core.proofs.Releases.{pass-freed}
 use Rattle.proxy_core.proofs.ExchangeLists.{release-id}
-use Rattle.proxy_core.proofs.Arrivals.{on_all, indexed_on_all, values_on_all}
+use Rattle.proxy_core.proofs.Arrivals.{indexed_on_all, values_on_all}
+use Rattle.proxy_core.proofs.Waiters.{none_released, pass-more, waiters-released}
 use Rattle.proxy_core.proofs.exchanges.Exchanges.release.Goals as goal
 
-all_written : (c : goal.After-retain) → c.retain.new.self.entries ≡ on_all (release c.args.leader) c.self.inside.by_arrival.entries
-all_written c = map_same_pairs _ (release c.args.leader) _ (λ k v b w f' t. search rules) _ _ c.retain.ensures.filtered
+all_released : (q : ℕ) (es : List (ℕ × Exchange)) (xs : List Exchange) → values_of es ≡ xs → values_of (on_all (release q) es) ≡ map (release q) xs
+all_released q es xs h = values_on_all (release q) es ∙ ap (map (release q)) h
+
+pub release_each-requires : goal.release_each-requires
+release_each-requires c =
+    pass-more (λ x. waits_for c.args.leader x.stage) (waits_in c.self.inside.waiting c.args.leader) _ c.self.inside.by_arrival.entries
+    (λ m t. c.in-Some.ensures.all m ∙ t) (c.self.invariant.indexes.waiters c.args.leader)
+
+pub settle-requires : goal.settle-requires
+settle-requires c =
+    let s = c.self.inside in
+    subst (ReleasedPass (is_within c.enter_all.new.self)) (sym c.release_each.ensures)
+    (pass-freed c.args.leader (contains nat_cmp c.in-Some.waiting) s.released c.enter_all.new.self s.by_arrival.entries c.enter_all.ensures.widened c.enter_all.ensures.entered
+    (pass-more (λ x. waits_for c.args.leader x.stage) (waits_in s.waiting c.args.leader) _ s.by_arrival.entries (λ m t. c.in-Some.ensures.all m ∙ t) (c.self.invariant.indexes.waiters c.args.leader))
+    c.self.invariant.releases.within)
 
 pub invariant_of-self : goal.invariant_of-self
 invariant_of-self c =
     let s = c.self.inside in
-    subst (λ (zs : List (ℕ × Exchange)). IsIndexed zs (λ id. get nat_cmp s.arrivals id)) (sym (all_written c))
-    (indexed_on_all (release c.args.leader) (release-id c.args.leader) s.by_arrival.entries _ c.self.invariant)
+    let q = c.args.leader in
+    record {
+      indexes = subst (λ (zs : List (ℕ × Exchange)). AreIndexed zs (λ id. get nat_cmp s.arrivals id) (waits_in c.take.new.self)) (sym c.release_each.ensures)
+          (record {
+            ids = indexed_on_all (release q) (release-id q) s.by_arrival.entries _ c.self.invariant.indexes.ids;
+            waiters = waiters-released q s.by_arrival.entries s.waiting c.take.new.self c.take.ensures.emptied c.self.invariant.indexes.waiters;
+          });
+      releases = c.settle.ensures;
+      asking = subst (λ (zs : List (ℕ × Exchange)). (key : Key) → GetsPass key (gets_in s.gets key) zs) (sym c.release_each.ensures)
+          (gets-on_all (release q) (release-asked q) s.by_arrival.entries s.gets c.self.invariant.asking);
+    }
 
-pub returns : goal.returns
-returns c =
-    ap values_of (all_written c) ∙ (values_on_all (release c.args.leader) c.self.inside.by_arrival.entries ∙ ap (map (release c.args.leader)) c.self.view_is)
+-- none waits for it
+nothing_done : (c : goal.In_default) → on_all (release c.args.leader) c.self.inside.by_arrival.entries ≡ c.self.inside.by_arrival.entries
+nothing_done c =
+    none_released c.args.leader c.self.inside.by_arrival.entries
+    (pass-more (λ x. waits_for c.args.leader x.stage) (waits_in c.self.inside.waiting c.args.leader) (λ n. false) c.self.inside.by_arrival.entries
+    (λ m t. c.in_default.ensures.all m ∙ t) (c.self.invariant.indexes.waiters c.args.leader))
+
+pub invariant_of-self-in_default : goal.invariant_of-self-in_default
+invariant_of-self-in_default c =
+    let s = c.self.inside in
+    let q = c.args.leader in
+    record {
+      indexes = subst (λ (zs : List (ℕ × Exchange)). AreIndexed zs (λ id. get nat_cmp s.arrivals id) (waits_in c.take.new.self)) (nothing_done c)
+          (record {
+            ids = indexed_on_all (release q) (release-id q) s.by_arrival.entries _ c.self.invariant.indexes.ids;
+            waiters = waiters-released q s.by_arrival.entries s.waiting c.take.new.self c.take.ensures.emptied c.self.invariant.indexes.waiters;
+          });
+      releases = c.self.invariant.releases;
+      asking = c.self.invariant.asking;
+    }
+
+pub returns-in-Some : goal.returns-in-Some
+returns-in-Some c = ap values_of c.release_each.ensures ∙ all_released c.args.leader c.self.inside.by_arrival.entries c.args.self.now c.self.view_is
+
+pub returns-in_default : goal.returns-in_default
+returns-in_default c = ap values_of (sym (nothing_done c)) ∙ all_released c.args.leader c.self.inside.by_arrival.entries c.args.self.now c.self.view_is

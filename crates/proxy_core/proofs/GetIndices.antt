@@ -1,0 +1,81 @@
+-- What a map from keys to sets of arrivals says of who asks for them.
+use Rattle.std.proofs.Common.{◌≡◌, ℕ, Bool, true, false, not, cond, ◌&&◌, ◌||◌, eqb, Option, refl, sym, ◌∙◌, ap, arith, inl, inr}
+use Rattle.std.specs.Ordering.{nat_cmp}
+use Rattle.std.specs.BTreeMap.{get, is_at}
+use Rattle.std.specs.BTreeSet.{BTreeSet, contains}
+use Rattle.std.proofs.lemmas.Bool.{cases_Bool, false≢true, eqb-true}
+use Rattle.std.proofs.lemmas.Bool.Decides.{nat_tests}
+use Rattle.proxy_core.specs.declared.get_index.GetIndex.{GetIndex}
+use Rattle.proxy_core.specs.Waiters.{set_has}
+use Rattle.proxy_core.specs.Gets.{gets_in}
+use Rattle.hx_target.specs.declared.keys.Key.{Key}
+use Rattle.hx_target.specs.Keys.{same_key}
+use Rattle.hx_target.specs.KeyOrder.{key_cmp, key_ties}
+use Rattle.std.specs.Cmp.Lexicographic.{bytes_decides}
+
+at_is : (n k : ℕ) → is_at (nat_cmp n) k ≡ eqb n k
+at_is n k = grind (arith, nat_tests)
+
+both : (a b : Bool) → (a && b) ≡ true → (a ≡ true) × (b ≡ true)
+both true b h = (refl, h)
+both false b h = absurd (false≢true h)
+
+-- keys that are the same are one
+pub one_key : (a b : Key) → same_key a b ≡ true → a ≡ b
+one_key a b h =
+    let p = both _ _ h in
+    let q = both _ _ p.0 in
+    let host = (bytes_decides a.host b.host).0 q.0 in
+    let port = eqb-true a.port b.port q.1 in
+    let path_query = (bytes_decides a.path_query b.path_query).0 p.1 in
+    λ i. record { host = host i; port = port i; path_query = path_query i }
+
+-- a map that has w at a key, and else what it had
+abbrev Has : Key → Option (BTreeSet ℕ) → GetIndex → GetIndex → Type 0
+Has key w old new = (q : Key) → get key_cmp new.arrivals q ≡ cond (is_at (key_cmp key) q) w (get key_cmp old.arrivals q)
+
+pub written : (key : Key) (old new : GetIndex) (w : Option (BTreeSet ℕ)) → Has key w old new → (q : Key) (m : ℕ) → gets_in new q m ≡ cond (same_key key q) (set_has w m) (gets_in old q m)
+written key old new w h q m =
+    let g = get key_cmp old.arrivals q in
+    ap (λ o. set_has o m) (h q)
+    ∙ ap (λ b. set_has (cond b w g) m) (sym (key_ties key q))
+    ∙ (elim (same_key key q) as (λ b. set_has (cond b w g) m ≡ cond b (set_has w m) (set_has g m)) [ true ↦ refl | false ↦ refl ])
+
+-- what stands at the key is what was there, but at one arrival
+pub entered : (key : Key) (n : ℕ) (old new : GetIndex) (f : ℕ → Bool) → ((q : Key) (m : ℕ) → gets_in new q m ≡ cond (same_key key q) (f m) (gets_in old q m)) →
+    ((m : ℕ) → f m ≡ (eqb n m || gets_in old key m)) → (q : Key) (m : ℕ) → gets_in new q m ≡ ((same_key key q && eqb n m) || gets_in old q m)
+entered key n old new f h k q m = elim (cases_Bool (same_key key q)) [
+  | inl t ↦ (
+      h q m ∙ ap (λ b. cond b (f m) (gets_in old q m)) t ∙ k m ∙ ap (λ i. eqb n m || gets_in old i m) (one_key key q t)
+      ∙ sym (ap (λ b. (b && eqb n m) || gets_in old q m) t)
+      )
+  | inr o ↦ h q m ∙ ap (λ b. cond b (f m) (gets_in old q m)) o ∙ sym (ap (λ b. (b && eqb n m) || gets_in old q m) o)
+]
+
+pub left : (key : Key) (n : ℕ) (old new : GetIndex) (f : ℕ → Bool) → ((q : Key) (m : ℕ) → gets_in new q m ≡ cond (same_key key q) (f m) (gets_in old q m)) →
+    ((m : ℕ) → f m ≡ (not (eqb n m) && gets_in old key m)) → (q : Key) (m : ℕ) → gets_in new q m ≡ (not (same_key key q && eqb n m) && gets_in old q m)
+left key n old new f h k q m = elim (cases_Bool (same_key key q)) [
+  | inl t ↦ (
+      h q m ∙ ap (λ b. cond b (f m) (gets_in old q m)) t ∙ k m ∙ ap (λ i. not (eqb n m) && gets_in old i m) (one_key key q t)
+      ∙ sym (ap (λ b. not (b && eqb n m) && gets_in old q m) t)
+      )
+  | inr o ↦ h q m ∙ ap (λ b. cond b (f m) (gets_in old q m)) o ∙ sym (ap (λ b. not (b && eqb n m) && gets_in old q m) o)
+]
+
+pub same : (key : Key) (old new : GetIndex) (f : ℕ → Bool) → ((q : Key) (m : ℕ) → gets_in new q m ≡ cond (same_key key q) (f m) (gets_in old q m)) →
+    ((m : ℕ) → f m ≡ gets_in old key m) → (q : Key) (m : ℕ) → gets_in new q m ≡ gets_in old q m
+same key old new f h k q m = elim (cases_Bool (same_key key q)) [
+  | inl t ↦ h q m ∙ ap (λ b. cond b (f m) (gets_in old q m)) t ∙ k m ∙ ap (λ i. gets_in old i m) (one_key key q t)
+  | inr o ↦ h q m ∙ ap (λ b. cond b (f m) (gets_in old q m)) o
+]
+
+-- what a set has once a number was put in, and once one was taken out
+pub put : (n : ℕ) (old new : BTreeSet ℕ) → ((q : ℕ) → contains nat_cmp new q ≡ cond (is_at (nat_cmp n) q) true (contains nat_cmp old q)) →
+    (m : ℕ) → contains nat_cmp new m ≡ (eqb n m || contains nat_cmp old m)
+put n old new h m = h m ∙ ap (λ b. cond b true (contains nat_cmp old m)) (at_is n m)
+    ∙ (elim (eqb n m) as (λ b. cond b true (contains nat_cmp old m) ≡ (b || contains nat_cmp old m)) [ true ↦ refl | false ↦ refl ])
+
+pub taken : (n : ℕ) (old new : BTreeSet ℕ) → ((q : ℕ) → contains nat_cmp new q ≡ cond (is_at (nat_cmp n) q) false (contains nat_cmp old q)) →
+    (m : ℕ) → contains nat_cmp new m ≡ (not (eqb n m) && contains nat_cmp old m)
+taken n old new h m = h m ∙ ap (λ b. cond b false (contains nat_cmp old m)) (at_is n m)
+    ∙ (elim (eqb n m) as (λ b. cond b false (contains nat_cmp old m) ≡ (not b && contains nat_cmp old m)) [ true ↦ refl | false ↦ refl ])

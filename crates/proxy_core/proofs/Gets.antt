@@ -1,0 +1,165 @@
+-- The GETs for a key, among exchanges that were changed: each still has a number that passes. And the first that leads.
+use Rattle.std.proofs.Common.{◌≡◌, ◌<◌, ℕ, Bool, true, false, cond, ◌&&◌, ◌||◌, eqb, None, Some, Option, List, [], ◌∷◌, ◌++◌, refl, sym, ◌∙◌, ap, arith, inl, inr}
+use Rattle.std.specs.Ordering.{nat_cmp}
+use Rattle.std.specs.BTreeMap.{is_at}
+use Rattle.std.specs.List.{All, AllByRecursion, list_any}
+use Rattle.std.specs.List.Sorted.{IsStrictlySortedBy}
+use Rattle.std.specs.declared.cmp.Ordering.TheVariants.{Less}
+use Rattle.std.specs.Map.{lookup, remove_entry, keys_of, values_of}
+use Rattle.std.proofs.lemmas.Map.Keys.{sorted_head, sorted_tail}
+use Rattle.std.proofs.lemmas.Bool.{cases_Bool, eqb-true, eq-eqb, false≢true, or_left, or_right}
+use Rattle.std.proofs.lemmas.Bool.Decides.{nat_tests}
+use Rattle.std.proofs.lemmas.Option.{same_Some}
+use Rattle.hx_reuse.specs.declared.rule.ReuseRule.{ReuseRule}
+use Rattle.hx_target.specs.declared.keys.Key.{Key}
+use Rattle.hx_target.specs.Keys.{same_key}
+use Rattle.proxy_core.specs.declared.condition.Condition.{Condition}
+use Rattle.proxy_core.specs.declared.exchange.Exchange.{Exchange}
+use Rattle.proxy_core.specs.declared.get_index.GetIndex.{GetIndex}
+use Rattle.proxy_core.specs.declared.stage.Stage.TheVariants.{Released}
+use Rattle.proxy_core.specs.Leading.{is_get, is_uri_miss, is_forwarded, waits_for, leads, leader}
+use Rattle.proxy_core.specs.State.{release, overtake, goes_out, gone_out, sent_out}
+use Rattle.proxy_core.specs.Arrivals.{AreApart, Pass, on_all}
+use Rattle.proxy_core.specs.Gets.{asks_for, gets_in, GetsPass, IsGetEntered, AreSameBut}
+use Rattle.proxy_core.proofs.Waiters.{pass-more, pass-but, pass-opened, pass-removed, pass-on_all, none_has, none_behind, not_at, at_is}
+
+abbrev Numbered : Type 0
+Numbered = List (ℕ × Exchange)
+
+abbrev at : ℕ → ℕ → Bool
+at n k = is_at (nat_cmp n) k
+
+abbrev AllPass : GetIndex → Numbered → Type 0
+AllPass index es = (key : Key) → GetsPass key (gets_in index key) es
+
+pub gets-entered : (n : ℕ) (x : Exchange) (es : Numbered) (old new : GetIndex) → IsGetEntered x.asked n old new → AllPass old es → AllPass new (es ++ (n, x) ∷ [])
+gets-entered n x es old new k h key =
+    pass-opened (λ y. asks_for key y.asked) n x (gets_in new key) es
+    (λ w. k key n ∙ or_left _ _ (ap (λ b. b && eqb n n) w ∙ eq-eqb n n refl))
+    (pass-more (λ y. asks_for key y.asked) (gets_in old key) (gets_in new key) es (λ m t. k key m ∙ or_right _ _ t) (h key))
+
+pub gets-again : (n : ℕ) (es : Numbered) (old new : GetIndex) → All (λ k. k < n) (keys_of es) → AreSameBut n old new → AllPass old es → AllPass new es
+gets-again n es old new l k h key = pass-but (λ y. asks_for key y.asked) n (gets_in old key) (gets_in new key) es (none_has n es l) (λ m o t. k key m o ∙ t) (h key)
+
+pub gets-closed : (n : ℕ) (es : Numbered) (old new : GetIndex) → AreApart es → AreSameBut n old new → AllPass old es → AllPass new (remove_entry (at n) es)
+gets-closed n es old new a k h key = pass-removed (λ y. asks_for key y.asked) n (gets_in old key) (gets_in new key) es a (λ m o t. k key m o ∙ t) (h key)
+
+pub gets-on_all : (f : Exchange → Exchange) → ((x : Exchange) → (f x).asked ≡ x.asked) → (es : Numbered) (index : GetIndex) → AllPass index es → AllPass index (on_all f es)
+gets-on_all f k es index h key = pass-on_all (λ y. asks_for key y.asked) (gets_in index key) f (λ x w. sym (ap (asks_for key) (k x)) ∙ w) es (h key)
+
+pub sent_out-asked : (id now : ℕ) (rule : ReuseRule) (condition : Option Condition) (x : Exchange) → (sent_out id now rule condition x).asked ≡ x.asked
+sent_out-asked id now rule condition x = elim (eqb x.id id) as (λ b. (cond b (goes_out now rule condition x) x).asked ≡ x.asked) [ true ↦ refl | false ↦ refl ]
+
+pub gone_out-asked : (id now : ℕ) (x : Exchange) → (gone_out id now x).asked ≡ x.asked
+gone_out-asked id now x = elim (eqb x.id id) as (λ b. (cond b (goes_out now x.rule None x) x).asked ≡ x.asked) [ true ↦ refl | false ↦ refl ]
+
+pub release-asked : (q : ℕ) (x : Exchange) → (release q x).asked ≡ x.asked
+release-asked q x = elim (waits_for q x.stage) as (λ b. (cond b (record x { stage = Released }) x).asked ≡ x.asked) [ true ↦ refl | false ↦ refl ]
+
+pub overtake-asked : (key : Key) (x : Exchange) → (overtake key x).asked ≡ x.asked
+overtake-asked key x = elim (same_key x.asked.target.key key) as (λ b. (cond b (record x { overtaken = true }) x).asked ≡ x.asked) [ true ↦ refl | false ↦ refl ]
+
+-- ---- the first that leads
+
+-- those that lead have numbers that are still to come, and these ascend
+abbrev pub LeadersLeft : Key → List ℕ → Numbered → Type 0
+LeadersLeft key ns es = Pass (leads key) (λ k. list_any (λ n. at k n) ns) es × IsStrictlySortedBy nat_cmp ns
+
+parts : (a b c : Bool) → (a && (b && c)) ≡ true → (a && b) ≡ true
+parts true true c h = refl
+parts true false c h = absurd (false≢true h)
+parts false b c h = absurd (false≢true h)
+
+gets_lead : (key : Key) (p : ℕ → Bool) (es : Numbered) → GetsPass key p es → Pass (leads key) p es
+gets_lead key p [] h = tt
+gets_lead key p (e ∷ es) h =
+    (λ w. h.0 (parts (same_key e.1.asked.target.key key) (is_get e.1.asked) (is_uri_miss e.1.rule && is_forwarded e.1.stage) w), gets_lead key p es h.1)
+
+pub leaders : (key : Key) (ns : List ℕ) (es : Numbered) → IsStrictlySortedBy nat_cmp ns → GetsPass key (λ k. list_any (λ n. at k n) ns) es → LeadersLeft key ns es
+leaders key ns es s h = (gets_lead key (λ k. list_any (λ n. at k n) ns) es h, s)
+
+nobody : (key : Key) (es : Numbered) → Pass (leads key) (λ k. false) es → leader key (values_of es) ≡ None
+nobody key [] h = refl
+nobody key (e ∷ es) h = elim (cases_Bool (leads key e.1)) [
+  | inl t ↦ absurd (false≢true (h.0 t))
+  | inr f ↦ ap (λ b. cond b (Some e.1.id) (leader key (values_of es))) f ∙ nobody key es h.1
+]
+
+pub none_leads : (key : Key) (es : Numbered) → LeadersLeft key [] es → leader key (values_of es) ≡ None
+none_leads key es h = nobody key es h.0
+
+pub none_asks : (key : Key) (es : Numbered) → GetsPass key (λ k. false) es → leader key (values_of es) ≡ None
+none_asks key es h = nobody key es (gets_lead key (λ k. false) es h)
+
+rest_of : (n m : ℕ) (ns : List ℕ) → eqb n m ≡ false → list_any (λ k. at m k) (n ∷ ns) ≡ true → list_any (λ k. at m k) ns ≡ true
+rest_of n m ns o t = sym (ap (λ b. b || list_any (λ k. at m k) ns) (not_at n m o)) ∙ t
+
+-- one that isn't open
+pub not_open : (key : Key) (n : ℕ) (ns : List ℕ) (es : Numbered) → None ≡ lookup (at n) es → LeadersLeft key (n ∷ ns) es → LeadersLeft key ns es
+not_open key n ns es none h = (
+  pass-but (leads key) n (λ k. list_any (λ m. at k m) (n ∷ ns)) (λ k. list_any (λ m. at k m) ns) es (sym none) (λ m o t. rest_of n m ns o t) h.0,
+  sorted_tail nat_cmp n ns h.1,
+)
+
+-- one that doesn't lead
+pub not_leading : (key : Key) (n : ℕ) (x : Exchange) (ns : List ℕ) (es : Numbered) → IsStrictlySortedBy nat_cmp (keys_of es) → Some x ≡ lookup (at n) es → leads key x ≡ false →
+    LeadersLeft key (n ∷ ns) es → LeadersLeft key ns es
+not_leading key n x ns es s there idle h = (go es s there h.0, sorted_tail nat_cmp n ns h.1)
+  where
+    go : (es : Numbered) → IsStrictlySortedBy nat_cmp (keys_of es) → Some x ≡ lookup (at n) es → Pass (leads key) (λ k. list_any (λ m. at k m) (n ∷ ns)) es → Pass (leads key) (λ k. list_any (λ m. at k m) ns) es
+    go [] s there h = tt
+    go (e ∷ es) s there h = elim (cases_Bool (at n e.0)) [
+      | inl t ↦ (
+          let is : x ≡ e.1 = same_Some x e.1 (there ∙ ap (λ b. cond b (Some e.1) (lookup (at n) es)) t) in
+          let k : n ≡ e.0 = eqb-true n e.0 (sym (at_is n e.0) ∙ t) in
+          let none : lookup (at n) es ≡ None = ap (λ i. lookup (at i) es) k ∙ none_behind e.0 es (sorted_head nat_cmp e.0 (keys_of es) s) in (
+            λ w. absurd (false≢true (sym idle ∙ ap (leads key) is ∙ w)),
+            pass-but (leads key) n (λ k. list_any (λ m. at k m) (n ∷ ns)) (λ k. list_any (λ m. at k m) ns) es none (λ m o t. rest_of n m ns o t) h.1,
+          )
+          )
+      | inr f ↦ ((
+        λ w. rest_of n e.0 ns (sym (at_is n e.0) ∙ f) (h.0 w),
+        go es (sorted_tail nat_cmp e.0 (keys_of es) s) (there ∙ ap (λ b. cond b (Some e.1) (lookup (at n) es)) f) h.1,
+      )
+          )
+    ]
+
+-- one that does
+pub it_leads : (key : Key) (n : ℕ) (x : Exchange) (ns : List ℕ) (es : Numbered) → IsStrictlySortedBy nat_cmp (keys_of es) → Some x ≡ lookup (at n) es → leads key x ≡ true →
+    LeadersLeft key (n ∷ ns) es → Some x.id ≡ leader key (values_of es)
+it_leads key n x ns es s there active h = go (sorted_head nat_cmp n ns h.1) es s there h.0
+  where
+    later : (m : ℕ) (ms : List ℕ) → AllByRecursion (λ k. nat_cmp n k ≡ Less) ms → list_any (λ k. at m k) ms ≡ true → nat_cmp n m ≡ Less
+    later m [] a t = absurd (false≢true t)
+    later m (k ∷ ms) a t = elim (cases_Bool (at m k)) [
+      | inl e ↦ ap (nat_cmp n) (eqb-true m k (sym (at_is m k) ∙ e)) ∙ a.0
+      | inr o ↦ later m ms a.1 (sym (ap (λ b. b || list_any (λ j. at m j) ms) o) ∙ t)
+    ]
+
+    before : (m : ℕ) (ks : List (ℕ × Exchange)) → nat_cmp n m ≡ Less → AllByRecursion (λ k. nat_cmp m k ≡ Less) (keys_of ks) → AllByRecursion (λ k. nat_cmp n k ≡ Less) (keys_of ks)
+    before m [] l a = tt
+    before m (e ∷ ks) l a = (through m e.0 l a.0, before m ks l a.1)
+      where
+        through : (m k : ℕ) → nat_cmp n m ≡ Less → nat_cmp m k ≡ Less → nat_cmp n k ≡ Less
+        through m k a b = grind (arith, nat_tests, a, b)
+
+    go : AllByRecursion (λ k. nat_cmp n k ≡ Less) ns → (es : Numbered) → IsStrictlySortedBy nat_cmp (keys_of es) → Some x ≡ lookup (at n) es → Pass (leads key) (λ k. list_any (λ m. at k m) (n ∷ ns)) es → Some x.id ≡ leader key (values_of es)
+    go a [] s there h = absurd (cc)
+    go a (e ∷ es) s there h = elim (cases_Bool (at n e.0)) [
+      | inl t ↦ (
+          let is : x ≡ e.1 = same_Some x e.1 (there ∙ ap (λ b. cond b (Some e.1) (lookup (at n) es)) t) in
+          ap (λ (y : Exchange). Some y.id) is ∙ sym (ap (λ b. cond b (Some e.1.id) (leader key (values_of es))) (sym (ap (leads key) is) ∙ active))
+          )
+      | inr f ↦ (
+          let rest : Some x ≡ lookup (at n) es = there ∙ ap (λ b. cond b (Some e.1) (lookup (at n) es)) f in
+          elim (cases_Bool (leads key e.1)) [
+            | inl t ↦ (
+                let l : nat_cmp n e.0 ≡ Less = later e.0 ns a (rest_of n e.0 ns (sym (at_is n e.0) ∙ f) (h.0 t)) in
+                let none : lookup (at n) es ≡ None = none_behind n es (before e.0 es l (sorted_head nat_cmp e.0 (keys_of es) s)) in
+                let wrong : Some x ≡ None = rest ∙ none in
+                absurd (cc)
+                )
+            | inr o ↦ go a es (sorted_tail nat_cmp e.0 (keys_of es) s) rest h.1 ∙ sym (ap (λ b. cond b (Some e.1.id) (leader key (values_of es))) o)
+          ]
+          )
+    ]

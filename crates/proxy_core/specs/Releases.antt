@@ -1,0 +1,37 @@
+-- Where among the exchanges, by the numbers of their arrivals, the released ones stand.
+--
+-- first_released: the number of the first     IsSettled: what is known of them is right
+use Rattle.std.specs.Prelude.{◌≡◌, ℕ, ◌&&◌, Bool, true, false, nat_le, List, [], ◌∷◌, Option, Some, None, cond}
+use Rattle.proxy_core.specs.declared.exchange.Exchange.{Exchange}
+use Rattle.proxy_core.specs.declared.released.Released.{Released}
+use Rattle.proxy_core.specs.Leading.{is_released}
+use Rattle.proxy_core.specs.Arrivals.{Pass}
+
+abbrev pub first_released : List (ℕ × Exchange) → Option ℕ
+first_released [] = None
+first_released (e ∷ es) = cond (is_released e.1.stage) (Some e.0) (first_released es)
+
+-- from the one number, if there is one, to the other
+abbrev pub is_between : Option ℕ → ℕ → ℕ → Bool
+is_between None last n = false
+is_between (Some first) last n = nat_le first n && nat_le n last
+
+abbrev pub is_within : Released → ℕ → Bool
+is_within r n = is_between r.first r.last n
+
+abbrev pub ReleasedPass : (ℕ → Bool) → List (ℕ × Exchange) → Type 0
+ReleasedPass test es = Pass (λ x. is_released x.stage) test es
+
+abbrev pub IsNone : Released → Type 0
+IsNone r = r.first ≡ None
+
+-- what was within is so still, and these numbers are
+abbrev pub IsWidened : Released → Released → Type 0
+IsWidened old new = (n : ℕ) → is_within old n ≡ true → is_within new n ≡ true
+
+abbrev pub IsWidenedBy : ℕ → ℕ → Released → Type 0
+IsWidenedBy first last r = (n : ℕ) → nat_le first n ≡ true → nat_le n last ≡ true → is_within r n ≡ true
+
+pub record IsSettled (r : Released) (es : List (ℕ × Exchange)) : Type 0 where
+  pub first_is : r.first ≡ first_released es
+  pub within : ReleasedPass (is_within r) es
