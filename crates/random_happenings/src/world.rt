@@ -168,6 +168,8 @@ pub struct World {
     links: Vec<Link>,
     accepted: u64,
     forwarded: u64,
+    /// The connection whose client sent something last.
+    sender: u64,
     log: Log,
 }
 
@@ -182,6 +184,7 @@ impl Drop for World {
             links: _,
             accepted: _,
             forwarded: _,
+            sender: _,
             log: _,
         } = self;
     }
@@ -242,6 +245,7 @@ impl World {
             links: Vec::new(alloc),
             accepted: 0,
             forwarded: 0,
+            sender: 0,
             log,
         })
     }
@@ -257,6 +261,7 @@ impl World {
             links: _,
             accepted: _,
             forwarded: _,
+            sender: _,
             log,
         } = self;
         log
@@ -319,6 +324,7 @@ impl World {
             self.log.asked.push(asked).map_err(AllocError::from)?;
         }
         let number = caller.number;
+        self.sender = number;
         let piece = cut_piece(&mut self.dice, &mut caller.rest)?;
         caller.note_sent(piece.len());
         let told = caller.told();
@@ -344,9 +350,21 @@ impl World {
         )
     }
 
+    /// Where the client stands that leaves: often the one that sent something last, whose request may wait.
+    fn leaver(&mut self) -> usize {
+        if self.dice.once_in(2) {
+            for (i, caller) in self.callers.iter().enumerate() {
+                if caller.number == self.sender {
+                    return i;
+                }
+            }
+        }
+        self.dice.below(self.callers.len())
+    }
+
     /// A client sends no more, or goes away.
     fn client_leaves(&mut self) -> Result<(), Stopped> {
-        let i = self.dice.below(self.callers.len());
+        let i = self.leaver();
         let Some(caller) = self.callers.get_mut(i) else {
             return self.accept();
         };
