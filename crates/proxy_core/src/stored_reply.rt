@@ -1,8 +1,10 @@
 //! The bytes of a stored response that is sent.
 ghost use Rattle.std.specs.Prelude.{◌≡◌, IfOk};
+ghost use Rattle.hx_age.specs.Age.{age_of};
 ghost use Rattle.hx_framing.specs.Text.{response_text};
+ghost use Rattle.hx_status.specs.Member.{member_text};
 ghost use Rattle.proxy_core.specs.Outcomes.{forwarded_as, collapsed_as};
-ghost use Rattle.proxy_core.specs.Replies.{stored_text, whole_text, not_modified_text, lines_sent, fwd_status_of};
+ghost use Rattle.proxy_core.specs.Replies.{status_sent, stored_text, whole_text, not_modified_text, lines_sent, fwd_status_of};
 
 use crate::exchange::Exchange;
 use crate::reply_text::{content_sent, is_head, length_told};
@@ -93,7 +95,25 @@ impl StoredReply<'_> {
         self.written(alloc, 304, &fields, None, &[])
     }
 
+    /// What Cache-Status tells under a status, of a response of this age in seconds.
+    fn member(&self, alloc: Global, status: u16, age: u32) -> Result<Bytes, AllocError>
+        requires { age ≡ age_of self.now.entry.now.times self.now.sent_at }
+        ensures { IfOk result (λ text. text ≡ member_text self.now.name.now (status_sent status self.now.entry.now self.now.sent_at self.now.info)) }
+    {
+        let entry = self.entry;
+        let told = Status {
+            how: self.info.how,
+            fwd_status: fwd_status_of(self.info.came, status),
+            ttl: Some(ttl(Lifetime::of(&entry.fields, &entry.directives), age)),
+            stored: false,
+            collapsed: self.info.collapsed,
+            detail: self.info.detail,
+        };
+        member(alloc, self.name, &told)
+    }
+
     /// A response of these lines of its own under a status: then come Age and Cache-Status.
+    #[tactic(auto, using(crate::proofs::AddedLines::lines_added))]
     fn written(
         &self,
         alloc: Global,
@@ -106,15 +126,7 @@ impl StoredReply<'_> {
     {
         let entry = self.entry;
         let age = current_age(&entry.times, self.sent_at);
-        let told = Status {
-            how: self.info.how,
-            fwd_status: fwd_status_of(self.info.came, status),
-            ttl: Some(ttl(Lifetime::of(&entry.fields, &entry.directives), age)),
-            stored: false,
-            collapsed: self.info.collapsed,
-            detail: self.info.detail,
-        };
-        let member = member(alloc, self.name, &told)?;
+        let member = self.member(alloc, status, age)?;
         let mut digits = Buffer::new();
         let added = [
             AddedLine {
