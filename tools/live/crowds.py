@@ -188,3 +188,18 @@ def connections_come_and_go(stage):
     grown = proxy.resident() - before
     if grown > 4 << 20:
         raise Unexpected("of 500 connections that are over", "no memory", f"{grown} bytes")
+
+
+@scenario
+def what_is_evicted_is_let_go(stage):
+    """A store of two responses, and 1,200 that are stored and evicted: contents and heads of a thousand take no memory."""
+    content = b"x" * 8000
+    stage.origin(Origin({f"/{i}": whole(200, KEPT, content=content) for i in range(1200)}))
+    client = (proxy := stage.proxy(capacity=2)).client()
+    for i in range(1200):
+        if i == 200:
+            before = proxy.resident()
+        expect_answer(client.ask(f"/{i}"), 200, "edge;fwd=uri-miss;ttl=600;stored", content)
+    grown = proxy.resident() - before
+    if grown > 2 << 20:
+        raise Unexpected("of 1,000 responses that are evicted, of 8,000 bytes each,", "no memory", f"{grown} bytes")

@@ -1,4 +1,5 @@
 """Scenarios of other programs as clients and origin, of the command line, and of the record itself."""
+import glob
 import http.client
 import os
 import socket
@@ -126,6 +127,51 @@ def the_command_line_checks_a_table(stage):
             expect(f"from `{' '.join(words)}` status, output and standard error", ended, run(stage, *words))
     for words in (["--help"], ["--version"], ["serve", "--help"]):
         expect(f"status of {words}", 0, run(stage, *words)[0])
+
+
+def replay(stage, script, **more):
+    """The status, the effects and the line on standard error of a replay."""
+    ran = subprocess.run([stage.program], input=script, stderr=subprocess.PIPE, timeout=20, **{"stdout": subprocess.PIPE, **more})
+    return ran.returncode, ran.stdout, ran.stderr
+
+
+def example(name, ending, default=None):
+    """What examples/ has under this name, or what stands for it."""
+    path = f"{TOOLS}/../examples/{name}.{ending}"
+    if default is not None and not os.path.exists(path):
+        return default
+    with open(path, "rb") as it:
+        return it.read()
+
+
+@scenario
+def a_replay_ends_by_its_status(stage):
+    """The exit status of a script that plays, of each example that is at fault, of a word too many, and of an output that is full."""
+    names = [os.path.basename(it).removesuffix(".status") for it in glob.glob(f"{TOOLS}/../examples/*.status")]
+    expect("of the examples at fault", 10, len(names))
+    for it in ["first_run", *names]:
+        ended = int(example(it, "status", b"0")), example(it, "effects"), example(it, "stderr", b"")
+        expect(f"from a replay of {it} status, effects and standard error", ended, replay(stage, example(it, "script")))
+    for words in ([""], ["", "check"], ["--"]):
+        expect(f"from `{' '.join(words)}` status, output and standard error", (64, "", "usage fault\n"), run(stage, *words))
+    if not os.path.exists("/dev/full"):
+        raise Skipped("there is no /dev/full")
+    with open("/dev/full", "wb") as full:
+        ended = replay(stage, example("first_run", "script"), stdout=full)
+    expect("from a replay whose output is full", (1, None, b"write fault\n"), ended)
+
+
+@scenario
+def a_script_has_at_most_its_limit(stage):
+    """A script of 16,777,216 bytes is replayed; of one with a byte more, what was read is."""
+    first, effects = example("first_run", "script"), example("first_run", "effects")
+    for size, ended in ((MOST_SCRIPT, (0, effects, b"")), (MOST_SCRIPT + 1, (1, effects, b"read fault\n"))):
+        front = first + b"gone 2\nclient 2 "
+        # (the length has eight digits, and a line end stands behind it and behind the block)
+        length = size - len(front) - 10
+        script = front + b"%d\n" % length + b"x" * length + b"\n"
+        expect("the script's length", size, len(script))
+        expect(f"from a script of {size} bytes status, effects and standard error", ended, replay(stage, script))
 
 
 @scenario
