@@ -160,6 +160,8 @@ fn a_writer_that_fails_ends_the_replay(rt: HostRuntime) -> Result<(), Fail> {
         let ended = written_to(rt.alloc(), 7, calls, ErrorKind::Other);
         if ended.0 == "done" {
             is_whole(&rt, &ended, calls);
+            // Seven bytes at a time of 91, 182 and 168: the last are taken with the 63rd call, and a failure before it is told.
+            assert!(rt; calls == 63);
             return Ok(());
         }
         is_front(&rt, "write", &ended, calls);
