@@ -1,4 +1,6 @@
 //! Contents of messages as they come (RFC 9112, section 6). The definitions are in `specs/Contents.antt`.
+//!
+//! What is copied here is shared by all who keep it.
 ghost use Rattle.std.specs.Prelude.{◌≡◌, IfOk, OnErr, Bool};
 ghost use Rattle.hx_framing.specs.declared.content.Content.TheVariants as content;
 ghost use Rattle.hx_framing.specs.Contents.{begun, Advances};
@@ -53,7 +55,7 @@ fn take_announced(alloc: Global, n: u64, bytes: &[u8]) -> Result<Taken, AllocErr
         return Ok(Taken::Short(0));
     }
     let (front, _) = bytes.split_at(n as usize);
-    Ok(Taken::Whole(Some(Bytes::copy_of(alloc, front)?), n as usize))
+    Ok(Taken::Whole(Some(Bytes::shared_copy_of(alloc, front)?), n as usize))
 }
 
 /// A content in chunks. What was decoded is taken.
@@ -82,7 +84,7 @@ fn take_until_close(
     if bytes.len() as u64 > most {
         Ok(Taken::Bad(FrameFault::TooLarge))
     } else if ended {
-        Ok(Taken::Whole(Some(Bytes::copy_of(alloc, bytes)?), bytes.len()))
+        Ok(Taken::Whole(Some(Bytes::shared_copy_of(alloc, bytes)?), bytes.len()))
     } else {
         Ok(Taken::Short(0))
     }

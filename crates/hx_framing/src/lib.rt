@@ -59,4 +59,4 @@ pub use crate::requests::Request;
 pub use crate::response_reader::ResponseReader;
 pub use crate::responses::Response;
 pub use crate::text_laws::{forwarded_text, head_lengths, reply_texts};
-pub use crate::writing::{write_request, write_response};
+pub use crate::writing::{AddedLine, write_request, write_response, write_response_with};
