@@ -1,5 +1,7 @@
 pub mod PlaceSteps
 pub mod HeadEnds
+pub mod HeadSearches
+pub mod UnreadLemmas
 pub mod HeadLemmas
 pub mod NumberLemmas
 pub mod LengthTold

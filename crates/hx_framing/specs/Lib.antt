@@ -1,5 +1,6 @@
 pub mod Fault
 pub mod Places
+pub mod Searching
 pub mod Reading
 pub mod Progress
 pub mod Version

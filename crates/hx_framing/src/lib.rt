@@ -18,6 +18,7 @@ mod decoded;
 mod fault;
 mod found;
 mod head_laws;
+mod head_search;
 mod length_laws;
 mod lengths;
 mod lines;

@@ -147,7 +147,9 @@ impl RequestReader {
         ensures weight { IfOk result (λ answer. weight self.new + cost answer ≤ weight self.old) }
         ensures err { OnErr result (self.new ≡ self.old) }
     {
-        match read_request(alloc, self.max_body, self.ended, self.unread.as_slice())? {
+        let head_length = self.unread.head_length();
+        let bytes = self.unread.as_slice();
+        match read_request(alloc, self.max_body, self.ended, bytes, head_length)? {
             Found::Incomplete(_) => Ok(Next::More),
             Found::Over => Ok(Next::End),
             Found::Faulty(fault) => {

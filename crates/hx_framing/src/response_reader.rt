@@ -159,8 +159,16 @@ impl ResponseReader {
         ensures due { IfOk result (λ answer. IsDue answer → 1 ≤ weight self.new + cost answer) }
         ensures err { OnErr result (self.new ≡ self.old) }
     {
+        let head_length = self.unread.head_length();
         let bytes = self.unread.as_slice();
-        match read_response(alloc, self.max_body, self.to_head, self.ended, bytes)? {
+        match read_response(
+            alloc,
+            self.max_body,
+            self.to_head,
+            self.ended,
+            bytes,
+            head_length,
+        )? {
             Found::Incomplete(n) => {
                 self.unread.take_front(n);
                 Ok(Next::More)
