@@ -5,7 +5,7 @@ use Rattle.std.proofs.lemmas.List.{append-nil, drop-append-le, drop-drop, take-a
 use Rattle.std.proofs.Math.Seq.{take-append-add}
 use Rattle.hx_framing.specs.declared.head_search.HeadSearch.{HeadSearch}
 use Rattle.hx_framing.specs.declared.head_search.Searched.TheVariants as searched
-use Rattle.hx_framing.specs.Places.{blank_from, blank_length, empty_at, empty_line_from, head_length}
+use Rattle.hx_framing.specs.Places.{blank_from, blank_length, empty_at, empty_line_from, head_length, most_head_bytes, IsOpenHead}
 use Rattle.hx_framing.specs.Searching.{Reaches, IsSearched}
 use Rattle.hx_framing.proofs.HeadEnds.{blank_stable, empty_stands}
 
@@ -163,3 +163,7 @@ blank_reached bytes s at r outside is =
 -- a head takes some bytes, and no more than there are
 pub head_some : (u : List ℕ) (n : ℕ) → head_length u ≡ Some n → 0 < n
 head_some u n found = omega (arith, (empty_stands (drop (blank_length u) u) (blank_length u) n found).two)
+
+-- no head ends there, and the limit isn't reached
+pub open_head : (bytes : List ℕ) → length bytes ≤ most_head_bytes → head_length (take most_head_bytes bytes) ≡ None → IsOpenHead bytes
+open_head bytes short none = record { none = ap head_length (sym (take_all most_head_bytes bytes short)) ∙ none; bounded = short }

@@ -5,6 +5,7 @@ pub mod Reading
 pub mod Progress
 pub mod Version
 pub mod Head
+pub mod PlainContent
 pub mod Contents
 pub mod Queue
 pub mod HeadLines

@@ -23,6 +23,7 @@ mod length_laws;
 mod lengths;
 mod lines;
 mod places;
+mod plain;
 mod plan;
 mod request_head;
 pub mod request_laws;

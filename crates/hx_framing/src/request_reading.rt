@@ -53,7 +53,7 @@ fn with_plan(
     if plan.wants_continue {
         return Ok(Found::Continue(head, content, at));
     }
-    match content.advance(alloc, false, rest_from(bytes, at))? {
+    match content.advance(alloc, false, rest_from(bytes, at), 0)? {
         Taken::Short(_) if ended => Ok(Found::Faulty(FrameFault::Truncated)),
         Taken::Short(n) => Ok(Found::Going(head, content, at + n)),
         Taken::Bad(fault) => Ok(Found::Faulty(fault)),

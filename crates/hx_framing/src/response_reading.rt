@@ -114,7 +114,7 @@ fn with_framing(
     ensures { IfOk result (IsFound max_body to_head ended bytes.now) }
 {
     let mut content = Content::begun(alloc, max_body, framing);
-    match content.advance(alloc, ended, rest_from(bytes, at))? {
+    match content.advance(alloc, ended, rest_from(bytes, at), 0)? {
         Taken::Short(_) if ended => Ok(Found::Faulty(FrameFault::Truncated)),
         Taken::Short(n) => Ok(Found::Going(head, content, at + n)),
         Taken::Bad(fault) => Ok(Found::Faulty(fault)),

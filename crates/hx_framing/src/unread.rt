@@ -1,7 +1,7 @@
 //! Bytes that were fed and that no message has taken yet.
 //!
 //! Taking bytes away from the front is cheap: they are moved up only once as many were taken as are left. How far
-//! they were searched for the end of a head is remembered, so that none is searched again for each piece.
+//! they were searched for the end of a head or of a line is remembered, so that none is searched again for each piece.
 ghost use Rattle.std.specs.Prelude.{◌≡◌, ◌≤◌, ◌++◌, [], IsOk, OnOk, OnErr, length, drop};
 
 use crate::head_search::{HeadSearch, Searched};
@@ -16,10 +16,13 @@ pub(crate) struct Unread {
     taken: usize,
     /// Of the bytes that are left, as far as a head may reach.
     search: HeadSearch,
+    /// So many of the bytes that are left hold no LF.
+    line: usize,
 }
 
 impl Model for Unread {
-    ghost use Rattle.std.specs.Prelude.{◌≤◌, ◌-◌, ◌+◌, drop, take, vec_len, vec_capacity};
+    ghost use Rattle.std.specs.Prelude.{◌≡◌, ◌≤◌, ◌-◌, ◌+◌, true, length, drop, take, vec_len, vec_capacity};
+    ghost use Rattle.hx_framing.specs.ChunkGrammar.{has_no_lf};
     ghost use Rattle.hx_framing.specs.Places.{most_head_bytes};
     ghost use Rattle.hx_framing.specs.Queue.{Queue};
     ghost use Rattle.hx_framing.specs.Searching.{Reaches};
@@ -29,7 +32,9 @@ impl Model for Unread {
     ghost view = { λ u. record { items = drop u.taken u.bytes.items; spare = vec_capacity u.bytes - vec_len u.bytes } };
 
     ghost invariant = { λ u. (u.taken + u.taken ≤ vec_len u.bytes)
-        × Reaches (take most_head_bytes (drop u.taken u.bytes.items)) u.search };
+        × Reaches (take most_head_bytes (drop u.taken u.bytes.items)) u.search
+        × (u.line ≤ length (drop u.taken u.bytes.items))
+        × (has_no_lf (take u.line (drop u.taken u.bytes.items)) ≡ true) };
 }
 
 /// A search that has looked at nothing.
@@ -39,7 +44,8 @@ const UNSEARCHED: HeadSearch = HeadSearch {
 };
 
 impl Unread {
-    ghost use Rattle.std.specs.Prelude.{IfSome, take, ◌<◌};
+    ghost use Rattle.std.specs.Prelude.{true, take};
+    ghost use Rattle.hx_framing.specs.ChunkGrammar.{has_no_lf};
     ghost use Rattle.hx_framing.specs.Places.{head_length, most_head_bytes};
 
     pub(crate) fn new(alloc: Global) -> Unread
@@ -49,6 +55,7 @@ impl Unread {
             bytes: Vec::new(alloc),
             taken: 0,
             search: UNSEARCHED,
+            line: 0,
         }
     }
 
@@ -56,6 +63,12 @@ impl Unread {
         ensures { result.now ≡ self.now.items }
     {
         rest_from(self.bytes.as_slice(), self.taken)
+    }
+
+    pub(crate) fn len(&self) -> usize
+        ensures { result ≡ length self.now.items }
+    {
+        self.bytes.len() - self.taken
     }
 
     /// Makes room for n more bytes. An `Err` changes nothing.
@@ -87,6 +100,7 @@ impl Unread {
         ensures room { self.old.spare ≤ self.new.spare }
     {
         self.search = UNSEARCHED;
+        self.line = 0;
         self.taken += n;
         let left = self.bytes.len() - self.taken;
         if left <= self.taken {
@@ -112,5 +126,21 @@ impl Unread {
                 None
             }
         }
+    }
+
+    /// How many bytes at the front are known to hold no LF.
+    pub(crate) fn searched(&self) -> usize
+        ensures within { result ≤ length self.now.items }
+        ensures none { has_no_lf (take result self.now.items) ≡ true }
+    {
+        self.line
+    }
+
+    /// Remembers that the bytes hold no LF.
+    pub(crate) fn note_open_line(&mut self)
+        requires { has_no_lf self.old.items ≡ true }
+        ensures { self.new ≡ self.old }
+    {
+        self.line = self.bytes.len() - self.taken;
     }
 }

@@ -3,6 +3,7 @@ use Rattle.hx_framing.specs.declared.requests.Request.{Request}
 use Rattle.hx_framing.specs.declared.answer.Next.TheVariants.{Message}
 use Rattle.hx_framing.specs.declared.taken.Taken.TheVariants as taken
 use Rattle.hx_framing.specs.Contents.{Advances}
+use Rattle.hx_framing.specs.Queue.{Queue}
 use Rattle.hx_framing.specs.Reading.{Incomplete, Spelled, Faulty}
 use Rattle.hx_framing.specs.Progress.{moved}
 use Rattle.hx_framing.specs.RequestReading.{request_of, Reads}
@@ -31,7 +32,7 @@ pub returns-in-Ok-Short-2-clause-stands : goal.returns-in-Ok-Short-2-clause-stan
 returns-in-Ok-Short-2-clause-stands c = λ p h.
     let k = took c.args.self.now _ _ _ _ _ (taken.Short c.in-Ok-Short.field-0-0) c.as_slice.ensures (ap (λ (s : State). s.unread) c.self.view_is) c.in-Ok-Short.field-0-is c.in-Ok-Short.ensures.ok in
     stands_going c.args.self.now _ p c.args.head c.args.content _ c.in-Ok-Short.field-0-0 (ap (λ (s : State). s.max_body) c.self.view_is) (ap (λ (s : State). s.ended) c.self.view_is) refl
-    (c.take_front.ensures.items ∙ ap (drop c.in-Ok-Short.field-0-0) (ap (λ (s : State). s.unread) c.self.view_is)) k h
+    (ap (λ (q : Queue). q.items) c.note_open_line.ensures ∙ c.take_front.ensures.items ∙ ap (drop c.in-Ok-Short.field-0-0) (ap (λ (s : State). s.unread) c.self.view_is)) k h
 
 pub returns-in-Ok-Bad-clause-answers : goal.returns-in-Ok-Bad-clause-answers
 returns-in-Ok-Bad-clause-answers c = λ p h.

@@ -12,7 +12,7 @@ use Rattle.hx_framing.proofs.request_reader.RequestReader.read_head.Goals as goa
 pub returns-in-Incomplete-clause-answers : goal.returns-in-Incomplete-clause-answers
 returns-in-Incomplete-clause-answers c = λ p h.
     let k = found_of c.args.self.now _ _ _ _ _ (found.Incomplete c.in-Incomplete.field-0) (ap (λ (s : State). s.max_body) c.self.view_is) (ap (λ (s : State). s.ended) c.self.view_is) c.as_slice-bytes.ensures (ap (λ (q : Queue). q.items) c.head_length-head_length.ensures.same ∙ ap (λ (s : State). s.unread) c.self.view_is) c.in-Incomplete.is c.in_ok-read_request.ensures in
-    answers_by p _ Incomplete h (kept_reads c.args.self.now p _ c.requires h k)
+    answers_by p _ Incomplete h (kept_reads c.args.self.now p _ c.requires h k.0)
 
 pub returns-in-Over-clause-answers : goal.returns-in-Over-clause-answers
 returns-in-Over-clause-answers c = λ p h.
@@ -61,5 +61,5 @@ returns-in-Going-clause-answers c = λ p h.
 pub returns-in-Going-clause-stands : goal.returns-in-Going-clause-stands
 returns-in-Going-clause-stands c = λ p h.
     let k = found_of c.args.self.now _ _ _ _ _ (found.Going c.in-Going.head c.in-Going.content c.in-Going.n) (ap (λ (s : State). s.max_body) c.self.view_is) (ap (λ (s : State). s.ended) c.self.view_is) c.as_slice-bytes.ensures (ap (λ (q : Queue). q.items) c.head_length-head_length.ensures.same ∙ ap (λ (s : State). s.unread) c.self.view_is) c.in-Going.is c.in_ok-read_request.ensures in
-    let left = c.take_front-in-Going.ensures.items ∙ ap (drop c.in-Going.n) (ap (λ (q : Queue). q.items) c.head_length-head_length.ensures.same ∙ ap (λ (s : State). s.unread) c.self.view_is) in
+    let left = ap (λ (q : Queue). q.items) c.note_open_line.ensures ∙ c.take_front-in-Going.ensures.items ∙ ap (drop c.in-Going.n) (ap (λ (q : Queue). q.items) c.head_length-head_length.ensures.same ∙ ap (λ (s : State). s.unread) c.self.view_is) in
     stands_begun c.args.self.now _ p c.in-Going.head c.in-Going.content c.in-Going.n c.requires (ap (λ (s : State). s.max_body) c.self.view_is) (ap (λ (s : State). s.ended) c.self.view_is) refl left k.2 h
