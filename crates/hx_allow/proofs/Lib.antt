@@ -1,5 +1,4 @@
 pub mod FirstFaults
-pub mod HostIndices
 pub mod Items
 pub mod LinesRead
 pub mod Readings

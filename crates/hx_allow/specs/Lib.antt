@@ -1,5 +1,4 @@
 pub mod Addresses
-pub mod Index
 pub mod Keys
 pub mod LineTables
 pub mod Lines

@@ -7,11 +7,9 @@
 mod addresses;
 mod config;
 mod faults;
-mod host_index;
 mod laws;
 mod line_tables;
 mod lines;
-mod matching;
 mod reading;
 mod tables;
 mod values;

@@ -1,4 +1,3 @@
-pub mod Kept
 pub mod Names
 pub mod Lines
 pub mod Tokens

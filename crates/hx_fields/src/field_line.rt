@@ -22,13 +22,10 @@ impl Field {
         })
     }
 
-    /// A copy of this line, which shares the buffers that it shares.
+    /// A copy of this line.
     pub fn copy(&self, alloc: Global) -> Result<Field, AllocError>
         ensures { IfOk result (λ copied. copied ≡ self.now) }
     {
-        Ok(Field {
-            name: self.name.copy(alloc)?,
-            value: self.value.copy(alloc)?,
-        })
+        Field::copy_of(alloc, self.name.as_slice(), self.value.as_slice())
     }
 }

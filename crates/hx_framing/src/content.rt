@@ -1,16 +1,15 @@
 //! What is still to come of a content.
 
 use crate::chunks::Chunks;
-use crate::plain::Plain;
 
-/// A content that was begun. Its bytes are taken as they come, and each once.
+/// A content that was begun. No byte of it is decoded twice.
 pub(crate) enum Content {
     Nothing,
-    /// As many bytes as were announced.
-    Announced(Plain),
+    /// So many bytes.
+    Announced(u64),
     Chunked(Chunks),
-    /// All until the stream's end, within a limit.
-    UntilClose(Plain),
+    /// All until the stream's end, at most so many bytes.
+    UntilClose(u64),
 }
 
 /// One call drops it, wherever that is, so its cases stand in one proof alone.

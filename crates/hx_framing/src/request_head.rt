@@ -8,7 +8,7 @@ ghost use Rattle.hx_framing.specs.RequestReading.{request_of};
 
 use crate::fault::FrameFault;
 use crate::lengths::without_lengths;
-use crate::lines::{fields_at, part_at};
+use crate::lines::copy_fields;
 use crate::places::MOST_FIELD_LINES;
 use crate::requests::Request;
 use crate::version::request_has_other_version;
@@ -91,7 +91,7 @@ fn copy_method(alloc: Global, name: &[u8]) -> Result<Method, AllocError>
     }
 }
 
-/// The head whose parts the spans cover. It keeps one copy of the bytes, which its parts share.
+/// The head whose parts the spans cover.
 fn copy_head(
     alloc: Global,
     bytes: &[u8],
@@ -103,12 +103,13 @@ fn copy_head(
     ensures { IfOk result (λ head. head ≡ head_at bytes.now spans.now found) }
 {
     let method = copy_method(alloc, found.method.of(bytes))?;
-    let head = Bytes::shared_copy_of(alloc, bytes)?;
+    let target = Bytes::copy_of(alloc, found.path.of(bytes))?;
+    let fields = copy_fields(alloc, bytes, &spans[..found.headers])?;
     Ok(Head {
         method,
-        target: part_at(alloc, &head, found.path)?,
+        target,
         minor: found.version,
-        fields: fields_at(alloc, &head, &spans[..found.headers])?,
+        fields,
     })
 }
 

@@ -27,4 +27,3 @@ pub mod Waiters
 pub mod Releases
 pub mod GetIndices
 pub mod Gets
-pub mod AddedLines
