@@ -1,4 +1,5 @@
 pub mod FirstFaults
+pub mod HostIndices
 pub mod Items
 pub mod LinesRead
 pub mod Readings

@@ -1,4 +1,5 @@
 pub mod Addresses
+pub mod Index
 pub mod Keys
 pub mod LineTables
 pub mod Lines

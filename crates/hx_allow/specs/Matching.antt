@@ -55,9 +55,13 @@ verdict_from n (line ∷ lines) method target =
 unfoldable pub verdict_of : List Line → List ℕ → Target → Verdict
 verdict_of lines method target = verdict_from 1 lines method target
 
+-- the line of a number, where it stands; lines are counted from 1
+abbrev pub numbered : List Line → ℕ → Option Line
+numbered lines n = if n == 0 then None else slice_get lines (n - 1)
+
 -- the origin of the line with this number, where it stands and doesn't deny
 abbrev pub origin_of : List Line → ℕ → Option (List ℕ)
-origin_of lines n = option_and_then (λ (line : Line). line.origin) (slice_get lines (n - 1))
+origin_of lines n = option_and_then (λ (line : Line). line.origin) (numbered lines n)
 
 -- the bytes of the longest address of an origin
 abbrev pub longest_origin : List Line → ℕ
@@ -65,7 +69,7 @@ longest_origin lines = fold (λ n (line : Line). max n (length (unwrap_or line.o
 
 -- what the line with this number says of the store; what the table doesn't say isn't kept
 abbrev pub caches_of : List Line → ℕ → Bool
-caches_of lines n = is_some_and (λ (line : Line). line.caches) (slice_get lines (n - 1))
+caches_of lines n = is_some_and (λ (line : Line). line.caches) (numbered lines n)
 
 -- a line of this number stands and has an origin
 abbrev pub IsAllowing : List Line → ℕ → Type 0

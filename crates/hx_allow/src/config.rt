@@ -1,10 +1,11 @@
 //! The operator's table, read.
-ghost use Rattle.std.specs.Prelude.{◌≡◌, ◌≤◌, ℕ, [], length, Err, slice_get, unwrap_or};
+ghost use Rattle.std.specs.Prelude.{◌≡◌, ◌≤◌, ℕ, [], length, Err, unwrap_or};
 ghost use Rattle.hx_allow.specs.Matching.{verdict_of, origin_of, caches_of, longest_origin, NamesAnOrigin};
-ghost use Rattle.std.specs.Option.{option_copied};
 ghost use Rattle.hx_allow.specs.Tables.{ReadsAs};
 
-use crate::lines::Line;
+use crate::host_index::HostIndex;
+use crate::lines::{Line, is_never_allowed};
+use crate::matching::{line_at, verdict_among};
 use crate::{ConfigFault, Verdict, reading};
 use http::Method;
 use hx_target::Target;
@@ -21,6 +22,8 @@ pub struct Config {
     /// The bytes of the longest address of an origin.
     pub(crate) longest_origin: usize,
     pub(crate) lines: Vec<Line>,
+    /// Which of the lines a host can match.
+    pub(crate) by_host: HostIndex,
 }
 
 /// One call drops it, wherever that is.
@@ -33,6 +36,7 @@ impl Drop for Config {
             max_stored: _,
             longest_origin: _,
             lines: _,
+            by_host: _,
         } = self;
     }
 }
@@ -41,12 +45,13 @@ impl Model for Config {
     ghost use Rattle.std.specs.Prelude.{string_bytes, length, ◌≤◌, ◌≡◌};
     ghost use Rattle.hx_allow.specs.Lines.{Table};
     ghost use Rattle.hx_allow.specs.Matching.{longest_origin as longest_among};
+    ghost use Rattle.hx_allow.specs.Index.{IsIndexOf};
 
     ghost Value = { Table };
 
     ghost view = { λ c. record { name = string_bytes c.name; capacity = c.capacity; max_body = c.max_body; max_stored = c.max_stored; lines = c.lines.items } };
 
-    ghost invariant = { λ c. (length c.lines.items ≤ 256) × (c.longest_origin ≡ longest_among c.lines.items) };
+    ghost invariant = { λ c. (length c.lines.items ≤ 256) × (c.longest_origin ≡ longest_among c.lines.items) × IsIndexOf c.lines.items c.by_host };
 }
 
 impl Config {
@@ -60,23 +65,16 @@ impl Config {
     }
 
     /// What the table says of a request: the first line decides whose host, a method and path match.
-    #[tactic(auto, unfolding(crate::specs::Matching::verdict_of))]
     pub fn judge(&self, method: &Method, target: &Target) -> Verdict
         ensures verdict { result ≡ verdict_of self.now.lines method.now target.now }
         ensures allowing { NamesAnOrigin self.now.lines result }
     {
-        let mut number = 1u16;
-        for line in &self.lines {
-            if line.matches(method, target) {
-                return if line.origin.is_some() {
-                    Verdict::Allowed(number)
-                } else {
-                    Verdict::DeniedBy(number)
-                };
-            }
-            number += 1;
+        let method = method.as_str().as_bytes();
+        if is_never_allowed(method) {
+            return Verdict::NoLine;
         }
-        Verdict::NoLine
+        let numbers = self.by_host.numbers(target.key.host.as_slice());
+        verdict_among(&self.lines, numbers, method, target.table_path.as_slice())
     }
 
     /// The address of the origin of a line, counted from 1: four numbers and a port. It is empty where the table has no
@@ -84,7 +82,7 @@ impl Config {
     pub fn origin(&self, line: u16) -> &str
         ensures { result.now ≡ unwrap_or (origin_of self.now.lines line) [] }
     {
-        match line_at(&self.lines, usize::from(line).saturating_sub(1)) {
+        match line_at(&self.lines, line) {
             Some(line) => match &line.origin {
                 Some(origin) => origin.as_str(),
                 None => "",
@@ -106,7 +104,7 @@ impl Config {
     pub fn caches(&self, line: u16) -> bool
         ensures { result ≡ caches_of self.now.lines line }
     {
-        match line_at(&self.lines, usize::from(line).saturating_sub(1)) {
+        match line_at(&self.lines, line) {
             Some(line) => line.caches,
             None => false,
         }
@@ -146,10 +144,4 @@ impl Config {
     {
         self.lines.len()
     }
-}
-
-fn line_at(lines: &[Line], index: usize) -> Option<&Line>
-    ensures { option_copied result ≡ slice_get lines.now index }
-{
-    lines.get(index)
 }

@@ -7,9 +7,11 @@
 mod addresses;
 mod config;
 mod faults;
+mod host_index;
 mod laws;
 mod line_tables;
 mod lines;
+mod matching;
 mod reading;
 mod tables;
 mod values;

@@ -1,5 +1,5 @@
 //! The lines of a TOML table: the first fault among them, and what they say.
-ghost use Rattle.std.specs.Prelude.{◌≡◌, ◌≤◌, ◌+◌, length, IfOk, Some, true, codes, unwrap_or, [], string_bytes};
+ghost use Rattle.std.specs.Prelude.{◌≡◌, ◌≤◌, ◌+◌, length, IfOk, MatchResult, Some, true, codes, unwrap_or, [], string_bytes};
 ghost use Rattle.std.specs.Option.{option_copied, option_map};
 ghost use Rattle.toml.specs.Data.{as_str, as_table, no_items};
 ghost use Rattle.hx_target.specs.Paths.{table_path_of};
@@ -155,11 +155,11 @@ fn is_good_cache(table: &Table) -> bool
     }
 }
 
-/// The fault of a key that isn't known, with its bytes, or want of memory.
-pub fn unknown_key_fault(alloc: Global, key: &str) -> ConfigFault
-    ensures { ¬ (result ≡ ConfigFault.OutOfMemory) → result ≡ ConfigFault.UnknownKey key.now }
+/// The fault of a key that isn't known, whose bytes were copied. Want of memory is told where the copy found none.
+pub fn fault_of_key(copied: Result<Bytes, AllocError>) -> ConfigFault
+    ensures { MatchResult copied (λ key. result ≡ ConfigFault.UnknownKey key) (λ _. result ≡ ConfigFault.OutOfMemory) }
 {
-    match Bytes::copy_of(alloc, key.as_bytes()) {
+    match copied {
         Ok(key) => ConfigFault::UnknownKey(key),
         Err(_) => ConfigFault::OutOfMemory,
     }
@@ -177,7 +177,7 @@ fn line_fault(
     ensures memory_last { result ≡ Some ConfigFault.OutOfMemory → has_key (line_fault version number (table_view table.now)) ≡ true }
 {
     if let Some(key) = first_unknown(Scope::Line(version), table) {
-        return Some(unknown_key_fault(alloc, key));
+        return Some(fault_of_key(Bytes::copy_of(alloc, key.as_bytes())));
     }
     if !is_good_host(text_at(table, "host")) {
         return Some(ConfigFault::BadHost(number));

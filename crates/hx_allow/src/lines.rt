@@ -2,11 +2,10 @@
 ghost use Rattle.std.specs.Prelude.{◌≡◌, ◌≤◌, [], length, drop, option_map, string_bytes, unwrap_or};
 ghost use Rattle.std.specs.Option.{option_copied};
 ghost use Rattle.std.specs.List.{list_any};
-ghost use Rattle.hx_allow.specs.Matching.{matches_host, is_never_allowed, matches_method, is_any_or_same, matches_path, matches_line, longest_origin};
+ghost use Rattle.hx_allow.specs.Matching.{matches_host, is_never_allowed, is_any_or_same, matches_path, longest_origin};
+ghost use Rattle.hx_allow.specs.Index.{can_match, matches_beside_host};
 
-use http::Method;
 use hx_fields::Bytes;
-use hx_target::Target;
 use std::marker::Model;
 
 /// A line of the table.
@@ -65,12 +64,6 @@ fn has_any_or_same(methods: &[Bytes], method: &[u8]) -> bool
         .any(|text| is_any_or_same(text.as_slice(), method))
 }
 
-fn matches_method(methods: &[Bytes], method: &[u8]) -> bool
-    ensures { result ≡ matches_method methods.now method.now }
-{
-    !is_never_allowed(method) && has_any_or_same(methods, method)
-}
-
 /// Whether a table path is the path of a line, or continues it with a slash.
 fn matches_path(path: &[u8], asked: &[u8]) -> bool
     ensures { result ≡ matches_path path.now asked.now }
@@ -102,13 +95,20 @@ impl Line {
         }
     }
 
-    /// Whether the line's host, a method and its path match.
-    #[tactic(auto, unfolding(crate::specs::Matching::matches_line))]
-    pub fn matches(&self, method: &Method, target: &Target) -> bool
-        ensures { result ≡ matches_line self.now method.now target.now }
+    /// Whether the line can match a host, or where none is given one that no line names.
+    pub fn can_match(&self, host: Option<&[u8]>) -> bool
+        ensures { result ≡ can_match self.now (option_copied host.entry) }
     {
-        matches_host(self.host.as_ref(), target.key.host.as_slice())
-            && matches_method(self.methods.as_slice(), method.as_str().as_bytes())
-            && matches_path(self.path.as_slice(), target.table_path.as_slice())
+        match host {
+            Some(host) => matches_host(self.host.as_ref(), host),
+            None => self.host.is_none(),
+        }
+    }
+
+    /// Whether the line's path and a method match, of a method that a line may allow.
+    pub fn matches(&self, method: &[u8], path: &[u8]) -> bool
+        ensures { result ≡ matches_beside_host self.now method.now path.now }
+    {
+        matches_path(self.path.as_slice(), path) && has_any_or_same(self.methods.as_slice(), method)
     }
 }

@@ -1,10 +1,13 @@
 //! Reading the operator's table.
-ghost use Rattle.std.specs.Prelude.{◌≡◌, ◌≤◌, Err, length};
-ghost use Rattle.hx_allow.specs.Tables.{ReadsAs};
+ghost use Rattle.std.specs.Prelude.{◌≡◌, ◌≤◌, Err, IfErr, IfOk, length, true};
+ghost use Rattle.toml.specs.Errors.{IsMemory};
+ghost use Rattle.toml.specs.View.{table_view};
+ghost use Rattle.hx_allow.specs.Tables.{ReadsAs, judge_table, table_fault, wants_memory};
 
 use crate::tables::judge_table;
 use crate::{Config, ConfigFault};
 use std::alloc::Global;
+use toml::Table;
 
 /// The most bytes of a table.
 const MAX_BYTES: usize = 1_048_576;
@@ -17,9 +20,23 @@ pub fn read(alloc: Global, bytes: &[u8]) -> Result<Config, ConfigFault>
     if bytes.len() > MAX_BYTES {
         return Err(ConfigFault::NotToml);
     }
-    match toml::table_from_slice(alloc, bytes) {
+    judge_parsed(alloc, toml::table_from_slice(alloc, bytes))
+}
+
+/// What a table that was parsed says, or the first fault. Want of memory is told where the parser found none, and of a
+/// table that it read only where no fault of it can be told without.
+fn judge_parsed(
+    alloc: Global,
+    parsed: Result<Table, toml::de::Error>,
+) -> Result<Config, ConfigFault>
+    ensures judged { IfOk parsed (λ table. ¬ (result ≡ Err ConfigFault.OutOfMemory) → result ≡ judge_table (table_view table)) }
+    ensures memory_last { IfOk parsed (λ table. result ≡ Err ConfigFault.OutOfMemory → wants_memory (table_fault (table_view table)) ≡ true) }
+    ensures no_table { IfErr parsed (λ error. ¬ (IsMemory error) → result ≡ Err ConfigFault.NotToml) }
+    ensures no_memory { IfErr parsed (λ error. IsMemory error → result ≡ Err ConfigFault.OutOfMemory) }
+{
+    match parsed {
         Ok(table) => judge_table(alloc, &table),
-        Err(e) if e.is_memory() => Err(ConfigFault::OutOfMemory),
+        Err(error) if error.is_memory() => Err(ConfigFault::OutOfMemory),
         Err(_) => Err(ConfigFault::NotToml),
     }
 }

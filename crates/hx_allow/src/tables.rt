@@ -8,12 +8,14 @@ ghost use Rattle.hx_allow.specs.Values.{is_some_and, text_at};
 ghost use Rattle.hx_allow.specs.LineTables.{has_key};
 ghost use Rattle.hx_allow.specs.Tables.{is_name_byte, is_name, number_at, version_of, are_lines, lines_at, table_fault, table_of, judge_table, number_fault, wants_memory};
 
-use crate::line_tables::{lines_fault, lines_of, unknown_key_fault};
+use crate::host_index::HostIndex;
+use crate::line_tables::{fault_of_key, lines_fault, lines_of};
 use crate::lines::longest_origin;
 use crate::values::{
     Scope, TableVersion, array_at, counts_within, first_unknown, number_between, text_at,
 };
 use crate::{Config, ConfigFault, NumberKey};
+use hx_fields::Bytes;
 use std::alloc::{AllocError, Global};
 use toml::value::Array;
 use toml::{Table, Value};
@@ -130,7 +132,7 @@ fn table_fault(alloc: Global, table: &Table) -> Option<ConfigFault>
     ensures memory_last { result ≡ Some ConfigFault.OutOfMemory → has_key (table_fault (table_view table.now)) ≡ true }
 {
     if let Some(key) = first_unknown(Scope::Top, table) {
-        return Some(unknown_key_fault(alloc, key));
+        return Some(fault_of_key(Bytes::copy_of(alloc, key.as_bytes())));
     }
     if !is_good_name(text_at(table, "name")) {
         return Some(ConfigFault::BadName);
@@ -159,6 +161,7 @@ fn config_of(alloc: Global, table: &Table) -> Result<Config, AllocError>
         max_body: u64::from(number_at(table, NumberKey::MaxBody).unwrap_or(0)),
         max_stored: u64::from(number_at(table, NumberKey::MaxStored).unwrap_or(0)),
         longest_origin: longest_origin(&lines),
+        by_host: HostIndex::of(alloc, &lines)?,
         lines,
     })
 }

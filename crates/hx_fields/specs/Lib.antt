@@ -1,3 +1,4 @@
+pub mod Kept
 pub mod Names
 pub mod Lines
 pub mod Tokens

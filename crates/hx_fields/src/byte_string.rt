@@ -1,21 +1,82 @@
 //! Bytes on the heap, which contracts see as a list of numbers.
-ghost use Rattle.std.specs.Prelude.{◌≡◌, ◌==◌, ◌++◌, [], length, IfOk, OnOk, OnErr};
+//!
+//! They are a vector of their own, or a part of a buffer that others share: a copy of a part takes no memory.
+ghost use Rattle.std.specs.Prelude.{◌≡◌, ◌≤◌, ◌==◌, ◌++◌, [], length, IfOk, OnOk, OnErr, slice_range};
 
 use std::alloc::{AllocError, Global};
 use std::marker::Model;
+use std::rc::Rc;
 
 /// A list of bytes.
 #[derive(Debug, Drop)]
 pub struct Bytes {
-    items: Vec<u8>,
+    kept: Kept,
+}
+
+/// Where the bytes are.
+#[derive(Debug, Drop)]
+enum Kept {
+    Whole(Vec<u8>),
+    Part(Part),
+}
+
+/// The bytes of a shared buffer from one index up to another.
+#[derive(Debug, Drop)]
+struct Part {
+    buffer: Rc<Vec<u8>, Global>,
+    start: usize,
+    end: usize,
+}
+
+impl Model for Part {
+    ghost use Rattle.std.specs.Prelude.{List, ℕ, slice_range, vec_len, ◌≤◌};
+
+    ghost Value = { List ℕ };
+
+    ghost view = { λ p. slice_range p.buffer.value.items p.start p.end };
+
+    ghost invariant = { λ p. (p.start ≤ p.end) × (p.end ≤ vec_len p.buffer.value) };
 }
 
 impl Model for Bytes {
     ghost use Rattle.std.specs.Prelude.{List, ℕ};
+    ghost use Rattle.hx_fields.specs.Kept.{bytes_kept};
 
     ghost Value = { List ℕ };
 
-    ghost view = { λ b. b.items.items };
+    ghost view = { λ b. bytes_kept b.kept };
+}
+
+impl Part {
+    fn as_slice(&self) -> &[u8]
+        ensures { result.now ≡ self.now }
+    {
+        &self.buffer.as_ref().as_slice()[self.start..self.end]
+    }
+
+    /// Another owner of the buffer. Fails for want of memory alone.
+    fn copy(&self) -> Result<Part, AllocError>
+        ensures { IfOk result (λ part. part ≡ self.now) }
+    {
+        Ok(Part {
+            buffer: self.buffer.clone()?,
+            start: self.start,
+            end: self.end,
+        })
+    }
+
+    /// Another owner of the buffer, of these bytes of it. Fails for want of memory alone.
+    fn part(&self, start: usize, end: usize) -> Result<Part, AllocError>
+        requires order { start ≤ end }
+        requires within { end ≤ length self.now }
+        ensures { IfOk result (λ part. part ≡ slice_range self.now start end) }
+    {
+        Ok(Part {
+            buffer: self.buffer.clone()?,
+            start: self.start + start,
+            end: self.start + end,
+        })
+    }
 }
 
 impl Bytes {
@@ -23,53 +84,80 @@ impl Bytes {
     pub fn new(alloc: Global) -> Bytes
         ensures { result ≡ [] }
     {
-        Bytes {
-            items: Vec::new(alloc),
-        }
+        Bytes::from_vec(Vec::new(alloc))
     }
 
     /// The bytes of a vector. No memory is taken.
     pub fn from_vec(bytes: Vec<u8>) -> Bytes
         ensures { result ≡ bytes.items }
     {
-        Bytes { items: bytes }
-    }
-
-    /// The vector of these bytes. No memory is taken.
-    pub fn into_vec(self) -> Vec<u8>
-        ensures { result.items ≡ self }
-    {
-        self.items
+        Bytes {
+            kept: Kept::Whole(bytes),
+        }
     }
 
     /// A copy of a slice.
     pub fn copy_of(alloc: Global, bytes: &[u8]) -> Result<Bytes, AllocError>
         ensures { IfOk result (λ copied. copied ≡ bytes.now) }
     {
+        Ok(Bytes::from_vec(Vec::from_slice(alloc, bytes)?))
+    }
+
+    /// A copy of a slice, whose parts and copies share it.
+    pub fn shared_copy_of(alloc: Global, bytes: &[u8]) -> Result<Bytes, AllocError>
+        ensures { IfOk result (λ copied. copied ≡ bytes.now) }
+    {
+        let buffer = Rc::new(alloc, Vec::from_slice(alloc, bytes)?)?;
         Ok(Bytes {
-            items: Vec::from_slice(alloc, bytes)?,
+            kept: Kept::Part(Part {
+                buffer,
+                start: 0,
+                end: bytes.len(),
+            }),
         })
     }
 
-    /// A copy of these bytes.
+    /// The bytes from one index up to another. They share the buffer where these do.
+    pub fn part(&self, alloc: Global, start: usize, end: usize) -> Result<Bytes, AllocError>
+        requires order { start ≤ end }
+        requires within { end ≤ length self.now }
+        ensures { IfOk result (λ part. part ≡ slice_range self.now start end) }
+    {
+        match &self.kept {
+            Kept::Whole(bytes) => Bytes::copy_of(alloc, &bytes.as_slice()[start..end]),
+            Kept::Part(part) => Ok(Bytes {
+                kept: Kept::Part(part.part(start, end)?),
+            }),
+        }
+    }
+
+    /// A copy of these bytes, which shares the buffer where these do.
     pub fn copy(&self, alloc: Global) -> Result<Bytes, AllocError>
         ensures { IfOk result (λ copied. copied ≡ self.now) }
     {
-        Bytes::copy_of(alloc, self.as_slice())
+        match &self.kept {
+            Kept::Whole(bytes) => Bytes::copy_of(alloc, bytes.as_slice()),
+            Kept::Part(part) => Ok(Bytes {
+                kept: Kept::Part(part.copy()?),
+            }),
+        }
     }
 
     /// The bytes.
     pub fn as_slice(&self) -> &[u8]
         ensures { result.now ≡ self.now }
     {
-        self.items.as_slice()
+        match &self.kept {
+            Kept::Whole(bytes) => bytes.as_slice(),
+            Kept::Part(part) => part.as_slice(),
+        }
     }
 
     /// How many bytes there are.
     pub fn len(&self) -> usize
         ensures { result ≡ length self.now }
     {
-        self.items.len()
+        self.as_slice().len()
     }
 
     /// Whether there is no byte.

@@ -22,10 +22,13 @@ impl Field {
         })
     }
 
-    /// A copy of this line.
+    /// A copy of this line, which shares the buffers that it shares.
     pub fn copy(&self, alloc: Global) -> Result<Field, AllocError>
         ensures { IfOk result (λ copied. copied ≡ self.now) }
     {
-        Field::copy_of(alloc, self.name.as_slice(), self.value.as_slice())
+        Ok(Field {
+            name: self.name.copy(alloc)?,
+            value: self.value.copy(alloc)?,
+        })
     }
 }

@@ -35,14 +35,31 @@ impl Fields {
         }
     }
 
+    /// No lines, and room for n of them.
+    pub fn with_capacity(alloc: Global, n: usize) -> Result<Fields, AllocError>
+        ensures { IfOk result (λ fields. fields ≡ []) }
+    {
+        Ok(Fields {
+            lines: Vec::with_capacity(alloc, n)?,
+        })
+    }
+
+    /// Puts a line at the end, as it is.
+    pub fn push_line(&mut self, line: Field) -> Result<(), AllocError>
+        ensures ok { OnOk result (self.new ≡ self.old ++ line ∷ []) }
+        ensures err { OnErr result (self.new ≡ self.old) }
+    {
+        self.lines.push(line)?;
+        Ok(())
+    }
+
     /// Puts a line at the end.
     pub fn push(&mut self, name: &[u8], value: &[u8]) -> Result<(), AllocError>
         ensures ok { OnOk result (self.new ≡ self.old ++ record { name = name.now; value = value.now } ∷ []) }
         ensures err { OnErr result (self.new ≡ self.old) }
     {
         let line = Field::copy_of(*self.lines.allocator(), name, value)?;
-        self.lines.push(line)?;
-        Ok(())
+        self.push_line(line)
     }
 
     /// How many lines there are.

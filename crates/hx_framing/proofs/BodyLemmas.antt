@@ -6,6 +6,7 @@ use Rattle.hx_framing.specs.declared.fault.FrameFault.{FrameFault}
 use Rattle.hx_framing.specs.declared.fault.FrameFault.TheVariants as fault
 use Rattle.hx_framing.specs.declared.decoded.Decoded.{Decoded}
 use Rattle.hx_framing.specs.declared.decoded.Decoded.TheVariants as decoded
+use Rattle.hx_framing.specs.declared.content.Content.{Content}
 use Rattle.hx_framing.specs.declared.content.Content.TheVariants as content
 use Rattle.hx_framing.specs.declared.taken.Taken.TheVariants as taken
 use Rattle.hx_framing.specs.declared.plan.Framing.{Framing}
@@ -14,7 +15,9 @@ use Rattle.hx_framing.specs.Body.{Body, Short, Bad, Whole, IsDecided, extended_b
 use Rattle.hx_framing.specs.Chunking.{Chunking}
 use Rattle.hx_framing.specs.Chunks.{chunks_from, start}
 use Rattle.hx_framing.specs.Decoding.{Decodes}
-use Rattle.hx_framing.specs.Contents.{body_at, body_from, begun, announced_body, closed_body, Advances}
+use Rattle.hx_framing.specs.Contents.{body_at, body_from, begun, announced_body, closed_body, Advances, IsOpen}
+use Rattle.hx_framing.specs.ChunkGrammar.{has_no_lf}
+use Rattle.hx_framing.specs.Places.{most_head_bytes}
 use Rattle.hx_framing.specs.Reading.{Reading, Incomplete, Over, Spelled, Faulty, with_body, IsSettled, extended}
 use Rattle.hx_framing.proofs.ChunkStreams.{chunks_append}
 
@@ -114,7 +117,7 @@ pub decoded_more : (d : Decoded) (n : ℕ) (old : Chunking) (bytes : List ℕ) (
     → Decodes old bytes new d → Advances ended bytes (content.Chunked old) (taken.Short n) (content.Chunked new)
 decoded_more d n old bytes new ended is h =
     let k : Decodes old bytes new (decoded.More n) = subst (λ (d : Decoded). Decodes old bytes new d) is h in
-    (k.0, nothing_more bytes old Short (k.1 [] ∙ ap (λ u. chunks_from u new) (append-nil (drop n bytes)) ∙ k.2), λ more e. k.1 more)
+    (k.0, nothing_more bytes old Short (k.1 [] ∙ ap (λ u. chunks_from u new) (append-nil (drop n bytes)) ∙ k.2), λ more e. k.1 more, k.4)
 
 pub decoded_whole : (d : Decoded) (n : ℕ) (old : Chunking) (bytes : List ℕ) (mid new : Chunking) (c : List ℕ) (ended : Bool) → d ≡ decoded.Whole n
     → c ≡ mid.content → Decodes old bytes mid d → Advances ended bytes (content.Chunked old) (taken.Whole (Some c) n) (content.Chunked new)
@@ -127,3 +130,17 @@ pub decoded_bad : (d : Decoded) (f : FrameFault) (old : Chunking) (bytes : List 
 decoded_bad d f old bytes new ended is h =
     let k : Decodes old bytes new (decoded.Faulty f) = subst (λ (d : Decoded). Decodes old bytes new d) is h in
     nothing_more bytes old (Bad f) (k [])
+
+-- ---- what stays unread of a content
+
+pub open_one_line : (c : Content) (bytes : List ℕ) → IsOpen c bytes → has_no_lf bytes ≡ true
+open_one_line content.Nothing bytes x = ap has_no_lf x
+open_one_line (content.Announced s) bytes x = ap has_no_lf x
+open_one_line (content.Chunked chunks) bytes x = x.one_line
+open_one_line (content.UntilClose s) bytes x = ap has_no_lf x
+
+pub open_bounded : (c : Content) (bytes : List ℕ) → IsOpen c bytes → length bytes ≤ most_head_bytes
+open_bounded content.Nothing bytes x = omega (arith, ap length x)
+open_bounded (content.Announced s) bytes x = omega (arith, ap length x)
+open_bounded (content.Chunked chunks) bytes x = omega (arith, x.bounded)
+open_bounded (content.UntilClose s) bytes x = omega (arith, ap length x)

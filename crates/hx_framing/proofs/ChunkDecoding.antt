@@ -39,8 +39,9 @@ decodes_more old place was content bytes taken inside leads takes =
     subst (λ (l : List ℕ). Decodes old bytes (chunking_of place l) (decoded.More taken)) (sym takes.0) (
       inside,
       λ more. led bytes more taken old t leads,
-      state_waits rest t (record t { line = rest }) takes.1,
-      ap (λ l. state_after l old) (sym (take-append-drop taken bytes)) ∙ state_behind (take taken bytes) rest old t leads ∙ takes.1,
+      state_waits rest t (record t { line = rest }) takes.1.leads,
+      ap (λ l. state_after l old) (sym (take-append-drop taken bytes)) ∙ state_behind (take taken bytes) rest old t leads ∙ takes.1.leads,
+      takes.1,
     )
 
 -- the last piece

@@ -146,7 +146,8 @@ size_open place content bytes is_size none = by_test (nat_lt most_size_line_byte
         ∙ ap (λ t. follow t (chunks_from rest) rest) (size_past s line b whole)
     by_test false p =
         let short : length bytes ≤ most_size_line_bytes = ltb-false _ _ p in
-        (refl, part place content bytes phase.Size is_size (size_text s [] bytes (ap has_no_lf (sym (take_all most_size_line_bytes bytes short)) ∙ none) (omega arith)))
+        let no_lf : has_no_lf bytes ≡ true = ap has_no_lf (sym (take_all most_size_line_bytes bytes short)) ∙ none in
+        (refl, record { leads = part place content bytes phase.Size is_size (size_text s [] bytes no_lf (omega arith)); one_line = no_lf; bounded = omega arith })
 
 -- ---- data
 
@@ -263,4 +264,11 @@ trailer_open place content bytes limit is_trailers is_limit none = by_test (nat_
         ∙ ap (λ t. follow t (chunks_from rest) rest) (trailer_past place.need place.left place.used content line b (omega arith))
     by_test false p =
         let short : length bytes ≤ limit = ltb-false _ _ p in
-        (refl, part place content bytes phase.Trailers is_trailers (trailer_text place.need place.left place.used content [] bytes (ap has_no_lf (sym (take_all limit bytes short)) ∙ none) (omega arith)))
+        let no_lf : has_no_lf bytes ≡ true = ap has_no_lf (sym (take_all limit bytes short)) ∙ none in (
+          refl,
+          record {
+            leads = part place content bytes phase.Trailers is_trailers (trailer_text place.need place.left place.used content [] bytes no_lf (omega arith));
+            one_line = no_lf;
+            bounded = omega arith;
+          },
+        )

@@ -1,6 +1,6 @@
 -- What is printed is read.
-use Rattle.std.proofs.Common.{◌≡◌, ℕ, ◌+◌, ◌-◌, ◌<◌, ◌≤◌, ◌&&◌, Bool, true, false, not, cond, List, [], ◌∷◌, ◌++◌, length, drop, take, ◌==◌, nat_lt, nat_le, slice_index, refl, sym, ap, ◌∙◌, arith, Some, None, Result, Ok, Err, ok_or, length-append, length-drop, append_assoc}
-use Rattle.std.proofs.lemmas.List.{append-nil, get_or_at, take_at}
+use Rattle.std.proofs.Common.{◌≡◌, ℕ, ◌+◌, ◌-◌, ◌<◌, ◌≤◌, ◌&&◌, Bool, true, false, not, cond, List, [], ◌∷◌, ◌++◌, length, drop, take, ◌==◌, nat_lt, nat_le, slice_index, suc, zero, refl, sym, ap, ◌∙◌, arith, Some, None, Result, Ok, Err, ok_or, length-append, length-drop, append_assoc}
+use Rattle.std.proofs.lemmas.List.{append-nil, get_or_at, take_at, take_all}
 use Rattle.std.proofs.lemmas.Bool.{lt-ltb, leb-true, le-leb, ne_eqb}
 use Rattle.std.specs.List.{list_all, AllByRecursion}
 use Rattle.hx_framing.specs.declared.fault.FrameFault.{FrameFault}
@@ -22,6 +22,20 @@ and_parts false b h = absurd cc
 not_true : (a : Bool) → not a ≡ true → a ≡ false
 not_true true h = absurd cc
 not_true false h = refl
+
+-- fewer bytes have no LF where more have none
+pub none_in_fewer : (m n : ℕ) (bytes : List ℕ) → m ≤ n → has_no_lf (take n bytes) ≡ true → has_no_lf (take m bytes) ≡ true
+none_in_fewer zero n bytes fewer none = refl
+none_in_fewer (suc m) zero bytes fewer none = absurd (omega arith)
+none_in_fewer (suc m) (suc n) [] fewer none = refl
+none_in_fewer (suc m) (suc n) (b ∷ bytes) fewer none =
+    let parts = and_parts (not (b == 10)) (has_no_lf (take n bytes)) none in
+    ap (λ (t : Bool). t && has_no_lf (take m bytes)) parts.0 ∙ none_in_fewer m n bytes (omega arith) parts.1
+
+pub none_at_all : (m n : ℕ) (bytes : List ℕ) → length bytes ≤ n → has_no_lf (take n bytes) ≡ true → has_no_lf (take m bytes) ≡ true
+none_at_all m n bytes all none =
+    let whole : take (m + n) bytes ≡ take n bytes = take_all (m + n) bytes (omega arith) ∙ sym (take_all n bytes all) in
+    none_in_fewer m (m + n) bytes (omega arith) (ap has_no_lf whole ∙ none)
 
 -- a byte of a size line that isn't its LF
 size_on : (s : Chunking) (text : List ℕ) (b : ℕ) → (b == 10) ≡ false → length text < most_size_line_bytes → size_step (with_line s phase.Size text) b ≡ Go (with_line s phase.Size (text ++ b ∷ []))

@@ -1,5 +1,8 @@
 pub mod PlaceSteps
 pub mod HeadEnds
+pub mod HeadSearches
+pub mod UnreadLemmas
+pub mod PlainLemmas
 pub mod HeadLemmas
 pub mod NumberLemmas
 pub mod LengthTold

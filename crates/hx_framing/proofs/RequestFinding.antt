@@ -1,5 +1,6 @@
 -- What is found behind a head of a request stream.
 use Rattle.std.proofs.Common.{◌≡◌, ℕ, ◌+◌, ◌<◌, ◌≤◌, ◌&&◌, Bool, true, false, not, cond, List, [], ◌++◌, length, drop, take, nat_lt, ◌==◌, refl, sym, ap, ◌∙◌, subst, arith, Option, Some, None, Result, Ok, Err, length-append, length-take, length-drop, drop-drop}
+use Rattle.std.proofs.lemmas.Bool.{le-ltb}
 use Rattle.std.proofs.lemmas.List.{append-nil, drop-append-le, take-append-le}
 use Rattle.hx_framing.specs.declared.request_head.Head.{Head}
 use Rattle.hx_framing.specs.declared.requests.Request.{Request}
@@ -14,8 +15,8 @@ use Rattle.hx_framing.specs.Places.{head_length, blank_length}
 use Rattle.hx_framing.specs.Head.{Judges}
 use Rattle.hx_framing.specs.Lengths.{plan_of}
 use Rattle.hx_framing.specs.Body.{Body, Short, Bad, Whole}
-use Rattle.hx_framing.specs.Contents.{body_at, body_from, begun, Advances}
-use Rattle.hx_framing.specs.Reading.{Reading, Incomplete, Continue, Spelled, Faulty, cut_off, with_body}
+use Rattle.hx_framing.specs.Contents.{body_at, body_from, begun, Advances, IsOpen}
+use Rattle.hx_framing.specs.Reading.{Reading, Incomplete, Continue, Over, Spelled, Faulty, cut_off, with_body}
 use Rattle.hx_framing.specs.RequestReading.{request_of, with_plan, with_head, without_head, ReadsBy, Reads}
 use Rattle.hx_framing.specs.RequestFound.{Resumes, IsFound}
 use Rattle.hx_framing.proofs.HeadEnds.{head_within_bytes, front_stable}
@@ -110,6 +111,7 @@ found_going max e bytes at head plan content t n b some quiet open_still is took
           (reads_taken max e bytes at head plan Short b quiet k.1),
       resumes_from max false bytes at head plan content (drop (at + n) bytes) b (ap (λ (w : Bool). w && true) quiet)
           (λ more. begun_is max plan.framing false (drop at bytes ++ more) ∙ k.2 more false ∙ ap (λ u. body_from content false (u ++ more)) same),
+      subst (λ (u : List ℕ). IsOpen content u) same k.3,
     )
 
 pub found_bad : (max : ℕ) (e : Bool) (bytes : List ℕ) (at : ℕ) (head : Head) (plan : Plan) (content : Content) (t : Taken) (f : FrameFault) → Begins max bytes at head plan
@@ -151,3 +153,9 @@ pub took : (max : ℕ) (plan : Plan) (bytes : List ℕ) (at : ℕ) (rest : List 
 took max plan bytes at rest old t content same is h =
     subst (λ (u : List ℕ). Advances false u (begun max plan.framing) t content) same
     (subst (λ (o : Content). Advances false rest o t content) is h)
+
+-- a head may still end within the limit
+pub waits_for_head : (e : Bool) (bytes : List ℕ) → e ≡ false → length bytes ≤ 32768 → Incomplete ≡ without_head e bytes
+waits_for_head e bytes open_still short =
+    sym (ap (λ (t : Bool). cond {A = Reading Request} t (Faulty fault.Head) (cond {A = Reading Request} (e && (blank_length bytes == length bytes)) Over (cut_off e))) (le-ltb 32768 (length bytes) short)
+    ∙ ap (λ (e : Bool). cond {A = Reading Request} (e && (blank_length bytes == length bytes)) Over (cut_off e)) open_still)

@@ -1,5 +1,6 @@
 -- What is found at the front of a response stream.
 use Rattle.std.proofs.Common.{◌≡◌, ℕ, ◌+◌, ◌<◌, ◌≤◌, Bool, true, false, cond, List, [], ◌∷◌, ◌++◌, length, drop, take, refl, sym, ap, ◌∙◌, subst, arith, Option, Some, None, Result, Ok, Err, length-append, length-drop, drop-drop}
+use Rattle.std.proofs.lemmas.Bool.{le-ltb}
 use Rattle.std.proofs.lemmas.List.{append-nil, drop-append-le, take-append-le}
 use Rattle.hx_framing.specs.declared.status_head.StatusHead.{StatusHead}
 use Rattle.hx_framing.specs.declared.responses.Response.{Response}
@@ -15,11 +16,12 @@ use Rattle.hx_framing.specs.Places.{head_length}
 use Rattle.hx_framing.specs.StatusHead.{Judges}
 use Rattle.hx_framing.specs.Lengths.{framing_of_response, is_interim}
 use Rattle.hx_framing.specs.Body.{Body, Short, Bad, Whole}
-use Rattle.hx_framing.specs.Contents.{body_at, body_from, begun, Advances}
+use Rattle.hx_framing.specs.Contents.{body_at, body_from, begun, Advances, IsOpen}
 use Rattle.hx_framing.specs.Reading.{Reading, Incomplete, Spelled, Faulty, cut_off, with_body}
 use Rattle.hx_framing.specs.ResponseReading.{response_of, with_framing, with_head, FrontBy, IsInterim, Passes, Reads}
 use Rattle.hx_framing.specs.ResponseFound.{Resumes, IsFront, IsFound}
 use Rattle.hx_framing.proofs.HeadEnds.{front_stable}
+use Rattle.hx_framing.proofs.HeadSearches.{open_head}
 use Rattle.hx_framing.proofs.BodyLemmas.{begun_is}
 use Rattle.hx_framing.proofs.ResponseLemmas.{place_within, passes_append, passes_push}
 
@@ -130,6 +132,7 @@ found_going max h e bytes at head told content n x is open_still k =
       subst (λ (r : Reading Response). Reads max h e bytes r) (ap (λ (e : Bool). cut_off {M = Response} e) open_still) (reads_taken max h e bytes at head told Short x is k.1),
       resumes_from max h bytes at head told content (drop (at + n) bytes) x is
           (λ more e. begun_is max told e (drop at bytes ++ more) ∙ k.2 more e ∙ ap (λ u. body_from content e (u ++ more)) same),
+      subst (λ (u : List ℕ). IsOpen content u) same k.3,
     )
 
 pub found_bad : (max : ℕ) (h e : Bool) (bytes : List ℕ) (at : ℕ) (head : StatusHead) (told : Framing) (content : Content) (f : FrameFault) → IsFront bytes (front.Final head at)
@@ -164,4 +167,23 @@ found_unframed max h e bytes at head f x is = (
     subst (λ (o : Option ℕ). FrontBy max h e x.1.1 o (Faulty f)) (sym x.1.4)
         (Ok head, x.1.5, x.1.6, sym (ap (with_framing max h e head (drop x.1.2 x.1.1)) is)),
   ),
+)
+
+-- ---- no head yet
+
+-- behind the interim responses a head may still end within the limit
+pub found_open : (max : ℕ) (h e : Bool) (bytes : List ℕ) (at : ℕ) → e ≡ false → length (drop at bytes) ≤ 32768 → IsFront bytes (front.Open at)
+    → IsFound max h e bytes (found.Incomplete at)
+found_open max h e bytes at open_still short x = (
+  x.0,
+  (
+    x.1.0,
+    drop at bytes,
+    x.1.1,
+    subst (λ (o : Option ℕ). FrontBy max h e (drop at bytes) o Incomplete) (sym x.2)
+        (sym (ap (λ (t : Bool). cond {A = Reading Response} t (Faulty fault.Head) (cut_off e)) (le-ltb 32768 (length (drop at bytes)) short)
+        ∙ ap (λ (e : Bool). cut_off {M = Response} e) open_still)),
+  ),
+  x.1,
+  open_head (drop at bytes) short x.2,
 )

@@ -5,6 +5,7 @@ use Rattle.hx_framing.specs.declared.decoded.Decoded.TheVariants as decoded
 use Rattle.hx_framing.specs.Body.{Short, Bad, Whole}
 use Rattle.hx_framing.specs.Chunking.{Chunking}
 use Rattle.hx_framing.specs.Chunks.{chunks_from, state_after}
+use Rattle.hx_framing.specs.Pieces.{IsOpenLine}
 
 -- from the state old: More: the bytes lead to the state new and then into a line, or the CRLF behind data, that isn't whole:
 -- it is just what isn't taken; Whole: they end the content; Faulty: they are at fault, whatever follows
@@ -14,6 +15,7 @@ Decodes old bytes new (decoded.More n) =
     × ((more : List ℕ) → chunks_from (bytes ++ more) old ≡ chunks_from (drop n bytes ++ more) new)
     × (chunks_from (drop n bytes) new ≡ Short)
     × (state_after bytes old ≡ Some (record new { line = drop n bytes }))
+    × IsOpenLine new (drop n bytes)
 Decodes old bytes new (decoded.Whole n) =
     (n ≤ length bytes)
     × (0 < n)

@@ -1,9 +1,11 @@
 pub mod Fault
 pub mod Places
+pub mod Searching
 pub mod Reading
 pub mod Progress
 pub mod Version
 pub mod Head
+pub mod PlainContent
 pub mod Contents
 pub mod Queue
 pub mod HeadLines

@@ -5,8 +5,8 @@ use Rattle.hx_framing.specs.declared.chunk_pieces.Piece.{Piece}
 use Rattle.hx_framing.specs.declared.chunk_pieces.Piece.TheVariants as piece
 use Rattle.hx_framing.specs.Body.{Bad, Whole}
 use Rattle.hx_framing.specs.ChunkGrammar.{has_no_lf}
-use Rattle.hx_framing.specs.Chunking.{NeedsData, chunking_of}
-use Rattle.hx_framing.specs.Chunks.{chunks_from, state_after}
+use Rattle.hx_framing.specs.Chunking.{Chunking, NeedsData, chunking_of}
+use Rattle.hx_framing.specs.Chunks.{most_trailer_bytes, chunks_from, state_after}
 
 -- the first LF stands at this index, below the limit
 pub record IsLineFeed (bytes : List ℕ) (limit at : ℕ) : Type 0 where
@@ -15,10 +15,16 @@ pub record IsLineFeed (bytes : List ℕ) (limit at : ℕ) : Type 0 where
   pub first : has_no_lf (take at bytes) ≡ true
   pub here : slice_index bytes at ≡ 10
 
+-- all the bytes belong to a line, or to the CRLF behind data, that was begun and isn't whole
+pub record IsOpenLine (s : Chunking) (bytes : List ℕ) : Type 0 where
+  pub leads : state_after bytes s ≡ Some (record s { line = bytes })
+  pub one_line : has_no_lf bytes ≡ true
+  pub bounded : length bytes ≤ most_trailer_bytes
+
 -- at a place, with the content old; new is the content behind the piece
 abbrev pub Takes : Place → List ℕ → List ℕ → List ℕ → Piece → Type 0
 Takes place old bytes new piece.Short =
-    (new ≡ old) × (state_after bytes (chunking_of place old) ≡ Some (record (chunking_of place old) { line = bytes }))
+    (new ≡ old) × IsOpenLine (chunking_of place old) bytes
 Takes place old bytes new (piece.Taken n next) =
     (n ≤ length bytes)
     × (0 < n)

@@ -2,7 +2,7 @@
 -- A byte past the end reads as 0, which no test here wants.
 --
 -- blank_length: the empty lines in front    head_length: they and a head, with the empty line that ends it
-use Rattle.std.specs.Prelude.{ℕ, ◌+◌, ◌&&◌, cond, List, [], ◌∷◌, ◌==◌, Option, Some, None, drop, slice_index}
+use Rattle.std.specs.Prelude.{◌≡◌, ℕ, ◌+◌, ◌≤◌, ◌&&◌, cond, List, [], ◌∷◌, ◌==◌, Option, Some, None, length, drop, slice_index}
 
 -- how many bytes the empty line at the front takes: CRLF or LF, or 0 where there is none
 abbrev pub blank_at : List ℕ → ℕ
@@ -38,6 +38,11 @@ head_length bytes = empty_line_from (blank_length bytes) (drop (blank_length byt
 -- own: a longer head is refused
 abbrev pub most_head_bytes : ℕ
 most_head_bytes = 32768
+
+-- no head ends in the bytes, and one may still end within the limit
+pub record IsOpenHead (bytes : List ℕ) : Type 0 where
+  pub none : head_length bytes ≡ None
+  pub bounded : length bytes ≤ most_head_bytes
 
 -- own: a head of more field lines is refused
 abbrev pub most_field_lines : ℕ

@@ -5,7 +5,8 @@ use Rattle.hx_framing.specs.declared.requests.Request.{Request}
 use Rattle.hx_framing.specs.declared.content.Content.{Content}
 use Rattle.hx_framing.specs.declared.found.Found.{Found}
 use Rattle.hx_framing.specs.declared.found.Found.TheVariants as found
-use Rattle.hx_framing.specs.Contents.{body_from}
+use Rattle.hx_framing.specs.Contents.{body_from, IsOpen}
+use Rattle.hx_framing.specs.Places.{IsOpenHead}
 use Rattle.hx_framing.specs.Reading.{Incomplete, Continue, Over, Spelled, Faulty, with_body}
 use Rattle.hx_framing.specs.RequestReading.{request_of, Reads}
 
@@ -20,11 +21,12 @@ IsBehind bytes n = (0 < n) × (n ≤ length bytes)
 
 -- it is what the bytes read as, before a continue was given
 abbrev pub IsFound : ℕ → Bool → List ℕ → Found Head Request → Type 0
-IsFound max_body ended bytes (found.Incomplete n) = Reads max_body ended false bytes Incomplete
+IsFound max_body ended bytes (found.Incomplete n) = Reads max_body ended false bytes Incomplete × IsOpenHead bytes
 IsFound max_body ended bytes (found.Continue head content n) =
     IsBehind bytes n × Reads max_body ended false bytes Continue × Resumes max_body true head content bytes (drop n bytes)
 IsFound max_body ended bytes (found.Going head content n) =
     IsBehind bytes n × Reads max_body ended false bytes Incomplete × Resumes max_body false head content bytes (drop n bytes)
+    × IsOpen content (drop n bytes)
 IsFound max_body ended bytes (found.Message m n) = IsBehind bytes n × Reads max_body ended false bytes (Spelled m (drop n bytes))
 IsFound max_body ended bytes (found.Faulty f) = Reads max_body ended false bytes (Faulty f)
 IsFound max_body ended bytes found.Over = Reads max_body ended false bytes Over

@@ -1,8 +1,10 @@
 -- What a request reader keeps, and which streams it stands for.
-use Rattle.std.specs.Prelude.{◌≡◌, ℕ, ◌+◌, ◌*◌, Bool, false, List, length}
+use Rattle.std.specs.Prelude.{◌≡◌, ℕ, ◌+◌, ◌*◌, ◌≤◌, Bool, false, List, length}
 use Rattle.hx_framing.specs.declared.requests.Request.{Request}
 use Rattle.hx_framing.specs.declared.request_phase.RequestPhase.{RequestPhase}
 use Rattle.hx_framing.specs.declared.request_phase.RequestPhase.TheVariants as phase
+use Rattle.hx_framing.specs.Places.{IsOpenHead, most_head_bytes}
+use Rattle.hx_framing.specs.Contents.{IsOpen}
 use Rattle.hx_framing.specs.Reading.{Faulty}
 use Rattle.hx_framing.specs.RequestReading.{Reads}
 use Rattle.hx_framing.specs.RequestFound.{Resumes}
@@ -31,6 +33,21 @@ pub record StandsFor (s : State) (p : Progress Request) : Type 0 where
   pub rest : List ℕ
   pub spells : StreamSpells p.max_body p.stream p.given rest
   pub keeps : Keeps s p rest s.phase
+
+-- the bytes of the stream that the reader keeps, but for those of a content
+abbrev pub kept : State → List ℕ
+kept s = s.unread
+
+-- what is begun there: a head, or a line of a content or the CRLF behind data; whatever was whole is taken
+abbrev pub IsBegun : RequestPhase → List ℕ → Type 0
+IsBegun phase.BeforeHead bytes = IsOpenHead bytes
+IsBegun (phase.InContent head content) bytes = IsOpen content bytes
+IsBegun (phase.Faulty f) bytes = ⊥
+
+-- no message, head, size line, data byte, CRLF behind data or trailer line is whole in what is kept, so it is bounded
+pub record IsUnfinished (s : State) : Type 0 where
+  pub begun : IsBegun s.phase (kept s)
+  pub bounded : length (kept s) ≤ most_head_bytes
 
 -- a message that was begun may still be due
 abbrev pub open_load : RequestPhase → ℕ

@@ -7,10 +7,10 @@ use Rattle.hx_framing.specs.declared.found.Found.{Found}
 use Rattle.hx_framing.specs.declared.found.Found.TheVariants as found
 use Rattle.hx_framing.specs.declared.status_front.StatusFront.{StatusFront}
 use Rattle.hx_framing.specs.declared.status_front.StatusFront.TheVariants as front
-use Rattle.hx_framing.specs.Places.{head_length, most_head_bytes}
+use Rattle.hx_framing.specs.Places.{head_length, most_head_bytes, IsOpenHead}
 use Rattle.hx_framing.specs.StatusHead.{Judges}
 use Rattle.hx_framing.specs.Lengths.{is_interim}
-use Rattle.hx_framing.specs.Contents.{body_from}
+use Rattle.hx_framing.specs.Contents.{body_from, IsOpen}
 use Rattle.hx_framing.specs.Reading.{Incomplete, Spelled, Faulty, with_body}
 use Rattle.hx_framing.specs.ResponseReading.{response_of, Passes, Reads}
 
@@ -40,9 +40,11 @@ IsFront bytes (front.Final head at) =
 abbrev pub IsFound : ℕ → Bool → Bool → List ℕ → Found StatusHead Response → Type 0
 IsFound max_body to_head ended bytes (found.Incomplete n) =
     (n ≤ length bytes) × Reads max_body to_head ended bytes Incomplete × ((sizes : List ℕ) × Passes bytes sizes (drop n bytes))
+    × IsOpenHead (drop n bytes)
 IsFound max_body to_head ended bytes (found.Continue head content n) = ⊥
 IsFound max_body to_head ended bytes (found.Going head content n) =
     IsBehind bytes n × Reads max_body to_head ended bytes Incomplete × Resumes max_body to_head head content bytes (drop n bytes)
+    × IsOpen content (drop n bytes)
 IsFound max_body to_head ended bytes (found.Message m n) =
     IsBehind bytes n × Reads max_body to_head ended bytes (Spelled m (drop n bytes))
 IsFound max_body to_head ended bytes (found.Faulty f) =

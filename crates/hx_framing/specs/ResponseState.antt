@@ -1,8 +1,10 @@
 -- What a response reader keeps, and which streams it stands for.
-use Rattle.std.specs.Prelude.{◌≡◌, ℕ, ◌+◌, ◌*◌, Bool, cond, List, [], ◌∷◌, length}
+use Rattle.std.specs.Prelude.{◌≡◌, ℕ, ◌+◌, ◌*◌, ◌≤◌, Bool, cond, List, [], ◌∷◌, length}
 use Rattle.hx_framing.specs.declared.responses.Response.{Response}
 use Rattle.hx_framing.specs.declared.response_phase.ResponsePhase.{ResponsePhase}
 use Rattle.hx_framing.specs.declared.response_phase.ResponsePhase.TheVariants as phase
+use Rattle.hx_framing.specs.Places.{IsOpenHead, most_head_bytes}
+use Rattle.hx_framing.specs.Contents.{IsOpen}
 use Rattle.hx_framing.specs.Reading.{Faulty}
 use Rattle.hx_framing.specs.ResponseReading.{Passes, Reads}
 use Rattle.hx_framing.specs.ResponseFound.{Resumes}
@@ -37,6 +39,22 @@ pub record StandsFor (s : State) (p : Progress Response) : Type 0 where
   pub ended : s.ended ≡ p.ended
   pub spells : IsGiven p p.given
   pub keeps : KeepsBy s p s.phase p.given
+
+-- the bytes of the stream that the reader keeps, but for those of a content
+abbrev pub kept : State → List ℕ
+kept s = s.unread
+
+-- what is begun there: a head, or a line of a content or the CRLF behind data; whatever was whole is taken
+abbrev pub IsBegun : ResponsePhase → List ℕ → Type 0
+IsBegun phase.BeforeHead bytes = IsOpenHead bytes
+IsBegun (phase.InContent head content) bytes = IsOpen content bytes
+IsBegun phase.Given bytes = ⊥
+IsBegun (phase.Faulty f) bytes = ⊥
+
+-- no head, interim or final, size line, data byte, CRLF behind data or trailer line is whole in what is kept, so it is bounded
+pub record IsUnfinished (s : State) : Type 0 where
+  pub begun : IsBegun s.phase (kept s)
+  pub bounded : length (kept s) ≤ most_head_bytes
 
 -- what may still be due, by where the reader is
 abbrev pub weight_by : State → ResponsePhase → ℕ

@@ -1,10 +1,11 @@
 -- The bytes of requests and responses that are sent (RFC 9112, sections 3 to 7).
 --
--- field_line, field_lines, length_line, close_line: lines of a head    request_text, response_text: whole messages
+-- field_line, field_lines, line_of, length_line, close_line: lines of a head    request_text, response_text: whole messages
 use Rattle.std.specs.Prelude.{ℕ, ◌++◌, Bool, true, if◌then◌else◌, List, [], length, codes, decimal, Option, Some, None}
 use Rattle.std.specs.List.{flat_map}
 use Rattle.hx_fields.specs.declared.field_line.Field.{Field}
 use Rattle.hx_framing.specs.declared.requests.Request.{Request}
+use Rattle.hx_framing.specs.declared.writing.AddedLine.{AddedLine}
 
 abbrev pub crlf : List ℕ
 crlf = codes "\r\n"
@@ -12,6 +13,10 @@ crlf = codes "\r\n"
 -- field-line = field-name ":" OWS field-value OWS (RFC 9112, section 5)
 abbrev pub field_line : Field → List ℕ
 field_line f = f.name ++ codes ": " ++ f.value ++ crlf
+
+-- the line that is added behind the fields
+abbrev pub line_of : AddedLine → Field
+line_of added = record { name = added.name.now; value = added.value.now }
 
 abbrev pub field_lines : List Field → List ℕ
 field_lines fields = flat_map field_line fields

@@ -32,16 +32,18 @@ pub(crate) enum Piece {
     Faulty(FrameFault),
 }
 
-/// Where the first LF stands, if it is one of so many bytes.
-fn line_feed_within(bytes: &[u8], limit: usize) -> Option<usize>
+/// Where the first LF stands, if it is one of so many bytes. None stands in front of `from`.
+fn line_feed_within(bytes: &[u8], from: usize, limit: usize) -> Option<usize>
+    requires within { from ≤ length bytes.now }
+    requires none { has_no_lf (take from bytes.now) ≡ true }
     ensures found { IfSome result (IsLineFeed bytes.now limit) }
     ensures none { IfNone result (has_no_lf (take limit bytes.now) ≡ true) }
 {
-    for (at, b) in bytes.iter().enumerate() {
+    for at in from..bytes.len() {
         if at >= limit {
             return None;
         }
-        if *b == b'\n' {
+        if bytes[at] == b'\n' {
             return Some(at);
         }
     }
@@ -59,11 +61,13 @@ fn open_line(bytes: &[u8], limit: usize) -> Piece
     }
 }
 
-fn size_piece(place: Place, bytes: &[u8]) -> Piece
-    requires { place.phase ≡ phase.Size }
+fn size_piece(place: Place, bytes: &[u8], searched: usize) -> Piece
+    requires phase { place.phase ≡ phase.Size }
+    requires within { searched ≤ length bytes.now }
+    requires none { has_no_lf (take searched bytes.now) ≡ true }
     ensures { (content : List ℕ) → Takes place content bytes.now content result }
 {
-    let Some(at) = line_feed_within(bytes, MOST_SIZE_LINE_BYTES) else {
+    let Some(at) = line_feed_within(bytes, searched, MOST_SIZE_LINE_BYTES) else {
         return open_line(bytes, MOST_SIZE_LINE_BYTES);
     };
     let (line, _) = bytes.split_at(at);
@@ -138,12 +142,14 @@ fn end_piece(place: Place, bytes: &[u8]) -> Piece
 }
 
 /// A trailer line, or the empty line behind the trailers.
-fn trailer_piece(place: Place, bytes: &[u8]) -> Piece
-    requires { place.phase ≡ phase.Trailers }
+fn trailer_piece(place: Place, bytes: &[u8], searched: usize) -> Piece
+    requires phase { place.phase ≡ phase.Trailers }
+    requires within { searched ≤ length bytes.now }
+    requires none { has_no_lf (take searched bytes.now) ≡ true }
     ensures { (content : List ℕ) → Takes place content bytes.now content result }
 {
     let limit = MOST_TRAILER_BYTES.saturating_sub(place.used);
-    let Some(at) = line_feed_within(bytes, limit) else {
+    let Some(at) = line_feed_within(bytes, searched, limit) else {
         return open_line(bytes, limit);
     };
     let (line, _) = bytes.split_at(at);
@@ -162,34 +168,46 @@ fn trailer_piece(place: Place, bytes: &[u8]) -> Piece
     }
 }
 
-/// The piece at the front of the bytes, for whose data there is room.
-fn next_piece(place: Place, content: &mut Vec<u8>, bytes: &[u8]) -> Piece
+/// The piece at the front of the bytes, for whose data there is room. No LF stands in the first `searched` of them.
+fn next_piece(place: Place, content: &mut Vec<u8>, bytes: &[u8], searched: usize) -> Piece
     requires need { NeedsData place.phase place.need }
+    requires within { searched ≤ length bytes.now }
+    requires none { has_no_lf (take searched bytes.now) ≡ true }
     requires room { vec_len content.now + length bytes.now ≤ vec_capacity content.now }
     ensures takes { Takes place content.old.items bytes.now content.new.items result }
     ensures room { vec_len content.new + (length bytes.now - bytes_of result) ≤ vec_capacity content.new }
 {
     match place.phase {
-        Phase::Size => size_piece(place, bytes),
+        Phase::Size => size_piece(place, bytes, searched),
         Phase::Data => data_piece(place, content, bytes),
         Phase::DataEnd => end_piece(place, bytes),
-        Phase::Trailers => trailer_piece(place, bytes),
+        Phase::Trailers => trailer_piece(place, bytes, searched),
     }
 }
 
-/// Takes the whole pieces at the front of the bytes, for whose data there is room.
-pub(crate) fn take_pieces(place: &mut Place, content: &mut Vec<u8>, bytes: &[u8]) -> Decoded
+/// Takes the whole pieces at the front of the bytes, for whose data there is room. No LF stands in the first
+/// `searched` of them.
+pub(crate) fn take_pieces(
+    place: &mut Place,
+    content: &mut Vec<u8>,
+    bytes: &[u8],
+    searched: usize,
+) -> Decoded
     requires need { NeedsData place.now.phase place.now.need }
+    requires within { searched ≤ length bytes.now }
+    requires none { has_no_lf (take searched bytes.now) ≡ true }
     requires room { vec_len content.now + length bytes.now ≤ vec_capacity content.now }
     ensures decodes { Decodes (chunking_of place.old content.old.items) bytes.now (chunking_of place.new content.new.items) result }
     ensures need { NeedsData place.new.phase place.new.need }
 {
     let mut taken = 0;
+    let mut searched = searched;
     loop {
-        match next_piece(*place, content, rest_from(bytes, taken)) {
+        match next_piece(*place, content, rest_from(bytes, taken), searched) {
             Piece::Short => return Decoded::More(taken),
             Piece::Taken(n, next) => {
                 taken += n;
+                searched = 0;
                 *place = next;
             }
             Piece::Last(n) => return Decoded::Whole(taken + n),

@@ -3,7 +3,7 @@
 //! What bytes spell is said in `specs/ChunkGrammar.antt`, and where a fault is judged in `specs/Chunks.antt`.
 //! Whole pieces are taken: a size line, a run of data, a CRLF, a trailer line. A part of a line or of a CRLF isn't kept
 //! here; it stays with the caller.
-ghost use Rattle.std.specs.Prelude.{◌≡◌, IfOk, OnErr};
+ghost use Rattle.std.specs.Prelude.{◌≡◌, ◌≤◌, IfOk, OnErr, true, length, take};
 
 use crate::chunk_phase::Phase;
 use crate::chunk_pieces::take_pieces;
@@ -33,6 +33,7 @@ impl Model for Chunks {
 
 impl Chunks {
     ghost use Rattle.hx_framing.specs.Chunks.{start};
+    ghost use Rattle.hx_framing.specs.ChunkGrammar.{has_no_lf};
     ghost use Rattle.hx_framing.specs.Decoding.{Decodes};
 
     /// Before the first chunk of a content of at most `max_body` bytes.
@@ -50,13 +51,16 @@ impl Chunks {
         }
     }
 
-    /// Takes the whole pieces at the front of the bytes. An `Err` changes nothing.
-    pub(crate) fn decode(&mut self, bytes: &[u8]) -> Result<Decoded, AllocError>
+    /// Takes the whole pieces at the front of the bytes. No LF stands in the first `searched` of them. An `Err`
+    /// changes nothing.
+    pub(crate) fn decode(&mut self, bytes: &[u8], searched: usize) -> Result<Decoded, AllocError>
+        requires within { searched ≤ length bytes.now }
+        requires none { has_no_lf (take searched bytes.now) ≡ true }
         ensures decodes { IfOk result (Decodes self.old bytes.now self.new) }
         ensures err { OnErr result (self.new ≡ self.old) }
     {
         self.content.reserve(bytes.len())?;
-        Ok(take_pieces(&mut self.place, &mut self.content, bytes))
+        Ok(take_pieces(&mut self.place, &mut self.content, bytes, searched))
     }
 
     /// The data so far. No memory is taken.

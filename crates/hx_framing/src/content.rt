@@ -1,15 +1,16 @@
 //! What is still to come of a content.
 
 use crate::chunks::Chunks;
+use crate::plain::Plain;
 
-/// A content that was begun. No byte of it is decoded twice.
+/// A content that was begun. Its bytes are taken as they come, and each once.
 pub(crate) enum Content {
     Nothing,
-    /// So many bytes.
-    Announced(u64),
+    /// As many bytes as were announced.
+    Announced(Plain),
     Chunked(Chunks),
-    /// All until the stream's end, at most so many bytes.
-    UntilClose(u64),
+    /// All until the stream's end, within a limit.
+    UntilClose(Plain),
 }
 
 /// One call drops it, wherever that is, so its cases stand in one proof alone.

@@ -1,15 +1,15 @@
 //! Contents of messages as they come (RFC 9112, section 6). The definitions are in `specs/Contents.antt`.
-ghost use Rattle.std.specs.Prelude.{◌≡◌, IfOk, OnErr, Bool};
+ghost use Rattle.std.specs.Prelude.{◌≡◌, ◌≤◌, IfOk, OnErr, Bool, true, length, take};
 ghost use Rattle.hx_framing.specs.declared.content.Content.TheVariants as content;
+ghost use Rattle.hx_framing.specs.ChunkGrammar.{has_no_lf};
 ghost use Rattle.hx_framing.specs.Contents.{begun, Advances};
 
 use crate::chunks::Chunks;
 use crate::content::Content;
 use crate::decoded::Decoded;
-use crate::fault::FrameFault;
+use crate::plain::Plain;
 use crate::plan::Framing;
 use crate::taken::Taken;
-use hx_fields::Bytes;
 use std::alloc::{AllocError, Global};
 
 impl Content {
@@ -19,71 +19,51 @@ impl Content {
     {
         match framing {
             Framing::Nothing => Content::Nothing,
-            Framing::Announced(n) => Content::Announced(n),
+            Framing::Announced(n) => Content::Announced(Plain::start(alloc, n)),
             Framing::Chunked => Content::Chunked(Chunks::start(alloc, max_body)),
-            Framing::UntilClose => Content::UntilClose(max_body),
+            Framing::UntilClose => Content::UntilClose(Plain::start(alloc, max_body)),
         }
     }
 
-    /// Goes on with the bytes that are there; `ended` says that no more come. An `Err` changes nothing.
+    /// Goes on with the bytes that are there; `ended` says that no more come. No LF stands in the first `searched` of
+    /// them. An `Err` changes nothing.
     pub(crate) fn advance(
         &mut self,
         alloc: Global,
         ended: bool,
         bytes: &[u8],
+        searched: usize,
     ) -> Result<Taken, AllocError>
+        requires within { searched ≤ length bytes.now }
+        requires none { has_no_lf (take searched bytes.now) ≡ true }
         ensures ok { IfOk result (λ taken. Advances ended bytes.now self.old taken self.new) }
         ensures err { OnErr result (self.new ≡ self.old) }
     {
         match self {
             Content::Nothing => Ok(Taken::Whole(None, 0)),
-            Content::Announced(n) => take_announced(alloc, *n, bytes),
-            Content::Chunked(chunks) => decode_chunks(chunks, alloc, bytes),
-            Content::UntilClose(most) => take_until_close(alloc, *most, ended, bytes),
+            Content::Announced(plain) => plain.take_announced(alloc, bytes),
+            Content::Chunked(chunks) => decode_chunks(chunks, alloc, bytes, searched),
+            Content::UntilClose(plain) => plain.take_until_close(alloc, ended, bytes),
         }
     }
 }
 
-/// A content of n bytes. Nothing is taken before all are there.
-fn take_announced(alloc: Global, n: u64, bytes: &[u8]) -> Result<Taken, AllocError>
-    ensures { IfOk result (λ taken. (ended : Bool)
-        → Advances ended bytes.now (content.Announced n) taken (content.Announced n)) }
-{
-    if (bytes.len() as u64) < n {
-        return Ok(Taken::Short(0));
-    }
-    let (front, _) = bytes.split_at(n as usize);
-    Ok(Taken::Whole(Some(Bytes::copy_of(alloc, front)?), n as usize))
-}
-
 /// A content in chunks. What was decoded is taken.
-fn decode_chunks(chunks: &mut Chunks, alloc: Global, bytes: &[u8]) -> Result<Taken, AllocError>
+fn decode_chunks(
+    chunks: &mut Chunks,
+    alloc: Global,
+    bytes: &[u8],
+    searched: usize,
+) -> Result<Taken, AllocError>
+    requires within { searched ≤ length bytes.now }
+    requires none { has_no_lf (take searched bytes.now) ≡ true }
     ensures ok { IfOk result (λ taken. (ended : Bool)
         → Advances ended bytes.now (content.Chunked chunks.old) taken (content.Chunked chunks.new)) }
     ensures err { OnErr result (chunks.new ≡ chunks.old) }
 {
-    match chunks.decode(bytes)? {
+    match chunks.decode(bytes, searched)? {
         Decoded::More(n) => Ok(Taken::Short(n)),
         Decoded::Whole(n) => Ok(Taken::Whole(Some(chunks.take_content(alloc)), n)),
         Decoded::Faulty(fault) => Ok(Taken::Bad(fault)),
-    }
-}
-
-/// A content until the stream's end. Nothing is taken before.
-fn take_until_close(
-    alloc: Global,
-    most: u64,
-    ended: bool,
-    bytes: &[u8],
-) -> Result<Taken, AllocError>
-    ensures { IfOk result (λ taken.
-        Advances ended bytes.now (content.UntilClose most) taken (content.UntilClose most)) }
-{
-    if bytes.len() as u64 > most {
-        Ok(Taken::Bad(FrameFault::TooLarge))
-    } else if ended {
-        Ok(Taken::Whole(Some(Bytes::copy_of(alloc, bytes)?), bytes.len()))
-    } else {
-        Ok(Taken::Short(0))
     }
 }

@@ -1,7 +1,10 @@
-//! Where the head of a message ends. The definitions are in `specs/Places.antt`.
-ghost use Rattle.std.specs.Prelude.{◌≡◌, ◌==◌, ◌≤◌, ◌<◌, ℕ, length, drop, take, slice_index, IfSome};
+//! Where the head of a message ends. The definitions are in `specs/Places.antt` and `specs/Searching.antt`.
+ghost use Rattle.std.specs.Prelude.{◌≡◌, ◌==◌, ◌≤◌, ◌<◌, ◌+◌, ◌++◌, ℕ, List, length, drop, take, slice_index, IfSome};
 ghost use Rattle.std.specs.List.{position_or_len, before_first};
-ghost use Rattle.hx_framing.specs.Places.{blank_at, empty_at, blank_length, empty_line_from, head_length};
+ghost use Rattle.hx_framing.specs.Places.{blank_at, blank_from, empty_at, blank_length, empty_line_from, head_length};
+ghost use Rattle.hx_framing.specs.Searching.{Reaches, IsSearched};
+
+use crate::head_search::{HeadSearch, Searched};
 
 /// The most bytes of a head, with the empty lines in front of it.
 pub(crate) const MOST_HEAD_BYTES: usize = 32768;
@@ -52,16 +55,25 @@ fn empty_at(bytes: &[u8]) -> usize
     }
 }
 
+/// Where the empty lines end, from an index on.
+fn blank_from(bytes: &[u8], from: usize) -> usize
+    requires { from ≤ length bytes.now }
+    ensures size { result ≡ blank_from from (drop from bytes.now) }
+    ensures within { result ≤ length bytes.now }
+{
+    let mut at = from;
+    while blank_at(rest_from(bytes, at)) > 0 {
+        at += blank_at(rest_from(bytes, at));
+    }
+    at
+}
+
 /// How many bytes the empty lines in front take.
 pub(crate) fn blank_length(bytes: &[u8]) -> usize
     ensures size { result ≡ blank_length bytes.now }
     ensures within { result ≤ length bytes.now }
 {
-    let mut at = 0;
-    while blank_at(rest_from(bytes, at)) > 0 {
-        at += blank_at(rest_from(bytes, at));
-    }
-    at
+    blank_from(bytes, 0)
 }
 
 /// Where the first empty line from an index on ends.
@@ -78,6 +90,41 @@ fn empty_line_from(bytes: &[u8], from: usize) -> Option<usize>
         }
     }
     None
+}
+
+/// Searches the lines of a head from an index on, in front of which none is empty.
+fn search_lines(bytes: &[u8], from: usize) -> Searched
+    requires room { from + 2 ≤ length bytes.now }
+    requires lines { (more : List ℕ) → head_length (bytes.now ++ more)
+        ≡ empty_line_from from (drop from (bytes.now ++ more)) }
+    ensures { IsSearched bytes.now result }
+{
+    match empty_line_from(bytes, from) {
+        Some(end) => Searched::Ended(end),
+        // An empty line takes three bytes at most with the line end in front of it.
+        None => Searched::Open(HeadSearch {
+            at: bytes.len() - 2,
+            in_lines: true,
+        }),
+    }
+}
+
+/// Goes on with a search for the end of a head.
+pub(crate) fn search_head(bytes: &[u8], search: HeadSearch) -> Searched
+    requires { Reaches bytes.now search }
+    ensures { IsSearched bytes.now result }
+{
+    if search.in_lines {
+        return search_lines(bytes, search.at);
+    }
+    let blank = blank_from(bytes, search.at);
+    if bytes.len() - blank < 2 {
+        return Searched::Open(HeadSearch {
+            at: blank,
+            in_lines: false,
+        });
+    }
+    search_lines(bytes, blank)
 }
 
 /// How many bytes a head takes.

@@ -8,7 +8,7 @@ ghost use Rattle.hx_framing.specs.RequestReading.{request_of};
 
 use crate::fault::FrameFault;
 use crate::lengths::without_lengths;
-use crate::lines::copy_fields;
+use crate::lines::{fields_at, part_at};
 use crate::places::MOST_FIELD_LINES;
 use crate::requests::Request;
 use crate::version::request_has_other_version;
@@ -91,7 +91,7 @@ fn copy_method(alloc: Global, name: &[u8]) -> Result<Method, AllocError>
     }
 }
 
-/// The head whose parts the spans cover.
+/// The head whose parts the spans cover. It keeps one copy of the bytes, which its parts share.
 fn copy_head(
     alloc: Global,
     bytes: &[u8],
@@ -103,13 +103,12 @@ fn copy_head(
     ensures { IfOk result (λ head. head ≡ head_at bytes.now spans.now found) }
 {
     let method = copy_method(alloc, found.method.of(bytes))?;
-    let target = Bytes::copy_of(alloc, found.path.of(bytes))?;
-    let fields = copy_fields(alloc, bytes, &spans[..found.headers])?;
+    let head = Bytes::shared_copy_of(alloc, bytes)?;
     Ok(Head {
         method,
-        target,
+        target: part_at(alloc, &head, found.path)?,
         minor: found.version,
-        fields,
+        fields: fields_at(alloc, &head, &spans[..found.headers])?,
     })
 }
 

@@ -62,7 +62,8 @@ impl Debug for RequestReader {
 
 impl RequestReader {
     ghost use Rattle.hx_framing.specs.declared.request_phase.RequestPhase.TheVariants as phase;
-    ghost use Rattle.hx_framing.specs.RequestState.{StandsFor, weight};
+    ghost use Rattle.hx_framing.specs.declared.fault.FrameFault.{FrameFault};
+    ghost use Rattle.hx_framing.specs.RequestState.{StandsFor, weight, kept, IsUnfinished};
 
     /// A reader of an empty stream. Contents have at most `max_body` bytes.
     pub fn new(alloc: Global, max_body: u64) -> RequestReader
@@ -91,6 +92,7 @@ impl RequestReader {
         ensures stands { OnOk result ((p : Progress Request) → StandsFor self.old p
             → p.ended ≡ false → StandsFor self.new (fed p piece.now)) }
         ensures weight { weight self.new ≤ weight self.old + 2 * length piece.now }
+        ensures faulty { (fault : FrameFault) → self.old.phase ≡ phase.Faulty fault → self.new ≡ self.old }
         ensures reserved { length piece.now ≤ self.old.spare → IsOk result }
         ensures err { OnErr result (self.new ≡ self.old) }
     {
@@ -125,6 +127,8 @@ impl RequestReader {
         ensures stands { IfOk result (λ answer. (p : Progress Request) → StandsFor self.old p
             → StandsFor self.new (moved p answer)) }
         ensures weight { IfOk result (λ answer. weight self.new + cost answer ≤ weight self.old) }
+        ensures unfinished { IfOk result (λ answer. answer ≡ Next.More → IsUnfinished self.new) }
+        ensures room { self.old.spare ≤ self.new.spare }
         ensures err { OnErr result (self.new ≡ self.old) }
     {
         match replace(&mut self.phase, RequestPhase::BeforeHead) {
@@ -137,6 +141,13 @@ impl RequestReader {
         }
     }
 
+    /// How many bytes of the stream it keeps, but for those of a content. After `More` they are at most 32,768.
+    pub fn kept(&self) -> usize
+        ensures { result ≡ length (kept self.now) }
+    {
+        self.unread.len()
+    }
+
     /// What is due before a head.
     fn read_head(&mut self, alloc: Global) -> Result<Next<Request>, AllocError>
         requires { self.old.phase ≡ phase.BeforeHead }
@@ -145,9 +156,13 @@ impl RequestReader {
         ensures stands { IfOk result (λ answer. (p : Progress Request) → StandsFor self.old p
             → StandsFor self.new (moved p answer)) }
         ensures weight { IfOk result (λ answer. weight self.new + cost answer ≤ weight self.old) }
+        ensures unfinished { IfOk result (λ answer. answer ≡ Next.More → IsUnfinished self.new) }
+        ensures room { self.old.spare ≤ self.new.spare }
         ensures err { OnErr result (self.new ≡ self.old) }
     {
-        match read_request(alloc, self.max_body, self.ended, self.unread.as_slice())? {
+        let head_length = self.unread.head_length();
+        let bytes = self.unread.as_slice();
+        match read_request(alloc, self.max_body, self.ended, bytes, head_length)? {
             Found::Incomplete(_) => Ok(Next::More),
             Found::Over => Ok(Next::End),
             Found::Faulty(fault) => {
@@ -165,6 +180,7 @@ impl RequestReader {
             }
             Found::Going(head, content, n) => {
                 self.unread.take_front(n);
+                self.unread.note_open_line();
                 self.phase = RequestPhase::InContent(head, content);
                 Ok(Next::More)
             }
@@ -185,9 +201,11 @@ impl RequestReader {
             → StandsFor self.new (moved p answer)) }
         ensures weight { IfOk result (λ answer. weight self.new + cost answer
             ≤ 2 * length self.old.unread + 1) }
+        ensures unfinished { IfOk result (λ answer. answer ≡ Next.More → IsUnfinished self.new) }
+        ensures room { self.old.spare ≤ self.new.spare }
         ensures err { OnErr result (self.new ≡ record self.old { phase = phase.InContent head content }) }
     {
-        match content.advance(alloc, false, self.unread.as_slice()) {
+        match content.advance(alloc, false, self.unread.as_slice(), self.unread.searched()) {
             Err(error) => {
                 self.phase = RequestPhase::InContent(head, content);
                 Err(error)
@@ -198,6 +216,7 @@ impl RequestReader {
             }
             Ok(Taken::Short(n)) => {
                 self.unread.take_front(n);
+                self.unread.note_open_line();
                 self.phase = RequestPhase::InContent(head, content);
                 Ok(Next::More)
             }

@@ -1,7 +1,7 @@
 //! What stands at the front of the unread bytes of a request stream. The definitions are in
 //! `specs/RequestReading.antt` and `specs/RequestFound.antt`.
 ghost use Rattle.std.specs.Prelude.{◌≡◌, ◌<◌, IfOk, Some, None, Ok, Err, length, take, drop};
-ghost use Rattle.hx_framing.specs.Places.{head_length, most_head_bytes};
+ghost use Rattle.hx_framing.specs.Places.{head_length as head_length_of, most_head_bytes};
 ghost use Rattle.hx_framing.specs.Head.{Judges};
 ghost use Rattle.hx_framing.specs.Lengths.{plan_of};
 ghost use Rattle.hx_framing.specs.RequestFound.{IsFound};
@@ -10,7 +10,7 @@ use crate::content::Content;
 use crate::fault::FrameFault;
 use crate::found::Found;
 use crate::lengths::plan_of;
-use crate::places::{MOST_HEAD_BYTES, blank_length, head_within, rest_from};
+use crate::places::{MOST_HEAD_BYTES, blank_length, rest_from};
 use crate::plan::Plan;
 use crate::request_head::{Head, judge_head};
 use crate::requests::Request;
@@ -19,7 +19,7 @@ use std::alloc::{AllocError, Global};
 
 /// Where no head ends within the limit.
 fn without_head(max_body: u64, ended: bool, bytes: &[u8]) -> Found<Head, Request>
-    requires { head_length (take most_head_bytes bytes.now) ≡ None }
+    requires { head_length_of (take most_head_bytes bytes.now) ≡ None }
     ensures { IsFound max_body ended bytes.now result }
 {
     if bytes.len() > MOST_HEAD_BYTES {
@@ -43,7 +43,7 @@ fn with_plan(
     head: Head,
     plan: Plan,
 ) -> Result<Found<Head, Request>, AllocError>
-    requires place { head_length (take most_head_bytes bytes.now) ≡ Some at }
+    requires place { head_length_of (take most_head_bytes bytes.now) ≡ Some at }
     requires some { 0 < at }
     requires judged { Judges (take at bytes.now) (Ok head) }
     requires plan { plan_of max_body head ≡ Ok plan }
@@ -53,7 +53,7 @@ fn with_plan(
     if plan.wants_continue {
         return Ok(Found::Continue(head, content, at));
     }
-    match content.advance(alloc, false, rest_from(bytes, at))? {
+    match content.advance(alloc, false, rest_from(bytes, at), 0)? {
         Taken::Short(_) if ended => Ok(Found::Faulty(FrameFault::Truncated)),
         Taken::Short(n) => Ok(Found::Going(head, content, at + n)),
         Taken::Bad(fault) => Ok(Found::Faulty(fault)),
@@ -61,16 +61,18 @@ fn with_plan(
     }
 }
 
-/// What stands at the front of the unread bytes, before a continue was given.
+/// What stands at the front of the unread bytes, before a continue was given. A head takes `head_length` of them.
 pub(crate) fn read_request(
     alloc: Global,
     max_body: u64,
     ended: bool,
     bytes: &[u8],
+    head_length: Option<usize>,
 ) -> Result<Found<Head, Request>, AllocError>
+    requires { head_length ≡ head_length_of (take most_head_bytes bytes.now) }
     ensures { IfOk result (IsFound max_body ended bytes.now) }
 {
-    let Some(at) = head_within(bytes, MOST_HEAD_BYTES) else {
+    let Some(at) = head_length else {
         return Ok(without_head(max_body, ended, bytes));
     };
     let (front, _) = bytes.split_at(at);

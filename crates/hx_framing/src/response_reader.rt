@@ -65,7 +65,8 @@ impl Debug for ResponseReader {
 
 impl ResponseReader {
     ghost use Rattle.hx_framing.specs.declared.response_phase.ResponsePhase.TheVariants as phase;
-    ghost use Rattle.hx_framing.specs.ResponseState.{StandsFor, weight};
+    ghost use Rattle.hx_framing.specs.declared.fault.FrameFault.{FrameFault};
+    ghost use Rattle.hx_framing.specs.ResponseState.{StandsFor, weight, kept, IsUnfinished};
 
     /// A reader of an empty stream. A content has at most `max_body` bytes; `to_head` says that it
     /// answers a HEAD.
@@ -96,6 +97,8 @@ impl ResponseReader {
         ensures stands { OnOk result ((p : Progress Response) → StandsFor self.old p
             → p.ended ≡ false → StandsFor self.new (fed p piece.now)) }
         ensures weight { weight self.new ≤ weight self.old + 2 * length piece.now }
+        ensures given { self.old.phase ≡ phase.Given → self.new ≡ self.old }
+        ensures faulty { (fault : FrameFault) → self.old.phase ≡ phase.Faulty fault → self.new ≡ self.old }
         ensures reserved { length piece.now ≤ self.old.spare → IsOk result }
         ensures err { OnErr result (self.new ≡ self.old) }
     {
@@ -132,6 +135,8 @@ impl ResponseReader {
             → StandsFor self.new (moved p answer)) }
         ensures weight { IfOk result (λ answer. weight self.new + cost answer ≤ weight self.old) }
         ensures due { IfOk result (λ answer. IsDue answer → 1 ≤ weight self.new + cost answer) }
+        ensures unfinished { IfOk result (λ answer. answer ≡ Next.More → IsUnfinished self.new) }
+        ensures room { self.old.spare ≤ self.new.spare }
         ensures err { OnErr result (self.new ≡ self.old) }
     {
         match replace(&mut self.phase, ResponsePhase::BeforeHead) {
@@ -148,6 +153,13 @@ impl ResponseReader {
         }
     }
 
+    /// How many bytes of the stream it keeps, but for those of a content. After `More` they are at most 32,768.
+    pub fn kept(&self) -> usize
+        ensures { result ≡ length (kept self.now) }
+    {
+        self.unread.len()
+    }
+
     /// What is due before the head of the final response.
     fn read_head(&mut self, alloc: Global) -> Result<Next<Response>, AllocError>
         requires { self.old.phase ≡ phase.BeforeHead }
@@ -157,16 +169,27 @@ impl ResponseReader {
             → StandsFor self.new (moved p answer)) }
         ensures weight { IfOk result (λ answer. weight self.new + cost answer ≤ weight self.old) }
         ensures due { IfOk result (λ answer. IsDue answer → 1 ≤ weight self.new + cost answer) }
+        ensures unfinished { IfOk result (λ answer. answer ≡ Next.More → IsUnfinished self.new) }
+        ensures room { self.old.spare ≤ self.new.spare }
         ensures err { OnErr result (self.new ≡ self.old) }
     {
+        let head_length = self.unread.head_length();
         let bytes = self.unread.as_slice();
-        match read_response(alloc, self.max_body, self.to_head, self.ended, bytes)? {
+        match read_response(
+            alloc,
+            self.max_body,
+            self.to_head,
+            self.ended,
+            bytes,
+            head_length,
+        )? {
             Found::Incomplete(n) => {
                 self.unread.take_front(n);
                 Ok(Next::More)
             }
             Found::Going(head, content, n) => {
                 self.unread.take_front(n);
+                self.unread.note_open_line();
                 self.phase = ResponsePhase::InContent(head, content);
                 Ok(Next::More)
             }
@@ -199,9 +222,16 @@ impl ResponseReader {
         ensures weight { IfOk result (λ answer. weight self.new + cost answer
             ≤ 2 * length self.old.unread + 2 + cond self.old.ended 1 0) }
         ensures due { IfOk result (λ answer. IsDue answer → 1 ≤ weight self.new + cost answer) }
+        ensures unfinished { IfOk result (λ answer. answer ≡ Next.More → IsUnfinished self.new) }
+        ensures room { self.old.spare ≤ self.new.spare }
         ensures err { OnErr result (self.new ≡ record self.old { phase = phase.InContent head content }) }
     {
-        match content.advance(alloc, self.ended, self.unread.as_slice()) {
+        match content.advance(
+            alloc,
+            self.ended,
+            self.unread.as_slice(),
+            self.unread.searched(),
+        ) {
             Err(error) => {
                 self.phase = ResponsePhase::InContent(head, content);
                 Err(error)
@@ -212,6 +242,7 @@ impl ResponseReader {
             }
             Ok(Taken::Short(n)) => {
                 self.unread.take_front(n);
+                self.unread.note_open_line();
                 self.phase = ResponsePhase::InContent(head, content);
                 Ok(Next::More)
             }

@@ -1,6 +1,7 @@
 //! What stands at the front of a response stream. The definitions are in `specs/ResponseReading.antt` and
 //! `specs/ResponseFound.antt`.
-ghost use Rattle.std.specs.Prelude.{◌≡◌, ◌≤◌, IfOk, Ok, ℕ, Bool, length};
+ghost use Rattle.std.specs.Prelude.{◌≡◌, ◌≤◌, IfOk, Ok, ℕ, Bool, length, take};
+ghost use Rattle.hx_framing.specs.Places.{head_length as head_length_of, most_head_bytes};
 ghost use Rattle.hx_framing.specs.declared.status_front.StatusFront.TheVariants as front;
 ghost use Rattle.hx_framing.specs.Lengths.{framing_of_response};
 ghost use Rattle.hx_framing.specs.ResponseReading.{content_of, response_of};
@@ -52,14 +53,20 @@ pub(crate) fn response_of(
     }
 }
 
-/// What stands behind the interim responses in front.
-fn front_of(alloc: Global, bytes: &[u8]) -> Result<StatusFront, AllocError>
+/// What stands behind the interim responses in front. The first head takes `head_length` bytes.
+fn front_of(
+    alloc: Global,
+    bytes: &[u8],
+    head_length: Option<usize>,
+) -> Result<StatusFront, AllocError>
+    requires { head_length ≡ head_length_of (take most_head_bytes bytes.now) }
     ensures { IfOk result (IsFront bytes.now) }
 {
     let mut at = 0;
+    let mut next = head_length;
     loop {
         let rest = rest_from(bytes, at);
-        let Some(n) = head_within(rest, MOST_HEAD_BYTES) else {
+        let Some(n) = next else {
             return Ok(StatusFront::Open(at));
         };
         let (head, _) = rest.split_at(n);
@@ -69,6 +76,7 @@ fn front_of(alloc: Global, bytes: &[u8]) -> Result<StatusFront, AllocError>
                     return Ok(StatusFront::Final(head, at + n));
                 }
                 at += n;
+                next = head_within(rest_from(bytes, at), MOST_HEAD_BYTES);
             }
             Err(fault) => return Ok(StatusFront::Faulty(fault)),
         }
@@ -106,7 +114,7 @@ fn with_framing(
     ensures { IfOk result (IsFound max_body to_head ended bytes.now) }
 {
     let mut content = Content::begun(alloc, max_body, framing);
-    match content.advance(alloc, ended, rest_from(bytes, at))? {
+    match content.advance(alloc, ended, rest_from(bytes, at), 0)? {
         Taken::Short(_) if ended => Ok(Found::Faulty(FrameFault::Truncated)),
         Taken::Short(n) => Ok(Found::Going(head, content, at + n)),
         Taken::Bad(fault) => Ok(Found::Faulty(fault)),
@@ -116,17 +124,19 @@ fn with_framing(
     }
 }
 
-/// What stands at the front of the unread bytes.
+/// What stands at the front of the unread bytes. The first head takes `head_length` of them.
 pub(crate) fn read_response(
     alloc: Global,
     max_body: u64,
     to_head: bool,
     ended: bool,
     bytes: &[u8],
+    head_length: Option<usize>,
 ) -> Result<Found<StatusHead, Response>, AllocError>
+    requires { head_length ≡ head_length_of (take most_head_bytes bytes.now) }
     ensures { IfOk result (IsFound max_body to_head ended bytes.now) }
 {
-    match front_of(alloc, bytes)? {
+    match front_of(alloc, bytes, head_length)? {
         StatusFront::Open(at) => Ok(without_head(ended, bytes, at)),
         StatusFront::Faulty(fault) => Ok(Found::Faulty(fault)),
         StatusFront::Final(head, at) => {

@@ -5,12 +5,12 @@ ghost use Rattle.httparse.specs.Spans.{IsResponseAt, IsResponseWithin};
 ghost use Rattle.hx_framing.specs.StatusHead.{IsStatusHead, Judges, status_head_at, status_head_fault};
 
 use crate::fault::FrameFault;
-use crate::lines::copy_fields;
+use crate::lines::fields_at;
 use crate::places::MOST_FIELD_LINES;
 use crate::version::response_has_other_version;
 use httparse::Status;
 use httparse::spans::{EMPTY_HEADER_SPAN, HeaderSpan, ResponseSpans, parse_response};
-use hx_fields::Fields;
+use hx_fields::{Bytes, Fields};
 use std::alloc::{AllocError, Global};
 
 /// A head: the status, the minor version and the field lines.
@@ -41,7 +41,7 @@ fn find_head(bytes: &[u8], spans: &mut [HeaderSpan; MOST_FIELD_LINES]) -> Option
     }
 }
 
-/// The head whose parts the spans cover.
+/// The head whose parts the spans cover. It keeps one copy of the bytes, which its parts share.
 fn copy_head(
     alloc: Global,
     bytes: &[u8],
@@ -51,11 +51,11 @@ fn copy_head(
     requires { IsResponseWithin bytes.now spans.now found }
     ensures { IfOk result (λ head. head ≡ status_head_at bytes.now spans.now found) }
 {
-    let fields = copy_fields(alloc, bytes, &spans[..found.headers])?;
+    let head = Bytes::shared_copy_of(alloc, bytes)?;
     Ok(StatusHead {
         status: found.code,
         minor: found.version,
-        fields,
+        fields: fields_at(alloc, &head, &spans[..found.headers])?,
     })
 }
 

@@ -1,9 +1,11 @@
 //! Bytes that were fed and that no message has taken yet.
 //!
-//! Taking bytes away from the front is cheap: they are moved up only once as many were taken as are left.
+//! Taking bytes away from the front is cheap: they are moved up only once as many were taken as are left. How far
+//! they were searched for the end of a head or of a line is remembered, so that none is searched again for each piece.
 ghost use Rattle.std.specs.Prelude.{◌≡◌, ◌≤◌, ◌++◌, [], IsOk, OnOk, OnErr, length, drop};
 
-use crate::places::rest_from;
+use crate::head_search::{HeadSearch, Searched};
+use crate::places::{MOST_HEAD_BYTES, first, rest_from, search_head};
 use std::alloc::{AllocError, Global};
 use std::marker::Model;
 
@@ -12,26 +14,48 @@ use std::marker::Model;
 pub(crate) struct Unread {
     bytes: Vec<u8>,
     taken: usize,
+    /// Of the bytes that are left, as far as a head may reach.
+    search: HeadSearch,
+    /// So many of the bytes that are left hold no LF.
+    line: usize,
 }
 
 impl Model for Unread {
-    ghost use Rattle.std.specs.Prelude.{◌≤◌, ◌-◌, drop, vec_len, vec_capacity};
+    ghost use Rattle.std.specs.Prelude.{◌≡◌, ◌≤◌, ◌-◌, ◌+◌, true, length, drop, take, vec_len, vec_capacity};
+    ghost use Rattle.hx_framing.specs.ChunkGrammar.{has_no_lf};
+    ghost use Rattle.hx_framing.specs.Places.{most_head_bytes};
     ghost use Rattle.hx_framing.specs.Queue.{Queue};
+    ghost use Rattle.hx_framing.specs.Searching.{Reaches};
 
     ghost Value = { Queue };
 
     ghost view = { λ u. record { items = drop u.taken u.bytes.items; spare = vec_capacity u.bytes - vec_len u.bytes } };
 
-    ghost invariant = { λ u. u.taken ≤ vec_len u.bytes };
+    ghost invariant = { λ u. (u.taken + u.taken ≤ vec_len u.bytes)
+        × Reaches (take most_head_bytes (drop u.taken u.bytes.items)) u.search
+        × (u.line ≤ length (drop u.taken u.bytes.items))
+        × (has_no_lf (take u.line (drop u.taken u.bytes.items)) ≡ true) };
 }
 
+/// A search that has looked at nothing.
+const UNSEARCHED: HeadSearch = HeadSearch {
+    at: 0,
+    in_lines: false,
+};
+
 impl Unread {
+    ghost use Rattle.std.specs.Prelude.{true, take};
+    ghost use Rattle.hx_framing.specs.ChunkGrammar.{has_no_lf};
+    ghost use Rattle.hx_framing.specs.Places.{head_length, most_head_bytes};
+
     pub(crate) fn new(alloc: Global) -> Unread
         ensures { result.items ≡ [] }
     {
         Unread {
             bytes: Vec::new(alloc),
             taken: 0,
+            search: UNSEARCHED,
+            line: 0,
         }
     }
 
@@ -39,6 +63,12 @@ impl Unread {
         ensures { result.now ≡ self.now.items }
     {
         rest_from(self.bytes.as_slice(), self.taken)
+    }
+
+    pub(crate) fn len(&self) -> usize
+        ensures { result ≡ length self.now.items }
+    {
+        self.bytes.len() - self.taken
     }
 
     /// Makes room for n more bytes. An `Err` changes nothing.
@@ -63,11 +93,14 @@ impl Unread {
         }
     }
 
-    /// Takes the first n bytes away. No memory is taken.
+    /// Takes the first n bytes away. No memory is taken, and room that was made stays.
     pub(crate) fn take_front(&mut self, n: usize)
         requires { n ≤ length self.old.items }
-        ensures { self.new.items ≡ drop n self.old.items }
+        ensures items { self.new.items ≡ drop n self.old.items }
+        ensures room { self.old.spare ≤ self.new.spare }
     {
+        self.search = UNSEARCHED;
+        self.line = 0;
         self.taken += n;
         let left = self.bytes.len() - self.taken;
         if left <= self.taken {
@@ -75,5 +108,39 @@ impl Unread {
             self.bytes.truncate(left);
             self.taken = 0;
         }
+    }
+
+    /// How many bytes a head takes, if it ends within the limit. A byte that was searched isn't searched again.
+    pub(crate) fn head_length(&mut self) -> Option<usize>
+        ensures size { result ≡ head_length (take most_head_bytes self.old.items) }
+        ensures same { self.new ≡ self.old }
+    {
+        let front = first(
+            rest_from(self.bytes.as_slice(), self.taken),
+            MOST_HEAD_BYTES,
+        );
+        match search_head(front, self.search) {
+            Searched::Ended(n) => Some(n),
+            Searched::Open(search) => {
+                self.search = search;
+                None
+            }
+        }
+    }
+
+    /// How many bytes at the front are known to hold no LF.
+    pub(crate) fn searched(&self) -> usize
+        ensures within { result ≤ length self.now.items }
+        ensures none { has_no_lf (take result self.now.items) ≡ true }
+    {
+        self.line
+    }
+
+    /// Remembers that the bytes hold no LF.
+    pub(crate) fn note_open_line(&mut self)
+        requires { has_no_lf self.old.items ≡ true }
+        ensures { self.new ≡ self.old }
+    {
+        self.line = self.bytes.len() - self.taken;
     }
 }

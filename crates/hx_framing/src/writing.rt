@@ -1,18 +1,25 @@
 //! Messages as they are sent. Their bytes are in `specs/Text.antt` (RFC 9112, sections 3 to 7).
-ghost use Rattle.std.specs.Prelude.{◌≡◌, ◌++◌, Option, OnOk, IfOk};
-ghost use Rattle.hx_framing.specs.Text.{field_line, field_lines, length_line, close_line, request_line, status_line, request_text, response_text};
+ghost use Rattle.std.specs.Prelude.{◌≡◌, ◌++◌, map, Option, OnOk, IfOk};
+ghost use Rattle.hx_framing.specs.Text.{field_line, field_lines, line_of, length_line, close_line, request_line, status_line, request_text, response_text};
 
 use crate::requests::Request;
 use hx_fields::{Bytes, Field, Fields};
 use itoa::Buffer;
 use std::alloc::{AllocError, Global};
 
-fn write_line(text: &mut Vec<u8>, line: &Field) -> Result<(), AllocError>
-    ensures { OnOk result (text.new.items ≡ text.old.items ++ field_line line.now) }
+/// A line that is written behind the fields of a message.
+#[derive(Clone, Copy)]
+pub struct AddedLine<'a> {
+    pub name: &'a [u8],
+    pub value: &'a [u8],
+}
+
+fn write_line(text: &mut Vec<u8>, name: &[u8], value: &[u8]) -> Result<(), AllocError>
+    ensures { OnOk result (text.new.items ≡ text.old.items ++ field_line (record { name = name.now; value = value.now })) }
 {
-    text.extend_from_slice(line.name.as_slice())?;
+    text.extend_from_slice(name)?;
     text.extend_from_slice(b": ")?;
-    text.extend_from_slice(line.value.as_slice())?;
+    text.extend_from_slice(value)?;
     text.extend_from_slice(b"\r\n")?;
     Ok(())
 }
@@ -21,7 +28,16 @@ fn write_lines(text: &mut Vec<u8>, lines: &[Field]) -> Result<(), AllocError>
     ensures { OnOk result (text.new.items ≡ text.old.items ++ field_lines lines.now) }
 {
     for line in lines {
-        write_line(text, line)?;
+        write_line(text, line.name.as_slice(), line.value.as_slice())?;
+    }
+    Ok(())
+}
+
+fn write_added(text: &mut Vec<u8>, lines: &[AddedLine<'_>]) -> Result<(), AllocError>
+    ensures { OnOk result (text.new.items ≡ text.old.items ++ field_lines (map line_of lines.now)) }
+{
+    for line in lines {
+        write_line(text, line.name, line.value)?;
     }
     Ok(())
 }
@@ -76,7 +92,8 @@ pub fn write_request(alloc: Global, request: &Request) -> Result<Bytes, AllocErr
         Some(content) => Some(content.as_slice()),
         None => None,
     };
-    let mut text = Vec::new(alloc);
+    let length = content.map(|content| content.len());
+    let mut text = Vec::with_capacity(alloc, room_for(&request.fields, length.unwrap_or(0)))?;
     write_request_line(&mut text, request)?;
     write_lines(&mut text, request.fields.as_slice())?;
     write_length(&mut text, content.map(|content| content.len() as u64))?;
@@ -86,6 +103,19 @@ pub fn write_request(alloc: Global, request: &Request) -> Result<Bytes, AllocErr
         text.extend_from_slice(content)?;
     }
     Ok(Bytes::from_vec(text))
+}
+
+/// How many bytes these lines and a content take, with some more for a status line and a length: room for a message, so that
+/// its memory is asked for once. No clause speaks of it.
+fn room_for(fields: &Fields, content: usize) -> usize {
+    let mut room = content.saturating_add(256);
+    for line in fields.as_slice() {
+        room = room
+            .saturating_add(line.name.len())
+            .saturating_add(line.value.len())
+            .saturating_add(4);
+    }
+    room
 }
 
 /// The bytes of a response that is sent to a client. `length` is the Content-Length in bytes, where one is told;
@@ -101,9 +131,26 @@ pub fn write_response(
     ensures { IfOk result (λ text. text
         ≡ response_text status fields.now length close content.now) }
 {
-    let mut text = Vec::new(alloc);
+    write_response_with(alloc, status, fields, &[], length, close, content)
+}
+
+/// The same with further lines behind the fields.
+pub fn write_response_with(
+    alloc: Global,
+    status: u16,
+    fields: &Fields,
+    added: &[AddedLine<'_>],
+    length: Option<u64>,
+    close: bool,
+    content: &[u8],
+) -> Result<Bytes, AllocError>
+    ensures { IfOk result (λ text. text
+        ≡ response_text status (fields.now ++ map line_of added.now) length close content.now) }
+{
+    let mut text = Vec::with_capacity(alloc, room_for(fields, content.len()))?;
     write_status_line(&mut text, status)?;
     write_lines(&mut text, fields.as_slice())?;
+    write_added(&mut text, added)?;
     write_length(&mut text, length)?;
     write_close(&mut text, close)?;
     text.extend_from_slice(b"\r\n")?;

@@ -52,6 +52,7 @@ fn is_condition(line: &Field) -> bool
 
 /// Puts the client's lines at the end, without its conditions where the proxy sends its own.
 fn push_client_lines(
+    alloc: Global,
     fields: &mut Fields,
     lines: &[Field],
     conditional: bool,
@@ -60,7 +61,7 @@ fn push_client_lines(
 {
     for line in lines {
         if !(conditional && is_condition(line)) {
-            fields.push(line.name.as_slice(), line.value.as_slice())?;
+            fields.push_line(line.copy(alloc)?)?;
         }
     }
     Ok(())
@@ -99,7 +100,12 @@ fn forwarded_lines(
     let mut fields = Fields::new(alloc);
     let host = host_text(alloc, &asked.target.key)?;
     fields.push(b"Host", &host)?;
-    push_client_lines(&mut fields, asked.fields.as_slice(), conditions.is_some())?;
+    push_client_lines(
+        alloc,
+        &mut fields,
+        asked.fields.as_slice(),
+        conditions.is_some(),
+    )?;
     push_conditions(&mut fields, conditions)?;
     let via = via_text(alloc, asked.minor, name)?;
     fields.push(b"Via", &via)?;

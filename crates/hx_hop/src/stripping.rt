@@ -65,10 +65,10 @@ fn is_hop_line(fields: &Fields, line: &Field) -> bool
 pub fn strip(alloc: Global, fields: &Fields) -> Result<Fields, AllocError>
     ensures { IfOk result (λ kept. kept ≡ stripped fields.now) }
 {
-    let mut kept = Fields::new(alloc);
+    let mut kept = Fields::with_capacity(alloc, fields.len())?;
     for line in fields.as_slice() {
         if !is_hop_line(fields, line) {
-            kept.push(line.name.as_slice(), line.value.as_slice())?;
+            kept.push_line(line.copy(alloc)?)?;
         }
     }
     Ok(kept)

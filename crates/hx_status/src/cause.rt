@@ -8,7 +8,7 @@ use hx_target::TargetFault;
 #[derive(Clone, Copy, Debug, PartialEq, Eq)]
 pub enum FailKind {
     /// No connection could be made.
-    Refused = 1,
+    Refused,
     /// No answer came in time.
     TimedOut,
     /// The connection ended before a whole answer.

@@ -6,7 +6,11 @@ ghost use Rattle.hx_status.specs.Member.{member_text, how_text, fwd_status_text,
 
 use crate::status::{Detail, How, Status};
 use hx_fields::Bytes;
+use itoa::Buffer;
 use std::alloc::{AllocError, Global};
+
+/// Room for what mostly stands behind the name, in bytes.
+const MEMBER_ROOM: usize = 64;
 
 fn push_how(out: &mut Vec<u8>, how: How) -> Result<(), AllocError>
     ensures { OnOk result (out.new.items ≡ out.old.items ++ how_text how) }
@@ -20,28 +24,28 @@ fn push_how(out: &mut Vec<u8>, how: How) -> Result<(), AllocError>
     }
 }
 
-fn push_fwd_status(alloc: Global, out: &mut Vec<u8>, status: Option<u16>) -> Result<(), AllocError>
+fn push_fwd_status(out: &mut Vec<u8>, status: Option<u16>) -> Result<(), AllocError>
     ensures { OnOk result (out.new.items ≡ out.old.items ++ fwd_status_text status) }
 {
     match status {
         None => Ok(()),
         Some(status) => {
-            let digits = status.to_string(alloc)?;
+            let mut digits = Buffer::new();
             out.extend_from_slice(b";fwd-status=")?;
-            out.extend_from_slice(digits.as_str().as_bytes())
+            out.extend_from_slice(digits.format(status).as_bytes())
         }
     }
 }
 
-fn push_ttl(alloc: Global, out: &mut Vec<u8>, ttl: Option<i64>) -> Result<(), AllocError>
+fn push_ttl(out: &mut Vec<u8>, ttl: Option<i64>) -> Result<(), AllocError>
     ensures { OnOk result (out.new.items ≡ out.old.items ++ ttl_text ttl) }
 {
     match ttl {
         None => Ok(()),
         Some(seconds) => {
-            let digits = seconds.to_string(alloc)?;
+            let mut digits = Buffer::new();
             out.extend_from_slice(b";ttl=")?;
-            out.extend_from_slice(digits.as_str().as_bytes())
+            out.extend_from_slice(digits.format(seconds).as_bytes())
         }
     }
 }
@@ -96,10 +100,11 @@ pub(crate) fn push_detail(out: &mut Vec<u8>, word: Option<&'static str>) -> Resu
 pub fn member(alloc: Global, name: &str, status: &Status) -> Result<Bytes, AllocError>
     ensures { IfOk result (λ text. text ≡ member_text name.now status.now) }
 {
-    let mut out = Vec::from_slice(alloc, name.as_bytes())?;
+    let mut out = Vec::with_capacity(alloc, name.len().saturating_add(MEMBER_ROOM))?;
+    out.extend_from_slice(name.as_bytes())?;
     push_how(&mut out, status.how)?;
-    push_fwd_status(alloc, &mut out, status.fwd_status)?;
-    push_ttl(alloc, &mut out, status.ttl)?;
+    push_fwd_status(&mut out, status.fwd_status)?;
+    push_ttl(&mut out, status.ttl)?;
     push_flag(&mut out, status.stored, ";stored")?;
     push_flag(&mut out, status.collapsed, ";collapsed")?;
     push_detail(&mut out, detail_named(status))?;

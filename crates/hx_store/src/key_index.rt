@@ -137,7 +137,7 @@ fn insert_new(serials: &mut BTreeSet<u64>, serial: u64) -> Result<(), AllocError
 fn list_of(alloc: Global, serials: &BTreeSet<u64>) -> Result<Serials, AllocError>
     ensures { IfOk result (λ list. list ≡ serials.now.keys) }
 {
-    let mut list = Serials::new(alloc);
+    let mut list = Serials::with_capacity(alloc, serials.len())?;
     for serial in serials {
         list.push(*serial)?;
     }

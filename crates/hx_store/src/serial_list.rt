@@ -31,6 +31,15 @@ impl Serials {
         }
     }
 
+    /// None, and room for n. Fails for want of memory alone.
+    pub(crate) fn with_capacity(alloc: Global, n: usize) -> Result<Serials, AllocError>
+        ensures { IfOk result (λ serials. serials ≡ []) }
+    {
+        Ok(Serials {
+            serials: Vec::with_capacity(alloc, n)?,
+        })
+    }
+
     /// Puts a serial before the first that isn't below it. Fails for want of memory alone.
     pub fn insert(&mut self, serial: u64) -> Result<(), AllocError>
         ensures ok { OnOk result (self.new ≡ insert_ascending serial self.old) }

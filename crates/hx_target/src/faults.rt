@@ -4,12 +4,12 @@ ghost use Rattle.hx_target.specs.declared.faults.TargetFault.TheVariants.{OutOfM
 
 use std::alloc::AllocError;
 
-/// Why a target is refused, in the order of the faults' numbers: of those that stand the least is
-/// answered.
+/// Why a target is refused, in the order in which the faults are looked for: of those that stand the first
+/// is answered.
 #[derive(Clone, Copy, Debug, PartialEq, Eq, Hash)]
 pub enum TargetFault {
     /// The text is no target in origin form or in absolute form.
-    Form = 1,
+    Form,
     /// The scheme isn't `http`.
     Scheme,
     /// There is no Host line or more than one, or the host in it or in the authority is invalid.

@@ -1,6 +1,6 @@
 //! One nominated field of an earlier request.
 
-ghost use Rattle.std.specs.Prelude.{◌≡◌, IfOk};
+ghost use Rattle.std.specs.Prelude.{◌≡◌, IfOk, option_copied};
 ghost use Rattle.hx_fields.specs.Lines.{combined_of};
 ghost use Rattle.hx_vary.specs.Vary.{is_same_value, kept_value};
 
@@ -29,12 +29,16 @@ impl NominatedValue {
         })
     }
 
-    /// Whether a later request has the same value of this name.
+    /// Whether a later request has the same value of this name. Memory is taken only where several lines have the name.
     pub(crate) fn is_of(&self, alloc: Global, request: &Fields) -> Result<bool, AllocError>
         ensures { IfOk result (λ same. same ≡ is_same_value self.now.value (combined_of request.now self.now.name)) }
     {
-        let value = request.combined(alloc, self.name.as_slice())?;
-        Ok(is_same_value(&self.value, &value))
+        let name = self.name.as_slice();
+        if request.count(name) > 1 {
+            let value = request.combined(alloc, name)?;
+            return Ok(is_same_value(slice_of(&self.value), slice_of(&value)));
+        }
+        Ok(is_same_value(slice_of(&self.value), request.value(name)))
     }
 
     /// A copy of this value.
@@ -52,12 +56,21 @@ impl NominatedValue {
     }
 }
 
-fn is_same_value(a: &Option<Bytes>, b: &Option<Bytes>) -> bool
-    ensures { result ≡ is_same_value a.now b.now }
+fn slice_of(value: &Option<Bytes>) -> Option<&[u8]>
+    ensures { option_copied result ≡ value.now }
+{
+    match value {
+        Some(value) => Some(value.as_slice()),
+        None => None,
+    }
+}
+
+fn is_same_value(a: Option<&[u8]>, b: Option<&[u8]>) -> bool
+    ensures { result ≡ is_same_value (option_copied a.entry) (option_copied b.entry) }
 {
     match (a, b) {
         (None, None) => true,
-        (Some(a), Some(b)) => a.as_slice() == b.as_slice(),
+        (Some(a), Some(b)) => a == b,
         _ => false,
     }
 }

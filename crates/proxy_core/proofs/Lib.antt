@@ -27,3 +27,4 @@ pub mod Waiters
 pub mod Releases
 pub mod GetIndices
 pub mod Gets
+pub mod AddedLines

@@ -1,17 +1,21 @@
 //! The bytes of a stored response that is sent.
 ghost use Rattle.std.specs.Prelude.{◌≡◌, IfOk};
+ghost use Rattle.hx_age.specs.Age.{age_of};
+ghost use Rattle.hx_framing.specs.Text.{response_text};
+ghost use Rattle.hx_status.specs.Member.{member_text};
 ghost use Rattle.proxy_core.specs.Outcomes.{forwarded_as, collapsed_as};
-ghost use Rattle.proxy_core.specs.Replies.{stored_text, whole_text, not_modified_text, lines_sent, fwd_status_of};
+ghost use Rattle.proxy_core.specs.Replies.{status_sent, stored_text, whole_text, not_modified_text, lines_sent, fwd_status_of};
 
 use crate::exchange::Exchange;
 use crate::reply_text::{content_sent, is_head, length_told};
 use hx_age::{Lifetime, current_age, ttl};
 use hx_fields::{Bytes, Fields};
-use hx_framing::write_response;
+use hx_framing::{AddedLine, write_response_with};
 use hx_hop::Asked;
 use hx_status::{Detail, How, Status, member};
 use hx_store::Entry;
 use hx_validate::{client_wants_304, not_modified};
+use itoa::Buffer;
 use std::alloc::{AllocError, Global};
 
 /// What Cache-Status tells of a stored response that is sent, beside the response itself (RFC 9211, section 2).
@@ -79,34 +83,24 @@ impl StoredReply<'_> {
         ensures { IfOk result (λ text. text ≡ whole_text self.now.name.now self.now.entry.now self.now.sent_at self.now.info self.now.asked.now) }
     {
         let entry = self.entry;
-        let fields = entry.fields.copy(alloc)?;
-        let lines = self.lines(alloc, entry.status, fields)?;
         let length = length_told(entry.status, Some(entry.content.len() as u64));
         let content = content_sent(is_head(self.asked), entry.content.as_slice());
-        write_response(
-            alloc,
-            entry.status,
-            &lines,
-            length,
-            self.asked.close,
-            content,
-        )
+        self.written(alloc, entry.status, &entry.fields, length, content)
     }
 
     fn not_modified_text(&self, alloc: Global) -> Result<Bytes, AllocError>
         ensures { IfOk result (λ text. text ≡ not_modified_text self.now.name.now self.now.entry.now self.now.sent_at self.now.info self.now.asked.now) }
     {
         let fields = not_modified(alloc, self.entry)?;
-        let lines = self.lines(alloc, 304, fields)?;
-        write_response(alloc, 304, &lines, None, self.asked.close, &[])
+        self.written(alloc, 304, &fields, None, &[])
     }
 
-    /// The lines that it is sent with under a status: these of its own, then Age and Cache-Status.
-    fn lines(&self, alloc: Global, status: u16, fields: Fields) -> Result<Fields, AllocError>
-        ensures { IfOk result (λ lines. lines ≡ lines_sent self.now.name.now status fields self.now.entry.now self.now.sent_at self.now.info) }
+    /// What Cache-Status tells under a status, of a response of this age in seconds.
+    fn member(&self, alloc: Global, status: u16, age: u32) -> Result<Bytes, AllocError>
+        requires { age ≡ age_of self.now.entry.now.times self.now.sent_at }
+        ensures { IfOk result (λ text. text ≡ member_text self.now.name.now (status_sent status self.now.entry.now self.now.sent_at self.now.info)) }
     {
         let entry = self.entry;
-        let age = current_age(&entry.times, self.sent_at);
         let told = Status {
             how: self.info.how,
             fwd_status: fwd_status_of(self.info.came, status),
@@ -115,12 +109,37 @@ impl StoredReply<'_> {
             collapsed: self.info.collapsed,
             detail: self.info.detail,
         };
-        let digits = age.to_string(alloc)?;
-        let member = member(alloc, self.name, &told)?;
-        let mut lines = fields;
-        lines.push(b"Age", digits.as_str().as_bytes())?;
-        lines.push(b"Cache-Status", member.as_slice())?;
-        Ok(lines)
+        member(alloc, self.name, &told)
+    }
+
+    /// A response of these lines of its own under a status: then come Age and Cache-Status.
+    #[tactic(auto, using(crate::proofs::AddedLines::lines_added))]
+    fn written(
+        &self,
+        alloc: Global,
+        status: u16,
+        fields: &Fields,
+        length: Option<u64>,
+        content: &[u8],
+    ) -> Result<Bytes, AllocError>
+        ensures { IfOk result (λ text. text ≡ response_text status (lines_sent self.now.name.now status fields.now self.now.entry.now self.now.sent_at self.now.info) length self.now.asked.now.close content.now) }
+    {
+        let entry = self.entry;
+        let age = current_age(&entry.times, self.sent_at);
+        let member = self.member(alloc, status, age)?;
+        let mut digits = Buffer::new();
+        let added = [
+            AddedLine {
+                name: b"Age",
+                value: digits.format(age).as_bytes(),
+            },
+            AddedLine {
+                name: b"Cache-Status",
+                value: member.as_slice(),
+            },
+        ];
+        let close = self.asked.close;
+        write_response_with(alloc, status, fields, &added, length, close, content)
     }
 }
 

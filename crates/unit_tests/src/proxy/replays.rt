@@ -16,3 +16,10 @@ fn first_run(rt: HostRuntime) {
         Err(_) => assert!(rt; false),
     }
 }
+
+/// A script in memory can't fail to be read, so its fault is its own.
+#[test]
+fn a_fault_over_memory_is_no_fault_of_reading(rt: HostRuntime) {
+    let ended = whole(rt.alloc(), b"nonsense\n");
+    assert!(rt; matches!(&ended, Err(ReplayFault::Line(1))));
+}

@@ -1,4 +1,4 @@
-use Rattle.std.proofs.Common.{List, ℕ, ap, length, subst, arith, length-drop}
+use Rattle.std.proofs.Common.{List, ℕ, refl, ap, length, subst, arith, length-drop}
 use Rattle.hx_framing.specs.declared.chunk_pieces.Piece.TheVariants as piece
 use Rattle.hx_framing.specs.Chunking.{chunking_of}
 use Rattle.hx_framing.specs.Pieces.{Takes}
@@ -18,6 +18,8 @@ loop-n-preserved c =
     record {
       inside = omega (arith, c.loop-n.invariant.inside, took.0, long);
       need = took.2;
+      searched = omega arith;
+      none = refl;
       room = omega (arith, c.in-Taken.ensures.room, ap length c.rest_from.ensures, long);
       leads = leads_on c.args.bytes.now c.loop-n.taken c.in-Taken.n (chunking_of c.args.place.now c.args.content.now.items) (chunking_of c.loop-n.place c.loop-n.content.items)
           (chunking_of c.in-Taken.next c.next_piece.new.content.items) c.loop-n.invariant.leads took.3;

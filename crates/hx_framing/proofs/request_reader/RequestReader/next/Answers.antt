@@ -27,3 +27,25 @@ returns-in-BeforeHead-clause-stands c =
       phase = f;
     }) (c.replace.ensures.after ∙ sym c.in-BeforeHead.is ∙ c.replace.ensures.value) ∙ c.self.view_is in
     subst (λ (s : State). IfOk c.read_head.result (λ answer. (p : Progress Request) → StandsFor s p → StandsFor c.read_head.new.self (moved p answer))) same c.read_head.ensures.stands
+
+pub returns-in-InContent-clause-answers : goal.returns-in-InContent-clause-answers
+returns-in-InContent-clause-answers c =
+    let same = ap (λ (f : RequestPhase). record {
+      max_body = c.self.inside.max_body;
+      unread = c.self.inside.unread.items;
+      spare = c.self.inside.unread.spare;
+      ended = c.self.inside.ended;
+      phase = f;
+    }) (sym c.in-InContent.is ∙ c.replace.ensures.value) ∙ c.self.view_is in
+    subst (λ (s : State). IfOk c.read_content.result (λ answer. (p : Progress Request) → StandsFor s p → Answers p answer)) same c.read_content.ensures.answers
+
+pub returns-in-InContent-clause-stands : goal.returns-in-InContent-clause-stands
+returns-in-InContent-clause-stands c =
+    let same = ap (λ (f : RequestPhase). record {
+      max_body = c.self.inside.max_body;
+      unread = c.self.inside.unread.items;
+      spare = c.self.inside.unread.spare;
+      ended = c.self.inside.ended;
+      phase = f;
+    }) (sym c.in-InContent.is ∙ c.replace.ensures.value) ∙ c.self.view_is in
+    subst (λ (s : State). IfOk c.read_content.result (λ answer. (p : Progress Request) → StandsFor s p → StandsFor c.read_content.new.self (moved p answer))) same c.read_content.ensures.stands

@@ -3,6 +3,7 @@ use Rattle.hx_framing.specs.declared.requests.Request.{Request}
 use Rattle.hx_framing.specs.declared.answer.Next.TheVariants.{Message}
 use Rattle.hx_framing.specs.declared.taken.Taken.TheVariants as taken
 use Rattle.hx_framing.specs.Contents.{Advances}
+use Rattle.hx_framing.specs.Queue.{Queue}
 use Rattle.hx_framing.specs.Reading.{Incomplete, Spelled, Faulty}
 use Rattle.hx_framing.specs.Progress.{moved}
 use Rattle.hx_framing.specs.RequestReading.{request_of, Reads}
@@ -31,7 +32,7 @@ pub returns-in-Ok-Short-2-clause-stands : goal.returns-in-Ok-Short-2-clause-stan
 returns-in-Ok-Short-2-clause-stands c = λ p h.
     let k = took c.args.self.now _ _ _ _ _ (taken.Short c.in-Ok-Short.field-0-0) c.as_slice.ensures (ap (λ (s : State). s.unread) c.self.view_is) c.in-Ok-Short.field-0-is c.in-Ok-Short.ensures.ok in
     stands_going c.args.self.now _ p c.args.head c.args.content _ c.in-Ok-Short.field-0-0 (ap (λ (s : State). s.max_body) c.self.view_is) (ap (λ (s : State). s.ended) c.self.view_is) refl
-    (c.take_front.ensures ∙ ap (drop c.in-Ok-Short.field-0-0) (ap (λ (s : State). s.unread) c.self.view_is)) k h
+    (ap (λ (q : Queue). q.items) c.note_open_line.ensures ∙ c.take_front.ensures.items ∙ ap (drop c.in-Ok-Short.field-0-0) (ap (λ (s : State). s.unread) c.self.view_is)) k h
 
 pub returns-in-Ok-Bad-clause-answers : goal.returns-in-Ok-Bad-clause-answers
 returns-in-Ok-Bad-clause-answers c = λ p h.
@@ -53,7 +54,7 @@ returns-in-Ok-Whole-clause-answers c = λ p h.
 pub returns-in-Ok-Whole-clause-stands : goal.returns-in-Ok-Whole-clause-stands
 returns-in-Ok-Whole-clause-stands c = λ p h.
     let k = took c.args.self.now _ _ _ _ _ (taken.Whole c.in-Ok-Whole.whole c.in-Ok-Whole.n) c.as_slice.ensures (ap (λ (s : State). s.unread) c.self.view_is) c.in-Ok-Whole.field-0-is c.in-Ok-Whole.ensures.ok in
-    let left = c.take_front-in-Ok-Whole.ensures ∙ ap (drop c.in-Ok-Whole.n) (ap (λ (s : State). s.unread) c.self.view_is) in
+    let left = c.take_front-in-Ok-Whole.ensures.items ∙ ap (drop c.in-Ok-Whole.n) (ap (λ (s : State). s.unread) c.self.view_is) in
     stands_given _ _ p c.into_request.result (ap (λ (s : State). s.max_body) c.self.view_is) (ap (λ (s : State). s.ended) c.self.view_is) refl h
     (subst (λ (u : List ℕ). Reads p.max_body p.ended p.told h.rest (Spelled c.into_request.result u)) (sym left)
     (subst (λ (m : Request). Reads p.max_body p.ended p.told h.rest (Spelled m (drop c.in-Ok-Whole.n c.args.self.now.unread))) (sym c.into_request.ensures)

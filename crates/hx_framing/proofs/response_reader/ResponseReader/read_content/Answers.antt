@@ -1,6 +1,7 @@
 use Rattle.std.proofs.Common.{ℕ, Bool, drop, refl, sym, ap, ◌∙◌, subst}
 use Rattle.hx_framing.specs.declared.responses.Response.{Response}
 use Rattle.hx_framing.specs.declared.taken.Taken.TheVariants as taken
+use Rattle.hx_framing.specs.Queue.{Queue}
 use Rattle.hx_framing.specs.Reading.{Spelled}
 use Rattle.hx_framing.specs.ResponseReading.{response_of, Reads}
 use Rattle.hx_framing.specs.ResponseState.{State}
@@ -27,7 +28,7 @@ pub returns-in-Ok-Short-2-clause-stands : goal.returns-in-Ok-Short-2-clause-stan
 returns-in-Ok-Short-2-clause-stands c = λ p h.
     let k = took c.args.self.now _ _ _ _ c.advance.new.self _ (taken.Short c.in-Ok-Short.field-0-0) (ap (λ (s : State). s.ended) c.self.view_is) c.as_slice.ensures (ap (λ (s : State). s.unread) c.self.view_is) c.in-Ok-Short.field-0-is c.in-Ok-Short.ensures.ok in
     stands_later c.args.self.now _ p c.args.head c.args.content c.advance.new.self c.in-Ok-Short.field-0-0 (record { max_body = ap (λ (s : State). s.max_body) c.self.view_is; to_head = ap (λ (s : State). s.to_head) c.self.view_is; ended = ap (λ (s : State). s.ended) c.self.view_is }) refl
-    (c.take_front.ensures ∙ ap (drop c.in-Ok-Short.field-0-0) (ap (λ (s : State). s.unread) c.self.view_is)) k h
+    (ap (λ (q : Queue). q.items) c.note_open_line.ensures ∙ c.take_front.ensures.items ∙ ap (drop c.in-Ok-Short.field-0-0) (ap (λ (s : State). s.unread) c.self.view_is)) k h
 
 pub returns-in-Ok-Bad-clause-answers : goal.returns-in-Ok-Bad-clause-answers
 returns-in-Ok-Bad-clause-answers c = λ p h.

@@ -1,0 +1,44 @@
+//! The first line of the table that matches.
+ghost use Rattle.std.specs.Prelude.{◌≡◌};
+ghost use Rattle.std.specs.Option.{option_copied};
+ghost use Rattle.hx_allow.specs.Matching.{numbered, verdict_by};
+ghost use Rattle.hx_allow.specs.Index.{verdict_among};
+
+use crate::Verdict;
+use crate::lines::Line;
+
+/// The line of a number, counted from 1.
+pub(crate) fn line_at(lines: &[Line], number: u16) -> Option<&Line>
+    ensures { option_copied result ≡ numbered lines.now number }
+{
+    if number == 0 {
+        return None;
+    }
+    lines.get(usize::from(number) - 1)
+}
+
+/// What a line of this number says where it decides.
+fn verdict_by(number: u16, line: &Line) -> Verdict
+    ensures { result ≡ verdict_by number line.now }
+{
+    if line.origin.is_some() {
+        Verdict::Allowed(number)
+    } else {
+        Verdict::DeniedBy(number)
+    }
+}
+
+/// What the first of the lines of these numbers says that a method and a path match. The method is one that a line may
+/// allow.
+pub(crate) fn verdict_among(lines: &[Line], numbers: &[u16], method: &[u8], path: &[u8]) -> Verdict
+    ensures { result ≡ verdict_among lines.now numbers.now method.now path.now }
+{
+    for number in numbers {
+        if let Some(line) = line_at(lines, *number) {
+            if line.matches(method, path) {
+                return verdict_by(*number, line);
+            }
+        }
+    }
+    Verdict::NoLine
+}

@@ -1,0 +1,15 @@
+-- How far a content in no coding has come.
+use Rattle.std.specs.Prelude.{ℕ, ◌-◌, ◌++◌, List, [], length}
+
+-- left: how many bytes may still come; content: those that came
+pub record PlainContent : Type 0 where
+  pub left : ℕ
+  pub content : List ℕ
+
+-- before the first byte
+abbrev pub plain_start : ℕ → PlainContent
+plain_start left = record { left = left; content = [] }
+
+-- a run of its bytes has come
+abbrev pub grown : PlainContent → List ℕ → PlainContent
+grown s run = record { left = s.left - length run; content = s.content ++ run }
