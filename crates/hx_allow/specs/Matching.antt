@@ -68,7 +68,7 @@ abbrev pub longest_origin : List Line → ℕ
 longest_origin lines = fold (λ n (line : Line). max n (length (unwrap_or line.origin []))) 0 lines
 
 -- what the line with this number says of the store; what the table doesn't say isn't kept
-abbrev pub caches_of : List Line → ℕ → Bool
+unfoldable pub caches_of : List Line → ℕ → Bool
 caches_of lines n = is_some_and (λ (line : Line). line.caches) (numbered lines n)
 
 -- a line of this number stands and has an origin

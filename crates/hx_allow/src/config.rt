@@ -101,6 +101,7 @@ impl Config {
 
     /// Whether the requests of a line, counted from 1, may be answered from the store, and their responses stored. It is
     /// false where the table has no such line, and true of a line that denies, whose requests reach no store.
+    #[tactic(auto, unfolding(crate::specs::Matching::caches_of))]
     pub fn caches(&self, line: u16) -> bool
         ensures { result ≡ caches_of self.now.lines line }
     {

@@ -8,7 +8,7 @@ use std::alloc::{AllocError, Global};
 use std::marker::Model;
 use std::mem;
 
-/// The content so far. Room is made for what has come, and for as much again, but for no more than may come.
+/// The content so far. Where it is full, room is made for as much again, but for no more than may come.
 #[derive(Drop)]
 pub(crate) struct Plain {
     /// So many bytes may still come.
@@ -45,11 +45,11 @@ impl Plain {
         ensures ok { OnOk result (self.new ≡ grown self.old run.now) }
         ensures err { OnErr result (self.new ≡ self.old) }
     {
-        let again = self.content.len().min(self.left as usize);
-        self.content.reserve_exact(run.len().max(again))?;
-        let Ok(()) = self.content.extend_from_slice(run) else {
-            unreachable!()
-        };
+        if self.content.capacity() - self.content.len() < run.len() {
+            let again = self.content.len().min(self.left as usize);
+            self.content.reserve_exact(run.len().max(again))?;
+        }
+        self.content.extend_from_slice(run)?;
         self.left -= run.len() as u64;
         Ok(())
     }
