@@ -8,7 +8,7 @@ use crate::targets::write_refused;
 use case_text::push_shown;
 use http::Method;
 use hx_allow::{Config, ConfigFault, Verdict};
-use hx_fields::Fields;
+use hx_fields::{Bytes, Fields};
 use hx_target::{Target, TargetFault, read_target};
 use std::alloc::{AllocError, Global};
 
@@ -159,7 +159,8 @@ fn target_of(
 ) -> Result<Result<Target, TargetFault>, AllocError> {
     let mut fields = Fields::new(alloc);
     fields.push(b"Host", host.as_bytes())?;
-    Ok(read_target(alloc, target.as_bytes(), &fields))
+    let target = Bytes::copy_of(alloc, target.as_bytes())?;
+    Ok(read_target(alloc, &target, &fields))
 }
 
 fn write_verdict_in(text: &mut String, config: &Config, line: Line<'_>) -> Result<(), Fault> {

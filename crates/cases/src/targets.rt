@@ -7,7 +7,7 @@ use crate::lines::{Fault, Line, spelled};
 use crate::parts::{only_line, word};
 use crate::words::target_word;
 use case_text::push_shown;
-use hx_fields::Fields;
+use hx_fields::{Bytes, Fields};
 use hx_target::{
     Target, TargetFault, has_bad_escape, has_dot_segment, names_a_dot_segment, read_target,
     table_path,
@@ -23,7 +23,7 @@ fn read(alloc: Global, line: Line<'_>) -> Result<Result<Target, TargetFault>, Fa
     for value in values {
         fields.push(b"hOST", spelled(alloc, line, value)?.as_slice())?;
     }
-    Ok(read_target(alloc, target.as_slice(), &fields))
+    Ok(read_target(alloc, &Bytes::from_vec(target), &fields))
 }
 
 fn write_target(text: &mut String, target: &Target) -> Result<(), AllocError> {

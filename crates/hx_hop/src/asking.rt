@@ -49,7 +49,7 @@ pub fn ask(alloc: Global, request: &Request) -> Result<Asked, TargetFault>
     // A target that is malformed is told so without memory.
     ensures memory_last { result ≡ Err TargetFault.OutOfMemory → is_malformed request.now.target ≡ false }
 {
-    match read_target(alloc, request.target.as_slice(), &request.fields) {
+    match read_target(alloc, &request.target, &request.fields) {
         Ok(target) => Ok(asked_of(alloc, request, target)?),
         Err(fault) => Err(fault),
     }

@@ -5,3 +5,4 @@ pub mod NormalPaths
 pub mod Cases
 pub mod JudgedCases
 pub mod Judgements
+pub mod Unchanged

@@ -38,4 +38,15 @@ impl Key {
             path_query: self.path_query.copy(alloc)?,
         })
     }
+
+    /// A key of the same bytes in buffers of its own, so that it keeps no head in memory. Its only error is want of memory.
+    pub fn detached(&self, alloc: Global) -> Result<Key, AllocError>
+        ensures { IfOk result (λ key. key ≡ self.now) }
+    {
+        Ok(Key {
+            host: Bytes::copy_of(alloc, self.host.as_slice())?,
+            port: self.port,
+            path_query: Bytes::copy_of(alloc, self.path_query.as_slice())?,
+        })
+    }
 }

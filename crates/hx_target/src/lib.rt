@@ -13,6 +13,7 @@ mod keys;
 mod laws;
 mod paths;
 mod reading;
+mod sharing;
 mod targets;
 
 pub use escapes::{has_bad_escape, table_path};

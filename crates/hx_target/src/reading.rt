@@ -9,8 +9,9 @@ ghost use Rattle.http_uri.specs.Uri.{Spells, uri_scheme, uri_authority};
 ghost use Rattle.hx_fields.specs.Lines.{values_of};
 ghost use Rattle.hx_target.specs.Judgement.{is_bad_byte, is_malformed, is_http, has_other_scheme, host_value, naming, has_userinfo, path_query_of, question_of, first_fault, judged_of, Judged};
 
-use crate::hosts::{has_valid_host, host_part, index_after_last, lowercase, port_part};
-use crate::{Key, Target, TargetFault, has_bad_escape, names_a_dot_segment, table_path};
+use crate::hosts::{has_valid_host, host_part, index_after_last, port_part};
+use crate::sharing::{compared_path, copy_of, host_line, lower_host};
+use crate::{Key, Target, TargetFault, has_bad_escape, names_a_dot_segment};
 use http_uri::{PathAndQuery, Uri, UriError};
 use hx_fields::{Bytes, Fields};
 use std::alloc::{AllocError, Global};
@@ -55,14 +56,14 @@ fn has_other_scheme(uri: &Uri) -> bool
 }
 
 /// The value of the only Host line, where its host is valid.
-fn host_value(fields: &Fields) -> Option<&[u8]>
+fn host_value(fields: &Fields) -> Option<&Bytes>
     ensures { option_copied result ≡ host_value (values_of fields.now (codes "Host")) }
 {
     if fields.count(b"Host") != 1 {
         return None;
     }
-    match fields.value(b"Host") {
-        Some(value) if has_valid_host(value) => Some(value),
+    match host_line(fields) {
+        Some(value) if has_valid_host(value.as_slice()) => Some(value),
         _ => None,
     }
 }
@@ -100,12 +101,16 @@ fn has_userinfo(uri: &Uri) -> bool
 }
 
 /// Path and query as they came, an empty path as `/`.
-fn path_query(alloc: Global, kept: &PathAndQuery) -> Result<Bytes, AllocError>
+fn path_query(
+    alloc: Global,
+    kept: &PathAndQuery,
+    target: &Bytes,
+) -> Result<Bytes, AllocError>
     ensures { IfOk result (λ text. text ≡ path_query_of kept.now) }
 {
     let text = kept.as_str().as_bytes();
     if text.first() == Some(&b'/') {
-        return Bytes::copy_of(alloc, text);
+        return copy_of(alloc, text, target);
     }
     let mut found = Vec::new(alloc);
     found.push(b'/')?;
@@ -117,7 +122,7 @@ fn path_query(alloc: Global, kept: &PathAndQuery) -> Result<Bytes, AllocError>
 #[tactic(auto, unfolding(crate::specs::Judgement::judged_of))]
 fn judge_parts(
     alloc: Global,
-    target: &[u8],
+    target: &Bytes,
     uri: &Uri,
     kept: &PathAndQuery,
     fields: &Fields,
@@ -125,7 +130,7 @@ fn judge_parts(
     ensures judged { ¬ (result ≡ Err TargetFault.OutOfMemory) → result ≡ judged_of (record { target = target.now; scheme = uri_scheme uri.now; authority = uri_authority uri.now; kept = kept.now; hosts = values_of fields.now (codes "Host") }) }
     ensures memory_last { result ≡ Err TargetFault.OutOfMemory → first_fault (record { target = target.now; scheme = uri_scheme uri.now; authority = uri_authority uri.now; kept = kept.now; hosts = values_of fields.now (codes "Host") }) ≡ None }
 {
-    if !has_read_form(target, uri) {
+    if !has_read_form(target.as_slice(), uri) {
         return Err(TargetFault::Form);
     }
     if has_other_scheme(uri) {
@@ -134,11 +139,11 @@ fn judge_parts(
     let Some(value) = host_value(fields) else {
         return Err(TargetFault::Host);
     };
-    let named = naming(uri, value);
+    let named = naming(uri, value.as_slice());
     if !has_valid_host(named) {
         return Err(TargetFault::Host);
     }
-    let (Some(_), Some(port)) = (port_part(value), port_part(named)) else {
+    let (Some(_), Some(port)) = (port_part(value.as_slice()), port_part(named)) else {
         return Err(TargetFault::Port);
     };
     if has_userinfo(uri) {
@@ -156,16 +161,16 @@ fn judge_parts(
     }
     Ok(Target {
         key: Key {
-            host: lowercase(alloc, host_part(named))?,
+            host: lower_host(alloc, host_part(named), value)?,
             port,
-            path_query: path_query(alloc, kept)?,
+            path_query: path_query(alloc, kept, target)?,
         },
-        table_path: table_path(alloc, path)?,
+        table_path: compared_path(alloc, path, target)?,
     })
 }
 
 /// What a target that is cut asks for, or its least fault.
-fn judge(alloc: Global, target: &[u8], uri: &Uri, fields: &Fields) -> Result<Target, TargetFault>
+fn judge(alloc: Global, target: &Bytes, uri: &Uri, fields: &Fields) -> Result<Target, TargetFault>
     requires cut { Spells target.now uri.now }
     ensures judged { ¬ (result ≡ Err TargetFault.OutOfMemory) → result ≡ judged_of (question_of target.now uri.now (values_of fields.now (codes "Host"))) }
     ensures memory_last { result ≡ Err TargetFault.OutOfMemory → first_fault (question_of target.now uri.now (values_of fields.now (codes "Host"))) ≡ None }
@@ -178,16 +183,17 @@ fn judge(alloc: Global, target: &[u8], uri: &Uri, fields: &Fields) -> Result<Tar
 }
 
 /// Reads a request's target and its Host lines (RFC 9112, section 3.2): what it asks for, or the least of
-/// the faults that stand.
-pub fn read_target(alloc: Global, target: &[u8], fields: &Fields) -> Result<Target, TargetFault>
+/// the faults that stand. Parts that are kept as they came share the buffers that the target and the Host line share.
+pub fn read_target(alloc: Global, target: &Bytes, fields: &Fields) -> Result<Target, TargetFault>
     ensures judged { ¬ (result ≡ Err TargetFault.OutOfMemory) → Judged target.now (values_of fields.now (codes "Host")) result }
     // A target that is malformed is told so without memory.
     ensures memory_last { result ≡ Err TargetFault.OutOfMemory → is_malformed target.now ≡ false }
 {
-    if is_malformed(target) {
+    let text = target.as_slice();
+    if is_malformed(text) {
         return Err(TargetFault::Form);
     }
-    match Uri::from_bytes(alloc, target) {
+    match Uri::from_bytes(alloc, text) {
         Ok(uri) => judge(alloc, target, &uri, fields),
         Err(UriError::Invalid(_)) => Err(TargetFault::Form),
         Err(UriError::OutOfMemory) => Err(TargetFault::OutOfMemory),

@@ -40,7 +40,7 @@ impl NewEntry {
         let NewEntry { serial, nominated } = self;
         let Answered { status, mut fields } = head;
         let exchange = answer.exchange;
-        let key = exchange.asked.target.key.copy(alloc)?;
+        let key = exchange.asked.target.key.detached(alloc)?;
         let content = answer.response.content.copy(alloc)?;
         let times = Times::of(&fields, exchange.request_time, answer.response_time);
         fields.remove_named(b"Age");
