@@ -101,11 +101,7 @@ fn has_userinfo(uri: &Uri) -> bool
 }
 
 /// Path and query as they came, an empty path as `/`.
-fn path_query(
-    alloc: Global,
-    kept: &PathAndQuery,
-    target: &Bytes,
-) -> Result<Bytes, AllocError>
+fn path_query(alloc: Global, kept: &PathAndQuery, target: &Bytes) -> Result<Bytes, AllocError>
     ensures { IfOk result (λ text. text ≡ path_query_of kept.now) }
 {
     let text = kept.as_str().as_bytes();
