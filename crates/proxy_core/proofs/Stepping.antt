@@ -30,6 +30,8 @@ use Rattle.hx_reuse.specs.declared.decision.Decision.TheVariants as decision
 use Rattle.proxy_core.specs.Validating.{condition_at}
 use Rattle.proxy_core.specs.State.{State, Steps, after, taken, entries_after, left_open, invalidated_by, next_after, gone_out, sent_out, woken_out, rule_of, named_by}
 use Rattle.proxy_core.specs.Pending.{stored_by, reply_of, finished, IsPlain, Leaves}
+use Rattle.proxy_core.specs.Waking.{IsWoken}
+use Rattle.proxy_core.specs.declared.waking.AfterWake.TheVariants.{Ends}
 use Rattle.proxy_core.proofs.Leaving.{fail_leaves, wake_leaves}
 
 taken_rest : (s : ℕ) (rest : List ℕ) (es : List Stored) → without rest (without (s ∷ []) es) ≡ without (s ∷ rest) es
@@ -128,6 +130,16 @@ module _ (s : State) (now id : ℕ) (early : too_late now ≡ None) where
             (wake_leaves s.limit s.entries x now id pending plain ∙ ap (λ (y : Option Exchange). entries_after s.limit s.entries y event (reply_of pending)) (sym here))
             ∙ ap (λ (q : Outcome). after s event q) (sym is));
       }
+
+  -- by what was made ready for it
+  pub wake_ends : (x : Exchange) (pending : PendingReply) (o : Outcome) (t : State) → find_exchange id s.exchanges ≡ Some x → not_ready x.stage ≡ None
+      → IsWoken s.table s.entries now x (decision_of (caches_of s.table.lines x.line) s.entries x.asked now) (Ends pending)
+      → o ≡ reply_of pending → t ≡ finished s id pending None → Steps s (Wake now id) o t
+  wake_ends x pending o t here stage woken_is is t_is = by_decision (decision_of (caches_of s.table.lines x.line) s.entries x.asked now) refl woken_is
+    where
+      by_decision : (d : Decision) → decision_of (caches_of s.table.lines x.line) s.entries x.asked now ≡ d → IsWoken s.table s.entries now x d (Ends pending) → Steps s (Wake now id) o t
+      by_decision (decision.Hit serial) d w = wake_done x pending o t here stage (w.0 ∙ ap (λ (d : Decision). woken s.table s.entries now x d) (sym d)) w.1 is t_is
+      by_decision (decision.Forward rule against) d w = absurd w
 
   -- or goes forward
   pub wake_out : (x : Exchange) (rule : ReuseRule) (against : Option ℕ) (o : Outcome) (t : State) → find_exchange id s.exchanges ≡ Some x → not_ready x.stage ≡ None
