@@ -175,9 +175,9 @@ def try_some(rt, crate, mutants, kept):
     return [judged(it, at + 1, sets[at + 1][1], said) for at, it in enumerate(mutants)]
 
 
-def try_crate(rt, crate, at_once):
-    """Tries all mutants of the crate's definitions, and prints a line for each."""
-    mutants, tried, began = mutants_of(rt, crate), [], time.monotonic()
+def try_crate(rt, crate, names, at_once):
+    """Tries the mutants of the crate's definitions that have these names, or all, and prints a line for each."""
+    mutants, tried, began = [it for it in mutants_of(rt, crate) if not names or it.name in names], [], time.monotonic()
     good = [it for it in mutants if not it.fault]
     tried += [Tried(it, [], it.fault) for it in mutants if it.fault]
     with tempfile.TemporaryDirectory(prefix="definitions-kept-") as kept:
@@ -216,9 +216,11 @@ def write_page(rt, page, tried):
         it.write(before + BEGIN + "\n\n" + "\n".join([head, *rows.values()]) + "\n\n" + END + after)
 
 
-def main(rt, crates, page):
-    tried = {it.name: try_crate(rt, it, AT_ONCE) for it in crates}
-    write_page(rt, page, tried)
+def main(rt, crates, names, page):
+    """names: of mutants, where not all of these crates are to be tried; then the page stays as it is."""
+    tried = {it.name: try_crate(rt, it, names, AT_ONCE) for it in crates}
+    if not names:
+        write_page(rt, page, tried)
     every = [it for of_crate in tried.values() for it in of_crate]
     print(counted(every))
     wrong = [f"{it.mutant.crate.name}/{it.mutant.name}" for it in every if not it.is_well()]
