@@ -9,8 +9,8 @@ use Rattle.hx_fields.specs.Names.{is_same_name}
 use Rattle.hx_hop.specs.declared.validators.Conditions.{Conditions}
 use Rattle.hx_hop.specs.Asking.{kept_fields}
 use Rattle.hx_hop.specs.Forwarding.{client_lines, condition_lines, forwarded_of, host_text, is_condition, line, opt_line, via_text}
-use Rattle.hx_hop.specs.Meaning.{ClosesWhereTold, KeepsTheStatus, LeavesOutTheDefaultPort, SendsNoExpect, SendsNoHopField, SendsWhatWasAsked, StaysOpen, TellsTheVersion, WritesOtherPorts}
-use Rattle.hx_hop.specs.Stripping.{connection_names, hop_names, is_hop_name, stripped}
+use Rattle.hx_hop.specs.Meaning.{ClosesWhereTold, KeepsTheStatus, LeavesOutTheDefaultPort, SendsNoExpect, SendsNoHopField, SendsNoLength, SendsWhatWasAsked, StaysOpen, TellsTheVersion, WritesOtherPorts}
+use Rattle.hx_hop.specs.Stripping.{connection_names, hop_names, is_hop_line, is_hop_name, stripped}
 use Rattle.hx_hop.proofs.Lines.{is_among-same, list_any_fewer, list_any_none_left, not_true}
 use Rattle.hx_hop.proofs.Stripped.{takes_out_theirs}
 
@@ -68,6 +68,13 @@ sends_no_expect request target name conditions =
     let out = list_any_none_left (λ f. not (q f)) q (λ f e. not_true _ e) (without_named (stripped request.fields) (codes "Host")) in
     sends_none q (line (codes "Host") (host_text target.key)) (line (codes "Via") (via_text request.minor name)) (client_lines (is_some conditions) (kept_fields request.fields)) (condition_lines conditions)
     refl (client_none q (is_some conditions) request.fields out) (conditions_none q conditions (λ v. refl) (λ v. refl)) refl
+
+pub sends_no_length : SendsNoLength
+sends_no_length request target name conditions none =
+    let q = is_named (codes "Content-Length") in
+    let out = list_any_fewer (λ f. not (is_hop_line request.fields f)) q request.fields none in
+    sends_none q (line (codes "Host") (host_text target.key)) (line (codes "Via") (via_text request.minor name)) (client_lines (is_some conditions) (kept_fields request.fields)) (condition_lines conditions)
+    refl (client_none q (is_some conditions) request.fields (kept_none q request.fields out)) (conditions_none q conditions (λ v. refl) (λ v. refl)) refl
 
 pub sends_what_was_asked : SendsWhatWasAsked
 unfolding forwarded_of

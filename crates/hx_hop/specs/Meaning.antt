@@ -61,6 +61,11 @@ abbrev pub SendsNoExpect : Type 0
 SendsNoExpect = (request : Request) (target : Target) (name : List ℕ) (conditions : Option Conditions) →
     has (forwarded_lines (asked_of request target) name conditions) (codes "Expect") ≡ false
 
+-- nor a length of the client's, which the reader has taken out, so the writer's stands alone (RFC 9112, section 6.3)
+abbrev pub SendsNoLength : Type 0
+SendsNoLength = (request : Request) (target : Target) (name : List ℕ) (conditions : Option Conditions) →
+    has request.fields (codes "Content-Length") ≡ false → has (forwarded_lines (asked_of request target) name conditions) (codes "Content-Length") ≡ false
+
 -- method and content go forward as they came, with the path and query of the target, in the proxy's own version
 -- (RFC 9110, sections 2.5 and 7.6; RFC 9112, section 3.2.1)
 abbrev pub SendsWhatWasAsked : Type 0

@@ -12,7 +12,7 @@ ghost use Rattle.hx_hop.specs.Examples.{absolute_request, absolute_target, asked
 ghost use Rattle.hx_hop.specs.Forwarding.{line, host_text, client_lines, via_text, forwarded_lines, forwarded_of};
 ghost use Rattle.hx_hop.specs.Moments.{date_text_of};
 ghost use Rattle.hx_hop.specs.Stripping.{connection_names, is_hop_name, lists_cache_field, stripped};
-ghost use Rattle.hx_hop.specs.Meaning.{TakesOutTheirs, KeepsTheOthers, StripsAtOnce, TellsTheMoment, HasOneDate, DatesOnce, SendsOneHost, EndsWithVia, SendsNoHopField, SendsNoExpect, SendsWhatWasAsked, LeavesOutTheDefaultPort, WritesOtherPorts, TellsTheVersion, ClosesWhereTold, StaysOpen, KeepsTheStatus};
+ghost use Rattle.hx_hop.specs.Meaning.{TakesOutTheirs, KeepsTheOthers, StripsAtOnce, TellsTheMoment, HasOneDate, DatesOnce, SendsOneHost, EndsWithVia, SendsNoHopField, SendsNoExpect, SendsNoLength, SendsWhatWasAsked, LeavesOutTheDefaultPort, WritesOtherPorts, TellsTheVersion, ClosesWhereTold, StaysOpen, KeepsTheStatus};
 
 use hx_target::a_target_is_judged_in_one_way;
 
@@ -95,10 +95,11 @@ pub fn moments_are_told()
     ensures last { date_text_of 253402300799 ≡ codes "Fri, 31 Dec 9999 23:59:59 GMT" }
 {}
 
-/// What concerns the client's connection doesn't go forward, nor does Expect; what was asked does.
+/// What concerns the client's connection doesn't go forward, nor do Expect and the client's length; what was asked does.
 pub fn only_what_was_asked_goes_forward()
     ensures hop { SendsNoHopField }
     ensures expect { SendsNoExpect }
+    ensures length { SendsNoLength }
     ensures asked { SendsWhatWasAsked }
 {}
 
