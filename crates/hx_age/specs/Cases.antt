@@ -19,3 +19,7 @@ expiring value = line (codes "Date") (codes "Thu, 01 Jan 1970 00:01:41 GMT") ∷
 abbrev pub moments : ℕ → ℕ → ℕ → ℕ → Times
 moments date age_value request_time response_time =
     record { date = date; age_value = age_value; request_time = request_time; response_time = response_time }
+
+-- a message with two lines of Date, both of the beginning of 1970
+abbrev pub dated_twice : List Field
+dated_twice = line (codes "Date") (codes "Thu, 01 Jan 1970 00:00:01 GMT") ∷ line (codes "Date") (codes "Thu, 01 Jan 1970 00:00:01 GMT") ∷ []

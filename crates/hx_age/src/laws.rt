@@ -1,9 +1,12 @@
 //! What the definitions say of worked cases, computed.
 
-ghost use Rattle.std.specs.Prelude.{◌≡◌, ◌-◌, ◌^◌, true, false, ◌++◌, codes, pos, negsuc};
+ghost use Rattle.std.specs.Prelude.{◌≡◌, ℕ, ◌-◌, ◌^◌, ◌≤◌, true, false, List, [], ◌++◌, codes, pos, negsuc, None, Some};
+ghost use Rattle.hx_fields.specs.declared.field_line.Field.{Field};
+ghost use Rattle.hx_age.specs.declared.moments.Times.{Times as Moments};
+ghost use Rattle.hx_age.specs.Dates.{date_of};
 ghost use Rattle.hx_age.specs.Age.{age_of, apparent_age, corrected_age, is_fresh_of, staleness_of, times_of, ttl_of};
 ghost use Rattle.hx_age.specs.Lifetime.{explicit_of, lifetime_of};
-ghost use Rattle.hx_age.specs.Cases.{aged, controlled, expiring, moments};
+ghost use Rattle.hx_age.specs.Cases.{aged, controlled, dated_twice, expiring, moments};
 
 /// Made at 100, asked for at 105, received at 110 with an Age of 3, looked at at 120.
 pub fn age_sums()
@@ -55,4 +58,23 @@ pub fn lifetime_ends_by_expires()
     ensures no_date { lifetime_of (expiring (codes "0")) ≡ explicit_of 0 }
     ensures max_age_first { lifetime_of (expiring (codes "Thu, 01 Jan 1970 00:02:41 GMT") ++ controlled (codes "max-age=5"))
         ≡ explicit_of 5 }
+{}
+
+/// The moments of a message without Date and Age, with an Age that is no number, with two, and with two Dates, which are none.
+#[tactic(auto, unfolding(httpdate::proofs::OnLiterals::httpdate_on_literals))]
+pub fn moments_are_read()
+    ensures none { times_of [] 5 7 ≡ moments 0 0 5 7 }
+    ensures bad { times_of (aged (codes "x")) 5 7 ≡ moments 0 0 5 7 }
+    ensures negative { times_of (aged (codes "-1")) 5 7 ≡ moments 0 0 5 7 }
+    ensures first { times_of (aged (codes "3, 4")) 5 7 ≡ moments 0 3 5 7 }
+    ensures two_dates { date_of dated_twice ≡ None }
+    ensures date { date_of (aged (codes "3")) ≡ Some 0 }
+{}
+
+/// No age and no lifetime is above 2147483648 seconds, also by an Expires of a far year (RFC 9111, section 1.2.2).
+#[tactic(auto, unfolding(httpdate::proofs::OnLiterals::httpdate_on_literals))]
+pub fn nothing_is_above_the_cap()
+    ensures age { (times : Moments) (now : ℕ) → age_of times now ≤ 2147483648 }
+    ensures far { lifetime_of (expiring (codes "Fri, 31 Dec 9999 23:59:59 GMT")) ≡ record { explicit = true; seconds = 2147483648 } }
+    ensures lifetime { (fields : List Field) → (lifetime_of fields).seconds ≤ 2147483648 }
 {}

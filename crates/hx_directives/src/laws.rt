@@ -1,11 +1,14 @@
 //! What the definitions say of the standard's cases and of worked ones, computed.
 
-ghost use Rattle.std.specs.Prelude.{◌≡◌, ℕ, true, false, List, [], ◌∷◌, codes, Some};
+ghost use Rattle.std.specs.Prelude.{◌≡◌, ℕ, true, false, List, [], ◌∷◌, codes, Some, None};
 ghost use Rattle.hx_fields.specs.declared.field_line.Field.{Field};
-ghost use Rattle.hx_directives.specs.Occurrences.{occurrences_of};
+ghost use Rattle.hx_directives.specs.Occurrences.{directive_of, name_of, occurrences_of};
+ghost use Rattle.hx_directives.specs.declared.names.Directive.{Directive as Read};
+ghost use Rattle.hx_directives.specs.declared.names.Directive.TheVariants as directive;
+ghost use Rattle.hx_directives.specs.declared.arguments.Argument.TheVariants as argument;
 ghost use Rattle.hx_directives.specs.Answers.{has, seconds, first_valid, max_stale};
-ghost use Rattle.hx_directives.specs.Arguments.{unquoted};
-ghost use Rattle.hx_directives.specs.Seconds.{seconds_of};
+ghost use Rattle.hx_directives.specs.Arguments.{argument_of, unquoted};
+ghost use Rattle.hx_directives.specs.Seconds.{capped, seconds_of};
 ghost use Rattle.hx_directives.specs.Cases.{control, says, quoted};
 
 use crate::answers::{MaxStale, Seconds};
@@ -56,4 +59,74 @@ pub fn least_reuse_rule()
 /// Every text comes back from its quoted string, each of whose bytes stands after a backslash.
 pub fn quoting_is_undone()
     ensures { (text : List ℕ) → unquoted (quoted text) ≡ text }
+{}
+
+/// Each directive is read by its own name, so no two have one.
+pub fn each_directive_is_read_by_its_name()
+    ensures { (d : Read) → directive_of (name_of d) ≡ Some d }
+{}
+
+/// The names, in any case (RFC 9111, sections 5.2.1 and 5.2.2; RFC 5861, section 4), and one that no rule reads.
+pub fn names_of_directives()
+    ensures max_age { directive_of (codes "max-age") ≡ Some directive.MaxAge }
+    ensures s_maxage { directive_of (codes "s-maxage") ≡ Some directive.SMaxage }
+    ensures max_stale { directive_of (codes "max-stale") ≡ Some directive.MaxStale }
+    ensures min_fresh { directive_of (codes "min-fresh") ≡ Some directive.MinFresh }
+    ensures stale_if_error { directive_of (codes "stale-if-error") ≡ Some directive.StaleIfError }
+    ensures no_cache { directive_of (codes "no-cache") ≡ Some directive.NoCache }
+    ensures no_store { directive_of (codes "no-store") ≡ Some directive.NoStore }
+    ensures only_if_cached { directive_of (codes "only-if-cached") ≡ Some directive.OnlyIfCached }
+    ensures must_revalidate { directive_of (codes "must-revalidate") ≡ Some directive.MustRevalidate }
+    ensures proxy_revalidate { directive_of (codes "proxy-revalidate") ≡ Some directive.ProxyRevalidate }
+    ensures must_understand { directive_of (codes "must-understand") ≡ Some directive.MustUnderstand }
+    ensures private { directive_of (codes "private") ≡ Some directive.Private }
+    ensures public { directive_of (codes "public") ≡ Some directive.Public }
+    ensures upper_case { directive_of (codes "Max-AGE") ≡ Some directive.MaxAge }
+    ensures another { directive_of (codes "no-transform") ≡ None }
+    ensures a_part { directive_of (codes "max") ≡ None }
+{}
+
+/// What stands behind the first equals sign is the argument, without blanks; there may be none, or one that says no seconds.
+pub fn arguments_are_read()
+    ensures none { argument_of None ≡ argument.Absent }
+    ensures seconds { argument_of (Some (codes "60")) ≡ argument.Delta 60 }
+    ensures empty { argument_of (Some []) ≡ argument.Other }
+    ensures signed { argument_of (Some (codes "+60")) ≡ argument.Other }
+    ensures most { argument_of (Some (codes "2147483648")) ≡ argument.Delta 2147483648 }
+    ensures above { argument_of (Some (codes "2147483649")) ≡ argument.Delta 2147483648 }
+    ensures blanks { seconds (says (codes "max-age = 60")) Directive.MaxAge ≡ Seconds.Value 60 }
+    ensures second_equals { seconds (says (codes "max-age=6=0")) Directive.MaxAge ≡ Seconds.Bad }
+    ensures missing { seconds (says (codes "max-age")) Directive.MaxAge ≡ Seconds.Bad }
+    ensures absent { seconds (says (codes "public")) Directive.MaxAge ≡ Seconds.Absent }
+    ensures second_directive { has (says (codes "public, no-store")) Directive.NoStore ≡ true }
+    ensures another { has (says (codes "public")) Directive.NoStore ≡ false }
+{}
+
+/// Of a request's directive the first valid seconds count, and no max-stale takes no stale response.
+pub fn the_first_valid_seconds_count()
+    ensures first { first_valid (says (codes "max-age=x, max-age=5, max-age=6")) Directive.MaxAge ≡ Some 5 }
+    ensures without { first_valid (says (codes "max-age, min-fresh=5")) Directive.MaxAge ≡ None }
+    ensures another { first_valid (says (codes "max-age=1, min-fresh=5")) Directive.MinFresh ≡ Some 5 }
+    ensures no_max_stale { max_stale (says (codes "max-age=1")) ≡ MaxStale.Absent }
+    ensures any { max_stale (says (codes "max-stale")) ≡ MaxStale.Any }
+    ensures first_limit { max_stale (says (codes "max-stale=1, max-stale=2")) ≡ MaxStale.UpTo 1 }
+{}
+
+/// A quoted string ends with the text (RFC 9110, section 5.6.4); a text that only begins as one stands as it is.
+pub fn quoted_strings_are_whole()
+    ensures whole { unquoted (codes "\"60\"") ≡ codes "60" }
+    ensures pair { unquoted (codes "\"6\\0\"") ≡ codes "60" }
+    ensures open { unquoted (codes "\"60") ≡ codes "\"60" }
+    ensures closed_early { unquoted (codes "\"6\"0") ≡ codes "\"6\"0" }
+    ensures bare { unquoted (codes "60") ≡ codes "60" }
+{}
+
+/// So many seconds are counted at most, and fewer as they are (RFC 9111, section 1.2.2).
+pub fn seconds_have_a_cap()
+    ensures below { capped 2147483647 ≡ 2147483647 }
+    ensures most { capped 2147483648 ≡ 2147483648 }
+    ensures above { capped 2147483649 ≡ 2147483648 }
+    ensures digits { seconds_of (codes "0123456789") ≡ Some 123456789 }
+    ensures none { seconds_of [] ≡ None }
+    ensures not_digits { seconds_of (codes "1:") ≡ None }
 {}

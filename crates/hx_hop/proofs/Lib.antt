@@ -3,3 +3,4 @@ pub mod Moments
 pub mod Stripped
 pub mod Dating
 pub mod Forwards
+pub mod SentLines

@@ -1,5 +1,5 @@
 -- Requests and responses of the worked cases.
-use Rattle.std.specs.Prelude.{ℕ, List, [], ◌∷◌, codes, Some, None, true, false}
+use Rattle.std.specs.Prelude.{ℕ, List, [], ◌∷◌, codes, Option, Some, None, true, false}
 use Rattle.hx_fields.specs.declared.field_line.Field.{Field}
 use Rattle.hx_framing.specs.declared.requests.Request.{Request}
 use Rattle.hx_framing.specs.declared.responses.Response.{Response}
@@ -60,3 +60,17 @@ mixed_fields =
     line (codes "cONNECTION") (codes "close, x-a ,, \"b, c\"") ∷ line (codes "X-A") (codes "1") ∷ line (codes "pROXY-aUTHENTICATE") (codes "Basic")
     ∷ line (codes "Proxy-Authenticat") (codes "2") ∷ line (codes "Connection") (codes "ETag") ∷ line (codes "ETag") (codes "\"v1\"")
     ∷ line (codes "Keep-Alive") (codes "5") ∷ line (codes "B") (codes "3") ∷ []
+
+-- a request with one line more than the first
+abbrev pub asked_with : List ℕ → List ℕ → Asked
+asked_with name value = record first_asked { fields = line name value ∷ [] }
+
+abbrev pub asked_of_content : Option (List ℕ) → Asked
+asked_of_content content = record first_asked { content = content }
+
+-- a Connection line that names this
+abbrev pub connected : List ℕ → List Field
+connected member = line (codes "Connection") member ∷ []
+
+abbrev pub both_conditions : Conditions
+both_conditions = record { etag = Some (codes "\"v1\""); modified = Some (codes "Thu, 01 Jan 1970 00:00:05 GMT") }

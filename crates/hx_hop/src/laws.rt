@@ -6,12 +6,13 @@ ghost use Rattle.hx_framing.specs.Text.{request_text};
 ghost use Rattle.hx_target.specs.declared.faults.TargetFault.{TargetFault};
 ghost use Rattle.hx_hop.specs.declared.asked_for.Asked.{Asked as AskedFor};
 ghost use Rattle.hx_hop.specs.Answering.{answered_of, dated_of};
+ghost use Rattle.hx_hop.specs.Bypass.{asks_for_range, has_content, has_precondition};
 ghost use Rattle.hx_hop.specs.Asking.{IsAsked, asked_of, closes, kept_fields};
-ghost use Rattle.hx_hop.specs.Examples.{absolute_request, absolute_target, asked_to_port, date_line, first_asked, first_conditions, mixed_fields, response_of};
-ghost use Rattle.hx_hop.specs.Forwarding.{line, host_text, client_lines, via_text, forwarded_of};
+ghost use Rattle.hx_hop.specs.Examples.{absolute_request, absolute_target, asked_of_content, asked_to_port, asked_with, both_conditions, connected, date_line, first_asked, first_conditions, mixed_fields, response_of};
+ghost use Rattle.hx_hop.specs.Forwarding.{line, host_text, client_lines, via_text, forwarded_lines, forwarded_of};
 ghost use Rattle.hx_hop.specs.Moments.{date_text_of};
-ghost use Rattle.hx_hop.specs.Stripping.{connection_names, lists_cache_field, stripped};
-ghost use Rattle.hx_hop.specs.Meaning.{TakesOutTheirs, KeepsTheOthers, StripsAtOnce, TellsTheMoment, HasOneDate, DatesOnce, SendsOneHost, EndsWithVia};
+ghost use Rattle.hx_hop.specs.Stripping.{connection_names, is_hop_name, lists_cache_field, stripped};
+ghost use Rattle.hx_hop.specs.Meaning.{TakesOutTheirs, KeepsTheOthers, StripsAtOnce, TellsTheMoment, HasOneDate, DatesOnce, SendsOneHost, EndsWithVia, SendsNoHopField, SendsNoExpect, SendsNoLength, SendsWhatWasAsked, LeavesOutTheDefaultPort, WritesOtherPorts, TellsTheVersion, ClosesWhereTold, StaysOpen, KeepsTheStatus};
 
 use hx_target::a_target_is_judged_in_one_way;
 
@@ -92,4 +93,120 @@ pub fn moments_are_told()
     ensures standard { date_text_of 784111777 ≡ codes "Sun, 06 Nov 1994 08:49:37 GMT" }
     ensures leap_day { date_text_of 951782400 ≡ codes "Tue, 29 Feb 2000 00:00:00 GMT" }
     ensures last { date_text_of 253402300799 ≡ codes "Fri, 31 Dec 9999 23:59:59 GMT" }
+{}
+
+/// What concerns the client's connection doesn't go forward, nor do Expect and the client's length; what was asked does.
+pub fn only_what_was_asked_goes_forward()
+    ensures hop { SendsNoHopField }
+    ensures expect { SendsNoExpect }
+    ensures length { SendsNoLength }
+    ensures asked { SendsWhatWasAsked }
+{}
+
+/// Host has the port unless it is 80, and Via the version that was received.
+pub fn host_and_via_tell_port_and_version()
+    ensures default_port { LeavesOutTheDefaultPort }
+    ensures other_port { WritesOtherPorts }
+    ensures version { TellsTheVersion }
+{}
+
+/// A client's connection closes where the client is of HTTP/1.0 or says close, and not else.
+pub fn connections_close_where_told()
+    ensures closes { ClosesWhereTold }
+    ensures stays { StaysOpen }
+{}
+
+/// An answer keeps its status.
+pub fn an_answer_keeps_its_status()
+    ensures { KeepsTheStatus }
+{}
+
+/// The fields of one connection (RFC 9110, section 7.6.1), and the four that this proxy adds to them.
+pub fn fields_of_one_connection()
+    ensures connection { is_hop_name (codes "Connection") ≡ true }
+    ensures proxy_connection { is_hop_name (codes "Proxy-Connection") ≡ true }
+    ensures keep_alive { is_hop_name (codes "Keep-Alive") ≡ true }
+    ensures te { is_hop_name (codes "TE") ≡ true }
+    ensures transfer_encoding { is_hop_name (codes "Transfer-Encoding") ≡ true }
+    ensures upgrade { is_hop_name (codes "Upgrade") ≡ true }
+    ensures trailer { is_hop_name (codes "Trailer") ≡ true }
+    ensures proxy_authenticate { is_hop_name (codes "Proxy-Authenticate") ≡ true }
+    ensures proxy_authentication_info { is_hop_name (codes "Proxy-Authentication-Info") ≡ true }
+    ensures proxy_authorization { is_hop_name (codes "Proxy-Authorization") ≡ true }
+{}
+
+/// Other fields go on, among them those of the origin's own authentication, and what a cache reads.
+pub fn fields_that_go_on()
+    ensures via { is_hop_name (codes "Via") ≡ false }
+    ensures host { is_hop_name (codes "Host") ≡ false }
+    ensures authorization { is_hop_name (codes "Authorization") ≡ false }
+    ensures www_authenticate { is_hop_name (codes "WWW-Authenticate") ≡ false }
+    ensures authentication_info { is_hop_name (codes "Authentication-Info") ≡ false }
+    ensures cache_control { is_hop_name (codes "Cache-Control") ≡ false }
+    ensures set_cookie { is_hop_name (codes "Set-Cookie") ≡ false }
+    ensures cookie { is_hop_name (codes "Cookie") ≡ false }
+    ensures content_length { is_hop_name (codes "Content-Length") ≡ false }
+    ensures content_type { is_hop_name (codes "Content-Type") ≡ false }
+    ensures date { is_hop_name (codes "Date") ≡ false }
+    ensures age { is_hop_name (codes "Age") ≡ false }
+    ensures etag { is_hop_name (codes "ETag") ≡ false }
+    ensures expires { is_hop_name (codes "Expires") ≡ false }
+    ensures last_modified { is_hop_name (codes "Last-Modified") ≡ false }
+    ensures vary { is_hop_name (codes "Vary") ≡ false }
+    ensures location { is_hop_name (codes "Location") ≡ false }
+    ensures warning { is_hop_name (codes "Warning") ≡ false }
+    ensures accept { is_hop_name (codes "Accept") ≡ false }
+    ensures range { is_hop_name (codes "Range") ≡ false }
+    ensures expect { is_hop_name (codes "Expect") ≡ false }
+{}
+
+/// The fields by which a cache decides (RFC 9111, sections 3 and 4), and others, named by Connection.
+pub fn cache_fields_are_seen_in_connection()
+    ensures age { lists_cache_field (connected (codes "Age")) ≡ true }
+    ensures cache_control { lists_cache_field (connected (codes "Cache-Control")) ≡ true }
+    ensures date { lists_cache_field (connected (codes "Date")) ≡ true }
+    ensures etag { lists_cache_field (connected (codes "ETag")) ≡ true }
+    ensures expires { lists_cache_field (connected (codes "Expires")) ≡ true }
+    ensures last_modified { lists_cache_field (connected (codes "Last-Modified")) ≡ true }
+    ensures set_cookie { lists_cache_field (connected (codes "Set-Cookie")) ≡ true }
+    ensures vary { lists_cache_field (connected (codes "Vary")) ≡ true }
+    ensures not_cookie { lists_cache_field (connected (codes "Cookie")) ≡ false }
+    ensures not_content_type { lists_cache_field (connected (codes "Content-Type")) ≡ false }
+    ensures not_content_length { lists_cache_field (connected (codes "Content-Length")) ≡ false }
+    ensures not_via { lists_cache_field (connected (codes "Via")) ≡ false }
+    ensures not_accept { lists_cache_field (connected (codes "Accept")) ≡ false }
+    ensures not_close { lists_cache_field (connected (codes "close")) ≡ false }
+{}
+
+/// Content, ranges and the preconditions that only the origin can judge (RFC 9110, sections 13.1.1, 13.1.4, 13.1.5 and 14.2);
+/// the two that a cache judges aren't among them.
+pub fn what_goes_past_the_cache()
+    ensures range { asks_for_range (asked_with (codes "Range") (codes "bytes=0-1")) ≡ true }
+    ensures if_range { asks_for_range (asked_with (codes "If-Range") (codes "\"e\"")) ≡ true }
+    ensures no_range { asks_for_range (asked_with (codes "Accept-Ranges") (codes "bytes")) ≡ false }
+    ensures if_match { has_precondition (asked_with (codes "If-Match") (codes "*")) ≡ true }
+    ensures if_unmodified_since { has_precondition (asked_with (codes "If-Unmodified-Since") (codes "x")) ≡ true }
+    ensures if_none_match { has_precondition (asked_with (codes "If-None-Match") (codes "*")) ≡ false }
+    ensures if_modified_since { has_precondition (asked_with (codes "If-Modified-Since") (codes "x")) ≡ false }
+    ensures content { has_content (asked_of_content (Some (codes "x"))) ≡ true }
+    ensures empty { has_content (asked_of_content (Some [])) ≡ false }
+    ensures none { has_content (asked_of_content None) ≡ false }
+{}
+
+/// The proxy's conditions stand behind the client's lines, the tag first (RFC 9110, sections 13.1.2 and 13.1.3); without them the
+/// client's own go forward.
+pub fn conditions_go_forward()
+    ensures both { forwarded_lines asked_to_port (codes "edge") (Some both_conditions)
+        ≡ line (codes "Host") (codes "h:" ++ decimal 81) ∷ line (codes "Accept") (codes "*/*") ∷ line (codes "If-None-Match") (codes "\"v1\"")
+        ∷ line (codes "If-Modified-Since") (codes "Thu, 01 Jan 1970 00:00:05 GMT") ∷ line (codes "Via") (codes "1.0 edge") ∷ [] }
+    ensures the_clients { client_lines false asked_to_port.fields ≡ asked_to_port.fields }
+{}
+
+/// A response is stripped, and dated once Connection's names are gone.
+#[tactic(auto, unfolding(httpdate::proofs::OnLiterals::httpdate_on_literals, crate::specs::Moments::split_off))]
+pub fn stripped_before_it_is_dated()
+    ensures stripped { (answered_of (response_of (line (codes "Connection") (codes "X-A") ∷ line (codes "X-A") (codes "1") ∷ date_line (codes "Sun, 06 Nov 1994 08:49:37 GMT") ∷ [])) 101).fields
+        ≡ date_line (codes "Sun, 06 Nov 1994 08:49:37 GMT") ∷ [] }
+    ensures named { (answered_of (response_of (line (codes "Connection") (codes "date") ∷ date_line (codes "Sun, 06 Nov 1994 08:49:37 GMT") ∷ [])) 101).fields
+        ≡ date_line (codes "Thu, 01 Jan 1970 00:01:41 GMT") ∷ [] }
 {}

@@ -11,7 +11,7 @@ use Rattle.hx_directives.specs.declared.names.Directive.TheVariants.{NoCache}
 use Rattle.hx_age.specs.Lifetime.{lifetime_of}
 use Rattle.hx_age.specs.Age.{age_of}
 use Rattle.hx_vary.specs.declared.nominated_values.NominatedValue.{NominatedValue}
-use Rattle.hx_vary.specs.Vary.{is_same_value}
+use Rattle.hx_vary.specs.Vary.{is_same_value, vary_matches}
 use Rattle.hx_hop.specs.declared.asked_for.Asked.{Asked}
 use Rattle.hx_store.specs.Stored.{Stored}
 use Rattle.hx_reuse.specs.ErrorRules.{error_rule_on}
@@ -54,6 +54,9 @@ module _ (caches : Bool) (held : List Stored) (asked : Asked) (now : ℕ) (respo
   same_values kept c =
       same_value kept.value (combined_of asked.fields kept.name)
       (passed (λ k. is_same_value k.value (combined_of asked.fields k.name)) response.nominated kept reused.is_chosen.is_candidate.has_the_values (member_contained response.nominated kept c))
+
+  pub matches_the_kept : vary_matches response.nominated asked.fields ≡ true
+  matches_the_kept = reused.is_chosen.is_candidate.has_the_values
 
   fresh_of : IsSentFresh response asked now ⊎ IsSentStale response asked now → ForbidsStale response → age_of response.times now < (lifetime_of response.fields).seconds
   fresh_of (inl fresh) forbids = fresh.is_fresh

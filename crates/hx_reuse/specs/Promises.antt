@@ -5,6 +5,7 @@
 use Rattle.std.specs.Prelude.{◌≡◌, ℕ, ◌<◌, ◌⊎◌, Bool, true, List, None}
 use Rattle.std.specs.List.{Contains}
 use Rattle.hx_fields.specs.Lines.{combined_of}
+use Rattle.hx_fields.specs.declared.field_line.Field.{Field}
 use Rattle.hx_directives.specs.Occurrences.{occurrences_of}
 use Rattle.hx_directives.specs.Answers.{has}
 use Rattle.hx_directives.specs.declared.occurrences.Occurrence.{Occurrence}
@@ -12,6 +13,7 @@ use Rattle.hx_directives.specs.declared.names.Directive.TheVariants.{NoCache, Mu
 use Rattle.hx_age.specs.Lifetime.{lifetime_of}
 use Rattle.hx_age.specs.Age.{age_of}
 use Rattle.hx_vary.specs.declared.nominated_values.NominatedValue.{NominatedValue}
+use Rattle.hx_vary.specs.Vary.{kept_values, selects_both}
 use Rattle.hx_hop.specs.declared.asked_for.Asked.{Asked}
 use Rattle.hx_store.specs.Stored.{Stored}
 use Rattle.hx_store.specs.Serials.{Distinct}
@@ -39,6 +41,12 @@ abbrev pub SendsNoOtherVariant : Type 0
 SendsNoOtherVariant = (caches : Bool) (held : List Stored) (asked : Asked) (now : ℕ) (response : Stored) →
     IsSent caches held asked now response → (kept : NominatedValue) → Contains response.nominated kept →
     kept.value ≡ combined_of asked.fields kept.name
+
+-- so of a response that was stored with what its own request had, only a request gets it that has the same values of all that it
+-- nominates (RFC 9111, section 4.1)
+abbrev pub SendsNoOtherRequestsVariant : Type 0
+SendsNoOtherRequestsVariant = (caches : Bool) (held : List Stored) (asked : Asked) (now : ℕ) (response : Stored) (fields earlier : List Field) →
+    IsSent caches held asked now response → response.nominated ≡ kept_values fields earlier → selects_both fields earlier asked.fields ≡ true
 
 -- one that forbids to be sent stale is fresh
 abbrev pub NeverSendsStaleAgainst : Type 0

@@ -3,7 +3,13 @@
 ghost use Rattle.hx_reuse.specs.Meaning.{ChoosesTheLatest, ChoosesWhereOneCan, ChoosesNoOther, SendsWhatMayBeSent, SendsNothingElse, SendsWhatIsHeld, FindsWhatIsSent, NamesTheLeast, ForwardsWhereOneStands, ForwardsWithoutCache, WordsTellRulesApart, WordsTellErrorRulesApart};
 ghost use Rattle.hx_reuse.specs.Reusable.{ReusesWhatMayBeReused, ReusesNothingElse};
 ghost use Rattle.hx_reuse.specs.OnError.{SendsOnErrorWhatMayBeSent, SendsOnErrorNothingElse, NamesTheLeastOnError, NamesOneThatStandsOnError};
-ghost use Rattle.hx_reuse.specs.Promises.{SendsNoOtherVariant, NeverSendsStaleAgainst, NeverSendsUnvalidated, NeverSendsOnError};
+ghost use Rattle.std.specs.Prelude.{◌≡◌, Some, None, codes};
+ghost use Rattle.hx_reuse.specs.declared.rule.ReuseRule.TheVariants as rule;
+ghost use Rattle.hx_reuse.specs.declared.rule.ErrorRule.TheVariants as on_error;
+ghost use Rattle.hx_reuse.specs.Words.{detail_of, error_word_of, reason_of};
+ghost use Rattle.hx_reuse.specs.Promises.{SendsNoOtherRequestsVariant, SendsNoOtherVariant, NeverSendsStaleAgainst, NeverSendsUnvalidated, NeverSendsOnError};
+
+use hx_vary::kept_is_enough;
 
 /// The chosen response is held, has the request's key and nominated values, and none that has comes later. None is
 /// chosen only where none has them.
@@ -60,6 +66,14 @@ pub fn no_other_variant_is_sent()
     ensures { SendsNoOtherVariant }
 {}
 
+/// Of a response that was stored with what its own request had, only a request gets it that has the same values of all that
+/// it nominates.
+pub fn no_other_requests_variant_is_sent()
+    ensures { SendsNoOtherRequestsVariant }
+{
+    kept_is_enough();
+}
+
 /// Whatever a request says, a response with must-revalidate, proxy-revalidate or s-maxage is never sent stale, and one
 /// with no-cache never unvalidated; after an error neither is sent.
 pub fn what_has_to_be_validated_is()
@@ -72,4 +86,58 @@ pub fn what_has_to_be_validated_is()
 pub fn words_tell_the_rule()
     ensures reuse { WordsTellRulesApart }
     ensures error { WordsTellErrorRulesApart }
+{}
+
+/// The reason of each rule (RFC 9211, section 2.2).
+pub fn reasons_of_the_rules()
+    ensures operator { reason_of rule.Operator ≡ codes "bypass" }
+    ensures method { reason_of rule.Method ≡ codes "method" }
+    ensures content { reason_of rule.Content ≡ codes "bypass" }
+    ensures range { reason_of rule.Range ≡ codes "bypass" }
+    ensures precondition { reason_of rule.Precondition ≡ codes "bypass" }
+    ensures uri_miss { reason_of rule.UriMiss ≡ codes "uri-miss" }
+    ensures vary_miss { reason_of rule.VaryMiss ≡ codes "vary-miss" }
+    ensures response_no_cache { reason_of rule.ResponseNoCache ≡ codes "stale" }
+    ensures request_no_cache { reason_of rule.RequestNoCache ≡ codes "request" }
+    ensures above_max_age { reason_of rule.AboveMaxAge ≡ codes "request" }
+    ensures below_min_fresh { reason_of rule.BelowMinFresh ≡ codes "request" }
+    ensures must_revalidate { reason_of rule.MustRevalidate ≡ codes "stale" }
+    ensures no_lifetime { reason_of rule.NoLifetime ≡ codes "stale" }
+    ensures stale_no_cache { reason_of rule.StaleNoCache ≡ codes "stale" }
+    ensures no_max_stale { reason_of rule.NoMaxStale ≡ codes "stale" }
+    ensures past_max_stale { reason_of rule.PastMaxStale ≡ codes "stale" }
+    ensures stale_max_age { reason_of rule.StaleMaxAge ≡ codes "stale" }
+    ensures stale_min_fresh { reason_of rule.StaleMinFresh ≡ codes "stale" }
+{}
+
+/// And the detail that tells it from others of its reason (RFC 9211, section 2.8).
+pub fn details_of_the_rules()
+    ensures operator { detail_of rule.Operator ≡ Some (codes "operator") }
+    ensures method { detail_of rule.Method ≡ None }
+    ensures content { detail_of rule.Content ≡ Some (codes "content") }
+    ensures range { detail_of rule.Range ≡ Some (codes "range") }
+    ensures precondition { detail_of rule.Precondition ≡ Some (codes "precondition") }
+    ensures uri_miss { detail_of rule.UriMiss ≡ None }
+    ensures vary_miss { detail_of rule.VaryMiss ≡ None }
+    ensures response_no_cache { detail_of rule.ResponseNoCache ≡ Some (codes "response-no-cache") }
+    ensures request_no_cache { detail_of rule.RequestNoCache ≡ Some (codes "no-cache") }
+    ensures above_max_age { detail_of rule.AboveMaxAge ≡ Some (codes "max-age") }
+    ensures below_min_fresh { detail_of rule.BelowMinFresh ≡ Some (codes "min-fresh") }
+    ensures must_revalidate { detail_of rule.MustRevalidate ≡ Some (codes "must-revalidate") }
+    ensures no_lifetime { detail_of rule.NoLifetime ≡ Some (codes "no-lifetime") }
+    ensures stale_no_cache { detail_of rule.StaleNoCache ≡ Some (codes "no-cache") }
+    ensures no_max_stale { detail_of rule.NoMaxStale ≡ None }
+    ensures past_max_stale { detail_of rule.PastMaxStale ≡ Some (codes "max-stale") }
+    ensures stale_max_age { detail_of rule.StaleMaxAge ≡ Some (codes "max-age") }
+    ensures stale_min_fresh { detail_of rule.StaleMinFresh ≡ Some (codes "min-fresh") }
+{}
+
+/// The words of the rules after an error.
+pub fn words_of_the_error_rules()
+    ensures no_cache { error_word_of on_error.NoCache ≡ codes "no-cache" }
+    ensures must_revalidate { error_word_of on_error.MustRevalidate ≡ codes "must-revalidate" }
+    ensures no_lifetime { error_word_of on_error.NoLifetime ≡ codes "no-lifetime" }
+    ensures request_no_cache { error_word_of on_error.RequestNoCache ≡ codes "request-no-cache" }
+    ensures no_directive { error_word_of on_error.NoDirective ≡ codes "no-directive" }
+    ensures too_stale { error_word_of on_error.TooStale ≡ codes "too-stale" }
 {}

@@ -16,10 +16,12 @@ mod worked_cases;
 
 pub use crate::decision::{Decision, decide};
 pub use crate::laws::{
-    a_hit_is_held, forward_names_the_least_rule, no_other_variant_is_sent,
-    nothing_is_reused_against_the_operator, sent_on_error_where_it_may_be,
+    a_hit_is_held, details_of_the_rules, forward_names_the_least_rule,
+    no_other_requests_variant_is_sent, no_other_variant_is_sent,
+    nothing_is_reused_against_the_operator, reasons_of_the_rules, sent_on_error_where_it_may_be,
     sent_where_it_may_be_reused, sent_where_no_rule_stands, the_latest_that_matches_is_chosen,
-    the_least_error_rule_is_named, what_has_to_be_validated_is, words_tell_the_rule,
+    the_least_error_rule_is_named, what_has_to_be_validated_is, words_of_the_error_rules,
+    words_tell_the_rule,
 };
 pub use crate::on_error::may_serve_on_error;
 pub use crate::rule::{ErrorRule, ReuseRule};

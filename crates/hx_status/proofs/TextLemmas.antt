@@ -1,10 +1,18 @@
 -- The text of a rule is read back: no two rules have the same.
-use Rattle.std.proofs.Common.{◌≡◌, List, ℕ, refl, sym, ◌∙◌, ap}
+use Rattle.std.proofs.Common.{◌≡◌, inl, inr, arith, List, [], ◌∷◌, ℕ, refl, sym, ◌∙◌, ap}
 use Rattle.std.specs.Prelude.{bytes_eq, find, Option, Some}
 use Rattle.hx_reuse.specs.declared.rule.ReuseRule.{ReuseRule}
 use Rattle.hx_reuse.specs.declared.rule.ReuseRule.TheVariants.{Operator, Method, Content, Range, Precondition, UriMiss, VaryMiss, ResponseNoCache, RequestNoCache, AboveMaxAge, BelowMinFresh, MustRevalidate, NoLifetime, StaleNoCache, NoMaxStale, PastMaxStale, StaleMaxAge, StaleMinFresh}
 use Rattle.hx_reuse.specs.Rules.{reuse_rules}
-use Rattle.hx_status.specs.Refusals.{rule_text}
+use Rattle.hx_framing.specs.declared.fault.FrameFault.{FrameFault}
+use Rattle.hx_framing.specs.declared.fault.FrameFault.TheVariants as frame
+use Rattle.hx_target.specs.declared.faults.TargetFault.{TargetFault}
+use Rattle.hx_target.specs.declared.faults.TargetFault.TheVariants as target
+use Rattle.hx_status.specs.declared.cause.FailKind.{FailKind}
+use Rattle.hx_status.specs.declared.cause.FailKind.TheVariants as kind
+use Rattle.hx_status.specs.Refusals.{IsOfTheTable, frame_word, kind_word, rule_text, status_of, target_word}
+use Rattle.hx_status.specs.declared.cause.Cause.{Cause}
+use Rattle.hx_status.specs.declared.cause.Cause.TheVariants.{Denied, NoLine, OnlyIfCached, Origin, Frame, Target}
 
 -- the rule that has this text
 told_by : List ℕ → Option ReuseRule
@@ -36,3 +44,110 @@ same_rule r q h = cc
 
 pub texts_tell_apart : (r q : ReuseRule) → rule_text r ≡ rule_text q → r ≡ q
 texts_tell_apart r q h = same_rule r q (sym (told r) ∙ ap told_by h ∙ told q)
+
+every_frame : List FrameFault
+every_frame = frame.Head ∷ frame.Version ∷ frame.BothLengths ∷ frame.Length ∷ frame.Coding ∷ frame.Chunk ∷ frame.TooLarge ∷ frame.Expect ∷ frame.Truncated ∷ frame.Status ∷ []
+
+-- the frame that has this word
+frame_by : List ℕ → Option FrameFault
+frame_by text = find (λ x. bytes_eq (frame_word x) text) every_frame
+
+frame_told : (x : FrameFault) → frame_by (frame_word x) ≡ Some x
+unfolding frame_by every_frame
+frame_told frame.Head = refl
+frame_told frame.Version = refl
+frame_told frame.BothLengths = refl
+frame_told frame.Length = refl
+frame_told frame.Coding = refl
+frame_told frame.Chunk = refl
+frame_told frame.TooLarge = refl
+frame_told frame.Expect = refl
+frame_told frame.Truncated = refl
+frame_told frame.Status = refl
+
+same_frame : (x y : FrameFault) → ◌≡◌ {A = Option FrameFault} (Some x) (Some y) → x ≡ y
+same_frame x y h = cc
+
+pub frame_words_tell_apart : (x y : FrameFault) → frame_word x ≡ frame_word y → x ≡ y
+frame_words_tell_apart x y h = same_frame x y (sym (frame_told x) ∙ ap frame_by h ∙ frame_told y)
+
+every_target : List TargetFault
+every_target = target.Form ∷ target.Scheme ∷ target.Host ∷ target.Port ∷ target.Userinfo ∷ target.Escape ∷ target.DotSegment ∷ target.TooLong ∷ target.OutOfMemory ∷ []
+
+-- the target that has this word
+target_by : List ℕ → Option TargetFault
+target_by text = find (λ x. bytes_eq (target_word x) text) every_target
+
+target_told : (x : TargetFault) → target_by (target_word x) ≡ Some x
+unfolding target_by every_target
+target_told target.Form = refl
+target_told target.Scheme = refl
+target_told target.Host = refl
+target_told target.Port = refl
+target_told target.Userinfo = refl
+target_told target.Escape = refl
+target_told target.DotSegment = refl
+target_told target.TooLong = refl
+target_told target.OutOfMemory = refl
+
+same_target : (x y : TargetFault) → ◌≡◌ {A = Option TargetFault} (Some x) (Some y) → x ≡ y
+same_target x y h = cc
+
+pub target_words_tell_apart : (x y : TargetFault) → target_word x ≡ target_word y → x ≡ y
+target_words_tell_apart x y h = same_target x y (sym (target_told x) ∙ ap target_by h ∙ target_told y)
+
+every_kind : List FailKind
+every_kind = kind.Refused ∷ kind.TimedOut ∷ kind.Closed ∷ kind.BadAnswer ∷ kind.TooLarge ∷ []
+
+-- the kind that has this word
+kind_by : List ℕ → Option FailKind
+kind_by text = find (λ x. bytes_eq (kind_word x) text) every_kind
+
+kind_told : (x : FailKind) → kind_by (kind_word x) ≡ Some x
+unfolding kind_by every_kind
+kind_told kind.Refused = refl
+kind_told kind.TimedOut = refl
+kind_told kind.Closed = refl
+kind_told kind.BadAnswer = refl
+kind_told kind.TooLarge = refl
+
+same_kind : (x y : FailKind) → ◌≡◌ {A = Option FailKind} (Some x) (Some y) → x ≡ y
+same_kind x y h = cc
+
+pub kind_words_tell_apart : (x y : FailKind) → kind_word x ≡ kind_word y → x ≡ y
+kind_words_tell_apart x y h = same_kind x y (sym (kind_told x) ∙ ap kind_by h ∙ kind_told y)
+
+-- ---- the statuses
+
+pub only_the_table_forbids : (cause : Cause) → status_of cause ≡ 403 → IsOfTheTable cause
+only_the_table_forbids (Denied line) h = inl (line, refl)
+only_the_table_forbids NoLine h = inr refl
+only_the_table_forbids (OnlyIfCached rule) h = let other : 504 ≡ 403 = h in absurd (omega (arith, other))
+only_the_table_forbids (Origin kind.Refused rule error) h = let other : 502 ≡ 403 = h in absurd (omega (arith, other))
+only_the_table_forbids (Origin kind.TimedOut rule error) h = let other : 504 ≡ 403 = h in absurd (omega (arith, other))
+only_the_table_forbids (Origin kind.Closed rule error) h = let other : 502 ≡ 403 = h in absurd (omega (arith, other))
+only_the_table_forbids (Origin kind.BadAnswer rule error) h = let other : 502 ≡ 403 = h in absurd (omega (arith, other))
+only_the_table_forbids (Origin kind.TooLarge rule error) h = let other : 502 ≡ 403 = h in absurd (omega (arith, other))
+only_the_table_forbids (Frame frame.Head) h = let other : 400 ≡ 403 = h in absurd (omega (arith, other))
+only_the_table_forbids (Frame frame.Version) h = let other : 505 ≡ 403 = h in absurd (omega (arith, other))
+only_the_table_forbids (Frame frame.BothLengths) h = let other : 400 ≡ 403 = h in absurd (omega (arith, other))
+only_the_table_forbids (Frame frame.Length) h = let other : 400 ≡ 403 = h in absurd (omega (arith, other))
+only_the_table_forbids (Frame frame.Coding) h = let other : 501 ≡ 403 = h in absurd (omega (arith, other))
+only_the_table_forbids (Frame frame.Chunk) h = let other : 400 ≡ 403 = h in absurd (omega (arith, other))
+only_the_table_forbids (Frame frame.TooLarge) h = let other : 413 ≡ 403 = h in absurd (omega (arith, other))
+only_the_table_forbids (Frame frame.Expect) h = let other : 417 ≡ 403 = h in absurd (omega (arith, other))
+only_the_table_forbids (Frame frame.Truncated) h = let other : 400 ≡ 403 = h in absurd (omega (arith, other))
+only_the_table_forbids (Frame frame.Status) h = let other : 400 ≡ 403 = h in absurd (omega (arith, other))
+only_the_table_forbids (Target target.Form) h = let other : 400 ≡ 403 = h in absurd (omega (arith, other))
+only_the_table_forbids (Target target.Scheme) h = let other : 400 ≡ 403 = h in absurd (omega (arith, other))
+only_the_table_forbids (Target target.Host) h = let other : 400 ≡ 403 = h in absurd (omega (arith, other))
+only_the_table_forbids (Target target.Port) h = let other : 400 ≡ 403 = h in absurd (omega (arith, other))
+only_the_table_forbids (Target target.Userinfo) h = let other : 400 ≡ 403 = h in absurd (omega (arith, other))
+only_the_table_forbids (Target target.Escape) h = let other : 400 ≡ 403 = h in absurd (omega (arith, other))
+only_the_table_forbids (Target target.DotSegment) h = let other : 400 ≡ 403 = h in absurd (omega (arith, other))
+only_the_table_forbids (Target target.TooLong) h = let other : 414 ≡ 403 = h in absurd (omega (arith, other))
+only_the_table_forbids (Target target.OutOfMemory) h = let other : 400 ≡ 403 = h in absurd (omega (arith, other))
+
+pub the_table_forbids : (cause : Cause) → IsOfTheTable cause → status_of cause ≡ 403
+the_table_forbids cause (inl (line, is)) = rw is refl
+the_table_forbids cause (inr is) = rw is refl

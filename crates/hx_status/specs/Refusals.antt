@@ -3,8 +3,8 @@
 --
 -- status_of, text_of: the answer to a cause    origin_text: where the origin failed
 -- frame_word, target_word: the words of faults
--- TextsTellRulesApart: a reader of the text knows the rule
-use Rattle.std.specs.Prelude.{◌≡◌, ℕ, List, [], ◌++◌, codes, Option, Some, None}
+-- TextsTellRulesApart and those below it: a reader of the text knows the rule, the fault, the failure
+use Rattle.std.specs.Prelude.{◌≡◌, ◌⊎◌, ℕ, List, [], ◌++◌, codes, Option, Some, None}
 use Rattle.std.specs.Fmt.{decimal}
 use Rattle.hx_framing.specs.declared.fault.FrameFault.{FrameFault}
 use Rattle.hx_framing.specs.declared.fault.FrameFault.TheVariants as frame
@@ -114,3 +114,23 @@ text_of (Target fault) = codes "refused: " ++ target_word fault
 -- no two reuse rules are named by the same text, in a refusal as in Cache-Status
 abbrev pub TextsTellRulesApart : Type 0
 TextsTellRulesApart = (rule other : ReuseRule) → rule_text rule ≡ rule_text other → rule ≡ other
+
+-- no two faults of messages have one word, nor two faults of targets, nor two ways in which an origin fails
+abbrev pub FrameWordsTellApart : Type 0
+FrameWordsTellApart = (fault other : FrameFault) → frame_word fault ≡ frame_word other → fault ≡ other
+
+abbrev pub TargetWordsTellApart : Type 0
+TargetWordsTellApart = (fault other : TargetFault) → target_word fault ≡ target_word other → fault ≡ other
+
+abbrev pub KindWordsTellApart : Type 0
+KindWordsTellApart = (kind other : FailKind) → kind_word kind ≡ kind_word other → kind ≡ other
+
+-- 403 Forbidden is the operator's answer and no other's (RFC 9110, section 15.5.4)
+abbrev pub IsOfTheTable : Cause → Type 0
+IsOfTheTable cause = ((line : ℕ) × (cause ≡ Denied line)) ⊎ (cause ≡ NoLine)
+
+abbrev pub OnlyTheTableForbids : Type 0
+OnlyTheTableForbids = (cause : Cause) → status_of cause ≡ 403 → IsOfTheTable cause
+
+abbrev pub TheTableForbids : Type 0
+TheTableForbids = (cause : Cause) → IsOfTheTable cause → status_of cause ≡ 403

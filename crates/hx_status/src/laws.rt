@@ -1,7 +1,20 @@
 //! What the texts tell their reader.
-ghost use Rattle.hx_status.specs.Refusals.{TextsTellRulesApart};
+ghost use Rattle.hx_status.specs.Refusals.{FrameWordsTellApart, KindWordsTellApart, OnlyTheTableForbids, TargetWordsTellApart, TextsTellRulesApart, TheTableForbids};
 
 /// No two reuse rules are named by the same text, in a refusal as in Cache-Status.
 pub fn texts_tell_the_rule()
     ensures { TextsTellRulesApart }
+{}
+
+/// No two faults of messages, of targets or of origins are told by the same word.
+pub fn words_tell_the_fault()
+    ensures frame { FrameWordsTellApart }
+    ensures target { TargetWordsTellApart }
+    ensures kind { KindWordsTellApart }
+{}
+
+/// 403 is given exactly where the operator's table lets a request not through (RFC 9110, section 15.5.4).
+pub fn only_the_table_forbids()
+    ensures only { OnlyTheTableForbids }
+    ensures every { TheTableForbids }
 {}

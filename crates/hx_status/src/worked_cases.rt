@@ -1,11 +1,13 @@
 //! The texts of worked cases, computed from the definitions: each function's contract is the cases, and its body is empty.
 ghost use Rattle.std.specs.Prelude.{◌≡◌, codes, Some, None, true, false, pos, negsuc};
+ghost use Rattle.hx_framing.specs.declared.fault.FrameFault.TheVariants as frame;
+ghost use Rattle.hx_target.specs.declared.faults.TargetFault.TheVariants as target;
 ghost use Rattle.hx_reuse.specs.declared.rule.ReuseRule.TheVariants as rule;
 ghost use Rattle.hx_reuse.specs.declared.rule.ErrorRule.TheVariants as on_error;
 ghost use Rattle.hx_status.specs.declared.status.How.TheVariants.{Hit, Fwd};
 ghost use Rattle.hx_status.specs.declared.status.Detail.TheVariants.{StaleIfError, ReuseAfterError, ReuseAfter304};
-ghost use Rattle.hx_status.specs.declared.cause.Cause.TheVariants.{Denied, NoLine, OnlyIfCached, Origin};
-ghost use Rattle.hx_status.specs.declared.cause.FailKind.TheVariants.{Refused, TimedOut, Closed, BadAnswer};
+ghost use Rattle.hx_status.specs.declared.cause.Cause.TheVariants.{Denied, NoLine, OnlyIfCached, Origin, Frame, Target};
+ghost use Rattle.hx_status.specs.declared.cause.FailKind.TheVariants.{Refused, TimedOut, Closed, BadAnswer, TooLarge};
 ghost use Rattle.hx_status.specs.Member.{member_text};
 ghost use Rattle.hx_status.specs.Refusals.{status_of, text_of};
 ghost use Rattle.hx_status.specs.Cases.{passed_on, passed_on_and_stored, sent_after_all};
@@ -75,4 +77,67 @@ pub fn stale_if_error_of_request()
 /// The answer to a request that waited for another's.
 pub fn second_request_waits()
     ensures { member_text (codes "edge") (record { how = Fwd rule.UriMiss; fwd_status = None; ttl = Some (pos 59); stored = false; collapsed = true; detail = None }) ≡ codes "edge;fwd=uri-miss;ttl=59;collapsed" }
+{}
+
+/// A stored answer of a request that others waited for: stored comes before collapsed.
+pub fn stored_comes_before_collapsed()
+    ensures { member_text (codes "edge") (record { how = Fwd rule.UriMiss; fwd_status = None; ttl = Some (pos 60); stored = true; collapsed = true; detail = None }) ≡ codes "edge;fwd=uri-miss;ttl=60;stored;collapsed" }
+{}
+
+/// What each refused message is told by; one that was cut off gets no answer, and a bad status stands in no request.
+pub fn refused_messages()
+    ensures head { text_of (Frame frame.Head) ≡ codes "refused: head" }
+    ensures version { text_of (Frame frame.Version) ≡ codes "refused: version" }
+    ensures both_lengths { text_of (Frame frame.BothLengths) ≡ codes "refused: both-lengths" }
+    ensures length { text_of (Frame frame.Length) ≡ codes "refused: length" }
+    ensures coding { text_of (Frame frame.Coding) ≡ codes "refused: coding" }
+    ensures chunk { text_of (Frame frame.Chunk) ≡ codes "refused: chunk" }
+    ensures too_large { text_of (Frame frame.TooLarge) ≡ codes "refused: too-large" }
+    ensures expect { text_of (Frame frame.Expect) ≡ codes "refused: expect" }
+{}
+
+/// Its status (RFC 9110, sections 15.5.1, 15.5.14, 15.5.18, 15.6.2 and 15.6.6; RFC 9112, section 6.1 for 501).
+pub fn statuses_of_refused_messages()
+    ensures head { status_of (Frame frame.Head) ≡ 400 }
+    ensures version { status_of (Frame frame.Version) ≡ 505 }
+    ensures both_lengths { status_of (Frame frame.BothLengths) ≡ 400 }
+    ensures length { status_of (Frame frame.Length) ≡ 400 }
+    ensures coding { status_of (Frame frame.Coding) ≡ 501 }
+    ensures chunk { status_of (Frame frame.Chunk) ≡ 400 }
+    ensures too_large { status_of (Frame frame.TooLarge) ≡ 413 }
+    ensures expect { status_of (Frame frame.Expect) ≡ 417 }
+{}
+
+/// What each refused target is told by.
+pub fn refused_targets()
+    ensures form { text_of (Target target.Form) ≡ codes "refused: form" }
+    ensures scheme { text_of (Target target.Scheme) ≡ codes "refused: scheme" }
+    ensures host { text_of (Target target.Host) ≡ codes "refused: host" }
+    ensures port { text_of (Target target.Port) ≡ codes "refused: port" }
+    ensures userinfo { text_of (Target target.Userinfo) ≡ codes "refused: userinfo" }
+    ensures escape { text_of (Target target.Escape) ≡ codes "refused: escape" }
+    ensures dot_segment { text_of (Target target.DotSegment) ≡ codes "refused: dot-segment" }
+    ensures too_long { text_of (Target target.TooLong) ≡ codes "refused: too-long" }
+{}
+
+/// Its status (RFC 9110, sections 15.5.1 and 15.5.15).
+pub fn statuses_of_refused_targets()
+    ensures form { status_of (Target target.Form) ≡ 400 }
+    ensures scheme { status_of (Target target.Scheme) ≡ 400 }
+    ensures host { status_of (Target target.Host) ≡ 400 }
+    ensures port { status_of (Target target.Port) ≡ 400 }
+    ensures userinfo { status_of (Target target.Userinfo) ≡ 400 }
+    ensures escape { status_of (Target target.Escape) ≡ 400 }
+    ensures dot_segment { status_of (Target target.DotSegment) ≡ 400 }
+    ensures too_long { status_of (Target target.TooLong) ≡ 414 }
+{}
+
+/// How an origin failed: 504 where no answer came in time, else 502 (RFC 9110, sections 15.6.3 and 15.6.5).
+pub fn failed_origins()
+    ensures refused { status_of (Origin Refused rule.UriMiss None) ≡ 502 }
+    ensures timed_out { status_of (Origin TimedOut rule.UriMiss None) ≡ 504 }
+    ensures closed { status_of (Origin Closed rule.UriMiss None) ≡ 502 }
+    ensures bad_answer { status_of (Origin BadAnswer rule.UriMiss None) ≡ 502 }
+    ensures too_large { status_of (Origin TooLarge rule.UriMiss None) ≡ 502 }
+    ensures too_large_text { text_of (Origin TooLarge rule.UriMiss None) ≡ codes "origin too-large;fwd=uri-miss" }
 {}

@@ -12,7 +12,7 @@ use Rattle.hx_validate.specs.Validators.{conditions_of, is_entity_tag, only, onl
 use Rattle.hx_validate.proofs.Lines.{bytes_eq-refl, filter_no_hit}
 
 -- a value is the same as itself
-same_value : (value : Option (List ℕ)) → is_same_value value value ≡ true
+pub same_value : (value : Option (List ℕ)) → is_same_value value value ≡ true
 same_value None = refl
 same_value (Some v) = bytes_eq-refl v
 
@@ -38,7 +38,7 @@ itself None some held e = cc
 itself (Some tag) some held e = rw e (agrees_at tag.weak tag refl)
 
 -- where a name has a value, a line has the name
-held_at : (fields : List Field) (value : List ℕ) (t : Bool) → has fields (codes "ETag") ≡ t → only_value fields (codes "ETag") ≡ Some value → t ≡ true
+pub held_at : (fields : List Field) (value : List ℕ) (t : Bool) → has fields (codes "ETag") ≡ t → only_value fields (codes "ETag") ≡ Some value → t ≡ true
 held_at fields value true e h = refl
 held_at fields value false e h =
     let none : only_value fields (codes "ETag") ≡ None = ap (λ lines. only (map (λ (f : Field). f.value) lines)) (filter_no_hit (is_named (codes "ETag")) fields e) in

@@ -2,3 +2,4 @@ pub mod Lines
 pub mod Tags
 pub mod Replaced
 pub mod Echoes
+pub mod IdentifiedLemmas

@@ -4,3 +4,4 @@ pub mod EntityTags
 pub mod Meaning
 pub mod NotModified
 pub mod Validators
+pub mod Identified

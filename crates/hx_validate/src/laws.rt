@@ -5,6 +5,7 @@ ghost use Rattle.hx_fields.specs.Examples.{line};
 ghost use Rattle.hx_validate.specs.Answering.{freshened_fields, freshened_of};
 ghost use Rattle.hx_validate.specs.Cases.{answered_with, asked_with, first_304, first_stored, is_answered, modified_line, new_lines, none_match, old_lines, since, stored_with, tag_line, wants_by};
 ghost use Rattle.hx_validate.specs.EntityTags.{strong_eq, tag_of, weak_eq};
+ghost use Rattle.hx_validate.specs.Identified.{AnswersNothingElse, AnswersWhatItIdentifies, NeverFreshensAnother, SeveralTagsAnswerNothing};
 ghost use Rattle.hx_validate.specs.Meaning.{ComparesBothWays, LeavesItsOwn, LeavesOtherNames, ReadsEachTag, ReadsTheGrammar, ReplacesItsNames, StrongIsWeak, TheSameTagAnswers};
 ghost use Rattle.hx_validate.specs.NotModified.{not_modified_of, wants_304};
 ghost use Rattle.hx_validate.specs.Validators.{conditions_of, has_validator};
@@ -31,6 +32,18 @@ pub fn names_of_a_304_are_replaced()
 /// A 304 that gives the entity tag back answers.
 pub fn the_same_tag_answers()
     ensures { TheSameTagAnswers }
+{}
+
+/// A 304 answers exactly the stored response whose validators were sent and that it names (RFC 9111, section 4.3.4).
+pub fn a_304_answers_what_it_identifies()
+    ensures every { AnswersWhatItIdentifies }
+    ensures only { AnswersNothingElse }
+{}
+
+/// So it never freshens one whose own tag doesn't agree with its tag, and with two tags none.
+pub fn a_304_never_freshens_another()
+    ensures another { NeverFreshensAnother }
+    ensures several { SeveralTagsAnswerNothing }
 {}
 
 /// The standard's four pairs, and values that are no entity tags.

@@ -57,3 +57,14 @@ selects_both response earlier later =
 abbrev pub KeptIsEnough : Type 0
 KeptIsEnough = (response earlier later : List Field) →
     vary_matches (kept_values response earlier) later ≡ selects_both response earlier later
+
+-- the request that was answered matches what is kept of it
+abbrev pub MatchesItself : Type 0
+MatchesItself = (response request : List Field) → vary_matches (kept_values response request) request ≡ true
+
+-- "A stored response with a Vary header field value containing a member "*" always fails to match" (RFC 9111, section 4.1)
+abbrev pub KeepsNothingOfAStar : Type 0
+KeepsNothingOfAStar = (response request : List Field) → is_star response ≡ true → nominated_of response request ≡ Star
+
+abbrev pub KeepsEachName : Type 0
+KeepsEachName = (response request : List Field) → is_star response ≡ false → nominated_of response request ≡ Names (kept_values response request)

@@ -1,7 +1,7 @@
 //! What the definitions say of the standard's cases and of worked ones.
 
 ghost use Rattle.std.specs.Prelude.{◌≡◌, true, false, [], ◌∷◌, codes};
-ghost use Rattle.hx_vary.specs.Vary.{KeptIsEnough, is_star, nominated_of, vary_matches};
+ghost use Rattle.hx_vary.specs.Vary.{KeepsEachName, KeepsNothingOfAStar, KeptIsEnough, MatchesItself, is_star, nominated_of, vary_matches};
 ghost use Rattle.hx_vary.specs.Cases.{kept_for, speaks, varying};
 
 use crate::nominations::Nomination;
@@ -11,11 +11,23 @@ pub fn kept_is_enough()
     ensures { KeptIsEnough }
 {}
 
+/// The request that was answered has each value that is kept of it.
+pub fn a_request_matches_itself()
+    ensures { MatchesItself }
+{}
+
+/// Nothing is kept for a response with a star, and else each nominated name with its value (RFC 9111, section 4.1).
+pub fn a_star_is_kept_as_one()
+    ensures star { KeepsNothingOfAStar }
+    ensures names { KeepsEachName }
+{}
+
 /// Stored for a request in German: the same value, none, an empty one, two lines, and a response without Vary.
 pub fn vary_values_are_compared()
     ensures same { vary_matches (kept_for (speaks (codes "de") ∷ [])) (speaks (codes "de") ∷ []) ≡ true }
     ensures absent { vary_matches (kept_for (speaks (codes "de") ∷ [])) [] ≡ false }
     ensures empty { vary_matches (kept_for []) (speaks [] ∷ []) ≡ false }
+    ensures both_absent { vary_matches (kept_for []) [] ≡ true }
     ensures two_lines { vary_matches (kept_for (speaks (codes "de") ∷ [])) (speaks (codes "de") ∷ speaks (codes "en") ∷ [])
         ≡ false }
     ensures no_vary { nominated_of [] (speaks (codes "de") ∷ []) ≡ Nomination.Names [] }

@@ -9,6 +9,9 @@ mod laws;
 mod nominated_values;
 mod nominations;
 
-pub use laws::{kept_is_enough, star_nominates_everything, vary_values_are_compared};
+pub use laws::{
+    a_request_matches_itself, a_star_is_kept_as_one, kept_is_enough, star_nominates_everything,
+    vary_values_are_compared,
+};
 pub use nominated_values::NominatedValue;
 pub use nominations::{Nominated, Nomination, matches};

@@ -1,0 +1,27 @@
+use Rattle.std.proofs.Common.{ℕ, ◌≤◌, Bool, true, false, codes, arith}
+use Rattle.std.specs.Prelude.{if◌then◌else◌}
+use Rattle.std.proofs.Math.Nat.{min-le_right}
+use Rattle.hx_fields.specs.Lines.{has as has_line}
+use Rattle.hx_directives.specs.Occurrences.{occurrences_of}
+use Rattle.hx_directives.specs.Answers.{has, seconds}
+use Rattle.hx_directives.specs.declared.names.Directive.TheVariants.{MaxAge, SMaxage}
+use Rattle.hx_age.specs.declared.lifetimes.Lifetime.{Lifetime}
+use Rattle.hx_age.specs.Lifetime.{explicit_of, stated_seconds, until_expires}
+use Rattle.hx_age.proofs.laws.nothing_is_above_the_cap.Goals as goal
+
+none : Lifetime
+none = record { explicit = false; seconds = 0 }
+
+by_tests : (shared own expires : Bool) (a b c : ℕ)
+    → (if shared then explicit_of a else if own then explicit_of b else if expires then explicit_of c else none).seconds ≤ 2147483648
+unfolding none
+by_tests true own expires a b c = min-le_right a 2147483648
+by_tests false true expires a b c = min-le_right b 2147483648
+by_tests false false true a b c = min-le_right c 2147483648
+by_tests false false false a b c = omega arith
+
+pub returns-clause-lifetime : goal.returns-clause-lifetime
+unfolding none
+returns-clause-lifetime c = λ fields.
+    let found = occurrences_of fields in
+    by_tests (has found SMaxage) (has found MaxAge) (has_line fields (codes "Expires")) (stated_seconds (seconds found SMaxage)) (stated_seconds (seconds found MaxAge)) (until_expires fields)

@@ -1,0 +1,229 @@
+"""Tries the mutants of definitions: what `tools/mutants --definitions` does.
+
+All mutants of a crate are tried in one copy of it, where each has its own set of files: `specs/Rules.antt` as the first
+one changes it is `specs/Rules_m1.antt`, and so with each definition, lemma, law and proof that rests on it. So the
+compiler starts once for some dozen mutants, and only the laws are proved, each time over one changed definition. The
+set number 0 changes nothing: if a law of it isn't proved, the others tell nothing.
+"""
+import glob
+import os
+import re
+import subprocess
+import tempfile
+import time
+
+BEGIN, END = "<!-- tools/mutants --definitions writes from here -->", "<!-- to here, of definitions -->"
+# So many mutants are tried by one start of the compiler.
+AT_ONCE = 40
+
+
+class Mutant:
+    """An edit of specs/ alone. A line `same: WHY` says of one that it means what the definition means."""
+
+    def __init__(self, rt, crate, file):
+        self.crate, self.file, self.name = crate, file, os.path.basename(file).removesuffix(".edit")
+        lines = (rt.rtlib.text_of(file) or "").split("\n")
+        self.sentence = lines[0][2:].strip() if lines[0].startswith("# ") else ""
+        self.same = next((it[len("same: ") :].strip() for it in lines if it.startswith("same: ")), "")
+        self.texts, self.fault = rt.read_edit(file, crate.folder)
+        if not self.fault and not all(it.startswith("specs/") for it in self.texts):
+            self.fault = "it changes more than specs/"
+        if not self.fault and not self.sentence:
+            self.fault = "its first line doesn't say what it does wrong"
+
+
+def mutants_of(rt, crate):
+    return [Mutant(rt, crate, it) for it in sorted(glob.glob(f"{crate.folder}/mutants/definitions/*.edit"))]
+
+
+class Copy:
+    """The sources of a crate, and the sets of files that mutants of it have in one copy."""
+
+    def __init__(self, rt, crate):
+        self.crate, self.files = crate, {}
+        for at, _folders, names in os.walk(crate.folder):
+            part = os.path.relpath(at, crate.folder).split("/")[0]
+            if part in ("src", "specs", "proofs"):
+                for name in names:
+                    self.files[os.path.relpath(f"{at}/{name}", crate.folder)] = rt.rtlib.text_of(f"{at}/{name}")
+        named = re.compile(r"src/((?:\w+/)*\w*(?:laws|cases))\.rt$")
+        self.laws = [it[1] for it in map(named.match, self.files) if it]
+
+    def module(self, path):
+        """`specs.Rules` of specs/Rules.antt, and None of what no other file imports."""
+        found = re.fullmatch(r"(specs|proofs)/([\w/]+)\.antt", path)
+        is_shared = found and found[2] != "Lib" and (found[1] == "specs" or "/" not in found[2])
+        return f"{found[1]}.{found[2].replace('/', '.')}" if is_shared else None
+
+    def resting_on(self, changed):
+        """The modules of definitions and lemmas that rest on these."""
+        found, grows = set(changed), True
+        while grows:
+            more = [it for path in self.files if (it := self.module(path)) and it not in found and self.names_one_of(self.files[path], found)]
+            grows = bool(more)
+            found.update(more)
+        return found
+
+    def names_one_of(self, text, modules):
+        return any(it in modules for it in self.named(text))
+
+    def named(self, text):
+        """The modules of this crate that a text names."""
+        by_dots = re.findall(rf"\bRattle\.{self.crate.name}\.((?:specs|proofs)\.\w+)", text)
+        by_colons = re.findall(rf"\b(?:crate|{self.crate.name})::(specs|proofs)::(\w+)", text)
+        return {*by_dots, *(".".join(it) for it in by_colons)}
+
+    def renamed(self, text, modules, laws, mark):
+        """The text, with the modules and laws of this set in place of the crate's."""
+        name = self.crate.name
+        by_dots = lambda it: f"{it[0]}{mark}" if it[1] in modules else it[0]
+        by_colons = lambda it: f"{it[0]}{mark}" if f"{it[1]}.{it[2]}" in modules else it[0]
+        text = re.sub(rf"\bRattle\.{name}\.((?:specs|proofs)\.\w+)", by_dots, text)
+        text = re.sub(rf"\b(?:crate|{name})::(specs|proofs)::(\w+)", by_colons, text)
+        for law in laws:
+            text = text.replace(f"Rattle.{name}.proofs.{law.replace('/', '.')}.", f"Rattle.{name}.proofs.{law.replace('/', '.')}{mark}.")
+        return text
+
+    def texts_of(self, number, texts):
+        """The files of the set with that number, in which these texts replace the crate's, and the laws that rest on them."""
+        mark, files = f"_m{number}", {}
+        modules = self.resting_on({self.module(it) for it in texts} - {None})
+        with_proofs = lambda law: [it for it in self.files if it == f"src/{law}.rt" or it.startswith(f"proofs/{law}/")]
+        laws = [it for it in self.laws if any(self.names_one_of(self.files[path], modules) for path in with_proofs(it))]
+        for path in self.files:
+            if self.module(path) in modules:
+                files[path.replace(".antt", f"{mark}.antt")] = self.renamed(texts.get(path, self.files[path]), modules, laws, mark)
+        for law in laws:
+            for path in with_proofs(law):
+                to = path.replace(f"/{law}.rt", f"/{law}{mark}.rt").replace(f"proofs/{law}/", f"proofs/{law}{mark}/")
+                files[to] = self.renamed(self.files[path], modules, laws, mark)
+        return files, [f"{law}{mark}" for law in laws]
+
+    def write(self, room, sets):
+        """Writes the crate and the sets, each declared where the crate declares its own."""
+        files = {**self.files}
+        for texts in sets:
+            files.update(texts)
+        new = [it for it in files if it not in self.files]
+        for part in ("specs", "proofs"):
+            modules = [self.module(it) for it in new if it.startswith(f"{part}/")]
+            lines = [f"pub mod {it.partition('.')[2]}\n" for it in modules if it]
+            files[f"{part}/Lib.antt"] = files.get(f"{part}/Lib.antt", "").rstrip("\n") + "\n" + "".join(lines)
+        for path in [it for it in new if it.endswith(".rt")]:
+            folder, _, name = path.removeprefix("src/").removesuffix(".rt").rpartition("/")
+            above = f"src/{folder}.rt" if folder else "src/lib.rt"
+            plain = re.sub(r"_m\d+$", "", name)
+            files[above] = re.sub(rf"^((?:pub )?mod ){plain};$", rf"\g<0>\n\g<1>{name};", files[above], count=1, flags=re.M)
+        for path, text in files.items():
+            os.makedirs(os.path.dirname(f"{room}/{path}"), exist_ok=True)
+            with open(f"{room}/{path}", "w", encoding="utf-8") as it:
+                it.write(text)
+
+
+def said_of(rt, crate, room, laws, kept):
+    """What the prover says of these laws of the copy."""
+    only = [word for it in laws for word in ("--only", f"{crate.name}::{it.replace('/', '::')}")]
+    # libraries that aren't built are read as they are written, and nothing of them is proved
+    words = crate.words(["--jobs", "1", *only], as_source=not all(it.is_built() for it in crate.below()))
+    how = {"cwd": room, "stdin": subprocess.DEVNULL, "stdout": subprocess.PIPE, "stderr": subprocess.STDOUT, "errors": "replace"}
+    ran = subprocess.run([*rt.rtlib.guarded(), rt.rtlib.RATTLE, "check", *words, "--incremental", kept], **how)
+    return ran.stdout
+
+
+class Tried:
+    """What became of one mutant."""
+
+    def __init__(self, mutant, refused_by, fault=""):
+        self.mutant, self.refused_by, self.fault = mutant, refused_by, fault
+
+    def word(self):
+        if self.fault:
+            return f"BAD: {self.fault}"
+        if self.refused_by:
+            return f"refused by {', '.join(self.refused_by)}" + (", though its line says that it means the same" if self.mutant.same else "")
+        return f"the same in meaning: {self.mutant.same}" if self.mutant.same else "SURVIVES"
+
+    def is_well(self):
+        return not self.fault and bool(self.refused_by) != bool(self.mutant.same)
+
+
+def judged(mutant, number, laws, said):
+    """The functions that aren't proved of the set with that number."""
+    unread = re.search(rf"^(?:\./)?specs/\S*_m{number}\.antt:\d+:\d+: error.*", said, re.M)
+    if unread:
+        return Tried(mutant, [], f"the prover can't read the changed definition: {unread[0][:300]}")
+    found = [it for law in laws for it in re.findall(rf"^fn \w+::({law.replace('/', '::')}::\S+): (.*)", said, re.M)]
+    if laws and not found:
+        return Tried(mutant, [], f"the prover says nothing of its laws: {said.rstrip()[-300:]}")
+    return Tried(mutant, [it.replace(f"_m{number}::", "::") for it, outcome in found if outcome != "proved"])
+
+
+def try_some(rt, crate, mutants, kept):
+    """Tries these mutants in one copy."""
+    copy = Copy(rt, crate)
+    same = {it: text for it, text in copy.files.items() if it.startswith("specs/") and copy.module(it)}
+    sets = {0: copy.texts_of(0, same), **{at + 1: copy.texts_of(at + 1, it.texts) for at, it in enumerate(mutants)}}
+    with tempfile.TemporaryDirectory(prefix="definitions-") as room:
+        copy.write(room, [texts for texts, _laws in sets.values()])
+        said = said_of(rt, crate, room, [law for _texts, laws in sets.values() for law in laws], kept)
+    os.makedirs(f"{crate.folder}/out/mutants", exist_ok=True)
+    with open(f"{crate.folder}/out/mutants/definitions.txt", "a", encoding="utf-8") as it:
+        it.write(said)
+    unchanged = judged(None, 0, sets[0][1], said)
+    if unchanged.fault or unchanged.refused_by:
+        return [Tried(it, [], f"its crate's laws aren't proved as they are: {unchanged.fault or unchanged.refused_by}") for it in mutants]
+    return [judged(it, at + 1, sets[at + 1][1], said) for at, it in enumerate(mutants)]
+
+
+def try_crate(rt, crate, names, at_once):
+    """Tries the mutants of the crate's definitions that have these names, or all, and prints a line for each."""
+    mutants, tried, began = [it for it in mutants_of(rt, crate) if not names or it.name in names], [], time.monotonic()
+    good = [it for it in mutants if not it.fault]
+    tried += [Tried(it, [], it.fault) for it in mutants if it.fault]
+    with tempfile.TemporaryDirectory(prefix="definitions-kept-") as kept:
+        for at in range(0, len(good), at_once):
+            tried += try_some(rt, crate, good[at : at + at_once], kept)
+    for it in tried:
+        print(f"{crate.name}/{it.mutant.name}: {it.word()}", flush=True)
+    if mutants:
+        print(f"{crate.name}: {counted(tried)}, in {time.monotonic() - began:.0f} s", flush=True)
+    return tried
+
+
+def counted(tried):
+    refused = sum(bool(it.refused_by) for it in tried)
+    same = sum(it.is_well() and bool(it.mutant.same) for it in tried)
+    bad = sum(bool(it.fault) for it in tried)
+    return f"{len(tried)} tried, {refused} refused by a law, {same} the same in meaning, {len(tried) - refused - same - bad} survive, {bad} bad"
+
+
+def write_page(rt, page, tried):
+    """Writes the counts of the crates that were tried, and their mutants that mean the same, between the two marks."""
+    before, _, rest = (rt.rtlib.text_of(page) or "").partition(BEGIN)
+    old, is_there, after = rest.partition(END)
+    if not is_there:
+        print(f"{page} lacks the marks of the table of definitions, so it isn't written")
+        return
+    rows = {it.split(" | ")[0]: it for it in old.split("\n") if it.startswith(("| hx_", "| proxy_"))}
+    for name, of_crate in tried.items():
+        if of_crate:
+            same = [f"`{it.mutant.name}`: {it.mutant.same}" for it in of_crate if it.is_well() and it.mutant.same]
+            others = [f"`{it.mutant.name}` **survives**" for it in of_crate if not it.is_well()]
+            refused = sum(bool(it.refused_by) for it in of_crate)
+            rows[f"| {name}"] = f"| {name} | {len(of_crate)} | {refused} | {'<br>'.join(same + others)} |"
+    head = "| Crate | Mutants | Refused by a law | The others |\n|---|---|---|---|"
+    with open(page, "w", encoding="utf-8") as it:
+        it.write(before + BEGIN + "\n\n" + "\n".join([head, *rows.values()]) + "\n\n" + END + after)
+
+
+def main(rt, crates, names, page):
+    """names: of mutants, where not all of these crates are to be tried; then the page stays as it is."""
+    tried = {it.name: try_crate(rt, it, names, AT_ONCE) for it in crates}
+    if not names:
+        write_page(rt, page, tried)
+    every = [it for of_crate in tried.values() for it in of_crate]
+    print(counted(every))
+    wrong = [f"{it.mutant.crate.name}/{it.mutant.name}" for it in every if not it.is_well()]
+    if wrong:
+        print(f"to be mended: {' '.join(wrong)}")
+    return 1 if wrong else 0
