@@ -1,0 +1,157 @@
+"""Several caches behind haproxy, by deploy/scale-out: each target is fetched once, and a cache that goes takes its own part."""
+import http.client
+import signal
+import socket
+import time
+
+from deployed.stand import deployed, free_port, need, part, put_for, wait_until
+from live.expect import expect, expect_within
+from live.origin import Origin, whole
+from live.scenario import KEPT
+
+OBJECTS, CACHES = 1000, 4
+# A quarter of the objects, and how far the ring's parts may be from it: 100 points for each unit of weight.
+LEAST, MOST = 200, 300
+
+
+class Fleet:
+    """haproxy before four caches before one origin that counts."""
+
+    def __init__(self, stand):
+        need("haproxy")
+        stand.certificate()
+        self.stand, self.http, self.socket = stand, free_port(), f"{stand.folder}/admin.sock"
+        self.origin = stand.origin(Origin({f"/{i}": whole(200, KEPT, content=b"%d" % i) for i in range(OBJECTS)}))
+        self.table = deployed("table.toml", {"127.0.0.1:8081": self.origin.address})
+        self.caches = [stand.proxy(self.table) for _ in range(CACHES)]
+        ports = {"bind :80\n": f"bind 127.0.0.1:{self.http}\n", "bind :443 ssl": f"bind 127.0.0.1:{free_port()} ssl"}
+        ports |= {f"127.0.0.1:{8101 + i}\n": f"127.0.0.1:{it.port}\n" for i, it in enumerate(self.caches)}
+        paths = {"    user haproxy\n    group haproxy\n": "", "/run/haproxy": stand.folder, "/etc/revcache": stand.folder}
+        text = put_for(deployed("scale-out/haproxy.cfg", {**ports, **paths}), {"/dev/log": f"{stand.folder}/log"})
+        self.process = stand.start("haproxy", ["haproxy", "-f", stand.file("haproxy.cfg", text)], self.http)
+        self.wait_for("abcd")
+
+    def told(self, words):
+        """What haproxy answers on its socket."""
+        with socket.socket(socket.AF_UNIX) as it:
+            it.settimeout(10)
+            it.connect(self.socket)
+            it.sendall(words.encode() + b"\n")
+            text = b""
+            while data := it.recv(65536):
+                text += data
+        return text.decode()
+
+    def up(self):
+        """The names of the caches that haproxy takes for healthy."""
+        rows = [it.split(",") for it in self.told("show stat").splitlines() if it.startswith("caches,")]
+        return "".join(it[1] for it in rows if it[1] in "abcd" and it[17].startswith("UP"))
+
+    def wait_for(self, names):
+        wait_until(lambda: self.up() == names, f"the caches {names} up")
+
+    def ask_all(self):
+        """Asks for each object once, over one connection; what was told, and how many fetches it took."""
+        before, told = len(self.origin.fetches), []
+        connection = http.client.HTTPConnection("127.0.0.1", self.http, timeout=20)
+        for i in range(OBJECTS):
+            connection.request("GET", f"/{i}", headers={"Host": "h.example"})
+            answer = connection.getresponse()
+            content = answer.read()
+            told.append((answer.status, content == b"%d" % i, (answer.headers["Cache-Status"] or "").split(";")[1:2]))
+        connection.close()
+        return told, len(self.origin.fetches) - before
+
+    def stop(self, index):
+        self.caches[index].process.send_signal(signal.SIGTERM)
+        self.caches[index].process.wait()
+
+    def start(self, index):
+        self.caches[index] = self.stand.proxy(self.table, listen=f"127.0.0.1:{self.caches[index].port}")
+
+
+@part
+def scale_out(stand):
+    fleet = Fleet(stand)
+    for it in (
+        each_object_is_fetched_once,
+        a_cache_that_stops_costs_its_part,
+        a_cache_that_comes_back_takes_its_part,
+        a_cache_is_drained_without_an_error,
+        an_origin_that_fails_takes_no_cache_out,
+    ):
+        yield it.__name__, lambda it=it: it(fleet)
+
+
+def expect_all(told):
+    """Each answer was the origin's, and none an error."""
+    expect("statuses and right contents", [(200, True)], sorted({it[:2] for it in told}))
+
+
+def each_object_is_fetched_once(fleet):
+    """1,000 objects over four caches: 1,000 fetches at first, and then none."""
+    told, fetches = fleet.ask_all()
+    expect_all(told)
+    expect("fetches", OBJECTS, fetches)
+    told, fetches = fleet.ask_all()
+    expect_all(told)
+    expect("fetches at the second asking", 0, fetches)
+    parts = [int(it.split(",")[7]) for it in fleet.told("show stat").splitlines() if it[:9] in {f"caches,{it}," for it in "abcd"}]
+    for it in parts:
+        expect_within("requests to a cache of the 2,000", 2 * LEAST, 2 * MOST, it)
+    return f"{OBJECTS} fetches, then 0; requests by cache {parts}"
+
+
+def a_cache_that_stops_costs_its_part(fleet):
+    """One cache is stopped while clients ask: its part is fetched by the others, and no client gets an error."""
+    fleet.stop(1)
+    told, fetches = fleet.ask_all()
+    expect_all(told)
+    expect_within("objects fetched again", LEAST, MOST, fetches)
+    fleet.wait_for("acd")
+    told, again = fleet.ask_all()
+    expect_all(told)
+    expect("fetches at the second asking", 0, again)
+    return f"{fetches} fetched again, {len(told)} asked for, no error"
+
+
+def a_cache_that_comes_back_takes_its_part(fleet):
+    """Started again it has an empty store: its part is fetched once more, and no other."""
+    fleet.start(1)
+    fleet.wait_for("abcd")
+    told, fetches = fleet.ask_all()
+    expect_all(told)
+    expect_within("objects fetched again", LEAST, MOST, fetches)
+    told, again = fleet.ask_all()
+    expect_all(told)
+    expect("fetches at the second asking", 0, again)
+    return f"{fetches} fetched again"
+
+
+def a_cache_is_drained_without_an_error(fleet):
+    """What an upgrade does: drained by the socket, stopped once nobody is served there, started again and made ready."""
+    fleet.told("set server caches/c state drain")
+    told, fetches = fleet.ask_all()
+    expect_all(told)
+    expect_within("objects fetched by the others", LEAST, MOST, fetches)
+    row = next(it.split(",") for it in fleet.told("show stat").splitlines() if it.startswith("caches,c,"))
+    expect("requests in progress at the drained cache", "0", row[4])
+    fleet.stop(2)
+    fleet.start(2)
+    fleet.told("set server caches/c state ready")
+    fleet.wait_for("abcd")
+    told, _ = fleet.ask_all()
+    expect_all(told)
+    return f"{fetches} fetched by the others"
+
+
+def an_origin_that_fails_takes_no_cache_out(fleet):
+    """The health check asks nothing of an origin: while it is away each cache stays up, and serves what it has."""
+    address = fleet.origin.address
+    fleet.stand.origins.remove(fleet.origin)
+    fleet.origin.close()
+    time.sleep(3)
+    expect("the caches that are up", "abcd", fleet.up())
+    told, _ = fleet.ask_all()
+    expect_all(told)
+    return f"with nobody at {address}"
