@@ -1,6 +1,8 @@
 """The fronts of deploy/: TLS and HTTP/2 by nginx and by haproxy before the proxy."""
 import os
 import re
+import select
+import socket
 import threading
 import time
 
@@ -20,37 +22,68 @@ SHORT = ["--origin-timeout", "2"]
 class Front:
     """A front before a proxy before an origin, by the files of deploy/."""
 
-    def __init__(self, stand, kind):
+    def __init__(self, stand, kind, words=(), options=SHORT, records=True):
         self.stand, self.kind = stand, kind
         self.http, self.https, self.purge = free_port(), free_port(), free_port()
         self.origin = stand.origin(Origin(answers()))
         table = deployed("table.toml", {"127.0.0.1:8081": self.origin.address, "127.0.0.1:8089": f"127.0.0.1:{self.purge}"})
-        self.proxy = stand.proxy(table, SHORT, records=True)
-        self.process = start_front(stand, kind, self.http, self.https, self.proxy.port, self.purge)
+        self.table, self.proxy = table, stand.proxy(table, options, records=records)
+        # (haproxy logs to a service of the system, by datagrams)
+        self.logged, self.lines = socket.socket(socket.AF_INET, socket.SOCK_DGRAM), []
+        self.logged.bind(("127.0.0.1", 0))
+        self.logged.setblocking(False)
+        ports = [self.http, self.https, self.proxy.port, self.purge, self.logged.getsockname()[1]]
+        self.process = start_front(stand, kind, ports, dict(words))
 
     def ask(self, target, *words, host="h.example", scheme="https"):
         return curl(self.https if scheme == "https" else self.http, f"{scheme}://{host}{target}", *words)
+
+    def log(self):
+        """The lines that the front has logged."""
+        if self.kind == "nginx":
+            with open(f"{self.stand.folder}/access.log", encoding="utf-8") as it:
+                return it.read().splitlines()
+        while select.select([self.logged], [], [], 0)[0]:
+            self.lines.append(self.logged.recv(65536).decode("latin-1").rstrip("\n"))
+        return self.lines
+
+    def told(self, words):
+        """What haproxy answers on its socket."""
+        return haproxy_says(f"{self.stand.folder}/admin.sock", words)
 
     def fetches(self, target):
         """The requests that the origin got for a target."""
         return [it for it in self.origin.fetches if it.target == target]
 
 
-def start_front(stand, kind, http, https, cache, purge):
+def haproxy_says(path, words):
+    """What haproxy answers on a socket."""
+    with socket.socket(socket.AF_UNIX) as it:
+        it.settimeout(10)
+        it.connect(path)
+        it.sendall(words.encode() + b"\n")
+        text = b""
+        while data := it.recv(65536):
+            text += data
+    return text.decode()
+
+
+def start_front(stand, kind, numbers, words):
+    """The front of a file of deploy/, with these words in place of others."""
+    http, https, cache, purge, log = numbers
     stand.certificate()
     if kind == "nginx":
         ports = {"listen 80;": f"listen 127.0.0.1:{http};", "listen 443 ssl": f"listen 127.0.0.1:{https} ssl"}
         paths = {"/run/nginx.pid": f"{stand.folder}/nginx.pid", "/var/log/nginx": stand.folder, "/etc/revcache": stand.folder}
         text = deployed("nginx.conf", {**ports, **paths, "127.0.0.1:8080": f"127.0.0.1:{cache}", "127.0.0.1:8089": f"127.0.0.1:{purge}"})
         folders = "".join(f" {it}_temp_path {stand.folder}/{it};" for it in ("client_body", "proxy", "fastcgi", "uwsgi", "scgi"))
-        file = stand.file("nginx.conf", put_for(text, {"    server_tokens off;": f"    server_tokens off;{folders}"}))
+        file = stand.file("nginx.conf", put_for(text, {"    server_tokens off;": f"    server_tokens off;{folders}", **words}))
         words = ["nginx", "-e", f"{stand.folder}/error.log", "-c", file, "-g", "daemon off;"]
         return stand.start("nginx", words, https)
     ports = {"bind :80\n": f"bind 127.0.0.1:{http}\n", "bind :443 ssl": f"bind 127.0.0.1:{https} ssl"}
     paths = {"    user haproxy\n    group haproxy\n": "", "/run/haproxy": stand.folder, "/etc/revcache": stand.folder}
     text = deployed("haproxy.cfg", {**ports, **paths, "127.0.0.1:8080": f"127.0.0.1:{cache}", "127.0.0.1:8089": f"127.0.0.1:{purge}"})
-    # (no service of this name logs in a folder: haproxy goes on without)
-    file = stand.file("haproxy.cfg", put_for(text, {"/dev/log": f"{stand.folder}/log"}))
+    file = stand.file("haproxy.cfg", put_for(text, {"/dev/log": f"127.0.0.1:{log}", **words}))
     return stand.start("haproxy", ["haproxy", "-f", file], https)
 
 
@@ -260,10 +293,10 @@ def idle_connections_leave_room(front):
         it.join()
     expect("failures", [], failed)
     wait_until(lambda: not connections_to_origin(front), "no connection to the origin")
-    time.sleep(0.5)
-    count = sockets_of(front.proxy.process.pid)
-    expect_within("sockets of the cache while nobody asks", 1, 80, count)
-    return f"{count} sockets of the cache"
+    # (a connection that was closed is left up to five seconds of quiet)
+    pid = front.proxy.process.pid
+    wait_until(lambda: sockets_of(pid) <= 80, "at most 80 sockets of the cache", 8)
+    return f"{sockets_of(pid)} sockets of the cache"
 
 
 def connections_to_origin(front):
@@ -310,16 +343,11 @@ def a_purge_takes_the_stored_response_away(front):
 
 
 @check
-def nginx_logs_the_reason(front):
+def the_front_logs_the_reason(front):
     """The line of the front's log has what the cache said."""
-    if front.kind != "nginx":
-        return "haproxy logs to the system's log"
     front.ask("/a")
-    line = re.compile(r'127\.0\.0\.1 \[.*\] "GET /a HTTP/2\.0" 200 [0-9.]+ "edge;hit;ttl=[0-9]+" "-"')
-
-    def is_there():
-        with open(f"{front.stand.folder}/access.log", encoding="utf-8") as it:
-            return any(line.fullmatch(one.rstrip("\n")) for one in it)
-
-    wait_until(is_there, "such a line in the front's log", 5)
-    return None
+    if front.kind == "nginx":
+        line = re.compile(r'127\.0\.0\.1 \[.*\] "GET /a HTTP/2\.0" 200 [0-9.]+ "edge;hit;ttl=[0-9]+" "-"')
+    else:
+        line = re.compile(r'.* cache/cache .* 200 .* \{edge;hit;ttl=[0-9]+\|\} "GET (https://h\.example)?/a HTTP/2\.0"')
+    wait_until(lambda: any(line.fullmatch(it) for it in front.log()), "such a line in the front's log", 5)

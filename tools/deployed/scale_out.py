@@ -1,9 +1,9 @@
 """Several caches behind haproxy, by deploy/scale-out: each target is fetched once, and a cache that goes takes its own part."""
 import http.client
 import signal
-import socket
 import time
 
+from deployed.fronts import haproxy_says
 from deployed.stand import curl, deployed, free_port, need, part, put_for, wait_until
 from live.expect import expect, expect_within
 from live.origin import Origin, whole
@@ -28,20 +28,13 @@ class Fleet:
         ports |= {f"127.0.0.1:{8101 + i}\n": f"127.0.0.1:{it.port}\n" for i, it in enumerate(self.caches)}
         paths = {"    user haproxy\n    group haproxy\n": "", "/run/haproxy": stand.folder, "/etc/revcache": stand.folder}
         ports["127.0.0.1:8089"] = f"127.0.0.1:{self.purge}"
-        text = put_for(deployed("scale-out/haproxy.cfg", {**ports, **paths}), {"/dev/log": f"{stand.folder}/log"})
+        text = put_for(deployed("scale-out/haproxy.cfg", {**ports, **paths}), {"/dev/log": f"{stand.folder}/log", "gt 2000": "gt 1000000"})
         self.process = stand.start("haproxy", ["haproxy", "-f", stand.file("haproxy.cfg", text)], self.http)
         self.wait_for("abcd")
 
     def told(self, words):
         """What haproxy answers on its socket."""
-        with socket.socket(socket.AF_UNIX) as it:
-            it.settimeout(10)
-            it.connect(self.socket)
-            it.sendall(words.encode() + b"\n")
-            text = b""
-            while data := it.recv(65536):
-                text += data
-        return text.decode()
+        return haproxy_says(self.socket, words)
 
     def up(self):
         """The names of the caches that haproxy takes for healthy."""
