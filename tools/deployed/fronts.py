@@ -304,8 +304,14 @@ def connections_to_origin(front):
 
 
 def sockets_of(pid):
-    links = (f"/proc/{pid}/fd/{it}" for it in os.listdir(f"/proc/{pid}/fd"))
-    return sum(os.path.islink(it) and os.readlink(it).startswith("socket:") for it in links)
+    count = 0
+    for it in os.listdir(f"/proc/{pid}/fd"):
+        try:
+            count += os.readlink(f"/proc/{pid}/fd/{it}").startswith("socket:")
+        except FileNotFoundError:
+            # (closed since)
+            pass
+    return count
 
 
 @check
