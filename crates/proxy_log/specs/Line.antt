@@ -31,4 +31,4 @@ word_text (b ∷ bs) = shown_text false (b ∷ bs)
 abbrev pub line_text : Line → List ℕ
 line_text line =
     decimal line.moment ++ codes " " ++ word_text line.client ++ codes " " ++ word_text line.method ++ codes " " ++ word_text line.target
-        ++ codes " " ++ decimal line.status ++ codes " " ++ decimal line.length ++ codes " " ++ shown_text true line.reason ++ codes "\n"
+    ++ codes " " ++ decimal line.status ++ codes " " ++ decimal line.length ++ codes " " ++ shown_text true line.reason ++ codes "\n"

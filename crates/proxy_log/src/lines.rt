@@ -3,6 +3,9 @@
 use crate::line::{Line, line_text};
 use std::alloc::Global;
 
+/// Room for so many bytes is kept for the next lines.
+const MOST_KEPT: usize = 65_536;
+
 /// Lines that wait to be written, and how many were lost.
 #[derive(Drop)]
 pub struct Lines {
@@ -48,6 +51,10 @@ impl Lines {
 
     /// Drops the lines, which were written or can't be.
     pub fn clear(&mut self) {
-        self.text.clear();
+        if self.text.len() > MOST_KEPT {
+            self.text = Vec::new(self.alloc);
+        } else {
+            self.text.clear();
+        }
     }
 }
