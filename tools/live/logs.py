@@ -65,7 +65,7 @@ def a_line_for_each_reply(stage):
             ["POST", "http://h/post", "201", "4", "fwd=method"],
             ["GET", "http://h/denied/b", "403", "16", "denied by line 1"],
             ["GET", "http://h/a?x=1", "200", "5", "hit;ttl="],
-            ["PUT", "http://other.example:8080/a", "403", "18", "no line allows it"],
+            ["PUT", "http://other.example:8080/a", "403", "17", "no line allows it"],
             ["GET", "/a/../b", "400", "20", "refused: dot-segment"],
         ),
     )

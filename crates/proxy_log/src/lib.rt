@@ -8,6 +8,7 @@ mod asked;
 mod line;
 mod lines;
 mod told;
+pub mod worked_cases;
 
 pub use crate::asked::{Asked, Question};
 pub use crate::line::{Line, line_text};
