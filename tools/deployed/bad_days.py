@@ -6,6 +6,7 @@ import time
 from collections import Counter
 
 from deployed.fronts import Front, expect_from
+from deployed.reports import run, words_of
 from deployed.stand import curl, deployed, need, part, put_for
 from live.expect import Unexpected, expect, expect_within
 from live.origin import Origin, whole
@@ -18,7 +19,7 @@ HELD = "Cache-Control: max-age=600, stale-if-error=600"
 @part
 def bad_days(stand):
     need("curl")
-    for it in (the_origin_is_down, a_wrong_lifetime_is_taken_back, an_incident_is_replayed):
+    for it in (the_origin_is_down, a_wrong_lifetime_is_taken_back, a_store_that_is_too_small_shows, an_incident_is_replayed):
         yield it.__name__, lambda it=it: it(stand)
 
 
@@ -79,6 +80,28 @@ def a_wrong_lifetime_is_taken_back(stand):
         expect("content", b"right", expect_from(curl(again.port, url), 200, "edge;fwd=bypass;detail=operator").content)
     for reason in ("edge;fwd=uri-miss;ttl=;stored", "edge;hit;ttl="):
         expect_from(curl(again.port, "http://h.example/b"), 200, reason)
+
+
+def a_store_that_is_too_small_shows(stand):
+    """Eight targets in turn, room for four: each is evicted before it is asked for again, and the log's report says so."""
+    origin = stand.origin(Origin({f"/{i}": whole(200, KEPT, content=b"hello") for i in range(8)}))
+    log = f"{stand.folder}/access.log"
+    cache = cache_before(stand, origin, {"capacity = 1000 ": "capacity = 4 "}, options=["--log", log])
+    for _ in range(3):
+        for i in range(8):
+            expect_from(curl(cache.port, f"http://h.example/{i}"), 200, "edge;fwd=uri-miss;ttl=;stored")
+    cache.process.send_signal(signal.SIGTERM)
+    cache.wait()
+    told = words_of(run("--table", f"{cache.folder}/table.toml", log).stdout)
+    for it in (
+        "hit ratio: 0.0 % of 24",
+        "stored again while the last would have been fresh: 16 of 24 that were stored for want of any",
+        "fwd=uri-miss;stored 24 100.0 %",
+        "h.example 24 0.0 %",
+        "refusals: none",
+    ):
+        if it not in told:
+            raise Unexpected("from the report", it, told)
 
 
 def an_incident_is_replayed(stand):
