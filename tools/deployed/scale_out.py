@@ -1,6 +1,7 @@
 """Several caches behind haproxy, by deploy/scale-out: each target is fetched once, and a cache that goes takes its own part."""
 import http.client
 import signal
+import threading
 import time
 
 from deployed.fronts import haproxy_says
@@ -9,7 +10,7 @@ from live.expect import expect, expect_within
 from live.origin import Origin, whole
 from live.scenario import KEPT
 
-OBJECTS, CACHES = 1000, 4
+OBJECTS, CACHES, CLIENTS = 1000, 4, 4
 # A quarter of the objects, and how far the ring's parts may be from it: 100 points for each unit of weight.
 LEAST, MOST = 200, 300
 
@@ -44,17 +45,33 @@ class Fleet:
     def wait_for(self, names):
         wait_until(lambda: self.up() == names, f"the caches {names} up")
 
-    def ask_all(self):
-        """Asks for each object once, over one connection; what was told, and how many fetches it took."""
+    def ask_all(self, midway=None):
+        """Asks for each object once, by four clients at a time; what was told, and how many fetches it took. `midway` is
+        called when three in ten have been answered."""
         before, told = len(self.origin.fetches), []
-        connection = http.client.HTTPConnection("127.0.0.1", self.http, timeout=20)
-        for i in range(OBJECTS):
-            connection.request("GET", f"/{i}", headers={"Host": "h.example"})
-            answer = connection.getresponse()
-            content = answer.read()
-            told.append((answer.status, content == b"%d" % i, (answer.headers["Cache-Status"] or "").split(";")[1:2]))
-        connection.close()
+        crowd = [threading.Thread(target=self.ask_some, args=[range(i, OBJECTS, CLIENTS), told]) for i in range(CLIENTS)]
+        for it in crowd:
+            it.start()
+        if midway:
+            wait_until(lambda: len(told) >= 3 * OBJECTS // 10, "three answers in ten")
+            midway()
+        for it in crowd:
+            it.join()
+        expect("answers", OBJECTS, len(told))
         return told, len(self.origin.fetches) - before
+
+    def ask_some(self, numbers, told):
+        """A client, which takes a new connection where one was lost, and asks nothing a second time."""
+        connection = http.client.HTTPConnection("127.0.0.1", self.http, timeout=20)
+        for i in numbers:
+            try:
+                connection.request("GET", f"/{i}", headers={"Host": "h.example"})
+                answer = connection.getresponse()
+                told.append((answer.status, answer.read() == b"%d" % i))
+            except (OSError, http.client.HTTPException) as fault:
+                told.append((repr(fault), False))
+                connection.close()
+        connection.close()
 
     def stop(self, index):
         self.caches[index].process.send_signal(signal.SIGTERM)
@@ -80,7 +97,7 @@ def scale_out(stand):
 
 def expect_all(told):
     """Each answer was the origin's, and none an error."""
-    expect("statuses and right contents", [(200, True)], sorted({it[:2] for it in told}))
+    expect("statuses and right contents", [(200, True)], sorted(set(told), key=str))
 
 
 def each_object_is_fetched_once(fleet):
@@ -99,16 +116,17 @@ def each_object_is_fetched_once(fleet):
 
 def a_cache_that_stops_costs_its_part(fleet):
     """One cache is stopped while clients ask: its part is fetched by the others, and no client gets an error."""
-    fleet.stop(1)
-    told, fetches = fleet.ask_all()
+    told, during = fleet.ask_all(midway=lambda: fleet.stop(1))
     expect_all(told)
-    expect_within("objects fetched again", LEAST, MOST, fetches)
     fleet.wait_for("acd")
+    told, behind = fleet.ask_all()
+    expect_all(told)
+    expect_within("objects fetched again", LEAST, MOST, during + behind)
     told, again = fleet.ask_all()
     expect_all(told)
     # (what was asked for before haproxy had seen it may have gone to another cache than the ring has)
-    expect_within("fetches at the second asking", 0, 5, again)
-    return f"{fetches} fetched again, then {again}; {2 * len(told)} asked for, no error"
+    expect_within("fetches at the last asking", 0, 10, again)
+    return f"{during} fetched again in the pass, {behind} in the next, then {again}; {3 * len(told)} answers, no error"
 
 
 def a_cache_that_comes_back_takes_its_part(fleet):
