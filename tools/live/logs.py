@@ -1,6 +1,7 @@
 """Scenarios of the log: a line for each reply, whatever a client sends, and whether or not it can be written."""
 import os
 import signal
+import subprocess
 import time
 
 from live.client import PATIENCE, request
@@ -145,3 +146,14 @@ def lines_that_were_lost_are_counted(stage):
     for _ in range(3):
         expect_refusal(client.ask("/a"), 403, "denied by line 1")
     expect("status, output and standard error", (0, b"", "log fault\nlog fault 3\n"), proxy.wait())
+
+
+@scenario
+def a_log_that_cannot_be_opened(stage):
+    """A start fails where there is no place for its log."""
+    file = f"{stage.room.name}/table.toml"
+    with open(file, "w", encoding="utf-8") as it:
+        it.write(table_of(["127.0.0.1:1"]))
+    words = [stage.program, "serve", file, "--listen", "127.0.0.1:0", "--turns", "1", "--log", f"{stage.room.name}/none/log"]
+    ran = subprocess.run(words, stdin=subprocess.DEVNULL, capture_output=True, timeout=PATIENCE)
+    expect("status, output and standard error", (1, b"", b"write fault\n"), (ran.returncode, ran.stdout, ran.stderr))
