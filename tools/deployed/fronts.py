@@ -15,8 +15,8 @@ from live.scenario import KEPT
 # Spellings of /admin/secret.txt for origins that merge slashes, decode %2F, read a backslash as a slash, or cut at a semicolon.
 SPELLINGS = ["//admin/secret.txt", "/%2Fadmin/secret.txt", "/%2fadmin/secret.txt", "/admin%2Fsecret.txt", "/x%2F..%2Fadmin/secret.txt"]
 SPELLINGS += ["/x/a%2F..%2F..%2Fadmin/secret.txt", "/admin;x/secret.txt", "/x/..%5Cadmin/secret.txt", "/x/..\\admin/secret.txt", "/x//..//admin/secret.txt"]
-# Two seconds of time-out for an origin, in place of the default of 60.
-SHORT = ["--origin-timeout", "2"]
+# Six seconds of time-out for an origin, in place of the default of 60: more than a crowd's answers take on a busy machine.
+SHORT = ["--origin-timeout", "6"]
 
 
 class Front:
