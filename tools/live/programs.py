@@ -111,7 +111,7 @@ def the_command_line_checks_a_table(stage):
         serve = ["serve", file, "--listen"]
         for words, ended in (
             (["check", file], (0, "ok 1 lines\n", "")),
-            (["check", f"{TOOLS}/../deploy/table.toml"], (0, "ok 2 lines\n", "")),
+            (["check", f"{TOOLS}/../deploy/table.toml"], (0, "ok 3 lines\n", "")),
             (["check", wrong], (2, "", "config fault 4 key capacity\n")),
             (["check", f"{file}.none"], (1, "", "read fault\n")),
             (["check"], (64, "", "usage fault\n")),

@@ -3,6 +3,7 @@
 //! No call of `LiveSockets` waits: which end is ready is known from `wait`, which stands between the turns. A failure that is
 //! seen while effects are carried out is kept, and handed to the engine before the next turn, as silence is; so a turn's
 //! effects are those of what happened before it, and a record can be replayed. The handle `Net` is used here alone.
+//! Where a log is kept, the sockets note each reply behind its write; who serves writes the lines between the turns.
 #![tactic(auto)]
 
 mod closing;

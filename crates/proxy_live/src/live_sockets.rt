@@ -10,6 +10,7 @@ use hx_status::FailKind;
 use mio::event::Event;
 use mio::net::{TcpListener, TcpStream};
 use mio::{Events, Interest, Poll, Token};
+use proxy_log::{Lines, told_by};
 use proxy_turn::{End, Received, SocketFailed, Sockets};
 use std::alloc::Global;
 use std::io::ErrorKind;
@@ -55,6 +56,12 @@ pub struct LiveSockets<'a, R: Net> {
     /// Ends that failed since the last turn, and how.
     lost: Vec<(End, FailKind)>,
     silence: Silence,
+    /// Lines about replies, where a log is kept.
+    log: Option<Lines>,
+    /// The most bytes of a content, for who reads for the log.
+    max_body: u64,
+    /// The moment of the turn, for the log.
+    moment: u64,
     /// Something may be left to be read that no event will tell of.
     more: bool,
     /// Seconds of the clock that never goes back, at the last wait.
@@ -163,6 +170,30 @@ fn stir_client(peer: &mut Peer, event: &Event, now: u64) -> io::Result<()> {
     Ok(())
 }
 
+/// Adds the line about a reply, where a log is kept.
+fn note_reply(log: &mut Option<Lines>, peer: &mut Peer, moment: u64, reply: &[u8]) {
+    let Some(lines) = log else {
+        return;
+    };
+    let Some(told) = told_by(reply) else {
+        return;
+    };
+    match peer.line_about(moment, &told) {
+        Ok(Some(line)) => lines.add(&line),
+        Ok(None) => {}
+        Err(_) => lines.lose(),
+    }
+}
+
+/// Hands what a client sent to who reads for the log.
+fn hear(clients: &mut Peers, end: End, received: &Result<Received, SocketFailed>, buf: &[u8]) {
+    if let (End::Client(n), Ok(Received::Bytes(count))) = (end, received) {
+        if let (Some(peer), Some(piece)) = (clients.get_mut(n), buf.get(..*count)) {
+            peer.hear(piece);
+        }
+    }
+}
+
 impl<'a, R: Net> LiveSockets<'a, R> {
     /// Listens on an address. Its port may be 0, for one that the system chooses.
     pub fn bind(
@@ -187,6 +218,9 @@ impl<'a, R: Net> LiveSockets<'a, R> {
             closing: Closing::new(alloc),
             lost: Vec::new(alloc),
             silence,
+            log: None,
+            max_body: 0,
+            moment: 0,
             more: true,
             now: 0,
             accepts: 0,
@@ -198,6 +232,29 @@ impl<'a, R: Net> LiveSockets<'a, R> {
     /// The address that is listened on.
     pub fn address(&self) -> io::Result<SocketAddr> {
         self.listener.local_addr()
+    }
+
+    /// Keeps a line about each reply from now on. Contents of requests have at most `max_body` bytes.
+    pub fn keep_log(&mut self, max_body: u64) {
+        self.log = Some(Lines::new(self.alloc));
+        self.max_body = max_body;
+    }
+
+    /// The lines about replies since they were last cleared.
+    pub fn log(&self) -> Option<&Lines> {
+        self.log.as_ref()
+    }
+
+    /// Drops the lines, which were written or can't be.
+    pub fn clear_log(&mut self) {
+        if let Some(lines) = &mut self.log {
+            lines.clear();
+        }
+    }
+
+    /// The moment of the next turn, in Unix seconds.
+    pub fn set_moment(&mut self, moment: u64) {
+        self.moment = moment;
     }
 
     /// Waits until something is ready, for a second at most, or not at all where something is left to be done.
@@ -295,8 +352,11 @@ impl<'a, R: Net> LiveSockets<'a, R> {
         ensures reads { self.new.reads ≡ self.old.reads }
         ensures failures { self.new.failures ≡ self.old.failures }
     {
-        let (stream, _) = self.listener.accept()?;
+        let (stream, address) = self.listener.accept()?;
         let mut peer = Peer::new(self.alloc, n, stream, self.now);
+        if self.log.is_some() {
+            peer.keep_log(address, self.max_body);
+        }
         peer.register(&self.poll, token_of(CLIENT, n))?;
         match self.clients.put(peer) {
             Ok(()) => Ok(()),
@@ -326,6 +386,7 @@ impl<'a, R: Net> LiveSockets<'a, R> {
                 let _ = self.clients.remove(n);
                 return self.lose(End::Client(n), FailKind::Closed);
             }
+            note_reply(&mut self.log, peer, self.moment, bytes);
         }
         Ok(())
     }
@@ -401,6 +462,9 @@ impl<'a, R: Net> Sockets for LiveSockets<'a, R> {
             End::Client(n) => read_client(&mut self.clients, n, buf, self.now, &mut self.more),
             End::Link(l) => read_of(&mut self.links, l, buf, self.now, &mut self.more),
         };
+        if self.log.is_some() {
+            hear(&mut self.clients, end, &received, buf);
+        }
         if received.is_err() {
             self.failures = self.failures.saturating_add(1);
         }

@@ -2,14 +2,16 @@
 ghost use Rattle.std.specs.Prelude.{◌≡◌, ◌≤◌, length, IfOk};
 ghost use Rattle.proxy_turn.specs.Received.{IsReceived};
 
+use hx_fields::Bytes;
 use mio::event::Event;
 use mio::net::TcpStream;
 use mio::{Interest, Poll, Token};
+use proxy_log::{Asked, Line, Told};
 use proxy_turn::Received;
-use std::alloc::Global;
+use std::alloc::{AllocError, Global};
 use std::io;
 use std::io::{ErrorKind, Read, Write};
-use std::net::Shutdown;
+use std::net::{Shutdown, SocketAddr};
 
 /// The most bytes that wait for the peer of one stream.
 const MOST_UNSENT: usize = 67_108_864;
@@ -39,6 +41,15 @@ pub(crate) struct Peer {
     half_closed: bool,
     /// When it was closed.
     pub(crate) closed: u64,
+    /// Who it is, and what it asks for, where a log is kept.
+    logged: Option<Logged>,
+}
+
+/// What a log needs of a client.
+#[derive(Drop)]
+struct Logged {
+    address: SocketAddr,
+    asked: Asked,
 }
 
 /// Writes as many of the bytes as the system takes; answers how many.
@@ -77,7 +88,46 @@ impl Peer {
             heard: now,
             half_closed: false,
             closed: now,
+            logged: None,
         }
+    }
+
+    /// Reads what comes for a log too.
+    pub(crate) fn keep_log(&mut self, address: SocketAddr, max_body: u64) {
+        self.logged = Some(Logged {
+            address,
+            asked: Asked::new(self.alloc, max_body),
+        });
+    }
+
+    /// Takes what came, for a log.
+    pub(crate) fn hear(&mut self, piece: &[u8]) {
+        if let Some(logged) = &mut self.logged {
+            logged.asked.hear(piece);
+        }
+    }
+
+    /// The line about a reply, where a log is kept.
+    pub(crate) fn line_about(
+        &mut self,
+        moment: u64,
+        told: &Told<'_>,
+    ) -> Result<Option<Line>, AllocError> {
+        let alloc = self.alloc;
+        let Some(logged) = &mut self.logged else {
+            return Ok(None);
+        };
+        let question = logged.asked.next_question(alloc)?;
+        let address = logged.address.to_string(alloc)?;
+        Ok(Some(Line {
+            moment,
+            client: Bytes::copy_of(alloc, address.as_str().as_bytes())?,
+            method: question.method,
+            target: question.target,
+            status: told.status,
+            length: told.length,
+            reason: Bytes::copy_of(alloc, told.reason)?,
+        }))
     }
 
     /// A stream whose connection isn't made yet.

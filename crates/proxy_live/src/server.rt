@@ -10,6 +10,7 @@ use hx_allow::Config;
 use hx_status::FailKind;
 use hx_store::Shelf;
 use proxy_engine::Engine;
+use proxy_log::Lines;
 use proxy_turn::{End, Report, TurnFault, engines_live_on, loss, turn};
 use std::alloc::Global;
 use std::io::{ErrorKind, Write};
@@ -111,6 +112,18 @@ impl<'a, S: Shelf + Drop, R: Net, W: Write + Drop> Server<'a, S, R, W> {
         self.ends.has_ended()
     }
 
+    /// The lines about replies since they were last cleared, where the sockets keep a log.
+    pub fn log(&self) -> Option<&Lines> {
+        self.ends.sockets.log()
+    }
+
+    /// Drops the lines about replies, which were written or can't be.
+    pub fn clear_log(&mut self)
+        ensures { self.new ≡ self.old }
+    {
+        self.ends.sockets.clear_log();
+    }
+
     /// Waits until something is ready, for a second at most, and serves a turn.
     ///
     /// After it, also after an `Err`, what the engine had lived through has gone on, and the steps of its core are a good run by
@@ -152,6 +165,7 @@ impl<'a, S: Shelf + Drop, R: Net, W: Write + Drop> Server<'a, S, R, W> {
             self.sweeping = true;
         }
         let now = self.ends.begin(now, self.settled).min(LATEST);
+        self.ends.sockets.set_moment(now);
         let told = self.turn_at(now);
         if let Some(fault) = self.ends.fault() {
             return Err(ServeFault::Record(fault));

@@ -21,6 +21,8 @@ pub(crate) struct Service<'a> {
     pub(crate) silence: Silence,
     /// The file that what happens is recorded in.
     pub(crate) record: Option<&'a str>,
+    /// The file to which a line about each reply is added; a dash is standard output.
+    pub(crate) log: Option<&'a str>,
 }
 
 /// What the words ask for.
@@ -101,6 +103,12 @@ fn serve<'a>(alloc: Global) -> Result<Command<'a>, Error> {
             "record",
             "FILE",
             "writes what happens into a script, up to 16777216 bytes",
+        ))?
+        .arg(option(
+            alloc,
+            "log",
+            "FILE",
+            "adds a line about each reply to a file; - is standard output",
         ))?;
     Ok(command)
 }
@@ -138,6 +146,7 @@ fn service_of<'a>(matches: &ArgMatches<'a>) -> Option<Service<'a>> {
             client: matches.get_one::<u64>("client-timeout")?,
         },
         record: matches.get_str("record"),
+        log: matches.get_str("log"),
     })
 }
 

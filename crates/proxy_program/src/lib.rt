@@ -6,6 +6,7 @@
 mod command_line;
 mod fault;
 mod files;
+mod journal;
 mod program;
 mod serving;
 

@@ -1,0 +1,6 @@
+use Rattle.std.proofs.Common.{◌≡◌, ◌++◌, drop}
+use Rattle.proxy_log.specs.Line.{shown_text}
+use Rattle.proxy_log.proofs.line.push_shown.Given as goal
+
+abbrev pub invariant-loop-b : goal.invariant-loop-b
+invariant-loop-b l = l.text.items ++ shown_text l.blanks (drop l.b-index l.bytes) ≡ l.initial.text.items ++ shown_text l.blanks l.bytes

@@ -1,0 +1,19 @@
+use Rattle.std.proofs.Common.{refl}
+use Rattle.std.specs.Fmt.{digits}
+use Rattle.proxy_log.proofs.worked_cases.lines_are_written.Goals as goal
+
+pub returns-clause-miss : goal.returns-clause-miss
+unfolding digits
+returns-clause-miss c = refl
+
+pub returns-clause-hit : goal.returns-clause-hit
+unfolding digits
+returns-clause-hit c = refl
+
+pub returns-clause-denied : goal.returns-clause-denied
+unfolding digits
+returns-clause-denied c = refl
+
+pub returns-clause-unread : goal.returns-clause-unread
+unfolding digits
+returns-clause-unread c = refl

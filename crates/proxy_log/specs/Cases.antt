@@ -1,0 +1,17 @@
+-- Lines of the worked cases.
+use Rattle.std.specs.Prelude.{ℕ, List, [], codes}
+use Rattle.proxy_log.specs.declared.line.Line.{Line}
+
+-- a GET for a target URI that was answered 200 with five bytes
+abbrev pub answered : ℕ → List ℕ → Line
+answered moment reason =
+    record { moment = moment; client = codes "127.0.0.1:40001"; method = codes "GET"; target = codes "http://h/a"; status = 200; length = 5; reason = reason }
+
+-- what couldn't be read as a request
+abbrev pub unread : List ℕ → Line
+unread reason = record { moment = 0; client = codes "127.0.0.1:40001"; method = []; target = []; status = 400; length = 13; reason = reason }
+
+-- a target that is no URI
+abbrev pub with_target : List ℕ → Line
+with_target target =
+    record { moment = 7; client = codes "127.0.0.1:40001"; method = codes "GET"; target = target; status = 400; length = 13; reason = codes "refused: form" }

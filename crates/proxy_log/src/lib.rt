@@ -1,0 +1,16 @@
+//! Lines of a log: what a client asked for, what it was told, and the text of both.
+//!
+//! What a line says is read again from the bytes that came and went, by the readers of `hx_framing` and `hx_target`: so nothing
+//! that serves has to know of a log. Its text is in `specs/Line.antt`. Nothing here writes a file.
+#![tactic(auto)]
+
+mod asked;
+mod line;
+mod lines;
+mod told;
+pub mod worked_cases;
+
+pub use crate::asked::{Asked, Question};
+pub use crate::line::{Line, line_text};
+pub use crate::lines::Lines;
+pub use crate::told::{Told, told_by};

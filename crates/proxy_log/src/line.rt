@@ -1,0 +1,92 @@
+//! A line of the log, and its text.
+ghost use Rattle.std.specs.Prelude.{◌≡◌, ◌<◌, ◌++◌, codes, decimal, false, IfOk, OnOk};
+ghost use Rattle.proxy_log.specs.Line.{is_shown, hex_digit, shown_byte, shown_text, word_text, line_text};
+
+use hx_fields::Bytes;
+use itoa::Buffer;
+use std::alloc::{AllocError, Global};
+
+/// What a line says of a reply.
+#[derive(Drop)]
+pub struct Line {
+    /// When it was written, in Unix seconds.
+    pub moment: u64,
+    /// The client's address and port.
+    pub client: Bytes,
+    /// The request's method; empty where none could be read.
+    pub method: Bytes,
+    /// The target URI (RFC 9110, section 7.1), or the target as it came where it is none; empty where none could be read.
+    pub target: Bytes,
+    pub status: u16,
+    /// The bytes of content that were sent.
+    pub length: u64,
+    /// What the proxy's member of Cache-Status says behind the proxy's name, or the text of Refusal.
+    pub reason: Bytes,
+}
+
+/// Whether a byte stands for itself in a line.
+fn is_shown(blanks: bool, b: u8) -> bool
+    ensures { result ≡ is_shown blanks b }
+{
+    (b >= 0x21 && b <= 0x7E && b != b'\\') || (blanks && b == b' ')
+}
+
+/// A digit of a number to the base 16.
+fn hex_digit(d: u8) -> u8
+    requires { d < 16 }
+    ensures { result ≡ hex_digit d }
+{
+    if d < 10 { 48 + d } else { 55 + d }
+}
+
+fn push_byte(text: &mut Vec<u8>, blanks: bool, b: u8) -> Result<(), AllocError>
+    ensures { OnOk result (text.new.items ≡ text.old.items ++ shown_byte blanks b) }
+{
+    if is_shown(blanks, b) {
+        return text.extend_from_slice(&[b]);
+    }
+    text.extend_from_slice(&[b'\\', b'x', hex_digit(b / 16), hex_digit(b % 16)])
+}
+
+fn push_shown(text: &mut Vec<u8>, blanks: bool, bytes: &[u8]) -> Result<(), AllocError>
+    ensures { OnOk result (text.new.items ≡ text.old.items ++ shown_text blanks bytes.now) }
+{
+    for b in bytes {
+        push_byte(text, blanks, *b)?;
+    }
+    Ok(())
+}
+
+fn push_word(text: &mut Vec<u8>, bytes: &[u8]) -> Result<(), AllocError>
+    ensures { OnOk result (text.new.items ≡ text.old.items ++ (word_text bytes.now ++ codes " ")) }
+{
+    if bytes.is_empty() {
+        return text.extend_from_slice(b"- ");
+    }
+    push_shown(text, false, bytes)?;
+    text.extend_from_slice(b" ")
+}
+
+fn push_number(text: &mut Vec<u8>, n: u64) -> Result<(), AllocError>
+    ensures { OnOk result (text.new.items ≡ text.old.items ++ (decimal n ++ codes " ")) }
+{
+    let mut digits = Buffer::new();
+    text.extend_from_slice(digits.format(n).as_bytes())?;
+    text.extend_from_slice(b" ")
+}
+
+/// The text of a line, with its LF. Its only error is want of memory.
+pub fn line_text(alloc: Global, line: &Line) -> Result<Bytes, AllocError>
+    ensures { IfOk result (λ text. text ≡ line_text line.now) }
+{
+    let mut text = Vec::new(alloc);
+    push_number(&mut text, line.moment)?;
+    push_word(&mut text, line.client.as_slice())?;
+    push_word(&mut text, line.method.as_slice())?;
+    push_word(&mut text, line.target.as_slice())?;
+    push_number(&mut text, u64::from(line.status))?;
+    push_number(&mut text, line.length)?;
+    push_shown(&mut text, true, line.reason.as_slice())?;
+    text.extend_from_slice(b"\n")?;
+    Ok(Bytes::from_vec(text))
+}

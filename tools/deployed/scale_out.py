@@ -1,0 +1,184 @@
+"""Several caches behind haproxy, by deploy/scale-out: each target is fetched once, and a cache that goes takes its own part."""
+import http.client
+import signal
+import threading
+import time
+
+from deployed.fronts import haproxy_says
+from deployed.stand import curl, deployed, free_port, need, part, put_for, wait_until
+from live.expect import expect, expect_within
+from live.origin import Origin, whole
+from live.scenario import KEPT
+
+OBJECTS, CACHES, CLIENTS = 1000, 4, 4
+# A quarter of the objects, and how far the ring's parts may be from it: 100 points for each unit of weight.
+LEAST, MOST = 200, 300
+
+
+class Fleet:
+    """haproxy before four caches before one origin that counts."""
+
+    def __init__(self, stand):
+        need("haproxy")
+        stand.certificate()
+        self.stand, self.http, self.purge, self.socket = stand, free_port(), free_port(), f"{stand.folder}/admin.sock"
+        self.origin = stand.origin(Origin({f"/{i}": whole(200, KEPT, content=b"%d" % i) for i in range(OBJECTS)}))
+        self.table = deployed("table.toml", {"127.0.0.1:8081": self.origin.address, "127.0.0.1:8089": f"127.0.0.1:{self.purge}"})
+        self.caches = [stand.proxy(self.table) for _ in range(CACHES)]
+        ports = {"bind :80\n": f"bind 127.0.0.1:{self.http}\n", "bind :443 ssl": f"bind 127.0.0.1:{free_port()} ssl"}
+        ports |= {f"127.0.0.1:{8101 + i}\n": f"127.0.0.1:{it.port}\n" for i, it in enumerate(self.caches)}
+        paths = {"    user haproxy\n    group haproxy\n": "", "/run/haproxy": stand.folder, "/etc/revcache": stand.folder}
+        ports["127.0.0.1:8089"] = f"127.0.0.1:{self.purge}"
+        text = put_for(deployed("scale-out/haproxy.cfg", {**ports, **paths}), {"/dev/log": f"{stand.folder}/log", "gt 2000": "gt 1000000"})
+        self.process = stand.start("haproxy", ["haproxy", "-f", stand.file("haproxy.cfg", text)], self.http)
+        self.wait_for("abcd")
+
+    def told(self, words):
+        """What haproxy answers on its socket."""
+        return haproxy_says(self.socket, words)
+
+    def up(self):
+        """The names of the caches that haproxy takes for healthy."""
+        rows = [it.split(",") for it in self.told("show stat").splitlines() if it.startswith("caches,")]
+        return "".join(it[1] for it in rows if it[1] in "abcd" and it[17].startswith("UP"))
+
+    def wait_for(self, names):
+        wait_until(lambda: self.up() == names, f"the caches {names} up")
+
+    def ask_all(self, midway=None):
+        """Asks for each object once, by four clients at a time; what was told, and how many fetches it took. `midway` is
+        called when three in ten have been answered."""
+        before, told = len(self.origin.fetches), []
+        crowd = [threading.Thread(target=self.ask_some, args=[range(i, OBJECTS, CLIENTS), told]) for i in range(CLIENTS)]
+        for it in crowd:
+            it.start()
+        if midway:
+            wait_until(lambda: len(told) >= 3 * OBJECTS // 10, "three answers in ten")
+            midway()
+        for it in crowd:
+            it.join()
+        expect("answers", OBJECTS, len(told))
+        return told, len(self.origin.fetches) - before
+
+    def ask_some(self, numbers, told):
+        """A client, which takes a new connection where one was lost, and asks nothing a second time."""
+        connection = http.client.HTTPConnection("127.0.0.1", self.http, timeout=20)
+        for i in numbers:
+            try:
+                connection.request("GET", f"/{i}", headers={"Host": "h.example"})
+                answer = connection.getresponse()
+                told.append((answer.status, answer.read() == b"%d" % i))
+            except (OSError, http.client.HTTPException) as fault:
+                told.append((repr(fault), False))
+                connection.close()
+        connection.close()
+
+    def stop(self, index):
+        self.caches[index].process.send_signal(signal.SIGTERM)
+        self.caches[index].process.wait()
+
+    def start(self, index):
+        self.caches[index] = self.stand.proxy(self.table, listen=f"127.0.0.1:{self.caches[index].port}")
+
+
+@part
+def scale_out(stand):
+    fleet = Fleet(stand)
+    for it in (
+        each_object_is_fetched_once,
+        a_cache_that_stops_costs_its_part,
+        a_cache_that_comes_back_takes_its_part,
+        a_cache_is_drained_without_an_error,
+        a_purge_asks_each_cache,
+        an_origin_that_fails_takes_no_cache_out,
+    ):
+        yield it.__name__, lambda it=it: it(fleet)
+
+
+def expect_all(told):
+    """Each answer was the origin's, and none an error."""
+    expect("statuses and right contents", [(200, True)], sorted(set(told), key=str))
+
+
+def each_object_is_fetched_once(fleet):
+    """1,000 objects over four caches: 1,000 fetches at first, and then none."""
+    told, fetches = fleet.ask_all()
+    expect_all(told)
+    expect("fetches", OBJECTS, fetches)
+    told, fetches = fleet.ask_all()
+    expect_all(told)
+    expect("fetches at the second asking", 0, fetches)
+    parts = [int(it.split(",")[7]) for it in fleet.told("show stat").splitlines() if it[:9] in {f"caches,{it}," for it in "abcd"}]
+    for it in parts:
+        expect_within("requests to a cache of the 2,000", 2 * LEAST, 2 * MOST, it)
+    return f"{OBJECTS} fetches, then 0; requests by cache {parts}"
+
+
+def a_cache_that_stops_costs_its_part(fleet):
+    """One cache is stopped while clients ask: its part is fetched by the others, and no client gets an error."""
+    told, during = fleet.ask_all(midway=lambda: fleet.stop(1))
+    expect_all(told)
+    fleet.wait_for("acd")
+    told, behind = fleet.ask_all()
+    expect_all(told)
+    expect_within("objects fetched again", LEAST, MOST, during + behind)
+    told, again = fleet.ask_all()
+    expect_all(told)
+    # (what was asked for before haproxy had seen it may have gone to another cache than the ring has)
+    expect_within("fetches at the last asking", 0, 10, again)
+    return f"{during} fetched again in the pass, {behind} in the next, then {again}; {3 * len(told)} answers, no error"
+
+
+def a_cache_that_comes_back_takes_its_part(fleet):
+    """Started again it has an empty store: its part is fetched once more, and no other."""
+    fleet.start(1)
+    fleet.wait_for("abcd")
+    told, fetches = fleet.ask_all()
+    expect_all(told)
+    expect_within("objects fetched again", LEAST, MOST, fetches)
+    told, again = fleet.ask_all()
+    expect_all(told)
+    expect("fetches at the second asking", 0, again)
+    return f"{fetches} fetched again"
+
+
+def a_cache_is_drained_without_an_error(fleet):
+    """What an upgrade does: drained by the socket, stopped once nobody is served there, started again and made ready."""
+    fleet.told("set server caches/c state drain")
+    told, fetches = fleet.ask_all()
+    expect_all(told)
+    expect_within("objects fetched by the others", LEAST, MOST, fetches)
+    row = next(it.split(",") for it in fleet.told("show stat").splitlines() if it.startswith("caches,c,"))
+    expect("requests in progress at the drained cache", "0", row[4])
+    fleet.stop(2)
+    fleet.start(2)
+    fleet.told("set server caches/c state ready")
+    fleet.wait_for("abcd")
+    told, _ = fleet.ask_all()
+    expect_all(told)
+    return f"{fetches} fetched by the others"
+
+
+def a_purge_asks_each_cache(fleet):
+    """A target may be held by others than its own cache, from a time when that one was away. So each is asked; through the
+    front a purge is refused."""
+    url = "http://h.example/7"
+    for it in fleet.caches:
+        curl(it.port, url)
+        expect("a hit at each cache", "edge;hit;ttl=", curl(it.port, url).reason())
+    expect("status of a purge through the front", 403, curl(fleet.http, url, "--request", "PURGE").status)
+    for it in fleet.caches:
+        expect("status of a purge at a cache", 204, curl(it.port, url, "--request", "PURGE").status)
+        expect("what is held behind it", "edge;fwd=uri-miss;ttl=;stored", curl(it.port, url).reason())
+
+
+def an_origin_that_fails_takes_no_cache_out(fleet):
+    """The health check asks nothing of an origin: while it is away each cache stays up, and serves what it has."""
+    address = fleet.origin.address
+    fleet.stand.origins.remove(fleet.origin)
+    fleet.origin.close()
+    time.sleep(3)
+    expect("the caches that are up", "abcd", fleet.up())
+    told, _ = fleet.ask_all()
+    expect_all(told)
+    return f"with nobody at {address}"

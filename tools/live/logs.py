@@ -1,0 +1,159 @@
+"""Scenarios of the log: a line for each reply, whatever a client sends, and whether or not it can be written."""
+import os
+import signal
+import subprocess
+import time
+
+from live.client import PATIENCE, request
+from live.expect import Skipped, Unexpected, expect, expect_answer, expect_refusal
+from live.origin import Origin, whole
+from live.proxy import Proxy, table_of
+from live.scenario import KEPT, scenario
+
+
+def address_of(client):
+    return "%s:%d" % client.socket.getsockname()
+
+
+def lines_of(path, count):
+    """The lines of a log, once there are so many; what a ttl says is left out."""
+    deadline = time.monotonic() + PATIENCE
+    while True:
+        with open(path, encoding="ascii") as it:
+            text = it.read()
+        if text.count("\n") >= count or time.monotonic() > deadline:
+            break
+        time.sleep(0.05)
+    expect("lines of the log", (count, True), (text.count("\n"), not text or text.endswith("\n")))
+    return [one.split(" ", 6) for one in text.splitlines()]
+
+
+def without_ttl(reason):
+    return ";".join("ttl=" if it.startswith("ttl=") else it for it in reason.split(";"))
+
+
+def expect_lines(lines, client, expected):
+    """Each line but its moment, which is one of this minute."""
+    for (moment, who, *words, reason), one in zip(lines, expected):
+        if abs(int(moment) - time.time()) > 60:
+            raise Unexpected("a moment of this minute", int(time.time()), moment)
+        expect("a line of the log", [address_of(client), *one], [who, *words, without_ttl(reason)])
+
+
+@scenario
+def a_line_for_each_reply(stage):
+    """What was asked, and what was told: from the store and from the origin, denied and refused, one behind the other."""
+    stage.origin(Origin({"/a": whole(200, KEPT, content=b"hello"), "/post": whole(201, content=b"made")}))
+    log = f"{stage.room.name}/log"
+    lines = ("/denied", ["*"], "deny"), ("/", ["GET", "HEAD", "POST"], stage.origins[0].address)
+    proxy = stage.proxy(*lines, options=["--log", log])
+    client = proxy.client()
+    client.ask("/a?x=1")
+    client.ask("/a?x=1")
+    client.ask("/a?x=1", method="HEAD")
+    client.send(request("/post", "Expect: 100-continue", method="POST", content=b"y" * 5000) + request("/denied/b") + request("/a?x=1"))
+    for it in (100, 201, 403, 200):
+        expect("status", it, client.response().status)
+    client.ask("http://Other.Example:8080/a", method="PUT", content=b"z")
+    client.ask("/a/../b")
+    expect_lines(
+        lines_of(log, 8),
+        client,
+        (
+            ["GET", "http://h/a?x=1", "200", "5", "fwd=uri-miss;ttl=;stored"],
+            ["GET", "http://h/a?x=1", "200", "5", "hit;ttl="],
+            ["HEAD", "http://h/a?x=1", "200", "0", "hit;ttl="],
+            ["POST", "http://h/post", "201", "4", "fwd=method"],
+            ["GET", "http://h/denied/b", "403", "16", "denied by line 1"],
+            ["GET", "http://h/a?x=1", "200", "5", "hit;ttl="],
+            ["PUT", "http://other.example:8080/a", "403", "17", "no line allows it"],
+            ["GET", "/a/../b", "400", "20", "refused: dot-segment"],
+        ),
+    )
+
+
+@scenario
+def bytes_that_would_break_a_line(stage):
+    """What isn't visible stands as \\xHH, and what couldn't be read is a dash."""
+    stage.origin(Origin({}))
+    log = f"{stage.room.name}/log"
+    proxy = stage.proxy(options=["--log", log])
+    client = proxy.client()
+    client.send(b"GET /\xc3\xa9 HTTP/1.1\r\nHost: h\r\n\r\n")
+    expect_refusal(client.response(), 400, "refused: form")
+    expect_lines(lines_of(log, 1), client, (["GET", "/\\xC3\\xA9", "400", "13", "refused: form"],))
+    other = proxy.client()
+    other.send(b"GET /a HTTP/1.1\r\nHost : h\r\n\r\n")
+    expect_refusal(other.response(), 400, "refused: head")
+    expect_lines(lines_of(log, 2)[1:], other, (["-", "-", "400", "13", "refused: head"],))
+
+
+@scenario
+def a_log_is_added_to(stage):
+    """A start leaves the lines of the one before."""
+    stage.origin(Origin({"/a": whole(200, KEPT, content=b"hello")}))
+    log = f"{stage.room.name}/log"
+    for i in range(2):
+        proxy = stage.proxy(options=["--log", log])
+        expect_answer(proxy.client().ask("/a"), 200, "edge;fwd=uri-miss;ttl=600;stored", b"hello")
+        lines_of(log, i + 1)
+        proxy.stop(0)
+
+
+@scenario
+def a_log_on_standard_output(stage):
+    """`--log -`: the lines come on standard output, behind their replies."""
+    origin = stage.origin(Origin({"/a": whole(200, KEPT, content=b"hello")}))
+    proxy = Proxy(stage.program, stage.room.name, table_of([origin.address]), options=["--log", "-"], records=False)
+    try:
+        client = proxy.client()
+        for _ in range(2):
+            client.ask("/a")
+        time.sleep(0.5)
+        proxy.process.send_signal(signal.SIGTERM)
+        _, out, err = proxy.wait()
+    finally:
+        proxy.process.kill()
+    expect("on standard error", "", err)
+    lines = [it.split(" ", 6) for it in out.decode().splitlines()]
+    told = ["GET", "http://h/a", "200", "5"]
+    expect("lines", 2, len(lines))
+    expect_lines(lines, client, ([*told, "fwd=uri-miss;ttl=;stored"], [*told, "hit;ttl="]))
+
+
+@scenario
+def a_log_that_cannot_be_written(stage):
+    """A full disk: it is told once, and each reply goes out."""
+    if not os.path.exists("/dev/full"):
+        raise Skipped("there is no /dev/full")
+    stage.origin(Origin({"/a": whole(200, KEPT, content=b"hello")}))
+    client = stage.proxy(options=["--log", "/dev/full"]).client()
+    for it in ("edge;fwd=uri-miss;ttl=600;stored", "edge;hit;ttl=600", "edge;hit;ttl=600"):
+        expect_answer(client.ask("/a"), 200, it, b"hello")
+    time.sleep(0.2)
+    stage.lines = 1
+
+
+@scenario
+def lines_that_were_lost_are_counted(stage):
+    """At its end by its turns the program says how many lines it couldn't write."""
+    if not os.path.exists("/dev/full"):
+        raise Skipped("there is no /dev/full")
+    origin = stage.origin(Origin({}))
+    table = table_of([("/", ["*"], "deny"), ("/never", ["GET"], origin.address)])
+    proxy = Proxy(stage.program, stage.room.name, table, turns=12, options=["--log", "/dev/full"], records=False)
+    client = proxy.client()
+    for _ in range(3):
+        expect_refusal(client.ask("/a"), 403, "denied by line 1")
+    expect("status, output and standard error", (0, b"", "log fault\nlog fault 3\n"), proxy.wait())
+
+
+@scenario
+def a_log_that_cannot_be_opened(stage):
+    """A start fails where there is no place for its log."""
+    file = f"{stage.room.name}/table.toml"
+    with open(file, "w", encoding="utf-8") as it:
+        it.write(table_of(["127.0.0.1:1"]))
+    words = [stage.program, "serve", file, "--listen", "127.0.0.1:0", "--turns", "1", "--log", f"{stage.room.name}/none/log"]
+    ran = subprocess.run(words, stdin=subprocess.DEVNULL, capture_output=True, timeout=PATIENCE)
+    expect("status, output and standard error", (1, b"", b"write fault\n"), (ran.returncode, ran.stdout, ran.stderr))
