@@ -43,7 +43,7 @@ fn uri_of(alloc: Global, target: &Target) -> Result<Bytes, AllocError> {
 
 fn question_of(alloc: Global, request: &Request) -> Result<Question, AllocError> {
     let method = Bytes::copy_of(alloc, request.method.as_str().as_bytes())?;
-    let target = match read_target(alloc, request.target.as_slice(), &request.fields) {
+    let target = match read_target(alloc, &request.target, &request.fields) {
         Ok(target) => uri_of(alloc, &target)?,
         Err(_) => request.target.copy(alloc)?,
     };
