@@ -11,6 +11,7 @@ import re
 import subprocess
 import tempfile
 import time
+from concurrent.futures import ThreadPoolExecutor
 
 BEGIN, END = "<!-- tools/mutants --definitions writes from here -->", "<!-- to here, of definitions -->"
 # So many mutants are tried by one start of the compiler.
@@ -230,7 +231,9 @@ def write_page(rt, page, tried):
 
 def main(rt, crates, names, page):
     """names: of mutants, where not all of these crates are to be tried; then the page stays as it is."""
-    tried = {it.name: try_crate(rt, it, names, AT_ONCE) for it in crates}
+    lanes = os.environ.get("RT_JOBS", "")
+    with ThreadPoolExecutor(int(lanes) if lanes.isdigit() else rt.processors()) as pool:
+        tried = dict(zip([it.name for it in crates], pool.map(lambda it: try_crate(rt, it, names, AT_ONCE), crates)))
     if not names:
         write_page(rt, page, tried)
     every = [it for of_crate in tried.values() for it in of_crate]
