@@ -11,6 +11,7 @@ import re
 import subprocess
 import tempfile
 import time
+from concurrent.futures import ThreadPoolExecutor
 
 BEGIN, END = "<!-- tools/mutants --definitions writes from here -->", "<!-- to here, of definitions -->"
 # So many mutants are tried by one start of the compiler.
@@ -84,12 +85,24 @@ class Copy:
             text = text.replace(f"Rattle.{name}.proofs.{law.replace('/', '.')}.", f"Rattle.{name}.proofs.{law.replace('/', '.')}{mark}.")
         return text
 
+    def functions_on(self, law, modules):
+        """The functions of a file of laws whose statement or proof rests on these modules."""
+        text, found = self.files[f"src/{law}.rt"], []
+        imports = re.findall(rf"ghost use Rattle\.{self.crate.name}\.(specs\.\w+)\.\{{(.*?)\}};", text, re.S)
+        changed = {it.split(" as ")[-1].strip() for module, names in imports if module in modules for it in names.split(",")}
+        for above, name, statement in re.findall(r"((?:^#\[[^\n]*\n)*)^pub fn (\w+)(.*?)^(?:\{\}|\})$", text, re.M | re.S):
+            proofs = [it for path, it in self.files.items() if path.startswith(f"proofs/{law}/{name}/")]
+            is_named = changed & set(re.findall(r"\w+", statement)) or any(self.names_one_of(it, modules) for it in [above, *proofs])
+            found += [name] * bool(is_named)
+        return found
+
     def texts_of(self, number, texts):
         """The files of the set with that number, in which these texts replace the crate's, and the laws that rest on them."""
         mark, files = f"_m{number}", {}
         modules = self.resting_on({self.module(it) for it in texts} - {None})
         with_proofs = lambda law: [it for it in self.files if it == f"src/{law}.rt" or it.startswith(f"proofs/{law}/")]
-        laws = [it for it in self.laws if any(self.names_one_of(self.files[path], modules) for path in with_proofs(it))]
+        functions = {law: self.functions_on(law, modules) for law in self.laws}
+        laws = [it for it in self.laws if functions[it]]
         for path in self.files:
             if self.module(path) in modules:
                 files[path.replace(".antt", f"{mark}.antt")] = self.renamed(texts.get(path, self.files[path]), modules, laws, mark)
@@ -97,7 +110,7 @@ class Copy:
             for path in with_proofs(law):
                 to = path.replace(f"/{law}.rt", f"/{law}{mark}.rt").replace(f"proofs/{law}/", f"proofs/{law}{mark}/")
                 files[to] = self.renamed(self.files[path], modules, laws, mark)
-        return files, [f"{law}{mark}" for law in laws]
+        return files, [f"{law}{mark}/{name}" for law in laws for name in functions[law]]
 
     def write(self, room, sets):
         """Writes the crate and the sets, each declared where the crate declares its own."""
@@ -152,7 +165,7 @@ def judged(mutant, number, laws, said):
     unread = re.search(rf"^(?:\./)?specs/\S*_m{number}\.antt:\d+:\d+: error.*", said, re.M)
     if unread:
         return Tried(mutant, [], f"the prover can't read the changed definition: {unread[0][:300]}")
-    found = [it for law in laws for it in re.findall(rf"^fn \w+::({law.replace('/', '::')}::\S+): (.*)", said, re.M)]
+    found = [it for law in laws for it in re.findall(rf"^fn \w+::({law.replace('/', '::')}): (.*)", said, re.M)]
     if laws and not found:
         return Tried(mutant, [], f"the prover says nothing of its laws: {said.rstrip()[-300:]}")
     return Tried(mutant, [it.replace(f"_m{number}::", "::") for it, outcome in found if outcome != "proved"])
@@ -218,7 +231,9 @@ def write_page(rt, page, tried):
 
 def main(rt, crates, names, page):
     """names: of mutants, where not all of these crates are to be tried; then the page stays as it is."""
-    tried = {it.name: try_crate(rt, it, names, AT_ONCE) for it in crates}
+    lanes = os.environ.get("RT_JOBS", "")
+    with ThreadPoolExecutor(int(lanes) if lanes.isdigit() else rt.processors()) as pool:
+        tried = dict(zip([it.name for it in crates], pool.map(lambda it: try_crate(rt, it, names, AT_ONCE), crates)))
     if not names:
         write_page(rt, page, tried)
     every = [it for of_crate in tried.values() for it in of_crate]
