@@ -5,6 +5,7 @@ ghost use Rattle.hx_framing.specs.Places.{blank_at, blank_from, empty_at, blank_
 ghost use Rattle.hx_framing.specs.Searching.{Reaches, IsSearched};
 
 use crate::head_search::{HeadSearch, Searched};
+use memchr::memchr;
 
 /// The most bytes of a head, with the empty lines in front of it.
 pub(crate) const MOST_HEAD_BYTES: usize = 32768;
@@ -76,18 +77,21 @@ pub(crate) fn blank_length(bytes: &[u8]) -> usize
     blank_from(bytes, 0)
 }
 
-/// Where the first empty line from an index on ends.
+/// Where the first empty line from an index on ends. The search goes from one LF to the next.
 fn empty_line_from(bytes: &[u8], from: usize) -> Option<usize>
     requires { from ≤ length bytes.now }
     ensures place { result ≡ empty_line_from from (drop from bytes.now) }
     ensures within { IfSome result (λ end. end ≤ length bytes.now) }
     ensures some { IfSome result (λ end. 0 < end) }
 {
-    for at in from..bytes.len() {
+    let mut at = from;
+    while let Some(skipped) = memchr(b'\n', rest_from(bytes, at)) {
+        at += skipped;
         let empty = empty_at(rest_from(bytes, at));
         if empty > 0 {
             return Some(at + empty);
         }
+        at += 1;
     }
     None
 }
@@ -153,12 +157,10 @@ fn place_of(text: &[u8], byte: u8) -> usize
     ensures place { result ≡ position_or_len (λ b. b == byte) text.now }
     ensures within { result ≤ length text.now }
 {
-    for (i, b) in text.iter().enumerate() {
-        if *b == byte {
-            return i;
-        }
+    match memchr(byte, text) {
+        Some(at) => at,
+        None => text.len(),
     }
-    text.len()
 }
 
 /// What stands before a byte, or all where it doesn't stand.
