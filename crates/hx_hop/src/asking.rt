@@ -1,8 +1,8 @@
 //! From a request that was read to one that rules see.
-ghost use Rattle.std.specs.Prelude.{◌≡◌, codes, Err, false, IfOk};
+ghost use Rattle.std.specs.Prelude.{◌≡◌, codes, Err, false, IfErr, IfOk};
 ghost use Rattle.hx_fields.specs.Lines.{values_of};
 ghost use Rattle.hx_target.specs.Judgement.{is_malformed};
-ghost use Rattle.hx_hop.specs.Asking.{kept_fields, closes, asked_of, IsAsked};
+ghost use Rattle.hx_hop.specs.Asking.{kept_fields, closes, asked_of, asked_by, IsAsked};
 
 use crate::Asked;
 use crate::asked_for::copy_content;
@@ -42,6 +42,21 @@ fn asked_of(alloc: Global, request: &Request, target: Target) -> Result<Asked, A
     })
 }
 
+/// The request with its target, or the fault of its target. Want of memory of its own is told only where the target has none.
+fn asked_by(
+    alloc: Global,
+    request: &Request,
+    target: Result<Target, TargetFault>,
+) -> Result<Asked, TargetFault>
+    ensures asked { ¬ (result ≡ Err TargetFault.OutOfMemory) → result ≡ asked_by request.now target }
+    ensures refused { IfErr target (λ fault. result ≡ Err fault) }
+{
+    match target {
+        Ok(target) => Ok(asked_of(alloc, request, target)?),
+        Err(fault) => Err(fault),
+    }
+}
+
 /// The request as every later rule sees it, or the least fault of its target. The target is read from the
 /// fields as they were received.
 pub fn ask(alloc: Global, request: &Request) -> Result<Asked, TargetFault>
@@ -49,8 +64,9 @@ pub fn ask(alloc: Global, request: &Request) -> Result<Asked, TargetFault>
     // A target that is malformed is told so without memory.
     ensures memory_last { result ≡ Err TargetFault.OutOfMemory → is_malformed request.now.target ≡ false }
 {
-    match read_target(alloc, &request.target, &request.fields) {
-        Ok(target) => Ok(asked_of(alloc, request, target)?),
-        Err(fault) => Err(fault),
-    }
+    asked_by(
+        alloc,
+        request,
+        read_target(alloc, &request.target, &request.fields),
+    )
 }

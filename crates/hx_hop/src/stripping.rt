@@ -1,12 +1,11 @@
 //! Which lines concern one connection alone (RFC 9110, section 7.6.1).
 //!
-//! The definitions are in `specs/Stripping.antt`. A member of Connection is compared where it stands, so no
-//! list of members is built.
+//! The definitions are in `specs/Stripping.antt`.
 ghost use Rattle.std.specs.Prelude.{◌≡◌, codes, IfOk};
 ghost use Rattle.hx_fields.specs.Names.{members_of_value};
-ghost use Rattle.hx_hop.specs.Stripping.{connection_names, is_among, is_hop_line, is_hop_name, lists_cache_field, stripped};
+ghost use Rattle.hx_hop.specs.Stripping.{connection_names, is_among, is_hop_name, lists_cache_field, stripped};
 
-use hx_fields::{Field, Fields, is_same_name, next_member};
+use hx_fields::{Fields, Members, is_same_name, next_member};
 use std::alloc::{AllocError, Global};
 
 /// Whether a member of this value is a name.
@@ -53,11 +52,14 @@ fn is_hop_name(name: &[u8]) -> bool
         || is_same_name(b"Proxy-Authorization", name)
 }
 
-/// Whether a line of these fields doesn't go on.
-fn is_hop_line(fields: &Fields, line: &Field) -> bool
-    ensures { result ≡ is_hop_line fields.now line.now }
+/// Whether one of these is the name.
+fn is_among(names: &Members, name: &[u8]) -> bool
+    ensures { result ≡ is_among names.now name.now }
 {
-    is_hop_name(line.name.as_slice()) || connection_names(fields, line.name.as_slice())
+    names
+        .as_slice()
+        .iter()
+        .any(|n| is_same_name(n.as_slice(), name))
 }
 
 /// The lines that go on: those of the connection alone are left out, and those that a member of Connection
@@ -65,9 +67,10 @@ fn is_hop_line(fields: &Fields, line: &Field) -> bool
 pub fn strip(alloc: Global, fields: &Fields) -> Result<Fields, AllocError>
     ensures { IfOk result (λ kept. kept ≡ stripped fields.now) }
 {
+    let named = fields.members(alloc, b"Connection")?;
     let mut kept = Fields::with_capacity(alloc, fields.len())?;
     for line in fields.as_slice() {
-        if !is_hop_line(fields, line) {
+        if !is_hop_name(line.name.as_slice()) && !is_among(&named, line.name.as_slice()) {
             kept.push_line(line.copy(alloc)?)?;
         }
     }

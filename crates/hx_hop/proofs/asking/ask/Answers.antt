@@ -1,8 +1,8 @@
-use Rattle.std.proofs.Common.{refl, ap, Ok, Err}
+use Rattle.std.proofs.Common.{ap, ◌∙◌}
+use Rattle.hx_hop.specs.Asking.{asked_by}
 use Rattle.hx_hop.proofs.asking.ask.Goals as goal
 
-pub returns-in_ok-asked_of-in-Ok-clause-asked : goal.returns-in_ok-asked_of-in-Ok-clause-asked
-returns-in_ok-asked_of-in-Ok-clause-asked c = λ free. (Ok c.in-Ok.target, c.in-Ok.ensures.judged (λ e. cc), ap (λ asked. Ok asked) c.in_ok-asked_of-in-Ok.ensures)
-
-pub returns-in-Err-clause-asked : goal.returns-in-Err-clause-asked
-returns-in-Err-clause-asked c = λ free. (Err c.in-Err.fault, c.in-Err.ensures.judged (λ e. free (cc)), refl)
+pub returns-clause-asked : goal.returns-clause-asked
+returns-clause-asked c = λ free.
+    let is = c.asked_by.ensures.asked free in
+    (c.read_target.result, c.read_target.ensures.judged (λ e. free (is ∙ ap (asked_by c.args.request.now) e)), is)
