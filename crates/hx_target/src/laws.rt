@@ -1,14 +1,14 @@
 //! What the definitions of `specs/` say together: each function's contract is a law, and its body is empty.
-ghost use Rattle.std.specs.Prelude.{◌≡◌, List, ℕ, Result, Ok, Some, true, false, codes, [], ◌∷◌};
+ghost use Rattle.std.specs.Prelude.{◌≡◌, List, ℕ, Result, Ok, Some, None, true, false, codes, [], ◌∷◌};
 ghost use Rattle.hx_target.specs.declared.faults.TargetFault.{TargetFault as Fault};
 ghost use Rattle.hx_target.specs.declared.targets.Target.{Target as Aim};
 ghost use Rattle.hx_target.specs.declared.keys.Key.{Key as StoreKey};
-ghost use Rattle.hx_target.specs.declared.faults.TargetFault.TheVariants.{Scheme, Host, Port, Userinfo, Escape, DotSegment};
+ghost use Rattle.hx_target.specs.declared.faults.TargetFault.TheVariants.{Form, Scheme, Host, Port, Userinfo, Escape, DotSegment};
 ghost use Rattle.hx_target.specs.Examples.{in_origin_form, in_absolute_form};
-ghost use Rattle.hx_target.specs.Hosts.{lowercase};
+ghost use Rattle.hx_target.specs.Hosts.{has_valid_host, host_part, is_host, lowercase, port_of, port_part};
 ghost use Rattle.hx_target.specs.Keys.{same_key};
 ghost use Rattle.hx_target.specs.Paths.{has_bad_escape, has_dot_segment, is_normal, table_path_of};
-ghost use Rattle.hx_target.specs.Judgement.{Judged, Question, judged_of};
+ghost use Rattle.hx_target.specs.Judgement.{Judged, Question, is_malformed, judged_of};
 
 /// A target and its Host lines are judged in one way.
 pub fn a_target_is_judged_in_one_way()
@@ -75,4 +75,80 @@ pub fn case_names_nothing()
 pub fn equal_keys_are_one()
     ensures equal { (a b : StoreKey) → same_key a b ≡ true → a ≡ b }
     ensures itself { (a : StoreKey) → same_key a a ≡ true }
+{}
+
+/// Names of letters, digits, hyphens, dots and underscores, and addresses in brackets of 2 to 45 bytes (RFC 3986, section 3.2.2).
+#[tactic(auto, unfolding(crate::specs::Hosts::is_host))]
+pub fn worked_hosts()
+    ensures name { is_host (codes "A-b_c.d1") ≡ true }
+    ensures empty { is_host [] ≡ false }
+    ensures blank { is_host (codes "a b") ≡ false }
+    ensures at_sign { is_host (codes "a@b") ≡ false }
+    ensures escape { is_host (codes "a%62") ≡ false }
+    ensures address { is_host (codes "[2001:dB8::1]") ≡ true }
+    ensures dotted { is_host (codes "[::1.2.3.4]") ≡ true }
+    ensures least { is_host (codes "[::]") ≡ true }
+    ensures too_short { is_host (codes "[:]") ≡ false }
+    ensures longest { is_host (codes "[0000:0000:0000:0000:0000:0000:255.255.255.255]") ≡ true }
+    ensures too_long { is_host (codes "[00000:0000:0000:0000:0000:0000:255.255.255.255]") ≡ false }
+    ensures letter { is_host (codes "[g::1]") ≡ false }
+    ensures open { is_host (codes "[::11") ≡ false }
+    ensures behind { is_host (codes "[::1]a") ≡ false }
+{}
+
+/// A host ends at the first colon, an address at its bracket; a port is 1 to 65535, of five digits at most, and 80 where it is empty.
+#[tactic(auto, unfolding(crate::specs::Hosts::is_host, crate::specs::Hosts::short_number, crate::specs::Hosts::port_of))]
+pub fn worked_ports()
+    ensures before_port { host_part (codes "h:80") ≡ codes "h" }
+    ensures before_port_of_address { host_part (codes "[::1]:80") ≡ codes "[::1]" }
+    ensures without { has_valid_host (codes "h") ≡ true }
+    ensures with_port { has_valid_host (codes "[::1]:x") ≡ true }
+    ensures behind_address { has_valid_host (codes "[::1]80") ≡ false }
+    ensures no_host { has_valid_host (codes ":80") ≡ false }
+    ensures empty { port_of [] ≡ Some 80 }
+    ensures zero { port_of (codes "0") ≡ None }
+    ensures one { port_of (codes "1") ≡ Some 1 }
+    ensures greatest { port_of (codes "65535") ≡ Some 65535 }
+    ensures too_great { port_of (codes "65536") ≡ None }
+    ensures zeros { port_of (codes "00443") ≡ Some 443 }
+    ensures six_digits { port_of (codes "000443") ≡ None }
+    ensures letter { port_of (codes "8a") ≡ None }
+    ensures of_a_value { port_part (codes "h:8080") ≡ Some 8080 }
+    ensures none_of_a_value { port_part (codes "h:") ≡ Some 80 }
+{}
+
+/// Bytes that no target has: blanks, controls, those above 7E (hex) and the hash sign (RFC 3986, section 2).
+#[tactic(auto, unfolding(crate::specs::Judgement::is_malformed))]
+pub fn worked_bytes_of_targets()
+    ensures exclamation_mark { is_malformed (codes "/!") ≡ false }
+    ensures tilde { is_malformed (codes "/~") ≡ false }
+    ensures blank { is_malformed (codes "/a b") ≡ true }
+    ensures delete { is_malformed (47 ∷ 127 ∷ []) ≡ true }
+    ensures above { is_malformed (47 ∷ 195 ∷ []) ≡ true }
+    ensures hash { is_malformed (codes "/a#b") ≡ true }
+{}
+
+/// Segments are cut at slashes alone; of escapes those of unreserved characters are undone, and no others.
+#[tactic(auto, unfolding(crate::specs::Paths::has_dot_segment))]
+pub fn worked_segments_and_escapes()
+    ensures one_dot { has_dot_segment (codes "/a/./b") ≡ true }
+    ensures two_dots { has_dot_segment (codes "/a/..") ≡ true }
+    ensures three_dots { has_dot_segment (codes "/.../a") ≡ false }
+    ensures backslash { has_dot_segment (codes "/a\\..\\b") ≡ false }
+    ensures unreserved { table_path_of (codes "/%2D%2E%5F%7e%61%5a%39") ≡ codes "/-._~aZ9" }
+    ensures reserved { table_path_of (codes "/%2f%3b%25%c3") ≡ codes "/%2F%3B%25%C3" }
+    ensures second_digit { has_bad_escape (codes "/%4g") ≡ true }
+    ensures later { has_bad_escape (codes "/%41%") ≡ true }
+{}
+
+/// One Host line has to stand, whatever the target; the forms of CONNECT and OPTIONS aren't read; an authority replaces Host.
+#[tactic(auto, unfolding(crate::specs::Judgement::judged_of, crate::specs::Hosts::is_host, crate::specs::Hosts::short_number, crate::specs::Hosts::port_of, crate::specs::Paths::has_dot_segment))]
+pub fn worked_forms_are_judged()
+    ensures no_host { judged_of (record (in_origin_form (codes "/a") []) { hosts = [] }) ≡ Err Host }
+    ensures two_hosts { judged_of (record (in_origin_form (codes "/a") []) { hosts = codes "h" ∷ codes "h" ∷ [] }) ≡ Err Host }
+    ensures bad_host_line { judged_of (in_absolute_form (codes "http") (codes "h") (codes "/a") (codes "x y")) ≡ Err Host }
+    ensures bad_port_of_host_line { judged_of (in_absolute_form (codes "http") (codes "h") (codes "/a") (codes "x:0")) ≡ Err Port }
+    ensures authority_form { judged_of (record (in_origin_form (codes "h:80") (codes "h")) { authority = Some (codes "h:80") }) ≡ Err Form }
+    ensures asterisk_form { judged_of (in_origin_form (codes "*") (codes "h")) ≡ Err Form }
+    ensures authority { judged_of (in_absolute_form (codes "http") (codes "H:81") (codes "/%41?b") (codes "x")) ≡ Ok (record { key = record { host = codes "h"; port = 81; path_query = codes "/%41?b" }; table_path = codes "/A" }) }
 {}

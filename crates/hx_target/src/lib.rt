@@ -22,8 +22,9 @@ pub use hosts::{is_host, short_number};
 pub use keys::Key;
 pub use laws::{
     a_table_path_is_normal, a_target_is_judged_in_one_way, case_names_nothing, equal_keys_are_one,
-    no_dot_segment_passes, normalising_twice_is_once, worked_paths_are_normalised,
-    worked_targets_are_judged,
+    no_dot_segment_passes, normalising_twice_is_once, worked_bytes_of_targets,
+    worked_forms_are_judged, worked_hosts, worked_paths_are_normalised, worked_ports,
+    worked_segments_and_escapes, worked_targets_are_judged,
 };
 pub use paths::{has_dot_segment, names_a_dot_segment};
 pub use reading::read_target;

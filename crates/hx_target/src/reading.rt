@@ -1,11 +1,12 @@
 //! Reading a target. The law is `Judged` in `specs/Judgement.antt`.
 //!
 //! A target is cut by `http_uri`; what is read here are the parts that it gives.
-ghost use Rattle.std.specs.Prelude.{◌≡◌, ◌==◌, ◌||◌, ◌&&◌, not, codes, Err, Ok, None, false, slice_index, is_some, IfOk};
+ghost use Rattle.std.specs.Prelude.{◌≡◌, ◌==◌, ◌||◌, ◌&&◌, not, codes, Err, Ok, None, false, slice_index, is_some, IfErr, IfOk, MatchResult};
 ghost use Rattle.std.specs.List.{list_any};
 ghost use Rattle.std.specs.Option.{option_copied};
 ghost use Rattle.http_uri.specs.ByteClasses.{slash, at_sign, rsplit_once_back};
-ghost use Rattle.http_uri.specs.Uri.{Spells, uri_scheme, uri_authority};
+ghost use Rattle.http_uri.specs.Error.{IsOutOfMemory, UnlessOutOfMemory};
+ghost use Rattle.http_uri.specs.Uri.{Spells, SpellsNone, uri_scheme, uri_authority};
 ghost use Rattle.hx_fields.specs.Lines.{values_of};
 ghost use Rattle.hx_target.specs.Judgement.{is_bad_byte, is_malformed, is_http, has_other_scheme, host_value, naming, has_userinfo, path_query_of, question_of, first_fault, judged_of, Judged};
 
@@ -178,6 +179,27 @@ fn judge(alloc: Global, target: &Bytes, uri: &Uri, fields: &Fields) -> Result<Ta
     }
 }
 
+/// What a target asks for that `http_uri` cut or refused, or its least fault. Want of memory is told where `http_uri` found
+/// none, or where no fault stands.
+fn judge_cut(
+    alloc: Global,
+    target: &Bytes,
+    cut: Result<Uri, UriError>,
+    fields: &Fields,
+) -> Result<Target, TargetFault>
+    requires good { is_malformed target.now ≡ false }
+    requires spelled { IfOk cut (Spells target.now) }
+    requires not_spelled { IfErr cut (λ error. UnlessOutOfMemory error (SpellsNone target.now)) }
+    ensures judged { ¬ (result ≡ Err TargetFault.OutOfMemory) → Judged target.now (values_of fields.now (codes "Host")) result }
+    ensures memory_last { result ≡ Err TargetFault.OutOfMemory → MatchResult cut (λ uri. first_fault (question_of target.now uri (values_of fields.now (codes "Host"))) ≡ None) IsOutOfMemory }
+{
+    match cut {
+        Ok(uri) => judge(alloc, target, &uri, fields),
+        Err(UriError::Invalid(_)) => Err(TargetFault::Form),
+        Err(UriError::OutOfMemory) => Err(TargetFault::OutOfMemory),
+    }
+}
+
 /// Reads a request's target and its Host lines (RFC 9112, section 3.2): what it asks for, or the least of
 /// the faults that stand. Parts that are kept as they came share the buffers that the target and the Host line share.
 pub fn read_target(alloc: Global, target: &Bytes, fields: &Fields) -> Result<Target, TargetFault>
@@ -189,9 +211,5 @@ pub fn read_target(alloc: Global, target: &Bytes, fields: &Fields) -> Result<Tar
     if is_malformed(text) {
         return Err(TargetFault::Form);
     }
-    match Uri::from_bytes(alloc, text) {
-        Ok(uri) => judge(alloc, target, &uri, fields),
-        Err(UriError::Invalid(_)) => Err(TargetFault::Form),
-        Err(UriError::OutOfMemory) => Err(TargetFault::OutOfMemory),
-    }
+    judge_cut(alloc, target, Uri::from_bytes(alloc, text), fields)
 }
