@@ -1,5 +1,5 @@
 -- What a `[[line]]` table says, or its first fault.
-use Rattle.std.specs.Prelude.{ℕ, ◌+◌, ◌-◌, ◌==◌, nat_le, Bool, true, false, not, ◌&&◌, ◌||◌, if◌then◌else◌, List, [], ◌∷◌, length, slice_index, codes, bytes_eq, Option, Some, None, is_none, unwrap_or}
+use Rattle.std.specs.Prelude.{ℕ, ◌+◌, ◌-◌, ◌==◌, nat_le, Bool, true, not, ◌&&◌, ◌||◌, if◌then◌else◌, List, [], ◌∷◌, length, slice_index, codes, bytes_eq, Option, Some, None, is_none, unwrap_or}
 use Rattle.std.specs.List.{list_any, list_all}
 use Rattle.std.specs.Char.{is_ascii_uppercase}
 use Rattle.http_uri.specs.ByteClasses.{slash, hash_sign, question_mark}
@@ -14,6 +14,8 @@ use Rattle.hx_allow.specs.Values.{first_unknown, text_at, is_some_and, counts_wi
 use Rattle.hx_allow.specs.declared.values.Scope.TheVariants.{Line}
 use Rattle.hx_allow.specs.declared.values.TableVersion.{TableVersion}
 use Rattle.hx_allow.specs.declared.faults.ConfigFault.{ConfigFault}
+use Rattle.hx_allow.specs.declared.faults.FoundFault.{FoundFault}
+use Rattle.hx_allow.specs.declared.faults.FoundFault.TheVariants as found
 use Rattle.hx_allow.specs.declared.faults.ConfigFault.TheVariants.{UnknownKey, BadHost, BadMethod, BadPath, BadOrigin, BadCache}
 
 -- `*`, or a host in lower case
@@ -113,7 +115,7 @@ abbrev pub lines_of : Items → List PlainLine
 lines_of no_items = []
 lines_of (item d ds) = with_line (as_table d) (lines_of ds)
 
--- the fault has a key, whose bytes take memory
-abbrev pub has_key : Option ConfigFault → Bool
-has_key (Some (UnknownKey key)) = true
-has_key _ = false
+-- the fault that was found
+abbrev pub fault_found : FoundFault → ConfigFault
+fault_found (found.UnknownKey key) = UnknownKey key.now
+fault_found (found.Other fault) = fault

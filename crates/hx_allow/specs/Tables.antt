@@ -3,7 +3,7 @@
 -- table_fault: the first fault that stands      table_of: what is said where none stands
 -- judge_table: one or the other
 -- ReadsAs: the same of bytes, with the reading of TOML as a relation
-use Rattle.std.specs.Prelude.{◌≡◌, ◌⊎◌, ◌≤◌, ℕ, ◌==◌, nat_le, Bool, true, not, ◌&&◌, ◌||◌, if◌then◌else◌, List, [], ◌∷◌, length, slice_index, find, codes, IsUtf8, Option, Some, None, is_some, is_none, unwrap_or, Result, Ok, Err}
+use Rattle.std.specs.Prelude.{◌≡◌, ◌⊎◌, ◌≤◌, ℕ, ◌==◌, nat_le, Bool, true, false, not, ◌&&◌, ◌||◌, if◌then◌else◌, List, [], ◌∷◌, length, slice_index, find, codes, IsUtf8, Option, Some, None, is_some, is_none, unwrap_or, Result, Ok, Err}
 use Rattle.std.specs.Option.{option_and_then}
 use Rattle.std.specs.List.{list_all}
 use Rattle.std.specs.Char.{is_ascii_lowercase, is_ascii_digit}
@@ -11,7 +11,7 @@ use Rattle.toml.specs.Data.{Items, no_items, Members, get_member, as_table}
 use Rattle.toml.specs.Parse.{parse_document}
 use Rattle.hx_allow.specs.Keys.{key_text}
 use Rattle.hx_allow.specs.Lines.{Table}
-use Rattle.hx_allow.specs.LineTables.{lines_fault, lines_of, has_key}
+use Rattle.hx_allow.specs.LineTables.{lines_fault, lines_of}
 use Rattle.hx_allow.specs.Values.{first_unknown, text_at, number_between, is_some_and, counts_within, all_items, items_at}
 use Rattle.hx_allow.specs.declared.values.Scope.TheVariants.{Top}
 use Rattle.hx_allow.specs.declared.values.TableVersion.{TableVersion}
@@ -115,4 +115,5 @@ ReadsAs bytes r =
 -- memory is taken before a fault is told only for the bytes of a key
 abbrev pub wants_memory : Option ConfigFault → Bool
 wants_memory None = true
-wants_memory (Some fault) = has_key (Some fault)
+wants_memory (Some (UnknownKey key)) = true
+wants_memory (Some _) = false

@@ -90,3 +90,11 @@ impl From<AllocError> for ConfigFault {
         ConfigFault::OutOfMemory
     }
 }
+
+/// A fault of a table as it is found, before anything is copied.
+pub(crate) enum FoundFault<'a> {
+    /// This key isn't known.
+    UnknownKey(&'a str),
+    /// A fault that takes no memory to tell.
+    Other(ConfigFault),
+}

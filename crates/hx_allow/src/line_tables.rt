@@ -1,5 +1,5 @@
 //! The lines of a TOML table: the first fault among them, and what they say.
-ghost use Rattle.std.specs.Prelude.{◌≡◌, ◌≤◌, ◌+◌, length, IfOk, MatchResult, Some, true, codes, unwrap_or, [], string_bytes};
+ghost use Rattle.std.specs.Prelude.{◌≡◌, ◌≤◌, ◌+◌, length, IfOk, Some, true, codes, unwrap_or, [], string_bytes};
 ghost use Rattle.std.specs.Option.{option_copied, option_map};
 ghost use Rattle.toml.specs.Data.{as_str, as_table, no_items};
 ghost use Rattle.hx_target.specs.Paths.{table_path_of};
@@ -7,10 +7,11 @@ ghost use Rattle.std.specs.List.{list_any, list_all};
 ghost use Rattle.std.specs.Char.{is_ascii_uppercase};
 ghost use Rattle.toml.specs.View.{table_view, items_view, view};
 ghost use Rattle.hx_allow.specs.Values.{is_some_and, items_at, unless_text, texts_of};
-ghost use Rattle.hx_allow.specs.LineTables.{is_line_host, is_line_method, are_line_methods, is_path_byte, ends_open, is_line_path, is_line_origin, denies, is_cache_word, is_line_cache, is_cached, line_fault, line_of, lines_fault, lines_of, item_fault, has_key};
+ghost use Rattle.hx_allow.specs.LineTables.{is_line_host, is_line_method, are_line_methods, is_path_byte, ends_open, is_line_path, is_line_origin, denies, is_cache_word, is_line_cache, is_cached, line_fault, line_of, lines_fault, lines_of, item_fault, fault_found};
 
 use crate::ConfigFault;
 use crate::addresses::is_address;
+use crate::faults::FoundFault;
 use crate::lines::{Line, is_never_allowed};
 use crate::values::{
     Scope, TableVersion, array_at, counts_within, first_unknown, text_at, value_at,
@@ -155,44 +156,29 @@ fn is_good_cache(table: &Table) -> bool
     }
 }
 
-/// The fault of a key that isn't known, whose bytes were copied. Want of memory is told where the copy found none.
-pub fn fault_of_key(copied: Result<Bytes, AllocError>) -> ConfigFault
-    ensures { MatchResult copied (λ key. result ≡ ConfigFault.UnknownKey key) (λ _. result ≡ ConfigFault.OutOfMemory) }
-{
-    match copied {
-        Ok(key) => ConfigFault::UnknownKey(key),
-        Err(_) => ConfigFault::OutOfMemory,
-    }
-}
-
-/// The first fault of a line. Only the bytes of an unknown key take memory.
+/// The first fault of a line.
 #[tactic(auto, unfolding(crate::specs::LineTables::line_fault))]
-fn line_fault(
-    alloc: Global,
-    version: TableVersion,
-    number: u16,
-    table: &Table,
-) -> Option<ConfigFault>
-    ensures first { ¬ (result ≡ Some ConfigFault.OutOfMemory) → result ≡ line_fault version number (table_view table.now) }
-    ensures memory_last { result ≡ Some ConfigFault.OutOfMemory → has_key (line_fault version number (table_view table.now)) ≡ true }
+fn line_fault(version: TableVersion, number: u16, table: &Table) -> Option<FoundFault<'_>>
+    ensures first { option_map fault_found result ≡ line_fault version number (table_view table.now) }
+    ensures told { ¬ (result ≡ Some (FoundFault.Other ConfigFault.OutOfMemory)) }
 {
     if let Some(key) = first_unknown(Scope::Line(version), table) {
-        return Some(fault_of_key(Bytes::copy_of(alloc, key.as_bytes())));
+        return Some(FoundFault::UnknownKey(key));
     }
     if !is_good_host(text_at(table, "host")) {
-        return Some(ConfigFault::BadHost(number));
+        return Some(FoundFault::Other(ConfigFault::BadHost(number)));
     }
     if !are_good_methods(table) {
-        return Some(ConfigFault::BadMethod(number));
+        return Some(FoundFault::Other(ConfigFault::BadMethod(number)));
     }
     if !is_good_path(text_at(table, "path")) {
-        return Some(ConfigFault::BadPath(number));
+        return Some(FoundFault::Other(ConfigFault::BadPath(number)));
     }
     if !is_good_origin(text_at(table, "origin")) {
-        return Some(ConfigFault::BadOrigin(number));
+        return Some(FoundFault::Other(ConfigFault::BadOrigin(number)));
     }
     if !is_good_cache(table) {
-        return Some(ConfigFault::BadCache(number));
+        return Some(FoundFault::Other(ConfigFault::BadCache(number)));
     }
     None
 }
@@ -272,30 +258,25 @@ fn line_of(alloc: Global, table: &Table) -> Result<Line, AllocError>
     })
 }
 
-fn item_fault(
-    alloc: Global,
-    version: TableVersion,
-    number: u16,
-    value: &Value,
-) -> Option<ConfigFault>
-    ensures first { ¬ (result ≡ Some ConfigFault.OutOfMemory) → result ≡ item_fault version number (as_table (view value.now)) }
-    ensures memory_last { result ≡ Some ConfigFault.OutOfMemory → has_key (item_fault version number (as_table (view value.now))) ≡ true }
+fn item_fault(version: TableVersion, number: u16, value: &Value) -> Option<FoundFault<'_>>
+    ensures first { option_map fault_found result ≡ item_fault version number (as_table (view value.now)) }
+    ensures told { ¬ (result ≡ Some (FoundFault.Other ConfigFault.OutOfMemory)) }
 {
     match value.as_table() {
-        Some(table) => line_fault(alloc, version, number, table),
+        Some(table) => line_fault(version, number, table),
         None => None,
     }
 }
 
 /// The first fault among at most 256 lines, which are counted from 1.
-pub fn lines_fault(alloc: Global, version: TableVersion, values: &[Value]) -> Option<ConfigFault>
+pub fn lines_fault(version: TableVersion, values: &[Value]) -> Option<FoundFault<'_>>
     requires { length values.now ≤ 256 }
-    ensures first { ¬ (result ≡ Some ConfigFault.OutOfMemory) → result ≡ lines_fault version 1 (items_view values.now) }
-    ensures memory_last { result ≡ Some ConfigFault.OutOfMemory → has_key (lines_fault version 1 (items_view values.now)) ≡ true }
+    ensures first { option_map fault_found result ≡ lines_fault version 1 (items_view values.now) }
+    ensures told { ¬ (result ≡ Some (FoundFault.Other ConfigFault.OutOfMemory)) }
 {
     let mut number = 1u16;
     for value in values {
-        if let Some(fault) = item_fault(alloc, version, number, value) {
+        if let Some(fault) = item_fault(version, number, value) {
             return Some(fault);
         }
         number += 1;

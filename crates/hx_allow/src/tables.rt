@@ -1,15 +1,16 @@
 //! The top of the operator's table: its first fault, and what it says.
-ghost use Rattle.std.specs.Prelude.{◌≡◌, ◌≤◌, IfOk, Err, Some, true, codes, is_some, length, IfSome};
+ghost use Rattle.std.specs.Prelude.{◌≡◌, ◌≤◌, IfOk, Err, Some, true, codes, is_some, length, IfSome, MatchResult};
 ghost use Rattle.std.specs.Option.{option_map, option_copied};
 ghost use Rattle.std.specs.List.{list_all};
 ghost use Rattle.toml.specs.Data.{as_table};
 ghost use Rattle.toml.specs.View.{table_view, array_view, items_view, view};
 ghost use Rattle.hx_allow.specs.Values.{is_some_and, text_at};
-ghost use Rattle.hx_allow.specs.LineTables.{has_key};
+ghost use Rattle.hx_allow.specs.LineTables.{fault_found};
 ghost use Rattle.hx_allow.specs.Tables.{is_name_byte, is_name, number_at, version_of, are_lines, lines_at, table_fault, table_of, judge_table, number_fault, wants_memory};
 
+use crate::faults::FoundFault;
 use crate::host_index::HostIndex;
-use crate::line_tables::{fault_of_key, lines_fault, lines_of};
+use crate::line_tables::{lines_fault, lines_of};
 use crate::lines::longest_origin;
 use crate::values::{
     Scope, TableVersion, array_at, counts_within, first_unknown, number_between, text_at,
@@ -125,24 +126,24 @@ fn number_fault(table: &Table) -> Option<NumberKey>
     None
 }
 
-/// The first fault of a table. Only the bytes of an unknown key take memory.
+/// The first fault of a table.
 #[tactic(auto, unfolding(crate::specs::Tables::table_fault))]
-fn table_fault(alloc: Global, table: &Table) -> Option<ConfigFault>
-    ensures first { ¬ (result ≡ Some ConfigFault.OutOfMemory) → result ≡ table_fault (table_view table.now) }
-    ensures memory_last { result ≡ Some ConfigFault.OutOfMemory → has_key (table_fault (table_view table.now)) ≡ true }
+fn table_fault(table: &Table) -> Option<FoundFault<'_>>
+    ensures first { option_map fault_found result ≡ table_fault (table_view table.now) }
+    ensures told { ¬ (result ≡ Some (FoundFault.Other ConfigFault.OutOfMemory)) }
 {
     if let Some(key) = first_unknown(Scope::Top, table) {
-        return Some(fault_of_key(Bytes::copy_of(alloc, key.as_bytes())));
+        return Some(FoundFault::UnknownKey(key));
     }
     if !is_good_name(text_at(table, "name")) {
-        return Some(ConfigFault::BadName);
+        return Some(FoundFault::Other(ConfigFault::BadName));
     }
     if let Some(key) = number_fault(table) {
-        return Some(ConfigFault::BadNumber(key));
+        return Some(FoundFault::Other(ConfigFault::BadNumber(key)));
     }
     match lines_at(table) {
-        Some(values) => lines_fault(alloc, version_of(table), values),
-        None => Some(ConfigFault::NoLines),
+        Some(values) => lines_fault(version_of(table), values),
+        None => Some(FoundFault::Other(ConfigFault::NoLines)),
     }
 }
 
@@ -166,14 +167,27 @@ fn config_of(alloc: Global, table: &Table) -> Result<Config, AllocError>
     })
 }
 
-/// What a table says, or its first fault.
+/// The fault of a key that isn't known, whose bytes were copied. Want of memory is told where the copy found none.
+fn fault_of_key(copied: Result<Bytes, AllocError>) -> ConfigFault
+    ensures { MatchResult copied (λ key. result ≡ ConfigFault.UnknownKey key) (λ _. result ≡ ConfigFault.OutOfMemory) }
+{
+    match copied {
+        Ok(key) => ConfigFault::UnknownKey(key),
+        Err(_) => ConfigFault::OutOfMemory,
+    }
+}
+
+/// What a table says, or its first fault. Only the bytes of an unknown key are copied for a fault.
 #[tactic(auto, unfolding(crate::specs::Tables::judge_table))]
 pub fn judge_table(alloc: Global, table: &Table) -> Result<Config, ConfigFault>
     ensures judged { ¬ (result ≡ Err ConfigFault.OutOfMemory) → result ≡ judge_table (table_view table.now) }
     ensures memory_last { result ≡ Err ConfigFault.OutOfMemory → wants_memory (table_fault (table_view table.now)) ≡ true }
 {
-    match table_fault(alloc, table) {
-        Some(fault) => Err(fault),
+    match table_fault(table) {
+        Some(FoundFault::UnknownKey(key)) => {
+            Err(fault_of_key(Bytes::copy_of(alloc, key.as_bytes())))
+        }
+        Some(FoundFault::Other(fault)) => Err(fault),
         None => Ok(config_of(alloc, table)?),
     }
 }
