@@ -1,6 +1,6 @@
 -- Lists of entries: places, filters, and that no serial stands twice.
 use Rattle.std.proofs.Common.{◌≡◌, ℕ, zero, suc, ◌+◌, ◌<◌, ◌≤◌, Bool, true, false, not, cond, ◌||◌, eqb, leb, None, Some, List, [], ◌∷◌, length, take, refl, sym, ◌∙◌, ap, subst, arith, one-add, inl, inr}
-use Rattle.std.specs.Prelude.{MatchOption}
+use Rattle.std.specs.Prelude.{MatchOption, IfSome, map, is_some}
 use Rattle.std.specs.List.{filter, position_or_len, position, insert, list_any}
 use Rattle.std.proofs.lemmas.Bool.{cases_Bool, false≢true, eqb-true, eq-eqb, or_parts, cases_lt, lt-ltb, le-ltb, or_left, or_right}
 use Rattle.std.proofs.lemmas.Bool.Decides.{nat_tests}
@@ -185,6 +185,27 @@ find-serial s (e ∷ es) x h = elim (cases_Bool (eqb e.serial s)) [
       )
   | inr f ↦ find-serial s es x (sym (ap (λ b. cond b (Some e) (find_entry s es)) f) ∙ h)
 ]
+
+pub held_is_found : (s : ℕ) (es : List Stored) → holds s es ≡ is_some (find_entry s es)
+held_is_found s [] = refl
+held_is_found s (e ∷ es) =
+    elim (eqb e.serial s) as (λ b. (b || holds s es) ≡ is_some (cond b (Some e) (find_entry s es))) [
+      | true ↦ refl
+      | false ↦ held_is_found s es
+    ]
+
+pub found_has_serial : (s : ℕ) (es : List Stored) → IfSome (find_entry s es) (λ e. e.serial ≡ s)
+found_has_serial s [] = tt
+found_has_serial s (e ∷ es) =
+    let Has : Bool → Type 0 = λ b. IfSome (cond b (Some e) (find_entry s es)) (λ f. f.serial ≡ s) in
+    elim (cases_Bool (eqb e.serial s)) [
+      | inl t ↦ subst Has (sym t) (eqb-true e.serial s t)
+      | inr f ↦ subst Has (sym f) (found_has_serial s es)
+    ]
+
+pub serials_in_order : (es : List Stored) → serials es ≡ map (λ e. e.serial) es
+serials_in_order [] = refl
+serials_in_order (e ∷ es) = ap (λ zs. e.serial ∷ zs) (serials_in_order es)
 
 pub any_is_in : (s : ℕ) (xs : List ℕ) → list_any (λ x. eqb x s) xs ≡ is_in s xs
 any_is_in s [] = refl

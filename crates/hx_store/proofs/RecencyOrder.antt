@@ -1,10 +1,22 @@
 -- The recent serials stand in the order of their last storing or use.
-use Rattle.std.proofs.Common.{◌≡◌, ℕ, suc, ◌<◌, Bool, true, false, not, cond, eqb, Option, None, Some, List, [], ◌∷◌, ◌++◌, sym, ◌∙◌, ap, subst, arith, inl, inr, ◌⊎◌}
+use Rattle.std.proofs.Common.{◌≡◌, ℕ, suc, ◌<◌, Bool, true, false, not, cond, eqb, Option, None, Some, List, [], ◌∷◌, ◌++◌, length, refl, sym, ◌∙◌, ap, subst, arith, inl, inr, ◌⊎◌}
 use Rattle.std.specs.List.{filter}
 use Rattle.std.proofs.lemmas.Bool.{cases_Bool, and_parts, or_cases, or_parts, false≢true, eqb-true, eq-eqb, false_from_ne_true, not-true}
 use Rattle.hx_store.specs.Serials.{is_in}
 use Rattle.hx_store.specs.Recency.{Done, is_the, touches, to_front, recent_after, recent_of, place, NoneTouches, IsLater}
 use Rattle.hx_store.proofs.Recency.{is_in-after, in_before}
+
+pub place_of_listed : (s : ℕ) (xs ys : List ℕ) → is_in s xs ≡ false → place s (xs ++ s ∷ ys) ≡ length xs
+place_of_listed s [] ys h = ap (λ e. cond e 0 (suc (place s ys))) (eq-eqb s s refl)
+place_of_listed s (x ∷ xs) ys h =
+    let p = or_parts (eqb x s) (is_in s xs) h in
+    ap (λ e. cond e 0 (suc (place s (xs ++ s ∷ ys)))) p.0 ∙ ap suc (place_of_listed s xs ys p.1) ∙ omega arith
+
+pub place_of_absent : (s : ℕ) (xs : List ℕ) → is_in s xs ≡ false → place s xs ≡ length xs
+place_of_absent s [] h = refl
+place_of_absent s (x ∷ xs) h =
+    let p = or_parts (eqb x s) (is_in s xs) h in
+    ap (λ e. cond e 0 (suc (place s xs))) p.0 ∙ ap suc (place_of_absent s xs p.1) ∙ omega arith
 
 apart_from : (s a b : ℕ) → eqb s a ≡ true → eqb s b ≡ false → eqb a b ≡ false
 apart_from s a b h k = subst (λ z. eqb z b ≡ false) (eqb-true s a h) k

@@ -42,7 +42,9 @@ in_front (Some e) es = e ∷ es
 abbrev pub promoted : ℕ → List Stored → List Stored
 promoted s es = in_front (find_entry s es) (without (s ∷ []) es)
 
--- a bounded store: the most entries that it holds, and those that it holds, the latest stored or used first
+-- a bounded store: the most entries that it holds, those that it holds, the latest stored or used first, and for how many
+-- entries, those among them, memory is known to stand ready
 pub record Shelved : Type 0 where
   pub limit : ℕ
   pub entries : List Stored
+  pub room : ℕ

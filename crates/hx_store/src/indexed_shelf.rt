@@ -33,7 +33,7 @@ impl Model for IndexedShelf {
 
     ghost Value = { Shelved };
 
-    ghost view = { λ s. record { limit = s.capacity; entries = s.held } };
+    ghost view = { λ s. record { limit = s.capacity; entries = s.held; room = 0 } };
 
     ghost invariant = { λ s. length s.held ≤ s.capacity };
 }
@@ -42,7 +42,7 @@ impl IndexedShelf {
     /// An empty store that holds at most `capacity` entries. Memory for those is taken as they come. Fails for want
     /// of memory alone.
     pub fn new(alloc: Global, capacity: usize) -> Result<IndexedShelf, AllocError>
-        ensures { IfOk result (λ shelf. shelf ≡ record { limit = capacity; entries = [] }) }
+        ensures { IfOk result (λ shelf. shelf ≡ record { limit = capacity; entries = []; room = 0 }) }
     {
         Ok(IndexedShelf {
             capacity,
@@ -55,6 +55,9 @@ impl Shelf for IndexedShelf {
     ghost entries = { λ s. s.entries };
 
     ghost limit = { λ s. s.limit };
+
+    // Its index takes memory with each new entry.
+    ghost room = { λ s. s.room };
 
     fn capacity(&self) -> usize {
         self.capacity

@@ -1,9 +1,10 @@
 //! What the definitions say of worked calls, computed, and of every list of entries.
 
-ghost use Rattle.std.specs.Prelude.{◌≡◌, ◌<◌, ◌∷◌, ◌++◌, [], ℕ, List, true, codes, take, slice_get, Some, None, Decides};
+ghost use Rattle.std.specs.Prelude.{◌≡◌, ◌<◌, ◌∷◌, ◌++◌, [], ℕ, List, true, false, codes, length, map, take, slice_get, is_some, IfSome, Some, None, Decides};
 ghost use Rattle.hx_store.specs.Serials.{is_in};
+ghost use Rattle.hx_store.specs.Stored.{Stored};
 ghost use Rattle.hx_store.specs.Recency.{Done, Held, IsLater, Listed, bounded_of, held_of, place, recent_after, recent_of};
-ghost use Rattle.hx_store.specs.Shelf.{find_entry, promoted, serials, serials_of, without, without_key};
+ghost use Rattle.hx_store.specs.Shelf.{find_entry, holds, promoted, serials, serials_of, without, without_key};
 ghost use Rattle.hx_store.specs.Found.{FindsThoseOfTheKey, FindsAscending};
 ghost use Rattle.hx_store.specs.Cases.{key_of, first, second, third, fourth};
 
@@ -19,10 +20,24 @@ pub fn shelf_calls()
     ensures invalidated { without_key (key_of (codes "/c")) (fourth ∷ second ∷ third ∷ []) ≡ second ∷ [] }
 {}
 
+/// The serials are those of all entries, in their order. A serial is held exactly where an entry is found by it, and
+/// the entry that is found has it.
+pub fn what_is_held_is_found()
+    ensures serials { (entries : List Stored) → serials entries ≡ map (λ e. e.serial) entries }
+    ensures held { (serial : ℕ) (entries : List Stored) → holds serial entries ≡ is_some (find_entry serial entries) }
+    ensures found { (serial : ℕ) (entries : List Stored) → IfSome (find_entry serial entries) (λ e. e.serial ≡ serial) }
+{}
+
 /// What is found of a key is the serial of each entry with that key and no other, ascending.
 pub fn found_serials_are_those_of_the_key()
     ensures those { FindsThoseOfTheKey }
     ensures ascending { FindsAscending }
+{}
+
+/// The place of a serial is how many stand before it, and one that isn't listed has all before it.
+pub fn a_place_counts_what_stands_before()
+    ensures listed { (serial : ℕ) (before behind : List ℕ) → is_in serial before ≡ false → place serial (before ++ serial ∷ behind) ≡ length before }
+    ensures absent { (serial : ℕ) (all : List ℕ) → is_in serial all ≡ false → place serial all ≡ length all }
 {}
 
 /// A bounded list has exactly what is held by the count over its history, in the order of the latest storing or use.

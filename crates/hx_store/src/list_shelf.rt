@@ -1,8 +1,8 @@
 //! A shelf that is a list. A call costs one pass over the entries.
 
-ghost use Rattle.std.specs.Prelude.{◌≡◌, ◌≤◌, ◌+◌, ◌==◌, ◌∷◌, [], length, position, take, slice_get, MatchOption, OnOk, OnErr, IfErr};
+ghost use Rattle.std.specs.Prelude.{◌≡◌, ◌<◌, ◌≤◌, ◌+◌, ◌==◌, ◌∷◌, [], length, position, take, slice_get, vec_capacity, MatchOption, IsOk, OnOk, OnErr, IfOk, IfErr, false};
 ghost use Rattle.hx_store.specs.Places.{IsAbsent, IsPlace};
-ghost use Rattle.hx_store.specs.Shelf.{without, without_key};
+ghost use Rattle.hx_store.specs.Shelf.{holds, without, without_key};
 
 use crate::entries::Entry;
 use crate::serial_list::Serials;
@@ -28,13 +28,13 @@ impl Drop for ListShelf {
 }
 
 impl Model for ListShelf {
-    ghost use Rattle.std.specs.Prelude.{◌≤◌, length};
+    ghost use Rattle.std.specs.Prelude.{◌≤◌, length, vec_capacity};
     ghost use Rattle.hx_store.specs.Serials.{Distinct};
     ghost use Rattle.hx_store.specs.Shelf.{Shelved, serials};
 
     ghost Value = { Shelved };
 
-    ghost view = { λ s. record { limit = s.capacity; entries = s.entries.items } };
+    ghost view = { λ s. record { limit = s.capacity; entries = s.entries.items; room = vec_capacity s.entries } };
 
     ghost invariant = { λ s. (length s.entries.items ≤ s.capacity) × Distinct (serials s.entries.items) };
 }
@@ -42,7 +42,7 @@ impl Model for ListShelf {
 impl ListShelf {
     /// An empty store that holds at most `capacity` entries. No memory is taken yet.
     pub fn new(alloc: Global, capacity: usize) -> ListShelf
-        ensures { result ≡ record { limit = capacity; entries = [] } }
+        ensures { result ≡ record { limit = capacity; entries = []; room = 0 } }
     {
         ListShelf {
             capacity,
@@ -70,6 +70,9 @@ fn put_first(entries: &mut Vec<Entry>, entry: Entry, replaced: &[u64]) -> Result
     ensures ok { OnOk result (entries.new.items ≡ entry ∷ without replaced.now entries.old.items) }
     ensures err { OnErr result (entries.new.items ≡ entries.old.items) }
     ensures given_back { IfErr result (λ e. e ≡ entry) }
+    ensures taken { length entries.old.items < vec_capacity entries.old → IsOk result }
+    ensures room { vec_capacity entries.old ≤ vec_capacity entries.new }
+    ensures made { OnOk result (length entries.old.items < vec_capacity entries.new) }
 {
     // Room comes first: where it is refused, the replaced entries have to stay.
     if entries.reserve(1).is_err() {
@@ -85,6 +88,7 @@ fn cut(entries: &mut Vec<Entry>, capacity: usize) -> Option<Entry>
     requires { length entries.old.items ≤ capacity + 1 }
     ensures items { entries.new.items ≡ take capacity entries.old.items }
     ensures gone { result ≡ slice_get entries.old.items capacity }
+    ensures room { vec_capacity entries.new ≡ vec_capacity entries.old }
 {
     if entries.len() > capacity {
         entries.pop()
@@ -97,6 +101,8 @@ impl Shelf for ListShelf {
     ghost entries = { λ s. s.entries };
 
     ghost limit = { λ s. s.limit };
+
+    ghost room = { λ s. s.room };
 
     fn capacity(&self) -> usize {
         self.capacity
@@ -130,7 +136,19 @@ impl Shelf for ListShelf {
         Ok(found)
     }
 
-    fn put(&mut self, entry: Entry, replaced: &[u64]) -> Result<Option<Entry>, Entry> {
+    // What the trait says, and that the list then has room for one more than it held before: a full one that took an
+    // entry takes each that follows.
+    fn put(&mut self, entry: Entry, replaced: &[u64]) -> Result<Option<Entry>, Entry>
+        requires { holds entry.serial self.old.entries ≡ false }
+        ensures ok { OnOk result (self.new.entries ≡ take self.old.limit (entry ∷ without replaced.now self.old.entries)) }
+        ensures evicted { IfOk result (λ out. out ≡ slice_get (entry ∷ without replaced.now self.old.entries) self.old.limit) }
+        ensures err { OnErr result (self.new.entries ≡ self.old.entries) }
+        ensures given_back { IfErr result (λ e. e ≡ entry) }
+        ensures taken { length self.old.entries < self.old.room → IsOk result }
+        ensures limit { self.new.limit ≡ self.old.limit }
+        ensures room { self.old.room ≤ self.new.room }
+        ensures made { OnOk result (length self.old.entries < self.new.room) }
+    {
         put_first(&mut self.entries, entry, replaced)?;
         Ok(cut(&mut self.entries, self.capacity))
     }

@@ -3,7 +3,7 @@
 //! Every shelf meets the same clauses. What is true of each of them, that no serial stands twice and that
 //! no more entries stand than its capacity, is promised by `find` and `len`.
 
-ghost use Rattle.std.specs.Prelude.{◌≡◌, ◌≤◌, ◌-◌, ℕ, List, [], ◌∷◌, false, true, length, take, slice_get, option_copied, IfOk, IfErr, OnErr, OnOk, Some};
+ghost use Rattle.std.specs.Prelude.{◌≡◌, ◌<◌, ◌≤◌, ◌-◌, ℕ, List, [], ◌∷◌, false, true, length, take, slice_get, option_copied, IfOk, IfErr, IsOk, OnErr, OnOk, Some};
 ghost use Rattle.std.specs.Option.{ForSome};
 ghost use Rattle.hx_target.specs.Keys.{same_key};
 ghost use Rattle.hx_store.specs.Serials.{Distinct};
@@ -23,6 +23,9 @@ pub trait Shelf {
 
     /// The most that it holds.
     ghost limit: { Self → ℕ };
+
+    /// For how many entries, those that it holds among them, memory is known to stand ready.
+    ghost room: { Self → ℕ };
 
     /// How many entries it holds at most.
     fn capacity(&self) -> usize
@@ -47,14 +50,17 @@ pub trait Shelf {
         ensures distinct { Distinct (serials (entries self.now)) };
 
     /// Stores an entry, first, in place of those with the serials in `replaced`. Where more than the capacity
-    /// stand, the last one is handed back. Want of memory changes nothing and hands the new entry back.
+    /// stand, the last one is handed back. Want of memory changes nothing and hands the new entry back; where there
+    /// is room for one more, none is wanted.
     fn put(&mut self, entry: Entry, replaced: &[u64]) -> Result<Option<Entry>, Entry>
         requires { holds entry.serial (entries self.old) ≡ false }
         ensures ok { OnOk result (entries self.new ≡ take (limit self.old) (entry ∷ without replaced.now (entries self.old))) }
         ensures evicted { IfOk result (λ out. out ≡ slice_get (entry ∷ without replaced.now (entries self.old)) (limit self.old)) }
         ensures err { OnErr result (entries self.new ≡ entries self.old) }
         ensures given_back { IfErr result (λ e. e ≡ entry) }
-        ensures limit { limit self.new ≡ limit self.old };
+        ensures taken { length (entries self.old) < room self.old → IsOk result }
+        ensures limit { limit self.new ≡ limit self.old }
+        ensures room { room self.old ≤ room self.new };
 
     /// Puts a new form of a held entry in its place, first, and hands the old one back. No memory is taken.
     fn freshen(&mut self, entry: Entry) -> Entry
@@ -62,23 +68,27 @@ pub trait Shelf {
         requires same_key { ForSome (find_entry entry.serial (entries self.old)) (λ old. same_key old.key entry.key ≡ true) }
         ensures value { find_entry entry.serial (entries self.old) ≡ Some result }
         ensures entries { entries self.new ≡ entry ∷ without (entry.serial ∷ []) (entries self.old) }
-        ensures limit { limit self.new ≡ limit self.old };
+        ensures limit { limit self.new ≡ limit self.old }
+        ensures room { room self.old ≤ room self.new };
 
     /// Brings the entry of this serial to the front. No memory is taken.
     fn promote(&mut self, serial: u64) -> bool
         ensures value { result ≡ holds serial (entries self.old) }
         ensures entries { entries self.new ≡ promoted serial (entries self.old) }
-        ensures limit { limit self.new ≡ limit self.old };
+        ensures limit { limit self.new ≡ limit self.old }
+        ensures room { room self.old ≤ room self.new };
 
     /// Takes the entry of this serial out. No memory is taken.
     fn remove(&mut self, serial: u64) -> Option<Entry>
         ensures value { result ≡ find_entry serial (entries self.old) }
         ensures entries { entries self.new ≡ without (serial ∷ []) (entries self.old) }
-        ensures limit { limit self.new ≡ limit self.old };
+        ensures limit { limit self.new ≡ limit self.old }
+        ensures room { room self.old ≤ room self.new };
 
     /// Takes the entries of this key out, and says how many they were. No memory is taken.
     fn invalidate(&mut self, key: &Key) -> usize
         ensures value { result ≡ length (entries self.old) - length (entries self.new) }
         ensures entries { entries self.new ≡ without_key key.now (entries self.old) }
-        ensures limit { limit self.new ≡ limit self.old };
+        ensures limit { limit self.new ≡ limit self.old }
+        ensures room { room self.old ≤ room self.new };
 }

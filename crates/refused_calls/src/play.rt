@@ -57,7 +57,7 @@ fn config(alloc: Global, table: &[u8]) -> Result<Config, Stop> {
 }
 
 fn shelf(alloc: Global, capacity: usize) -> Result<IndexedShelf, Stop>
-    ensures { IfOk result (λ shelf. shelf ≡ record { limit = capacity; entries = [] }) }
+    ensures { IfOk result (λ shelf. shelf ≡ record { limit = capacity; entries = []; room = 0 }) }
 {
     match IndexedShelf::new(alloc, capacity) {
         Ok(shelf) => Ok(shelf),
