@@ -6,7 +6,10 @@ use Rattle.hx_fields.specs.Lines.{has, values_of}
 use Rattle.hx_fields.specs.Names.{is_same_name}
 use Rattle.hx_hop.specs.declared.answered_with.Answered.{Answered}
 use Rattle.hx_store.specs.Stored.{Stored}
-use Rattle.hx_validate.specs.Answering.{answers304, freshened_fields}
+use Rattle.hx_age.specs.declared.moments.Times.{Times}
+use Rattle.hx_hop.specs.declared.asked_for.Asked.{Asked}
+use Rattle.hx_vary.specs.Vary.{is_star, kept_values}
+use Rattle.hx_validate.specs.Answering.{answers304, freshened_fields, freshened_of}
 use Rattle.hx_validate.specs.EntityTags.{Tag, is_tag_byte, strong_eq, tag_of, weak_eq}
 use Rattle.hx_validate.specs.Validators.{conditions_of, tag_value}
 
@@ -57,3 +60,15 @@ LeavesItsOwn = (stored fields : List Field) (name : List ℕ) → is_own_name na
 abbrev pub TheSameTagAnswers : Type 0
 TheSameTagAnswers = (entry : Stored) (answered : Answered) (value : List ℕ) → tag_value entry.fields ≡ Some value
     → tag_value answered.fields ≡ Some value → answers304 entry (conditions_of entry.fields) answered ≡ true
+
+-- what a 304 leaves: serial, key, status and content are the stored ones, the moments those of the 304 (RFC 9111, section 4.3.4)
+abbrev pub LeavesTheRest : Type 0
+LeavesTheRest = (entry : Stored) (answered : Answered) (asked : Asked) (times : Times) →
+    let now = freshened_of entry answered asked times in
+    (now.serial ≡ entry.serial) × (now.key ≡ entry.key) × (now.status ≡ entry.status) × (now.content ≡ entry.content) × (now.times ≡ times)
+
+-- and the request that it answered is told by the new lines (RFC 9111, section 4.1)
+abbrev pub NominatesByTheNewLines : Type 0
+NominatesByTheNewLines = (entry : Stored) (answered : Answered) (asked : Asked) (times : Times) →
+    let now = freshened_of entry answered asked times in
+    is_star now.fields ≡ false → now.nominated ≡ kept_values now.fields asked.fields

@@ -4,9 +4,9 @@ ghost use Rattle.std.specs.Prelude.{◌≡◌, [], ◌∷◌, codes, true, false
 ghost use Rattle.hx_fields.specs.Examples.{line};
 ghost use Rattle.hx_validate.specs.Answering.{freshened_fields, freshened_of};
 ghost use Rattle.hx_validate.specs.Cases.{answered_with, asked_with, first_304, first_stored, is_answered, modified_line, new_lines, none_match, old_lines, since, stored_with, tag_line, wants_by};
-ghost use Rattle.hx_validate.specs.EntityTags.{strong_eq, tag_of, weak_eq};
+ghost use Rattle.hx_validate.specs.EntityTags.{is_tag_byte, strong_eq, tag_of, weak_eq};
 ghost use Rattle.hx_validate.specs.Identified.{AnswersNothingElse, AnswersWhatItIdentifies, NeverFreshensAnother, SeveralTagsAnswerNothing};
-ghost use Rattle.hx_validate.specs.Meaning.{ComparesBothWays, LeavesItsOwn, LeavesOtherNames, ReadsEachTag, ReadsTheGrammar, ReplacesItsNames, StrongIsWeak, TheSameTagAnswers};
+ghost use Rattle.hx_validate.specs.Meaning.{ComparesBothWays, LeavesItsOwn, LeavesOtherNames, LeavesTheRest, NominatesByTheNewLines, ReadsEachTag, ReadsTheGrammar, ReplacesItsNames, StrongIsWeak, TheSameTagAnswers};
 ghost use Rattle.hx_validate.specs.NotModified.{not_modified_of, wants_304};
 ghost use Rattle.hx_validate.specs.Validators.{conditions_of, has_validator};
 
@@ -140,4 +140,34 @@ pub fn if_modified_since_compares_dates()
     ensures no_date { wants_by (since (codes "yesterday") ∷ []) [] ≡ false }
     ensures none { wants_by [] [] ≡ false }
     ensures other_status { wants_304 (asked_with (none_match (codes "*") ∷ [])) (record (stored_with []) { status = 404 }) ≡ false }
+{}
+
+/// What isn't a line of it stays, but for the moments; what is kept of the request goes by the new lines.
+pub fn the_rest_of_it_stays()
+    ensures rest { LeavesTheRest }
+    ensures nominated { NominatesByTheNewLines }
+{}
+
+/// The bytes of an opaque tag (RFC 9110, section 8.8.3).
+pub fn bytes_of_tags()
+    ensures blank { is_tag_byte 32 ≡ false }
+    ensures exclamation_mark { is_tag_byte 33 ≡ true }
+    ensures quote { is_tag_byte 34 ≡ false }
+    ensures hash { is_tag_byte 35 ≡ true }
+    ensures tilde { is_tag_byte 126 ≡ true }
+    ensures delete { is_tag_byte 127 ≡ false }
+    ensures least_above { is_tag_byte 128 ≡ true }
+    ensures greatest { is_tag_byte 255 ≡ true }
+    ensures no_byte { is_tag_byte 256 ≡ false }
+{}
+
+/// The lines that a 304 carries (RFC 9110, section 15.4.5), and others that it doesn't.
+pub fn lines_of_a_304()
+    ensures cache_control { not_modified_of (line (codes "cache-control") (codes "a") ∷ []) ≡ line (codes "cache-control") (codes "a") ∷ [] }
+    ensures content_location { not_modified_of (line (codes "Content-Location") (codes "a") ∷ []) ≡ line (codes "Content-Location") (codes "a") ∷ [] }
+    ensures date { not_modified_of (line (codes "Date") (codes "a") ∷ []) ≡ line (codes "Date") (codes "a") ∷ [] }
+    ensures etag { not_modified_of (line (codes "ETag") (codes "a") ∷ []) ≡ line (codes "ETag") (codes "a") ∷ [] }
+    ensures expires { not_modified_of (line (codes "Expires") (codes "a") ∷ []) ≡ line (codes "Expires") (codes "a") ∷ [] }
+    ensures vary { not_modified_of (line (codes "Vary") (codes "a") ∷ []) ≡ line (codes "Vary") (codes "a") ∷ [] }
+    ensures others { not_modified_of (line (codes "Set-Cookie") (codes "a") ∷ line (codes "Content-Type") (codes "b") ∷ line (codes "Content-Length") (codes "1") ∷ line (codes "Server") (codes "c") ∷ []) ≡ [] }
 {}

@@ -17,9 +17,10 @@ pub use client_conditions::{client_wants_304, not_modified};
 pub use entity_tags::{strong_eq, weak_eq};
 pub use freshening::freshened;
 pub use laws::{
-    a_304_answers_what_it_identifies, a_304_never_freshens_another, client_304_after_validation,
-    entity_tags_are_spelled_so, equality_goes_both_ways, if_modified_since_compares_dates,
-    if_none_match_decides_alone, lines_are_replaced_by_name, names_of_a_304_are_replaced,
-    tags_are_compared, the_same_tag_answers, validators_stand_once, which_304_answers,
+    a_304_answers_what_it_identifies, a_304_never_freshens_another, bytes_of_tags,
+    client_304_after_validation, entity_tags_are_spelled_so, equality_goes_both_ways,
+    if_modified_since_compares_dates, if_none_match_decides_alone, lines_are_replaced_by_name,
+    lines_of_a_304, names_of_a_304_are_replaced, tags_are_compared, the_rest_of_it_stays,
+    the_same_tag_answers, validators_stand_once, which_304_answers,
 };
 pub use validators::{conditions, has_validator};

@@ -1,0 +1,10 @@
+use Rattle.std.proofs.Common.{refl}
+use Rattle.hx_validate.specs.Answering.{freshened_of}
+use Rattle.hx_validate.proofs.laws.the_rest_of_it_stays.Goals as goal
+
+pub returns : goal.returns
+unfolding freshened_of
+returns c = record {
+  rest = λ entry answered asked times. (refl, refl, refl, refl, refl);
+  nominated = λ entry answered asked times h. rw h refl;
+}
