@@ -1,0 +1,4 @@
+pub mod Values
+pub mod ReadRequests
+pub mod ReadTargets
+pub mod SentRequests

@@ -1,0 +1,53 @@
+-- A message that was read goes on as one message (RFC 9112, sections 6.3 and 11.2): whatever a client sends, what the origin
+-- gets for it is one request, which ends where the proxy ends it.
+use Rattle.std.specs.Prelude.{◌≡◌, ℕ, ◌<◌, ◌≤◌, ◌^◌, ◌++◌, Bool, List, length, codes, Option, IfSome, Ok}
+use Rattle.httparse.specs.Grammar.{AllPass, IsToken, is_value_byte, trim_ows}
+use Rattle.hx_fields.specs.Lines.{values_of}
+use Rattle.hx_framing.specs.declared.requests.Request.{Request}
+use Rattle.hx_framing.specs.Places.{most_field_lines, most_head_bytes}
+use Rattle.hx_framing.specs.Reading.{Spelled}
+use Rattle.hx_framing.specs.RequestReading.{Reads}
+use Rattle.hx_framing.specs.Text.{content_bytes, request_text}
+use Rattle.hx_framing.specs.Written.{IsWritable, head_text, read_back, sent_fields}
+use Rattle.hx_target.specs.declared.targets.Target.{Target}
+use Rattle.hx_target.specs.Judgement.{Judged}
+use Rattle.hx_hop.specs.declared.validators.Conditions.{Conditions}
+use Rattle.hx_hop.specs.Asking.{asked_of}
+use Rattle.hx_hop.specs.Forwarding.{forwarded_of}
+
+-- field-value: no control byte but the tab, no white space round it (RFC 9110, section 5.5)
+abbrev pub IsFieldValue : List ℕ → Type 0
+IsFieldValue value = AllPass is_value_byte value × (trim_ows value ≡ value)
+
+-- the proxy's conditions, where there are any, are such values
+pub record AreFieldValues (conditions : Conditions) : Type 0 where
+  pub etag : IfSome conditions.etag IsFieldValue
+  pub modified : IfSome conditions.modified IsFieldValue
+
+-- Within the limits of a reader as this proxy's: 100 field lines, a head of 32,768 bytes, and so much content.
+-- own: a request that comes close to them may go forward with a longer head, by the lines that the proxy adds
+pub record IsWithinLimits (max_body : ℕ) (sent : Request) : Type 0 where
+  pub few : length (sent_fields sent) ≤ most_field_lines
+  pub short : length (head_text sent) ≤ most_head_bytes
+  pub content : length (content_bytes sent.content) ≤ max_body
+
+-- what was read and asked goes forward in parts that stand in its text as they are: no CR, no LF and no blank in the method and
+-- the target, no CR or LF in a field line, and no length, coding or expectation of the client's
+abbrev pub SendsPartsAsTheyAre : Type 0
+SendsPartsAsTheyAre =
+    (max_body most : ℕ) (ended told : Bool) (bytes rest : List ℕ) (request : Request) (target : Target) (name : List ℕ) (conditions : Option Conditions)
+    → Reads max_body ended told bytes (Spelled request rest) → Judged request.target (values_of request.fields (codes "Host")) (Ok target)
+    → IsToken name → IfSome conditions AreFieldValues
+    → let sent = forwarded_of (asked_of request target) name conditions in
+    most < 2 ^ 64 → IsWithinLimits most sent → IsWritable sent
+
+-- and so its text is that of one request, whatever the origin's reader knows of the stream and whatever stands behind it: it
+-- is read back as it was sent, and what stands behind it is left
+abbrev pub ForwardsOneRequest : Type 0
+ForwardsOneRequest =
+    (max_body most : ℕ) (ended told : Bool) (bytes rest : List ℕ) (request : Request) (target : Target) (name : List ℕ) (conditions : Option Conditions)
+    → Reads max_body ended told bytes (Spelled request rest) → Judged request.target (values_of request.fields (codes "Host")) (Ok target)
+    → IsToken name → IfSome conditions AreFieldValues
+    → let sent = forwarded_of (asked_of request target) name conditions in
+    most < 2 ^ 64 → IsWithinLimits most sent
+    → (over continued : Bool) (behind : List ℕ) → Reads most over continued (request_text sent ++ behind) (Spelled (read_back sent) behind)

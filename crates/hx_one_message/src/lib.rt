@@ -1,0 +1,15 @@
+//! Laws on what goes on of a message: it is one message still, whatever it was (RFC 9112, sections 6.3 and 11.2).
+//!
+//! They join what `hx_framing` says of reading and writing, `hx_target` of targets, and `hx_hop` of what goes forward. Each
+//! function's contract is a law, and its body is empty. Nothing here runs.
+#![tactic(auto)]
+
+ghost use Rattle.hx_one_message.specs.OneMessage.{ForwardsOneRequest, SendsPartsAsTheyAre};
+
+/// What a client's bytes spell as a request goes forward as one request, within the limits of a reader: no part of it can end a
+/// line or the head, its content is told by one length, and read again it is what was sent, with what stands behind it left.
+/// This is the law against request smuggling.
+pub fn one_request_goes_forward()
+    ensures parts { SendsPartsAsTheyAre }
+    ensures request { ForwardsOneRequest }
+{}

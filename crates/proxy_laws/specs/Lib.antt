@@ -1,0 +1,2 @@
+pub mod ClientConditions
+pub mod StoredAnswers

@@ -1,0 +1,81 @@
+-- When an answer of an origin is stored: in the words of RFC 9111, section 3, over the exchange that is open and the answer that
+-- came for it. So the facts that the storing rules are handed are said here in the field's terms.
+--
+-- Nominates, KeepsItsFields, CanBeReused: what the answer's fields have to say     MayBeStoredAt: all that is asked
+use Rattle.std.specs.Prelude.{◌≡◌, ◌⊎◌, ℕ, ◌≤◌, true, false, bytes_eq, List, ◌∷◌, length, codes, is_some, All, Option, Some, None}
+use Rattle.hx_fields.specs.declared.field_line.Field.{Field}
+use Rattle.hx_fields.specs.Lines.{has as has_line}
+use Rattle.hx_fields.specs.Tokens.{is_token}
+use Rattle.hx_framing.specs.declared.responses.Response.{Response}
+use Rattle.hx_directives.specs.Occurrences.{occurrences_of}
+use Rattle.hx_directives.specs.Answers.{has}
+use Rattle.hx_directives.specs.declared.names.Directive.TheVariants.{MaxAge, SMaxage}
+use Rattle.hx_vary.specs.Vary.{vary_names}
+use Rattle.hx_hop.specs.Answering.{answered_of}
+use Rattle.hx_hop.specs.Stripping.{cache_names, connection_names}
+use Rattle.hx_allow.specs.Lines.{Table}
+use Rattle.hx_allow.specs.Matching.{caches_of}
+use Rattle.hx_storable.specs.Storable.{IsFinal, IsForTheStore, IsStorable}
+use Rattle.hx_validate.specs.Validators.{modified_value, tag_value}
+use Rattle.proxy_core.specs.declared.exchange.Exchange.{Exchange}
+use Rattle.proxy_core.specs.declared.event.Event.TheVariants.{Answer}
+use Rattle.proxy_core.specs.Outcomes.{find_exchange}
+use Rattle.proxy_core.specs.State.{stored_in, used_in}
+use Rattle.proxy_core.specs.Traces.{Item}
+use Rattle.proxy_core.specs.Histories.{IsGoodHistory, next_serial, open_exchanges}
+
+-- each member of Vary is a field name: none is a star, by which no later request would ever match (RFC 9111, section 4.1)
+abbrev pub NamesFields : List Field → Type 0
+NamesFields fields = All (λ name. (bytes_eq name (codes "*") ≡ false) × (is_token name ≡ true)) (vary_names fields)
+
+-- Connection took away no field by which a cache decides (RFC 9110, section 7.6.1)
+abbrev pub KeepsItsFields : List Field → Type 0
+KeepsItsFields received = All (λ name. connection_names received name ≡ false) cache_names
+
+-- it says how long it is fresh (RFC 9111, section 4.2.1), or has a validator, by which it can be asked about (section 4.3.1)
+abbrev pub CanBeReused : List Field → Type 0
+CanBeReused fields =
+    (has (occurrences_of fields) SMaxage ≡ true)
+    ⊎ ((has (occurrences_of fields) MaxAge ≡ true)
+    ⊎ ((has_line fields (codes "Expires") ≡ true)
+    ⊎ ((is_some (tag_value fields) ≡ true)
+    ⊎ (is_some (modified_value fields) ≡ true))))
+
+-- The answer to an exchange may be stored: by the standard's list, and by what this cache asks besides (own): the operator lets
+-- it, a GET of the whole asked for it, it could be reused, nothing of its key was invalidated meanwhile, it isn't longer than the
+-- operator's limit, and a serial is left.
+pub record MayBeStoredAt (table : Table) (next : Option ℕ) (x : Exchange) (r : Response) (now : ℕ) : Type 0 where
+  pub operator_allows : caches_of table.lines x.line ≡ true
+  pub is_storable : IsStorable x.asked (answered_of r now)
+  pub is_for_the_store : IsForTheStore x.asked
+  pub names_fields : NamesFields (answered_of r now).fields
+  pub keeps_its_fields : KeepsItsFields r.fields
+  pub can_be_reused : CanBeReused (answered_of r now).fields
+  pub not_overtaken : x.overtaken ≡ false
+  pub fits : length r.content ≤ table.max_stored
+  pub serial_is_left : is_some next ≡ true
+
+-- ---- the statements
+
+-- An answer that may be stored, and in whose place no stored response is sent, is stored, under the next serial.
+abbrev pub StoresWhereItMay : Type 0
+StoresWhereItMay = (table : Table) (limit first now id : ℕ) (x : Exchange) (r : Response) (item : Item) (past : List Item) →
+    IsGoodHistory table limit first (item ∷ past) → item.event ≡ Answer now id r → find_exchange id (open_exchanges table limit past) ≡ Some x →
+    used_in item.outcome ≡ None → MayBeStoredAt table (next_serial first past) x r now →
+    stored_in item.outcome ≡ next_serial first past
+
+-- the event is the answer to an exchange that is open, and may be stored
+pub record IsStoredAnswer (table : Table) (limit first : ℕ) (item : Item) (past : List Item) : Type 0 where
+  pub now : ℕ
+  pub id : ℕ
+  pub response : Response
+  pub exchange : Exchange
+  pub event_is : item.event ≡ Answer now id response
+  pub is_open : find_exchange id (open_exchanges table limit past) ≡ Some exchange
+  pub nothing_is_sent_instead : used_in item.outcome ≡ None
+  pub may_be_stored : IsFinal (answered_of response now) → MayBeStoredAt table (next_serial first past) exchange response now
+
+-- Nothing else is stored. That its status is final is known of each response that was read (law `what_is_read_is_final`).
+abbrev pub StoresNowhereElse : Type 0
+StoresNowhereElse = (table : Table) (limit first s : ℕ) (item : Item) (past : List Item) →
+    IsGoodHistory table limit first (item ∷ past) → stored_in item.outcome ≡ Some s → IsStoredAnswer table limit first item past
