@@ -203,3 +203,20 @@ def what_is_evicted_is_let_go(stage):
     grown = proxy.resident() - before
     if grown > 2 << 20:
         raise Unexpected("of 1,000 responses that are evicted, of 8,000 bytes each,", "no memory", f"{grown} bytes")
+
+
+@scenario
+def what_is_announced_takes_no_memory(stage):
+    """A hundred clients announce 16 MB each, by Content-Length or as a chunk, and send one byte of it: room is made for what
+    has come."""
+    stage.origin(Origin({"/a": whole(200, KEPT, content=b"hello")}))
+    busy = (proxy := stage.proxy(max_body=16 << 20)).client()
+    busy.ask("/a")
+    before = proxy.reserved()
+    for framing in ["Content-Length: 16777215\r\n\r\nx", "Transfer-Encoding: chunked\r\n\r\nffffff\r\nx"] * 50:
+        proxy.client().send(f"POST /a HTTP/1.1\r\nHost: h\r\n{framing}".encode())
+    proxy.wait_until_quiet()
+    grown = proxy.reserved() - before
+    if grown > 16 << 20:
+        raise Unexpected("memory that is asked for by a hundred contents of 16 MB, of which a byte has come,", "less than one of them", f"{grown} bytes")
+    expect_answer(busy.ask("/a"), 200, "edge;hit;ttl=600", b"hello")

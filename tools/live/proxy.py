@@ -82,8 +82,15 @@ class Proxy:
 
     def resident(self):
         """The memory that the program holds, in bytes."""
+        return self.memory("VmRSS:")
+
+    def reserved(self):
+        """The memory that the program has asked for, used or not, in bytes."""
+        return self.memory("VmSize:")
+
+    def memory(self, name):
         with open(f"/proc/{self.process.pid}/status", encoding="utf-8") as it:
-            return next(int(line.split()[1]) * 1024 for line in it if line.startswith("VmRSS:"))
+            return next(int(line.split()[1]) * 1024 for line in it if line.startswith(name))
 
     def processor_seconds(self):
         """The processor time that the program has taken."""
