@@ -6,3 +6,4 @@ pub mod Readings
 pub mod TablePaths
 pub mod Versions
 pub mod Origins
+pub mod PathTails

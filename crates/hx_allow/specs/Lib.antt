@@ -4,5 +4,6 @@ pub mod Keys
 pub mod LineTables
 pub mod Lines
 pub mod Matching
+pub mod PathTails
 pub mod Tables
 pub mod Values

@@ -12,6 +12,7 @@ mod laws;
 mod line_tables;
 mod lines;
 mod matching;
+mod path_tails;
 mod reading;
 mod tables;
 mod values;

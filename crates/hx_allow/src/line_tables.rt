@@ -13,6 +13,7 @@ use crate::ConfigFault;
 use crate::addresses::is_address;
 use crate::faults::FoundFault;
 use crate::lines::{Line, is_never_allowed};
+use crate::path_tails::PathTail;
 use crate::values::{
     Scope, TableVersion, array_at, counts_within, first_unknown, text_at, value_at,
 };
@@ -249,10 +250,12 @@ fn method_texts(alloc: Global, table: &Table) -> Result<Vec<Bytes>, AllocError>
 fn line_of(alloc: Global, table: &Table) -> Result<Line, AllocError>
     ensures { IfOk result (λ line. line ≡ line_of (table_view table.now)) }
 {
+    let path = path_rule(alloc, text_at(table, "path"))?;
     Ok(Line {
+        tail: PathTail::of(path.as_slice()),
         host: host_rule(alloc, text_at(table, "host"))?,
         methods: method_texts(alloc, table)?,
-        path: path_rule(alloc, text_at(table, "path"))?,
+        path,
         origin: origin_rule(alloc, text_at(table, "origin"))?,
         caches: cache_rule(text_at(table, "cache")),
     })

@@ -5,12 +5,15 @@ ghost use Rattle.std.specs.List.{list_any};
 ghost use Rattle.hx_allow.specs.Matching.{matches_host, is_never_allowed, is_any_or_same, matches_path, longest_origin};
 ghost use Rattle.hx_allow.specs.Index.{can_match, matches_beside_host};
 
+use crate::path_tails::PathTail;
 use hx_fields::Bytes;
 use std::marker::Model;
 
 /// A line of the table.
 #[derive(Drop)]
 pub struct Line {
+    /// That of `path`.
+    pub(crate) tail: PathTail,
     /// The only host that it matches, or none where it matches every one.
     pub host: Option<Bytes>,
     /// The methods that it matches, `*` among them where it matches nearly all.
@@ -24,12 +27,15 @@ pub struct Line {
 }
 
 impl Model for Line {
-    ghost use Rattle.std.specs.Prelude.{option_map, string_bytes};
+    ghost use Rattle.std.specs.Prelude.{◌≡◌, option_map, string_bytes};
     ghost use Rattle.hx_allow.specs.Lines.{Line as PlainLine};
+    ghost use Rattle.hx_allow.specs.PathTails.{tail_of};
 
     ghost Value = { PlainLine };
 
     ghost view = { λ l. record { host = l.host; methods = l.methods.items; path = l.path; origin = option_map string_bytes l.origin; caches = l.caches } };
+
+    ghost invariant = { λ l. l.tail ≡ tail_of l.path };
 }
 
 fn matches_host(host: Option<&Bytes>, asked: &[u8]) -> bool
@@ -105,10 +111,17 @@ impl Line {
         }
     }
 
+    /// Whether the line's path matches.
+    fn matches_path(&self, path: &[u8]) -> bool
+        ensures { result ≡ matches_path self.now.path path.now }
+    {
+        self.tail.may_match(path) && matches_path(self.path.as_slice(), path)
+    }
+
     /// Whether the line's path and a method match, of a method that a line may allow.
     pub fn matches(&self, method: &[u8], path: &[u8]) -> bool
         ensures { result ≡ matches_beside_host self.now method.now path.now }
     {
-        matches_path(self.path.as_slice(), path) && has_any_or_same(self.methods.as_slice(), method)
+        self.matches_path(path) && has_any_or_same(self.methods.as_slice(), method)
     }
 }
