@@ -30,3 +30,4 @@ pub mod WrittenEnds
 pub mod WrittenFields
 pub mod WrittenRequests
 pub mod ChunkDecoding
+pub mod WrittenResponses

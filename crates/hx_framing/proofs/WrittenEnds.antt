@@ -21,11 +21,11 @@ abbrev is_inside : ℕ → Bool
 is_inside b = not (b == 10)
 
 -- no byte ends a line
-abbrev AreInside : List ℕ → Type 0
+abbrev pub AreInside : List ℕ → Type 0
 AreInside bytes = list_all is_inside bytes ≡ true
 
 -- no byte of such a class ends a line
-inside_by : (test : ℕ → Bool) → test 10 ≡ false → (bytes : List ℕ) → AllPass test bytes → AreInside bytes
+pub inside_by : (test : ℕ → Bool) → test 10 ≡ false → (bytes : List ℕ) → AllPass test bytes → AreInside bytes
 inside_by test fails [] pass = refl
 inside_by test fails (b ∷ bytes) pass =
     let other : (b == 10) ≡ false = ne_eqb b 10 (λ e. false≢true (sym fails ∙ ap test (sym e) ∙ All-head (λ c. test c ≡ true) b bytes pass)) in
@@ -35,11 +35,11 @@ token_inside : is_token_byte 10 ≡ false
 unfolding is_token_byte
 token_inside = refl
 
-inside_append : (a b : List ℕ) → AreInside a → AreInside b → AreInside (a ++ b)
+pub inside_append : (a b : List ℕ) → AreInside a → AreInside b → AreInside (a ++ b)
 inside_append a b x y = list_all-append is_inside a b ∙ and_from _ _ x y
 
 -- one byte further, by the four tests of the search
-step : (x : ℕ) (l : List ℕ) (at : ℕ) → (x == 10) ≡ false → empty_line_from at (x ∷ l) ≡ empty_line_from (at + 1) l
+pub step : (x : ℕ) (l : List ℕ) (at : ℕ) → (x == 10) ≡ false → empty_line_from at (x ∷ l) ≡ empty_line_from (at + 1) l
 step x l at other = by_test (x == 10) (slice_index (x ∷ l) 1 == 10) (slice_index (x ∷ l) 1 == 13) (slice_index (x ∷ l) 2 == 10) other
   where
     by_test : (t s r q : Bool) → t ≡ false
@@ -52,7 +52,7 @@ not_true true e = absurd cc
 not_true false e = refl
 
 -- behind bytes that end no line
-run : (xs ys : List ℕ) (at : ℕ) → AreInside xs → empty_line_from at (xs ++ ys) ≡ empty_line_from (at + length xs) ys
+pub run : (xs ys : List ℕ) (at : ℕ) → AreInside xs → empty_line_from at (xs ++ ys) ≡ empty_line_from (at + length xs) ys
 run [] ys at inside = let e : at ≡ at + 0 = omega arith in ap (λ k. empty_line_from k ys) e
 run (x ∷ xs) ys at inside =
     let e : at + 1 + length xs ≡ at + length (x ∷ xs) = omega arith in
@@ -94,7 +94,7 @@ line_stops f l writable =
     (Stops_token f.name ((58 ∷ 32 ∷ f.value) ++ l) writable.name.0 writable.name.1)
 
 -- field lines with an empty line behind them
-lines_end : (fs : List Field) (l : List ℕ) (at : ℕ) → All IsWritableField fs
+pub lines_end : (fs : List Field) (l : List ℕ) (at : ℕ) → All IsWritableField fs
     → empty_line_from at (10 ∷ (field_lines fs ++ 13 ∷ 10 ∷ l)) ≡ Some (at + 1 + length (field_lines fs) + 2)
 lines_end [] l at all = let e : at + 3 ≡ at + 1 + 0 + 2 = omega arith in ap Some e
 lines_end (f ∷ fs) l at all =
@@ -116,7 +116,7 @@ lines_end (f ∷ fs) l at all =
     regroup a b c = simp append_assoc refl
 
 -- no empty line in front
-blank_none : (l : List ℕ) → Stops is_newline l → blank_length l ≡ 0
+pub blank_none : (l : List ℕ) → Stops is_newline l → blank_length l ≡ 0
 blank_none [] stops = absurd stops
 blank_none (b ∷ []) stops = let other : (b == 10) ≡ false = (or_parts _ _ stops).1 in rw other refl
 blank_none (b ∷ c ∷ l) stops =

@@ -17,11 +17,11 @@ use Rattle.hx_framing.specs.Written.{head_text, length_fields, close_field, sent
 use Rattle.hx_framing.proofs.WrittenLines.{digit_bytes}
 
 -- a test that no line passes
-filter_none : (p : Field → Bool) (fs : List Field) → list_any p fs ≡ false → filter p fs ≡ []
+pub filter_none : (p : Field → Bool) (fs : List Field) → list_any p fs ≡ false → filter p fs ≡ []
 filter_none p [] none = refl
 filter_none p (f ∷ fs) none = let parts = or_parts (p f) (list_any p fs) none in rw parts.0 (filter_none p fs parts.1)
 
-filter_other : (p : Field → Bool) (fs : List Field) → list_any p fs ≡ false → filter (λ f. not (p f)) fs ≡ fs
+pub filter_other : (p : Field → Bool) (fs : List Field) → list_any p fs ≡ false → filter (λ f. not (p f)) fs ≡ fs
 filter_other p [] none = refl
 filter_other p (f ∷ fs) none = let parts = or_parts (p f) (list_any p fs) none in rw parts.0 (ap (λ gs. f ∷ gs) (filter_other p fs parts.1))
 

@@ -42,7 +42,7 @@ written_head r = record {
 pub text_split : (r : Request) → request_text r ≡ head_text r ++ content_bytes r.content
 text_split r = refl
 
-length_lines : (n : Option ℕ) → field_lines (length_fields n) ≡ length_line n
+pub length_lines : (n : Option ℕ) → field_lines (length_fields n) ≡ length_line n
 length_lines None = refl
 length_lines (Some n) = append-nil _
 
@@ -158,7 +158,7 @@ length_writable n small =
       trimmed = trim_none (decimal n) (by_digits (λ b. not (is_ows b)) digit_is_seen (decimal n) digits);
     }
 
-close_writable : IsWritableField close_field
+pub close_writable : IsWritableField close_field
 unfolding trim_ows
 close_writable = record {
   name = (omega arith, AllPass-from_test is_token_byte (codes "Connection") close_name);
@@ -166,7 +166,7 @@ close_writable = record {
   trimmed = refl;
 }
 
-length_fields_writable : (n : Option ℕ) → IfSome n (λ m. m < 2 ^ 64) → All IsWritableField (length_fields n)
+pub length_fields_writable : (n : Option ℕ) → IfSome n (λ m. m < 2 ^ 64) → All IsWritableField (length_fields n)
 length_fields_writable None small = All-nil IsWritableField
 length_fields_writable (Some n) small = All-cons IsWritableField _ [] (length_writable n small) (All-nil IsWritableField)
 

@@ -40,7 +40,7 @@ no_comma (d ∷ ds) digits =
     All-cons (λ b. (b == 44) ≡ false) d ds (ne_eqb d 44 (λ e. omega (arith, low, e))) (no_comma ds parts.1)
 
 -- and a length that is told
-one_piece : (ds : List ℕ) (n : ℕ) → 0 < length ds → list_all is_ascii_digit ds ≡ true → digits_value 10 ds ≡ n
+pub one_piece : (ds : List ℕ) (n : ℕ) → 0 < length ds → list_all is_ascii_digit ds ≡ true → digits_value 10 ds ≡ n
     → one_number (flatten (map comma_pieces (ds ∷ []))) ≡ Some n
 one_piece ds n some digits value =
     let one : comma_pieces ds ≡ ds ∷ [] = slice_split_none (λ b. b == 44) ds (no_comma ds digits) in
@@ -57,7 +57,7 @@ told_sent r (Some bytes) writable is =
     ∙ one_piece (decimal (length bytes)) (length bytes) back.0 back.1 back.2
 
 -- where a name has no value no line has it
-none_has : (fields : List Field) (name : List ℕ) → values_of fields name ≡ [] → has fields name ≡ false
+pub none_has : (fields : List Field) (name : List ℕ) → values_of fields name ≡ [] → has fields name ≡ false
 none_has [] name none = refl
 none_has (f ∷ fields) name none = by_test (none_has fields name) (is_named name f) none
   where
@@ -67,7 +67,7 @@ none_has (f ∷ fields) name none = by_test (none_has fields name) (is_named nam
     by_test later true h = absurd cc
     by_test later false h = later h
 
-and_false : (t : Bool) → (t && false) ≡ false
+pub and_false : (t : Bool) → (t && false) ≡ false
 and_false true = refl
 and_false false = refl
 

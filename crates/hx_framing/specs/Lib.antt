@@ -31,3 +31,4 @@ pub mod ChunkGrammar
 pub mod Pieces
 pub mod Decoding
 pub mod Written
+pub mod WrittenResponse

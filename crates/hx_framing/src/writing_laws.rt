@@ -11,8 +11,10 @@ ghost use Rattle.hx_framing.specs.Head.{IsHead, head_of};
 ghost use Rattle.hx_framing.specs.Places.{head_length, most_head_bytes};
 ghost use Rattle.hx_framing.specs.Reading.{Spelled};
 ghost use Rattle.hx_framing.specs.RequestReading.{Reads};
+ghost use Rattle.hx_framing.specs.ResponseReading.{Reads as ReadsResponse};
 ghost use Rattle.hx_framing.specs.Text.{request_text, content_bytes};
 ghost use Rattle.hx_framing.specs.Written.{IsWritable, head_text, sent_head, sent_fields, close_field, read_back};
+ghost use Rattle.hx_framing.specs.WrittenResponse.{IsWritableResponse, SentResponse, response_back, sent_text};
 
 /// The head that is written is one, and has just the parts that were written.
 pub fn written_head_is_read()
@@ -63,4 +65,12 @@ pub fn written_request_is_read()
 /// There are such requests: the one of the first run is one.
 pub fn first_forward_is_writable()
     ensures { IsWritable first_forward }
+{}
+
+/// A response is read back too, by a reader that knows whether it answers a HEAD, and what follows it is left: so a client takes
+/// what is sent for one response.
+pub fn written_response_is_read()
+    ensures { (to_head : Bool) → (m : SentResponse) → (max_body : ℕ) → (ended : Bool) → (rest : List ℕ)
+        → IsWritableResponse to_head m → length m.content ≤ max_body
+        → ReadsResponse max_body to_head ended (sent_text m ++ rest) (Spelled (response_back to_head m) rest) }
 {}

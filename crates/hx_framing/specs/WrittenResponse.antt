@@ -1,0 +1,59 @@
+-- Which responses are read back as they were written (RFC 9112, sections 4 to 6).
+--
+-- SentResponse: the parts of a response that is sent     sent_text: its bytes     sent_head_text: those up to its content
+-- response_fields: the fields that are sent              response_back: the response that is read back
+-- IsWritableResponse: each part stands in the text as it is, and the head tells the content
+use Rattle.std.specs.Prelude.{◌≡◌, ℕ, ◌<◌, ◌≤◌, ◌^◌, ◌++◌, Bool, true, false, if◌then◌else◌, List, [], ◌∷◌, length, codes, Option, Some, None, IfSome, All}
+use Rattle.hx_fields.specs.declared.field_line.Field.{Field}
+use Rattle.hx_fields.specs.Lines.{has}
+use Rattle.hx_framing.specs.declared.responses.Response.{Response}
+use Rattle.hx_framing.specs.Lengths.{is_without_content}
+use Rattle.hx_framing.specs.Places.{most_head_bytes, most_field_lines}
+use Rattle.hx_framing.specs.Text.{close_line, crlf, field_lines, length_line, response_text, status_line}
+use Rattle.hx_framing.specs.Written.{IsWritableField, close_field, length_fields}
+
+-- a status, its lines, the length that is told, whether the connection closes behind it, and a content
+pub record SentResponse : Type 0 where
+  pub status : ℕ
+  pub fields : List Field
+  pub told : Option ℕ
+  pub close : Bool
+  pub content : List ℕ
+
+abbrev pub sent_text : SentResponse → List ℕ
+sent_text m = response_text m.status m.fields m.told m.close m.content
+
+abbrev pub sent_head_text : SentResponse → List ℕ
+sent_head_text m = status_line m.status ++ field_lines m.fields ++ length_line m.told ++ close_line m.close ++ crlf
+
+-- the line that closes the connection, as a field
+abbrev pub close_fields : Bool → List Field
+close_fields close = if close then close_field ∷ [] else []
+
+-- the fields as they are sent
+abbrev pub response_fields : SentResponse → List Field
+response_fields m = m.fields ++ length_fields m.told ++ close_fields m.close
+
+-- What is read back: what was written, with the line that closes the connection. To a HEAD the length that is told is that of
+-- the content which isn't sent (RFC 9110, section 9.3.2).
+abbrev pub response_back : Bool → SentResponse → Response
+response_back to_head m = record {
+  status = m.status;
+  fields = m.fields ++ close_fields m.close;
+  content = m.content;
+  announced = if to_head then m.told else None;
+}
+
+-- The status is final, each part stands in the text as it is, and nothing in the fields speaks of the content. Where the request
+-- was HEAD, or the status has no content, none stands behind the head; else as much as is told (RFC 9112, section 6.3). The head
+-- is within a reader's limits.
+pub record IsWritableResponse (to_head : Bool) (m : SentResponse) : Type 0 where
+  pub status : (200 ≤ m.status) × (m.status ≤ 599)
+  pub fields : All IsWritableField m.fields
+  pub lengths : has m.fields (codes "content-length") ≡ false
+  pub codings : has m.fields (codes "transfer-encoding") ≡ false
+  pub small : IfSome m.told (λ n. n < 2 ^ 64)
+  pub without : is_without_content to_head m.status ≡ true → m.content ≡ []
+  pub behind : is_without_content to_head m.status ≡ false → m.told ≡ Some (length m.content)
+  pub few : length (response_fields m) ≤ most_field_lines
+  pub short : length (sent_head_text m) ≤ most_head_bytes
