@@ -1,6 +1,7 @@
 //! The order of keys, in which a shelf's index keeps them.
 //!
-//! It is in `specs/KeyOrder.antt`: keys tie exactly where they are one.
+//! It is in `specs/KeyOrder.antt`: keys tie exactly where they are one. What tells most keys apart is looked at first: a length
+//! stands in the key itself, and few hosts have many paths.
 ghost use Rattle.std.specs.Prelude.{Some, refl};
 ghost use Rattle.std.specs.Cmp.{partial_equiv_from_equiv, partial_order_from_agreeing_total};
 ghost use Rattle.hx_target.specs.Keys.{same_key};
@@ -43,10 +44,11 @@ impl Ord for Key {
     ghost matches_eq = { key_ties };
 
     fn cmp(&self, other: &Key) -> Ordering {
-        self.host
-            .as_slice()
-            .cmp(other.host.as_slice())
-            .then(self.port.cmp(&other.port))
+        self.path_query
+            .len()
+            .cmp(&other.path_query.len())
             .then_with(|| self.path_query.as_slice().cmp(other.path_query.as_slice()))
+            .then_with(|| self.host.as_slice().cmp(other.host.as_slice()))
+            .then(self.port.cmp(&other.port))
     }
 }
