@@ -31,3 +31,4 @@ pub mod WrittenFields
 pub mod WrittenRequests
 pub mod ChunkDecoding
 pub mod WrittenResponses
+pub mod ReadResponses

@@ -1,9 +1,11 @@
 //! Laws on what a response stream spells. They hold of the definitions, so each body is empty.
-ghost use Rattle.std.specs.Prelude.{◌≡◌, ◌++◌, ◌∷◌, [], ℕ, Bool, List, false};
+ghost use Rattle.std.specs.Prelude.{◌≡◌, ◌≤◌, ◌++◌, ◌∷◌, [], ℕ, Bool, List, None, false};
+ghost use Rattle.hx_fields.specs.declared.field_line.Field.{Field};
 ghost use Rattle.hx_framing.specs.declared.responses.Response.{Response};
 ghost use Rattle.hx_framing.specs.declared.answer.Next.{Next};
 ghost use Rattle.hx_framing.specs.declared.fault.FrameFault.{FrameFault};
-ghost use Rattle.hx_framing.specs.Reading.{Reading, Faulty, IsSettled, extended};
+ghost use Rattle.hx_framing.specs.Lengths.{without_lengths};
+ghost use Rattle.hx_framing.specs.Reading.{Reading, Faulty, IsSettled, Spelled, extended};
 ghost use Rattle.hx_framing.specs.ResponseReading.{Reads};
 ghost use Rattle.hx_framing.specs.ResponseStream.{SpellsResponse, IsGiven, Answers};
 ghost use Rattle.hx_framing.specs.Progress.{Progress, IsDue, fed, finished};
@@ -53,4 +55,15 @@ pub fn due_stays()
         → p.ended ≡ false → IsDue answer → Answers p answer → Answers (fed p piece) answer }
     ensures end { (p : Progress Response) → (answer : Next Response) → IsDue answer
         → Answers p answer → Answers (finished p) answer }
+{}
+
+/// What is read has a final status, from 200 to 599: interim responses are passed over, and others are refused. Its length fields
+/// are taken out, and what an answer to HEAD announces is told beside them; another answer announces nothing.
+pub fn what_is_read_is_final()
+    ensures status { (max_body : ℕ) → (to_head : Bool) → (ended : Bool) → (bytes : List ℕ) → (response : Response) → (rest : List ℕ)
+        → Reads max_body to_head ended bytes (Spelled response rest) → (200 ≤ response.status) × (response.status ≤ 599) }
+    ensures lengths { (max_body : ℕ) → (to_head : Bool) → (ended : Bool) → (bytes : List ℕ) → (response : Response) → (rest : List ℕ)
+        → Reads max_body to_head ended bytes (Spelled response rest) → (fields : List Field) × (response.fields ≡ without_lengths fields) }
+    ensures announced { (max_body : ℕ) → (ended : Bool) → (bytes : List ℕ) → (response : Response) → (rest : List ℕ)
+        → Reads max_body false ended bytes (Spelled response rest) → response.announced ≡ None }
 {}
