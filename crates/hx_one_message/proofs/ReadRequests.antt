@@ -20,12 +20,8 @@ use Rattle.hx_framing.specs.Reading.{Continue, Faulty, Over, Spelled, cut_off, w
 use Rattle.hx_framing.specs.RequestReading.{Reads, ReadsBy, request_of, with_head, with_plan, without_head}
 use Rattle.hx_framing.specs.Written.{IsWritableField}
 use Rattle.hx_hop.proofs.Lines.{list_any_fewer, list_any_none_left, not_true}
+use Rattle.hx_one_message.specs.OneMessage.{IsClean}
 use Rattle.hx_one_message.proofs.Values.{trim_twice}
-
-pub record IsClean (r : Request) : Type 0 where
-  pub method : IsToken r.method
-  pub fields : All IsWritableField r.fields
-  pub lengths : has r.fields (codes "Content-Length") ≡ false
 
 line_is_clean : (f : grammar.Field) → IsField f → IsWritableField (field_of f)
 line_is_clean f is = record { name = is.name; value = AllPass-trim_ows is_value_byte f.raw is.raw; trimmed = trim_twice f.raw }
@@ -44,6 +40,7 @@ no_lengths fields =
 head_is_clean : (bytes : List ℕ) (h : RequestHead) (content : Option (List ℕ)) → IsHead bytes h → IsClean (request_of (head_of h) content)
 head_is_clean bytes h content is = record {
   method = is.0.0.method;
+  minor = is.0.0.minor;
   fields =
       All-filter (λ f. not (is_named (codes "transfer-encoding") f)) IsWritableField (without_named (map field_of h.fields) (codes "content-length"))
       (All-filter (λ f. not (is_named (codes "content-length") f)) IsWritableField (map field_of h.fields) (lines_are_clean h.fields is.0.0.fields));

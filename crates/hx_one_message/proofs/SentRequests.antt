@@ -25,8 +25,8 @@ use Rattle.hx_hop.specs.Asking.{asked_of, kept_fields}
 use Rattle.hx_hop.specs.Forwarding.{client_lines, condition_lines, forwarded_lines, forwarded_of, host_text, is_condition, line, opt_line, via_text}
 use Rattle.hx_hop.specs.Stripping.{is_hop_line, stripped}
 use Rattle.hx_hop.proofs.SentLines.{sends_no_expect, sends_no_hop_field, sends_no_length}
-use Rattle.hx_one_message.specs.OneMessage.{AreFieldValues, ForwardsOneRequest, IsFieldValue, SendsPartsAsTheyAre}
-use Rattle.hx_one_message.proofs.ReadRequests.{IsClean, read_is_clean}
+use Rattle.hx_one_message.specs.OneMessage.{AreFieldValues, ForwardsOneRequest, IsClean, IsFieldValue, SendsPartsAsTheyAre}
+use Rattle.hx_one_message.proofs.ReadRequests.{read_is_clean}
 use Rattle.hx_one_message.proofs.ReadTargets.{IsCleanTarget, IsVisible, pass_visible, target_is_clean}
 use Rattle.hx_one_message.proofs.Values.{trim_word, trim_words}
 

@@ -1,14 +1,14 @@
 -- A message that was read goes on as one message (RFC 9112, sections 6.3 and 11.2): whatever a client sends, what the origin
 -- gets for it is one request, which ends where the proxy ends it.
-use Rattle.std.specs.Prelude.{◌≡◌, ℕ, ◌<◌, ◌≤◌, ◌^◌, ◌++◌, Bool, List, length, codes, Option, IfSome, Ok}
+use Rattle.std.specs.Prelude.{◌≡◌, ℕ, ◌<◌, ◌≤◌, ◌^◌, ◌++◌, Bool, false, List, length, codes, All, Option, IfSome, Ok}
 use Rattle.httparse.specs.Grammar.{AllPass, IsToken, is_value_byte, trim_ows}
-use Rattle.hx_fields.specs.Lines.{values_of}
+use Rattle.hx_fields.specs.Lines.{has, values_of}
 use Rattle.hx_framing.specs.declared.requests.Request.{Request}
 use Rattle.hx_framing.specs.Places.{most_field_lines, most_head_bytes}
 use Rattle.hx_framing.specs.Reading.{Spelled}
 use Rattle.hx_framing.specs.RequestReading.{Reads}
 use Rattle.hx_framing.specs.Text.{content_bytes, request_text}
-use Rattle.hx_framing.specs.Written.{IsWritable, head_text, read_back, sent_fields}
+use Rattle.hx_framing.specs.Written.{IsWritable, IsWritableField, head_text, read_back, sent_fields}
 use Rattle.hx_target.specs.declared.targets.Target.{Target}
 use Rattle.hx_target.specs.Judgement.{Judged}
 use Rattle.hx_hop.specs.declared.validators.Conditions.{Conditions}
@@ -18,6 +18,15 @@ use Rattle.hx_hop.specs.Forwarding.{forwarded_of}
 -- field-value: no control byte but the tab, no white space round it (RFC 9110, section 5.5)
 abbrev pub IsFieldValue : List ℕ → Type 0
 IsFieldValue value = AllPass is_value_byte value × (trim_ows value ≡ value)
+
+-- What is read of a request, part by part (RFC 9110, sections 2.5, 5.1, 5.5 and 9.1): its method is a token, its version 1.0 or 1.1, each
+-- line a token with a value in which no byte ends a line and around which no white space is left; the length is told by the
+-- content alone.
+pub record IsClean (r : Request) : Type 0 where
+  pub method : IsToken r.method
+  pub minor : r.minor ≤ 1
+  pub fields : All IsWritableField r.fields
+  pub lengths : has r.fields (codes "Content-Length") ≡ false
 
 -- the proxy's conditions, where there are any, are such values
 pub record AreFieldValues (conditions : Conditions) : Type 0 where
@@ -30,6 +39,10 @@ pub record IsWithinLimits (max_body : ℕ) (sent : Request) : Type 0 where
   pub few : length (sent_fields sent) ≤ most_field_lines
   pub short : length (head_text sent) ≤ most_head_bytes
   pub content : length (content_bytes sent.content) ≤ max_body
+
+abbrev pub ReadsCleanParts : Type 0
+ReadsCleanParts = (max_body : ℕ) (ended told : Bool) (bytes rest : List ℕ) (request : Request)
+    → Reads max_body ended told bytes (Spelled request rest) → IsClean request
 
 -- what was read and asked goes forward in parts that stand in its text as they are: no CR, no LF and no blank in the method and
 -- the target, no CR or LF in a field line, and no length, coding or expectation of the client's

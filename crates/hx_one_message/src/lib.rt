@@ -4,7 +4,7 @@
 //! function's contract is a law, and its body is empty. Nothing here runs.
 #![tactic(auto)]
 
-ghost use Rattle.hx_one_message.specs.OneMessage.{ForwardsOneRequest, SendsPartsAsTheyAre};
+ghost use Rattle.hx_one_message.specs.OneMessage.{ForwardsOneRequest, ReadsCleanParts, SendsPartsAsTheyAre};
 
 /// What a client's bytes spell as a request goes forward as one request, within the limits of a reader: no part of it can end a
 /// line or the head, its content is told by one length, and read again it is what was sent, with what stands behind it left.
@@ -12,4 +12,9 @@ ghost use Rattle.hx_one_message.specs.OneMessage.{ForwardsOneRequest, SendsParts
 pub fn one_request_goes_forward()
     ensures parts { SendsPartsAsTheyAre }
     ensures request { ForwardsOneRequest }
+{}
+
+/// What a client's bytes spell as a request has parts that can be written again as they are (RFC 9110, sections 5 and 9.1).
+pub fn a_request_is_read_in_clean_parts()
+    ensures { ReadsCleanParts }
 {}
