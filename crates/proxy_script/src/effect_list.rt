@@ -6,6 +6,9 @@ use hx_fields::Bytes;
 use itoa::Buffer;
 use std::alloc::{AllocError, Global};
 
+/// The most bytes of an effect's line beside an address: a word, two numbers, and what stands between and behind them.
+const MOST_LINE: usize = 53;
+
 /// What a proxy does.
 #[derive(Drop)]
 pub enum Effect {
@@ -66,11 +69,26 @@ fn push_effect(text: &mut Vec<u8>, effect: &Effect) -> Result<(), AllocError>
     }
 }
 
+/// How many bytes the text of effects takes, or some more: room for it, so that its memory is asked for once. No clause
+/// speaks of it.
+fn room_for(effects: &[Effect]) -> usize {
+    let mut room = 0usize;
+    for effect in effects {
+        room = room.saturating_add(MOST_LINE).saturating_add(match effect {
+            Effect::Client(_, bytes) => bytes.len(),
+            Effect::Forward(_, address, bytes) => address.len().saturating_add(bytes.len()),
+            Effect::Close(_) => 0,
+            Effect::Drop(_) => 0,
+        });
+    }
+    room
+}
+
 /// The text of effects, in order. Its only error is want of memory.
 pub fn effects_text(alloc: Global, effects: &[Effect]) -> Result<Vec<u8>, AllocError>
     ensures { IfOk result (λ text. text.items ≡ effects_text effects.now) }
 {
-    let mut text = Vec::new(alloc);
+    let mut text = Vec::with_capacity(alloc, room_for(effects))?;
     for effect in effects {
         push_effect(&mut text, effect)?;
     }

@@ -1,5 +1,5 @@
 //! One step of a replay: what an item tells the engine, and what is then done and written.
-ghost use Rattle.std.specs.Prelude.{◌≡◌, ◌<◌, IfOk, IfErr, OnOk, Some, option_map};
+ghost use Rattle.std.specs.Prelude.{◌≡◌, ◌<◌, ◌++◌, IfOk, IfErr, OnOk, Some, option_map};
 ghost use Rattle.proxy_engine.specs.Happenings.{said};
 ghost use Rattle.proxy_engine.specs.Story.{Story};
 ghost use Rattle.proxy_engine.specs.State.{Stands};
@@ -12,7 +12,7 @@ use crate::faults::ReplayFault;
 use hx_store::Shelf;
 use proxy_engine::{Engine, EngineFault, Work};
 use proxy_script::{Effect, Happening, Item, effects_text};
-use std::alloc::Global;
+use std::alloc::{AllocError, Global};
 use std::io::Write;
 
 /// What an item says has happened.
@@ -35,6 +35,18 @@ pub(crate) fn moment_after(now: u64, item: Item<'_>) -> u64
     }
 }
 
+/// Puts effects behind others.
+fn join(done: &mut Vec<Effect>, effects: Vec<Effect>) -> Result<(), AllocError>
+    ensures { OnOk result (done.new.items ≡ done.old.items ++ effects.items) }
+{
+    let mut effects = effects;
+    if done.is_empty() {
+        *done = effects;
+        return Ok(());
+    }
+    done.append(&mut effects)
+}
+
 /// Does all that is due, and gives the effects in order.
 fn settle<S: Shelf>(
     alloc: Global,
@@ -49,13 +61,10 @@ fn settle<S: Shelf>(
     'acts: loop {
         match engine.work(alloc, now) {
             Ok(Work::Idle) => return Ok(done),
-            Ok(Work::Did(effects)) => {
-                let mut effects = effects;
-                match done.append(&mut effects) {
-                    Ok(()) => {}
-                    Err(_) => return Err(EngineFault::OutOfMemory),
-                }
-            }
+            Ok(Work::Did(effects)) => match join(&mut done, effects) {
+                Ok(()) => {}
+                Err(_) => return Err(EngineFault::OutOfMemory),
+            },
             Err(fault) => return Err(fault),
         }
     }

@@ -12,5 +12,5 @@ returns-in-Ok-Idle-clause-ok g c = λ s stands.
 pub acts-preserved : goal.acts-preserved
 acts-preserved g c = λ s stands.
     let before = c.acts.invariant s stands in
-    subst (λ (es : List Effect). Worked s c.args.now es c.work.new.self) (sym c.in-Ok.ensures.items)
+    subst (λ (es : List Effect). Worked s c.args.now es c.work.new.self) (sym c.in-Ok.ensures)
     (worked_more s c.args.now c.acts.done.items c.acts.engine c.work.new.self c.in-Ok-Did.field-0 c.in-Ok-Did.effects before c.in-Ok-Did.field-0-is (c.in-Ok-Did.ensures.ok before.last before.stands))
