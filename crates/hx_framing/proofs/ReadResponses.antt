@@ -1,13 +1,12 @@
 -- What is read as a response has a final status, and no line that speaks of its content's length.
-use Rattle.std.proofs.Common.{◌≡◌, ℕ, ◌≤◌, ◌&&◌, Bool, true, false, not, cond, List, length, map, take, drop, sym, ap, ◌∙◌, subst, arith}
-use Rattle.std.specs.Prelude.{Option, Some, None, Result, Ok, Err, codes, nat_lt}
-use Rattle.std.specs.List.{list_any}
+use Rattle.std.proofs.Common.{◌≡◌, ℕ, ◌≤◌, ◌||◌, ◌==◌, Bool, true, false, cond, List, length, take, drop, refl, sym, ap, ◌∙◌, subst, arith}
+use Rattle.std.specs.Prelude.{Option, Some, None, Result, Ok, Err, nat_lt}
 use Rattle.std.proofs.lemmas.Bool.Decides.{nat_tests}
 use Rattle.hx_fields.specs.declared.field_line.Field.{Field}
-use Rattle.hx_fields.specs.Lines.{has, is_named, without_named}
 use Rattle.hx_framing.specs.declared.fault.FrameFault.{FrameFault}
 use Rattle.hx_framing.specs.declared.fault.FrameFault.TheVariants as fault
 use Rattle.hx_framing.specs.declared.plan.Framing.{Framing}
+use Rattle.hx_framing.specs.declared.plan.Framing.TheVariants as framing
 use Rattle.hx_framing.specs.declared.responses.Response.{Response}
 use Rattle.hx_framing.specs.declared.status_head.StatusHead.{StatusHead}
 use Rattle.hx_framing.specs.Body.{Body, Short, Bad, Whole}
@@ -18,13 +17,20 @@ use Rattle.hx_framing.specs.Reading.{Faulty, Spelled, cut_off, with_body}
 use Rattle.hx_framing.specs.ResponseReading.{FrontBy, Reads, response_of, with_framing, with_head, without_head}
 use Rattle.hx_framing.specs.StatusHead.{Judges}
 
+or_true : (t : Bool) → (t || true) ≡ true
+or_true true = refl
+or_true false = refl
+
 -- what a response was made of
-record IsMade (h : Bool) (r : Response) : Type 0 where
-  head : StatusHead
-  content : Option (List ℕ)
-  same : r ≡ response_of h head content
-  taken : is_taken_status head.status ≡ true
-  final : is_interim head.status ≡ false
+pub record IsMade (h : Bool) (r : Response) : Type 0 where
+  pub head : StatusHead
+  pub content : Option (List ℕ)
+  pub same : r ≡ response_of h head content
+  pub text : List ℕ
+  pub judged : Judges text (Ok head)
+  pub taken : is_taken_status head.status ≡ true
+  pub final : is_interim head.status ≡ false
+  pub without : is_without_content h head.status ≡ true → content ≡ None
 
 no_head : (e : Bool) (bytes : List ℕ) (r : Response) (rest : List ℕ) → Spelled r rest ≡ without_head e bytes → ⊥
 no_head e bytes r rest is = by_tests (nat_lt most_head_bytes (length bytes)) e is
@@ -34,11 +40,33 @@ no_head e bytes r rest is = by_tests (nat_lt most_head_bytes (length bytes)) e i
     by_tests false true h = cc
     by_tests false false h = cc
 
-of_body : (e h : Bool) (head : StatusHead) (body : Body) (r : Response) (rest : List ℕ) → Spelled r rest ≡ with_body e (response_of h head) body → (content : Option (List ℕ)) × (r ≡ response_of h head content)
+-- it was made with a content that is whole
+record IsWhole (h : Bool) (head : StatusHead) (body : Body) (r : Response) : Type 0 where
+  content : Option (List ℕ)
+  behind : List ℕ
+  body_is : body ≡ Whole content behind
+  same : r ≡ response_of h head content
+
+of_body : (e h : Bool) (head : StatusHead) (body : Body) (r : Response) (rest : List ℕ) → Spelled r rest ≡ with_body e (response_of h head) body → IsWhole h head body r
 of_body true h head Short r rest is = absurd cc
 of_body false h head Short r rest is = absurd cc
 of_body e h head (Bad f) r rest is = absurd cc
-of_body e h head (Whole content behind) r rest is = (content, cc)
+of_body e h head (Whole content behind) r rest is = record { content = content; behind = behind; body_is = refl; same = cc }
+
+-- where a response has no content, none was taken
+none_taken : (max : ℕ) (h e : Bool) (head : StatusHead) (bytes : List ℕ) (told : Framing) (content : Option (List ℕ)) (behind : List ℕ)
+    → framing_of_response max h head ≡ Ok told → body_at max told e bytes ≡ Whole content behind → is_without_content h head.status ≡ true → content ≡ None
+none_taken max h e head bytes told content behind is body without = by_status (is_taken_status head.status) (sym judged ∙ is)
+  where
+    judged : framing_of_response max h head ≡ with_status head.status (Ok framing.Nothing)
+    judged = ap (λ t. with_status head.status (cond (head.status == 101 || t) (Ok framing.Nothing) (framing_of_final max head))) without
+        ∙ ap (λ t. with_status head.status (cond t (Ok framing.Nothing) (framing_of_final max head))) (or_true (head.status == 101))
+
+    by_status : (t : Bool) → cond t (Ok framing.Nothing) (Err fault.Status) ≡ Ok told → content ≡ None
+    by_status true h =
+        let nothing : framing.Nothing ≡ told = cc in
+        let whole : Whole None bytes ≡ Whole content behind = ap (λ (f : Framing). body_at max f e bytes) nothing ∙ body in cc
+    by_status false h = absurd cc
 
 -- a head that tells its framing has a status that is taken
 taken_by : (status : ℕ) (judged : Result Framing FrameFault) (told : Framing) → with_status status judged ≡ Ok told → is_taken_status status ≡ true
@@ -46,22 +74,30 @@ taken_by status (Err f) told is = absurd cc
 taken_by status (Ok framing) told is = by_test (is_taken_status status) is
   where
     by_test : (t : Bool) → cond t (Ok framing) (Err fault.Status) ≡ Ok told → t ≡ true
-    by_test true h = λ i. true
+    by_test true h = refl
     by_test false h = absurd cc
 
-of_framing : (max : ℕ) (h e : Bool) (head : StatusHead) (bytes : List ℕ) (framing : Result Framing FrameFault) (r : Response) (rest : List ℕ)
-    → framing_of_response max h head ≡ framing → is_interim head.status ≡ false → Spelled r rest ≡ with_framing max h e head bytes framing → IsMade h r
-of_framing max h e head bytes (Err f) r rest told final is = absurd cc
-of_framing max h e head bytes (Ok framing) r rest told final is =
-    let made = of_body e h head (body_at max framing e bytes) r rest is in
-    record { head = head; content = made.0; same = made.1; taken = taken_by head.status _ framing told; final = final }
+of_framing : (max : ℕ) (h e : Bool) (head : StatusHead) (text bytes : List ℕ) (judged : Result Framing FrameFault) (r : Response) (rest : List ℕ)
+    → framing_of_response max h head ≡ judged → Judges text (Ok head) → is_interim head.status ≡ false → Spelled r rest ≡ with_framing max h e head bytes judged → IsMade h r
+of_framing max h e head text bytes (Err f) r rest told judges final is = absurd cc
+of_framing max h e head text bytes (Ok framing) r rest told judges final is =
+    let whole = of_body e h head (body_at max framing e bytes) r rest is in record {
+      head = head;
+      content = whole.content;
+      same = whole.same;
+      text = text;
+      judged = judges;
+      taken = taken_by head.status _ framing told;
+      final = final;
+      without = none_taken max h e head bytes framing whole.content whole.behind told whole.body_is;
+    }
 
 of_head : (max : ℕ) (h e : Bool) (bytes : List ℕ) (o : Option ℕ) (r : Response) (rest : List ℕ) → FrontBy max h e bytes o (Spelled r rest) → IsMade h r
 of_head max h e bytes None r rest is = absurd (no_head e bytes r rest is)
 of_head max h e bytes (Some n) r rest (Err f, judges, final, is) = absurd cc
-of_head max h e bytes (Some n) r rest (Ok head, judges, final, is) = of_framing max h e head (drop n bytes) (framing_of_response max h head) r rest (λ i. framing_of_response max h head) final is
+of_head max h e bytes (Some n) r rest (Ok head, judges, final, is) = of_framing max h e head (take n bytes) (drop n bytes) (framing_of_response max h head) r rest refl judges final is
 
-made : (max : ℕ) (h e : Bool) (bytes : List ℕ) (r : Response) (rest : List ℕ) → Reads max h e bytes (Spelled r rest) → IsMade h r
+pub made : (max : ℕ) (h e : Bool) (bytes : List ℕ) (r : Response) (rest : List ℕ) → Reads max h e bytes (Spelled r rest) → IsMade h r
 made max h e bytes r rest (sizes, front, passes, reads) = of_head max h e front (head_length (take most_head_bytes front)) r rest reads
 
 -- ---- the laws

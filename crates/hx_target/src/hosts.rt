@@ -121,8 +121,9 @@ fn after_host(value: &[u8]) -> &[u8]
 pub fn has_valid_host(value: &[u8]) -> bool
     ensures { result ≡ has_valid_host value.now }
 {
-    let rest = after_host(value);
-    is_host(host_part(value)) && (rest.is_empty() || rest[0] == b':')
+    let host = host_part(value);
+    let rest = &value[host.len()..];
+    is_host(host) && (rest.is_empty() || rest[0] == b':')
 }
 
 /// The number that at most five digits spell.

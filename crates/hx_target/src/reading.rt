@@ -1,13 +1,14 @@
 //! Reading a target. The law is `Judged` in `specs/Judgement.antt`.
 //!
 //! A target is cut by `http_uri`; what is read here are the parts that it gives.
-ghost use Rattle.std.specs.Prelude.{◌≡◌, ◌==◌, ◌||◌, ◌&&◌, not, codes, Err, Ok, None, false, slice_index, is_some, IfErr, IfOk, MatchResult};
+ghost use Rattle.std.specs.Prelude.{◌≡◌, ◌==◌, ◌||◌, ◌&&◌, not, codes, Err, Ok, None, false, slice_index, is_some, true, IfErr, IfOk, IfSome, MatchResult};
 ghost use Rattle.std.specs.List.{list_any};
 ghost use Rattle.std.specs.Option.{option_copied};
 ghost use Rattle.http_uri.specs.ByteClasses.{slash, at_sign, rsplit_once_back};
 ghost use Rattle.http_uri.specs.Error.{IsOutOfMemory, UnlessOutOfMemory};
 ghost use Rattle.http_uri.specs.Uri.{Spells, SpellsNone, uri_scheme, uri_authority};
 ghost use Rattle.hx_fields.specs.Lines.{values_of};
+ghost use Rattle.hx_target.specs.Hosts.{has_valid_host};
 ghost use Rattle.hx_target.specs.Judgement.{is_bad_byte, is_malformed, is_http, has_other_scheme, host_value, naming, has_userinfo, path_query_of, question_of, first_fault, judged_of, Judged};
 
 use crate::hosts::{has_valid_host, host_part, index_after_last, port_part};
@@ -58,7 +59,8 @@ fn has_other_scheme(uri: &Uri) -> bool
 
 /// The value of the only Host line, where its host is valid.
 fn host_value(fields: &Fields) -> Option<&Bytes>
-    ensures { option_copied result ≡ host_value (values_of fields.now (codes "Host")) }
+    ensures value { option_copied result ≡ host_value (values_of fields.now (codes "Host")) }
+    ensures valid { IfSome result (λ value. has_valid_host value.now ≡ true) }
 {
     if fields.count(b"Host") != 1 {
         return None;
@@ -83,6 +85,17 @@ fn naming<'a>(uri: &'a Uri, value: &'a [u8]) -> &'a [u8]
     match uri.authority() {
         Some(authority) => after_userinfo(authority.as_str().as_bytes()),
         None => value,
+    }
+}
+
+/// Whether what names host and port has a valid host. The value of a Host line was found to have one.
+fn names_valid_host(uri: &Uri, value: &[u8]) -> bool
+    requires { has_valid_host value.now ≡ true }
+    ensures { result ≡ has_valid_host (naming (uri_authority uri.now) value.now) }
+{
+    match uri.authority() {
+        Some(authority) => has_valid_host(after_userinfo(authority.as_str().as_bytes())),
+        None => true,
     }
 }
 
@@ -137,7 +150,7 @@ fn judge_parts(
         return Err(TargetFault::Host);
     };
     let named = naming(uri, value.as_slice());
-    if !has_valid_host(named) {
+    if !names_valid_host(uri, value.as_slice()) {
         return Err(TargetFault::Host);
     }
     let (Some(_), Some(port)) = (port_part(value.as_slice()), port_part(named)) else {
