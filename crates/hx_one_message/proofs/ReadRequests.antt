@@ -26,16 +26,20 @@ use Rattle.hx_one_message.proofs.Values.{trim_twice}
 line_is_clean : (f : grammar.Field) → IsField f → IsWritableField (field_of f)
 line_is_clean f is = record { name = is.name; value = AllPass-trim_ows is_value_byte f.raw is.raw; trimmed = trim_twice f.raw }
 
-lines_are_clean : (fs : List grammar.Field) → All IsField fs → All IsWritableField (map field_of fs)
+pub lines_are_clean : (fs : List grammar.Field) → All IsField fs → All IsWritableField (map field_of fs)
 lines_are_clean [] all = All-nil IsWritableField
 lines_are_clean (f ∷ fs) all =
     All-cons IsWritableField (field_of f) (map field_of fs) (line_is_clean f (All-head IsField f fs all)) (lines_are_clean fs (All-tail IsField f fs all))
 
-no_lengths : (fields : List Field) → has (without_lengths fields) (codes "Content-Length") ≡ false
+pub no_lengths : (fields : List Field) → has (without_lengths fields) (codes "Content-Length") ≡ false
 no_lengths fields =
     let length = is_named (codes "Content-Length") in
     list_any_fewer (λ f. not (is_named (codes "transfer-encoding") f)) length (without_named fields (codes "content-length"))
     (list_any_none_left (λ f. not (is_named (codes "content-length") f)) length (λ f e. not_true _ e) fields)
+
+pub no_codings : (fields : List Field) → has (without_lengths fields) (codes "transfer-encoding") ≡ false
+no_codings fields =
+    list_any_none_left (λ f. not (is_named (codes "transfer-encoding") f)) (is_named (codes "transfer-encoding")) (λ f e. not_true _ e) (without_named fields (codes "content-length"))
 
 head_is_clean : (bytes : List ℕ) (h : RequestHead) (content : Option (List ℕ)) → IsHead bytes h → IsClean (request_of (head_of h) content)
 head_is_clean bytes h content is = record {

@@ -48,10 +48,10 @@ token_visible b token = record { above = grind (arith, nat_tests); below = grind
 digit_visible : (b : ℕ) → is_ascii_digit b ≡ true → IsVisible b
 digit_visible b digit = record { above = grind (arith, nat_tests); below = grind (arith, nat_tests) }
 
-visible_value : (text : List ℕ) → All IsVisible text → AllPass is_value_byte text
+pub visible_value : (text : List ℕ) → All IsVisible text → AllPass is_value_byte text
 visible_value text all = All-weaker IsVisible (λ b. is_value_byte b ≡ true) value_byte text all
 
-visible_seen : (text : List ℕ) → All IsVisible text → AllPass (λ b. not (is_ows b)) text
+pub visible_seen : (text : List ℕ) → All IsVisible text → AllPass (λ b. not (is_ows b)) text
 visible_seen text all = All-weaker IsVisible (λ b. not (is_ows b) ≡ true) seen_byte text all
 
 visible_ascii : (text : List ℕ) → All IsVisible text → IsAscii text
@@ -63,7 +63,7 @@ visible_ascii text all i = by_place (cases_lt i (length text))
 
 -- ---- the lines that the proxy adds
 
-line_of : (name value : List ℕ) → list_all is_token_byte name ≡ true → 0 < length name → IsFieldValue value → IsWritableField (line name value)
+pub line_of : (name value : List ℕ) → list_all is_token_byte name ≡ true → 0 < length name → IsFieldValue value → IsWritableField (line name value)
 line_of name value token some is = record {
   name = (some, AllPass-from_test is_token_byte name token);
   value = is.0;

@@ -1,1 +1,2 @@
 pub mod OneMessage
+pub mod OneResponse
