@@ -90,11 +90,11 @@ pub tells_the_version : TellsTheVersion
 tells_the_version name = (refl, refl)
 
 pub closes_where_told : ClosesWhereTold
-closes_where_told request (inl old) = rw old refl
-closes_where_told request (inr close) = listed_last _ _ close
+closes_where_told request target (inl old) = rw old refl
+closes_where_told request target (inr close) = listed_last _ _ close
 
 pub stays_open : StaysOpen
-stays_open request new absent = rw (new, absent) refl
+stays_open request target new absent = rw (new, absent) refl
 
 pub keeps_the_status : KeepsTheStatus
 keeps_the_status response now = refl

@@ -9,7 +9,7 @@ use Rattle.hx_hop.specs.declared.validators.Conditions.{Conditions}
 use Rattle.hx_framing.specs.declared.responses.Response.{Response}
 use Rattle.hx_target.specs.declared.keys.Key.{Key}
 use Rattle.hx_hop.specs.Answering.{answered_of, dated_of, has_one_date}
-use Rattle.hx_hop.specs.Asking.{asked_of, closes}
+use Rattle.hx_hop.specs.Asking.{asked_of}
 use Rattle.hx_hop.specs.Forwarding.{forwarded_lines, forwarded_of, host_text, line, via_text}
 use Rattle.hx_hop.specs.Moments.{date_text_of}
 use Rattle.hx_hop.specs.Stripping.{connection_names, is_hop_name, stripped}
@@ -86,10 +86,12 @@ TellsTheVersion = (name : List ℕ) → (via_text 0 name ≡ codes "1.0 " ++ nam
 
 -- the connection of a client of HTTP/1.0 closes, and that of another where it says close (RFC 9112, section 9.6)
 abbrev pub ClosesWhereTold : Type 0
-ClosesWhereTold = (request : Request) → (request.minor ≡ 0) ⊎ (connection_names request.fields (codes "close") ≡ true) → closes request ≡ true
+ClosesWhereTold = (request : Request) (target : Target) →
+    (request.minor ≡ 0) ⊎ (connection_names request.fields (codes "close") ≡ true) → (asked_of request target).close ≡ true
 
 abbrev pub StaysOpen : Type 0
-StaysOpen = (request : Request) → request.minor ≡ 1 → connection_names request.fields (codes "close") ≡ false → closes request ≡ false
+StaysOpen = (request : Request) (target : Target) →
+    request.minor ≡ 1 → connection_names request.fields (codes "close") ≡ false → (asked_of request target).close ≡ false
 
 -- an answer keeps its status
 abbrev pub KeepsTheStatus : Type 0
