@@ -4,6 +4,9 @@ All mutants of a crate are tried in one copy of it, where each has its own set o
 one changes it is `specs/Rules_m1.antt`, and so with each definition, lemma, law and proof that rests on it. So the
 compiler starts once for some dozen mutants, and only the laws are proved, each time over one changed definition. The
 set number 0 changes nothing: if a law of it isn't proved, the others tell nothing.
+
+A law that is computed, as worked cases are, takes a second or two, and one whose proof rests on the crate's lemmas takes these
+with it. So the computed ones come first, and the others are asked only of mutants that none of these refuses.
 """
 import glob
 import os
@@ -38,10 +41,10 @@ def mutants_of(rt, crate):
 
 
 class Copy:
-    """The sources of a crate, and the sets of files that mutants of it have in one copy."""
+    """The sources of a crate, and the sets of files that mutants of it have in one copy, with the laws that are computed or the others."""
 
-    def __init__(self, rt, crate):
-        self.crate, self.files = crate, {}
+    def __init__(self, rt, crate, is_computed):
+        self.crate, self.files, self.is_computed = crate, {}, is_computed
         for at, _folders, names in os.walk(crate.folder):
             part = os.path.relpath(at, crate.folder).split("/")[0]
             if part in ("src", "specs", "proofs"):
@@ -86,20 +89,24 @@ class Copy:
         return text
 
     def functions_on(self, law, modules):
-        """The functions of a file of laws whose statement or proof rests on these modules."""
+        """The functions of a file of laws, computed or the others, whose statement or proof rests on these modules."""
         text, found = self.files[f"src/{law}.rt"], []
         imports = re.findall(rf"ghost use Rattle\.{self.crate.name}\.(specs\.\w+)\.\{{(.*?)\}};", text, re.S)
         changed = {it.split(" as ")[-1].strip() for module, names in imports if module in modules for it in names.split(",")}
         for above, name, statement in re.findall(r"((?:^#\[[^\n]*\n)*)^pub fn (\w+)(.*?)^(?:\{\}|\})$", text, re.M | re.S):
             proofs = [it for path, it in self.files.items() if path.startswith(f"proofs/{law}/{name}/")]
             is_named = changed & set(re.findall(r"\w+", statement)) or any(self.names_one_of(it, modules) for it in [above, *proofs])
-            found += [name] * bool(is_named)
+            own = f"proofs.{law.partition('/')[0]}"
+            is_computed = not any(it.startswith("proofs.") and it != own for text in [above, *proofs] for it in self.named(text))
+            found += [name] * bool(is_named and is_computed == self.is_computed)
         return found
 
     def texts_of(self, number, texts):
         """The files of the set with that number, in which these texts replace the crate's, and the laws that rest on them."""
         mark, files = f"_m{number}", {}
         modules = self.resting_on({self.module(it) for it in texts} - {None})
+        if self.is_computed:
+            modules = {it for it in modules if it.startswith("specs.")}
         with_proofs = lambda law: [it for it in self.files if it == f"src/{law}.rt" or it.startswith(f"proofs/{law}/")]
         functions = {law: self.functions_on(law, modules) for law in self.laws}
         laws = [it for it in self.laws if functions[it]]
@@ -172,10 +179,20 @@ def judged(mutant, number, laws, said):
 
 
 def try_some(rt, crate, mutants, kept):
-    """Tries these mutants in one copy."""
-    copy = Copy(rt, crate)
+    """Tries these mutants by the laws that are computed, and those that survive by the others."""
+    tried = try_by(True, rt, crate, mutants, kept)
+    alive = [it.mutant for it in tried if not it.refused_by and not it.fault]
+    others = {it.mutant: it for it in try_by(False, rt, crate, alive, kept)}
+    return [others.get(it.mutant, it) for it in tried]
+
+
+def try_by(is_computed, rt, crate, mutants, kept):
+    """Tries these mutants in one copy, by the laws that are computed or by the others."""
+    copy = Copy(rt, crate, is_computed)
     same = {it: text for it, text in copy.files.items() if it.startswith("specs/") and copy.module(it)}
     sets = {0: copy.texts_of(0, same), **{at + 1: copy.texts_of(at + 1, it.texts) for at, it in enumerate(mutants)}}
+    if not any(laws for number, (_texts, laws) in sets.items() if number):
+        return [Tried(it, []) for it in mutants]
     with tempfile.TemporaryDirectory(prefix="definitions-") as room:
         copy.write(room, [texts for texts, _laws in sets.values()])
         said = said_of(rt, crate, room, [law for _texts, laws in sets.values() for law in laws], kept)

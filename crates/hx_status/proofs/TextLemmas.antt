@@ -1,6 +1,7 @@
 -- The text of a rule is read back: no two rules have the same.
 use Rattle.std.proofs.Common.{◌≡◌, inl, inr, arith, List, [], ◌∷◌, ℕ, refl, sym, ◌∙◌, ap}
-use Rattle.std.specs.Prelude.{bytes_eq, find, Option, Some}
+use Rattle.std.specs.Prelude.{◌==◌, bytes_eq, false, find, Option, Some}
+use Rattle.std.proofs.lemmas.Bool.Decides.{nat_tests}
 use Rattle.hx_reuse.specs.declared.rule.ReuseRule.{ReuseRule}
 use Rattle.hx_reuse.specs.declared.rule.ReuseRule.TheVariants.{Operator, Method, Content, Range, Precondition, UriMiss, VaryMiss, ResponseNoCache, RequestNoCache, AboveMaxAge, BelowMinFresh, MustRevalidate, NoLifetime, StaleNoCache, NoMaxStale, PastMaxStale, StaleMaxAge, StaleMinFresh}
 use Rattle.hx_reuse.specs.Rules.{reuse_rules}
@@ -119,34 +120,37 @@ kind_words_tell_apart x y h = same_kind x y (sym (kind_told x) ∙ ap kind_by h 
 
 -- ---- the statuses
 
+not_403 : (status : ℕ) → (status == 403) ≡ false → status ≡ 403 → ⊥
+not_403 status other is = grind (arith, nat_tests)
+
 pub only_the_table_forbids : (cause : Cause) → status_of cause ≡ 403 → IsOfTheTable cause
 only_the_table_forbids (Denied line) h = inl (line, refl)
 only_the_table_forbids NoLine h = inr refl
-only_the_table_forbids (OnlyIfCached rule) h = let other : 504 ≡ 403 = h in absurd (omega (arith, other))
-only_the_table_forbids (Origin kind.Refused rule error) h = let other : 502 ≡ 403 = h in absurd (omega (arith, other))
-only_the_table_forbids (Origin kind.TimedOut rule error) h = let other : 504 ≡ 403 = h in absurd (omega (arith, other))
-only_the_table_forbids (Origin kind.Closed rule error) h = let other : 502 ≡ 403 = h in absurd (omega (arith, other))
-only_the_table_forbids (Origin kind.BadAnswer rule error) h = let other : 502 ≡ 403 = h in absurd (omega (arith, other))
-only_the_table_forbids (Origin kind.TooLarge rule error) h = let other : 502 ≡ 403 = h in absurd (omega (arith, other))
-only_the_table_forbids (Frame frame.Head) h = let other : 400 ≡ 403 = h in absurd (omega (arith, other))
-only_the_table_forbids (Frame frame.Version) h = let other : 505 ≡ 403 = h in absurd (omega (arith, other))
-only_the_table_forbids (Frame frame.BothLengths) h = let other : 400 ≡ 403 = h in absurd (omega (arith, other))
-only_the_table_forbids (Frame frame.Length) h = let other : 400 ≡ 403 = h in absurd (omega (arith, other))
-only_the_table_forbids (Frame frame.Coding) h = let other : 501 ≡ 403 = h in absurd (omega (arith, other))
-only_the_table_forbids (Frame frame.Chunk) h = let other : 400 ≡ 403 = h in absurd (omega (arith, other))
-only_the_table_forbids (Frame frame.TooLarge) h = let other : 413 ≡ 403 = h in absurd (omega (arith, other))
-only_the_table_forbids (Frame frame.Expect) h = let other : 417 ≡ 403 = h in absurd (omega (arith, other))
-only_the_table_forbids (Frame frame.Truncated) h = let other : 400 ≡ 403 = h in absurd (omega (arith, other))
-only_the_table_forbids (Frame frame.Status) h = let other : 400 ≡ 403 = h in absurd (omega (arith, other))
-only_the_table_forbids (Target target.Form) h = let other : 400 ≡ 403 = h in absurd (omega (arith, other))
-only_the_table_forbids (Target target.Scheme) h = let other : 400 ≡ 403 = h in absurd (omega (arith, other))
-only_the_table_forbids (Target target.Host) h = let other : 400 ≡ 403 = h in absurd (omega (arith, other))
-only_the_table_forbids (Target target.Port) h = let other : 400 ≡ 403 = h in absurd (omega (arith, other))
-only_the_table_forbids (Target target.Userinfo) h = let other : 400 ≡ 403 = h in absurd (omega (arith, other))
-only_the_table_forbids (Target target.Escape) h = let other : 400 ≡ 403 = h in absurd (omega (arith, other))
-only_the_table_forbids (Target target.DotSegment) h = let other : 400 ≡ 403 = h in absurd (omega (arith, other))
-only_the_table_forbids (Target target.TooLong) h = let other : 414 ≡ 403 = h in absurd (omega (arith, other))
-only_the_table_forbids (Target target.OutOfMemory) h = let other : 400 ≡ 403 = h in absurd (omega (arith, other))
+only_the_table_forbids (OnlyIfCached rule) h = absurd (not_403 (status_of (OnlyIfCached rule)) refl h)
+only_the_table_forbids (Origin kind.Refused rule error) h = absurd (not_403 (status_of (Origin kind.Refused rule error)) refl h)
+only_the_table_forbids (Origin kind.TimedOut rule error) h = absurd (not_403 (status_of (Origin kind.TimedOut rule error)) refl h)
+only_the_table_forbids (Origin kind.Closed rule error) h = absurd (not_403 (status_of (Origin kind.Closed rule error)) refl h)
+only_the_table_forbids (Origin kind.BadAnswer rule error) h = absurd (not_403 (status_of (Origin kind.BadAnswer rule error)) refl h)
+only_the_table_forbids (Origin kind.TooLarge rule error) h = absurd (not_403 (status_of (Origin kind.TooLarge rule error)) refl h)
+only_the_table_forbids (Frame frame.Head) h = absurd (not_403 (status_of (Frame frame.Head)) refl h)
+only_the_table_forbids (Frame frame.Version) h = absurd (not_403 (status_of (Frame frame.Version)) refl h)
+only_the_table_forbids (Frame frame.BothLengths) h = absurd (not_403 (status_of (Frame frame.BothLengths)) refl h)
+only_the_table_forbids (Frame frame.Length) h = absurd (not_403 (status_of (Frame frame.Length)) refl h)
+only_the_table_forbids (Frame frame.Coding) h = absurd (not_403 (status_of (Frame frame.Coding)) refl h)
+only_the_table_forbids (Frame frame.Chunk) h = absurd (not_403 (status_of (Frame frame.Chunk)) refl h)
+only_the_table_forbids (Frame frame.TooLarge) h = absurd (not_403 (status_of (Frame frame.TooLarge)) refl h)
+only_the_table_forbids (Frame frame.Expect) h = absurd (not_403 (status_of (Frame frame.Expect)) refl h)
+only_the_table_forbids (Frame frame.Truncated) h = absurd (not_403 (status_of (Frame frame.Truncated)) refl h)
+only_the_table_forbids (Frame frame.Status) h = absurd (not_403 (status_of (Frame frame.Status)) refl h)
+only_the_table_forbids (Target target.Form) h = absurd (not_403 (status_of (Target target.Form)) refl h)
+only_the_table_forbids (Target target.Scheme) h = absurd (not_403 (status_of (Target target.Scheme)) refl h)
+only_the_table_forbids (Target target.Host) h = absurd (not_403 (status_of (Target target.Host)) refl h)
+only_the_table_forbids (Target target.Port) h = absurd (not_403 (status_of (Target target.Port)) refl h)
+only_the_table_forbids (Target target.Userinfo) h = absurd (not_403 (status_of (Target target.Userinfo)) refl h)
+only_the_table_forbids (Target target.Escape) h = absurd (not_403 (status_of (Target target.Escape)) refl h)
+only_the_table_forbids (Target target.DotSegment) h = absurd (not_403 (status_of (Target target.DotSegment)) refl h)
+only_the_table_forbids (Target target.TooLong) h = absurd (not_403 (status_of (Target target.TooLong)) refl h)
+only_the_table_forbids (Target target.OutOfMemory) h = absurd (not_403 (status_of (Target target.OutOfMemory)) refl h)
 
 pub the_table_forbids : (cause : Cause) → IsOfTheTable cause → status_of cause ≡ 403
 the_table_forbids cause (inl (line, is)) = rw is refl
