@@ -1,7 +1,8 @@
 -- The chosen response is the latest that could answer, and there is one where one could.
-use Rattle.std.proofs.Common.{◌≡◌, ◌⊎◌, inl, inr, List, [], ◌∷◌, refl, sym, ◌∙◌, ap, subst, arith}
+use Rattle.std.proofs.Common.{◌≡◌, ◌≤◌, ◌⊎◌, inl, inr, false, List, [], ◌∷◌, refl, sym, ◌∙◌, ap, subst, arith}
 use Rattle.std.specs.Prelude.{nat_eq, Option, Some, None}
 use Rattle.std.specs.List.{Contains}
+use Rattle.std.proofs.lemmas.Bool.Decides.{nat_tests}
 use Rattle.std.proofs.lemmas.List.Elements.{Contains-append_left, Contains-append_right, Contains-append_cases, Contains-push, Contains-push_cases}
 use Rattle.hx_target.specs.Keys.{same_key}
 use Rattle.hx_vary.specs.Vary.{vary_matches}
@@ -9,7 +10,7 @@ use Rattle.hx_hop.specs.declared.asked_for.Asked.{Asked}
 use Rattle.hx_store.specs.Stored.{Stored}
 use Rattle.hx_store.specs.Serials.{Distinct}
 use Rattle.hx_store.specs.Shelf.{serials, find_entry}
-use Rattle.hx_reuse.specs.Chosen.{of_key, matching, latest, chosen_of}
+use Rattle.hx_reuse.specs.Chosen.{comes_later, of_key, matching, latest, chosen_of}
 use Rattle.hx_reuse.specs.Meaning.{IsCandidate, IsChosen}
 use Rattle.hx_reuse.proofs.Members.{IsMember, distinct_entries}
 use Rattle.hx_reuse.proofs.Latest.{fold_latest, fold_some, same_serial, filter_member, member_filter, find_member, member_find, find_entry-find, nat_eq_true, nat_eq_same}
@@ -43,6 +44,9 @@ found_by_serial held distinct e c =
     let f = find_member (λ x. nat_eq x.serial e.serial) held r.0 r.1 in
     find_entry-find e.serial held ∙ (r.1 ∙ ap Some (distinct_entries held distinct r.0 e f.0 in_held (nat_eq_true r.0.serial e.serial f.1)))
 
+by_numbers : (e f : Stored) → comes_later e f ≡ false → (e.times.date ≤ f.times.date) × (e.times.date ≡ f.times.date → e.serial ≤ f.serial)
+by_numbers e f h = (grind (arith, nat_tests), λ same. grind (arith, nat_tests))
+
 module _ (held : List Stored) (asked : Asked) where
   -- the responses that match are the candidates
   candidate : (e : Stored) → IsMember e (matching held asked) → IsCandidate held asked e
@@ -67,6 +71,10 @@ module _ (held : List Stored) (asked : Asked) where
   chosen_is_latest e h =
       let r = fold_latest (matching held asked) None e h in
       record { is_candidate = candidate e (taken_member e (matching held asked) r.taken); none_later = λ other c. r.above other (matches other c) }
+
+  pub chosen_by_date : (e f : Stored) → chosen_of held asked ≡ Some e → IsCandidate held asked f →
+      (f.times.date ≤ e.times.date) × (f.times.date ≡ e.times.date → f.serial ≤ e.serial)
+  chosen_by_date e f h c = by_numbers f e ((chosen_is_latest e h).none_later f c)
 
   pub chosen_is_held : (e : Stored) → chosen_of held asked ≡ Some e → Contains held e
   chosen_is_held e h = let is = chosen_is_latest e h in is.is_candidate.is_held

@@ -30,7 +30,11 @@ get fields = record {
   close = false;
 }
 
--- and with content
+-- a GET of /b in German
+abbrev pub get_b : Asked
+get_b = record (get (speaks (codes "de") ∷ [])) { target = record { key = record { host = codes "h"; port = 80; path_query = codes "/b" }; table_path = codes "/b" } }
+
+-- a GET of /a with content
 abbrev pub get_with : List ℕ → List Field → Asked
 get_with content fields = record {
   method = codes "GET";

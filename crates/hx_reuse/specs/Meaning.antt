@@ -4,7 +4,7 @@
 -- IsCandidate, IsChosen: a held response that matches, the latest of these     MayBeSent: it, where no rule stands
 -- IsLeast: a rule that stands, and none before it     NamesTheResponse: the response that a rule is named with
 -- Below them are the statements that the laws of `src/laws.rt` prove.
-use Rattle.std.specs.Prelude.{◌≡◌, ℕ, ◌<◌, ◌⊎◌, Bool, true, false, List, Option, Some, None}
+use Rattle.std.specs.Prelude.{◌≡◌, ℕ, ◌<◌, ◌≤◌, ◌⊎◌, Bool, true, false, List, Option, Some, None}
 use Rattle.std.specs.List.{Contains}
 use Rattle.hx_target.specs.Keys.{same_key}
 use Rattle.hx_vary.specs.Vary.{vary_matches}
@@ -55,6 +55,12 @@ NamesTheResponse held asked rule named =
 abbrev pub ChoosesTheLatest : Type 0
 ChoosesTheLatest = (held : List Stored) (asked : Asked) (response : Stored) →
     chosen_of held asked ≡ Some response → IsChosen held asked response
+
+-- "the most recent one (as determined by the Date header field)" (RFC 9111, section 4); own: of one Date the greater serial
+abbrev pub ChoosesByDate : Type 0
+ChoosesByDate = (held : List Stored) (asked : Asked) (response other : Stored) →
+    chosen_of held asked ≡ Some response → IsCandidate held asked other →
+    (other.times.date ≤ response.times.date) × (other.times.date ≡ response.times.date → other.serial ≤ response.serial)
 
 abbrev pub ChoosesWhereOneCan : Type 0
 ChoosesWhereOneCan = (held : List Stored) (asked : Asked) (response : Stored) →

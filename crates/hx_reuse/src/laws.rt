@@ -1,6 +1,6 @@
 //! What the definitions that `decide` and `may_serve_on_error` are held to say of every list of held responses, request
 //! and moment.
-ghost use Rattle.hx_reuse.specs.Meaning.{ChoosesTheLatest, ChoosesWhereOneCan, ChoosesNoOther, SendsWhatMayBeSent, SendsNothingElse, SendsWhatIsHeld, FindsWhatIsSent, NamesTheLeast, ForwardsWhereOneStands, ForwardsWithoutCache, WordsTellRulesApart, WordsTellErrorRulesApart};
+ghost use Rattle.hx_reuse.specs.Meaning.{ChoosesTheLatest, ChoosesByDate, ChoosesWhereOneCan, ChoosesNoOther, SendsWhatMayBeSent, SendsNothingElse, SendsWhatIsHeld, FindsWhatIsSent, NamesTheLeast, ForwardsWhereOneStands, ForwardsWithoutCache, WordsTellRulesApart, WordsTellErrorRulesApart};
 ghost use Rattle.hx_reuse.specs.Reusable.{ReusesWhatMayBeReused, ReusesNothingElse};
 ghost use Rattle.hx_reuse.specs.OnError.{SendsOnErrorWhatMayBeSent, SendsOnErrorNothingElse, NamesTheLeastOnError, NamesOneThatStandsOnError};
 ghost use Rattle.std.specs.Prelude.{◌≡◌, Some, None, codes};
@@ -11,10 +11,11 @@ ghost use Rattle.hx_reuse.specs.Promises.{SendsNoOtherRequestsVariant, SendsNoOt
 
 use hx_vary::kept_is_enough;
 
-/// The chosen response is held, has the request's key and nominated values, and none that has comes later. None is
-/// chosen only where none has them.
+/// The chosen response is held, has the request's key and nominated values, and none that has comes later: none has a later
+/// Date. None is chosen only where none has them.
 pub fn the_latest_that_matches_is_chosen()
     ensures latest { ChoosesTheLatest }
+    ensures by_date { ChoosesByDate }
     ensures some { ChoosesWhereOneCan }
     ensures no_other { ChoosesNoOther }
 {}

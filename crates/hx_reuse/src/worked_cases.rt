@@ -8,15 +8,16 @@ ghost use Rattle.hx_directives.specs.Answers.{has};
 ghost use Rattle.hx_directives.specs.declared.names.Directive.TheVariants.{OnlyIfCached};
 ghost use Rattle.hx_reuse.specs.Rules.{decision_of, reuse_rule_of};
 ghost use Rattle.hx_reuse.specs.ErrorRules.{leave_on_error, error_rule_of};
-ghost use Rattle.hx_reuse.specs.Cases.{control, speaks, get, get_with, stored_at, controlled, held, held_in_german, held_with_tag, asks};
+ghost use Rattle.hx_reuse.specs.Cases.{control, speaks, get, get_b, get_with, stored_at, controlled, held, held_in_german, held_with_tag, asks};
 
 use crate::{Decision, ErrorRule, ReuseRule};
 
-/// Stored for a request in German: the same value, none, and two lines.
+/// Stored for a request in German: the same value, none, two lines, and another path.
 pub fn vary_values_are_compared()
     ensures same { decision_of true held_in_german (get (speaks (codes "de") ∷ [])) 1 ≡ Decision.Hit 1 }
     ensures absent { decision_of true held_in_german (get []) 1 ≡ Decision.Forward ReuseRule.VaryMiss None }
     ensures two_lines { decision_of true held_in_german (get (speaks (codes "de") ∷ speaks (codes "en") ∷ [])) 1 ≡ Decision.Forward ReuseRule.VaryMiss None }
+    ensures another_path { decision_of true held_in_german get_b 1 ≡ Decision.Forward ReuseRule.UriMiss None }
 {}
 
 /// A response of a minute at 90, stored at 101: it was a second on the way.

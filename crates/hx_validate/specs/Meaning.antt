@@ -72,3 +72,9 @@ abbrev pub NominatesByTheNewLines : Type 0
 NominatesByTheNewLines = (entry : Stored) (answered : Answered) (asked : Asked) (times : Times) →
     let now = freshened_of entry answered asked times in
     is_star now.fields ≡ false → now.nominated ≡ kept_values now.fields asked.fields
+
+-- own: of a request whose answer nominates everything nothing is kept ("What a star nominates is not kept")
+abbrev pub NominatesNothingByAStar : Type 0
+NominatesNothingByAStar = (entry : Stored) (answered : Answered) (asked : Asked) (times : Times) →
+    let now = freshened_of entry answered asked times in
+    is_star now.fields ≡ true → now.nominated ≡ []

@@ -6,7 +6,7 @@ ghost use Rattle.hx_validate.specs.Answering.{freshened_fields, freshened_of};
 ghost use Rattle.hx_validate.specs.Cases.{answered_with, asked_with, first_304, first_stored, is_answered, modified_line, new_lines, none_match, old_lines, since, stored_with, tag_line, wants_by};
 ghost use Rattle.hx_validate.specs.EntityTags.{is_tag_byte, strong_eq, tag_of, weak_eq};
 ghost use Rattle.hx_validate.specs.Identified.{AnswersNothingElse, AnswersWhatItIdentifies, NeverFreshensAnother, SeveralTagsAnswerNothing};
-ghost use Rattle.hx_validate.specs.Meaning.{ComparesBothWays, LeavesItsOwn, LeavesOtherNames, LeavesTheRest, NominatesByTheNewLines, ReadsEachTag, ReadsTheGrammar, ReplacesItsNames, StrongIsWeak, TheSameTagAnswers};
+ghost use Rattle.hx_validate.specs.Meaning.{ComparesBothWays, LeavesItsOwn, LeavesOtherNames, LeavesTheRest, NominatesByTheNewLines, NominatesNothingByAStar, ReadsEachTag, ReadsTheGrammar, ReplacesItsNames, StrongIsWeak, TheSameTagAnswers};
 ghost use Rattle.hx_validate.specs.NotModified.{not_modified_of, wants_304};
 ghost use Rattle.hx_validate.specs.Validators.{conditions_of, has_validator};
 
@@ -70,6 +70,8 @@ pub fn validators_stand_once()
     ensures tag { conditions_of (tag_line (codes "W/\"e\"") ∷ []) ≡ record { etag = Some (codes "W/\"e\""); modified = None } }
     ensures date { conditions_of (modified_line (codes "Thu, 01 Jan 1970 00:00:05 GMT") ∷ [])
         ≡ record { etag = None; modified = Some (codes "Thu, 01 Jan 1970 00:00:05 GMT") } }
+    ensures has_tag { has_validator (tag_line (codes "W/\"e\"") ∷ []) ≡ true }
+    ensures has_date { has_validator (modified_line (codes "Thu, 01 Jan 1970 00:00:05 GMT") ∷ []) ≡ true }
     ensures tags { has_validator (tag_line (codes "\"e\"") ∷ tag_line (codes "\"e\"") ∷ []) ≡ false }
     ensures no_tag { has_validator (tag_line (codes "e") ∷ []) ≡ false }
     ensures no_date { has_validator (modified_line (codes "Thu, 1 Jan 1970 00:00:05 GMT") ∷ []) ≡ false }
@@ -146,6 +148,7 @@ pub fn if_modified_since_compares_dates()
 pub fn the_rest_of_it_stays()
     ensures rest { LeavesTheRest }
     ensures nominated { NominatesByTheNewLines }
+    ensures star { NominatesNothingByAStar }
 {}
 
 /// The bytes of an opaque tag (RFC 9110, section 8.8.3).

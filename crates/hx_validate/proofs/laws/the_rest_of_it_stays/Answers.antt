@@ -7,4 +7,5 @@ unfolding freshened_of
 returns c = record {
   rest = λ entry answered asked times. (refl, refl, refl, refl, refl);
   nominated = λ entry answered asked times h. rw h refl;
+  star = λ entry answered asked times h. rw h refl;
 }
