@@ -10,3 +10,7 @@ in_origin_form target host = record { target = target; scheme = None; authority 
 abbrev pub in_absolute_form : List ℕ → List ℕ → List ℕ → List ℕ → Question
 in_absolute_form scheme authority kept host =
     record { target = scheme ++ codes "://" ++ authority ++ kept; scheme = Some scheme; authority = Some authority; kept = kept; hosts = host ∷ [] }
+
+-- a target of a slash and this text, with this path
+abbrev pub of_text : List ℕ → List ℕ → Question
+of_text text path = record (in_origin_form path (codes "h")) { target = 47 ∷ text }

@@ -1,11 +1,12 @@
 //! What the definitions of `specs/` say together: each function's contract is a law, and its body is empty.
-ghost use Rattle.std.specs.Prelude.{◌≡◌, List, ℕ, Result, Ok, Some, None, true, false, codes, [], ◌∷◌};
+ghost use Rattle.std.specs.Prelude.{◌≡◌, ◌<◌, ◌≤◌, List, ℕ, length, Result, Ok, Some, None, true, false, codes, [], ◌∷◌};
+ghost use Rattle.std.specs.List.{list_all};
 ghost use Rattle.hx_target.specs.declared.faults.TargetFault.{TargetFault as Fault};
 ghost use Rattle.hx_target.specs.declared.targets.Target.{Target as Aim};
 ghost use Rattle.hx_target.specs.declared.keys.Key.{Key as StoreKey};
-ghost use Rattle.hx_target.specs.declared.faults.TargetFault.TheVariants.{Form, Scheme, Host, Port, Userinfo, Escape, DotSegment};
-ghost use Rattle.hx_target.specs.Examples.{in_origin_form, in_absolute_form};
-ghost use Rattle.hx_target.specs.Hosts.{has_valid_host, host_part, is_host, lowercase, port_of, port_part};
+ghost use Rattle.hx_target.specs.declared.faults.TargetFault.TheVariants.{Form, Scheme, Host, Port, Userinfo, Escape, DotSegment, TooLong};
+ghost use Rattle.hx_target.specs.Examples.{in_origin_form, in_absolute_form, of_text};
+ghost use Rattle.hx_target.specs.Hosts.{has_valid_host, host_part, is_host, is_name, is_name_byte, lowercase, port_of, port_part};
 ghost use Rattle.hx_target.specs.Keys.{same_key};
 ghost use Rattle.hx_target.specs.Paths.{has_bad_escape, has_dot_segment, is_normal, table_path_of};
 ghost use Rattle.hx_target.specs.Judgement.{Judged, Question, is_malformed, judged_of};
@@ -147,8 +148,20 @@ pub fn worked_forms_are_judged()
     ensures no_host { judged_of (record (in_origin_form (codes "/a") []) { hosts = [] }) ≡ Err Host }
     ensures two_hosts { judged_of (record (in_origin_form (codes "/a") []) { hosts = codes "h" ∷ codes "h" ∷ [] }) ≡ Err Host }
     ensures bad_host_line { judged_of (in_absolute_form (codes "http") (codes "h") (codes "/a") (codes "x y")) ≡ Err Host }
+    ensures bad_host_of_authority { judged_of (in_absolute_form (codes "http") (codes "a%62") (codes "/a") (codes "h")) ≡ Err Host }
     ensures bad_port_of_host_line { judged_of (in_absolute_form (codes "http") (codes "h") (codes "/a") (codes "x:0")) ≡ Err Port }
     ensures authority_form { judged_of (record (in_origin_form (codes "h:80") (codes "h")) { authority = Some (codes "h:80") }) ≡ Err Form }
     ensures asterisk_form { judged_of (in_origin_form (codes "*") (codes "h")) ≡ Err Form }
+    ensures scheme_alone { judged_of (record (in_origin_form (codes "mailto:a") (codes "h")) { scheme = Some (codes "mailto") }) ≡ Err Form }
     ensures authority { judged_of (in_absolute_form (codes "http") (codes "H:81") (codes "/%41?b") (codes "x")) ≡ Ok (record { key = record { host = codes "h"; port = 81; path_query = codes "/%41?b" }; table_path = codes "/A" }) }
+{}
+
+/// A name has 1 to 253 bytes (own). A target has 8,192 at most (own; RFC 9110, section 4.1 wants 8,000 to be read), and what is wrong
+/// with its path is told before that.
+pub fn lengths_are_limited()
+    ensures names { (text : List ℕ) → is_name text ≡ true → length text ≤ 253 }
+    ensures each_name { (text : List ℕ) → list_all is_name_byte text ≡ true → 1 ≤ length text → length text ≤ 253 → is_name text ≡ true }
+    ensures longer { (text : List ℕ) → 8192 < length (47 ∷ text) → judged_of (of_text text (codes "/a")) ≡ Err TooLong }
+    ensures longest { (text : List ℕ) → length (47 ∷ text) ≤ 8192 → judged_of (of_text text (codes "/a")) ≡ Ok (record { key = record { host = codes "h"; port = 80; path_query = codes "/a" }; table_path = codes "/a" }) }
+    ensures dots { (text : List ℕ) → judged_of (of_text text (codes "/..")) ≡ Err DotSegment }
 {}

@@ -22,7 +22,7 @@ pub use hosts::{is_host, short_number};
 pub use keys::Key;
 pub use laws::{
     a_table_path_is_normal, a_target_is_judged_in_one_way, case_names_nothing, equal_keys_are_one,
-    no_dot_segment_passes, normalising_twice_is_once, worked_bytes_of_targets,
+    lengths_are_limited, no_dot_segment_passes, normalising_twice_is_once, worked_bytes_of_targets,
     worked_forms_are_judged, worked_hosts, worked_paths_are_normalised, worked_ports,
     worked_segments_and_escapes, worked_targets_are_judged,
 };
