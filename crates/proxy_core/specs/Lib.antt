@@ -23,3 +23,4 @@ pub mod Waiters
 pub mod Releases
 pub mod Gets
 pub mod Kept
+pub mod Cases

@@ -43,6 +43,7 @@ mod storing;
 mod validating;
 mod wait_index;
 mod waking;
+mod worked_cases;
 
 pub use crate::condition::Condition;
 pub use crate::event::Event;
@@ -64,3 +65,10 @@ pub use crate::proxy::Core;
 pub use crate::reply_text::refused;
 pub use crate::runs::run;
 pub use crate::stage::Stage;
+pub use crate::worked_cases::{
+    answers_are_passed_on_so, faults_and_serials_in_order, statuses_of_errors,
+    stored_responses_are_sent_so, what_a_304_leaves, what_a_step_leaves_open,
+    what_a_step_leaves_stored, what_an_answer_gives, what_an_arrival_gives, what_invalidates,
+    what_is_made_of_an_answer, what_is_sent_after_a_failure, which_304_was_asked_for,
+    which_answers_are_stored, who_waits_for_whom,
+};
