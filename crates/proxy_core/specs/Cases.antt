@@ -1,5 +1,5 @@
 -- The messages, stored responses and exchanges that the laws of worked cases speak of.
-use Rattle.std.specs.Prelude.{ℕ, true, false, List, [], ◌∷◌, codes, Option, Some, None}
+use Rattle.std.specs.Prelude.{ℕ, true, false, List, [], ◌∷◌, codes, Some, None}
 use Rattle.hx_fields.specs.declared.field_line.Field.{Field}
 use Rattle.hx_fields.specs.Examples.{line}
 use Rattle.hx_framing.specs.declared.responses.Response.{Response}
@@ -8,7 +8,6 @@ use Rattle.hx_vary.specs.Vary.{kept_values}
 use Rattle.hx_hop.specs.declared.asked_for.Asked.{Asked}
 use Rattle.hx_allow.specs.Lines.{Line, Table}
 use Rattle.hx_store.specs.Stored.{Stored}
-use Rattle.hx_reuse.specs.declared.rule.ReuseRule.{ReuseRule}
 use Rattle.hx_reuse.specs.declared.rule.ReuseRule.TheVariants.{UriMiss, NoLifetime}
 use Rattle.proxy_core.specs.declared.stage.Stage.TheVariants.{Forwarded, Waiting}
 use Rattle.proxy_core.specs.declared.exchange.Exchange.{Exchange}
