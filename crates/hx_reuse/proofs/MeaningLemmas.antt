@@ -66,7 +66,7 @@ entry_there caches held asked now rule h l = some_and (λ e. against rule (stand
 
 -- a forward: the rule, and what is named with it
 forward_of : (o : Option ReuseRule) (s : Option ℕ) (rule : ReuseRule) (named : Option ℕ) → decided o s ≡ Forward rule named → (o ≡ Some rule) × (named ≡ cond (names_entry rule) s None)
-forward_of None None rule named h = absurd (never_forward rule named 0 h)
+forward_of None None rule named h = absurd (never_forward rule named _ h)
 forward_of None (Some n) rule named h = absurd (never_forward rule named n h)
 forward_of (Some r) s rule named h =
     let same : r ≡ rule = same_rule r rule (cond (names_entry r) s None) named h in
