@@ -14,6 +14,25 @@ from live.scenario import KEPT, scenario
 
 TOOLS = os.path.dirname(os.path.dirname(os.path.realpath(__file__)))
 NO_ADDRESSES = ["localhost:0", "127.0.0.1", ":0", "[::1]:0", "127.0.0.1:65536", "127.0.0.1:08", "127.0.0.01:8", "127.0.0.1:+1"]
+WRONG_CAPACITY = "capacity has to be a whole number from 1 to 65536, without quotes"
+# A table at fault, made of a good one by putting something in a text's place: the line on standard error, and a part of what
+# is said of it, which has what may stand there.
+FAULTS = [
+    ('name = "edge"', "name = edge", "config fault 1", "the table is no TOML"),
+    ('name = "edge"', 'name = "edge"\ncolour = 1', "config fault 2 key colour", "correct its spelling or delete it"),
+    ('path = "/"', 'path = "/"\ncache = "off"', "config fault 2 key cache", "cache needs version = 2"),
+    ('name = "edge"', 'name = "Edge"', "config fault 3", "a lower-case letter and at most 31 of a-z, 0-9 and -"),
+    ("version = 1", "version = 3", "config fault 4 key version", "version has to be 1 or 2, without quotes"),
+    ("capacity = 64", 'capacity = "64"', "config fault 4 key capacity", WRONG_CAPACITY),
+    ("max_body = 1000000", "max_body = -1", "config fault 4 key max_body", "max_body has to be a whole number from 0 to 16777216"),
+    ("max_stored = 100000", "max_stored = 1.5", "config fault 4 key max_stored", "max_stored has to be a whole number from 0 to 16777216"),
+    ('host = "*"', 'host = "h.example:80"', "config fault 5 line 1", "in [[line]] number 1 host has to be \"*\" or one host in lower case, without a port"),
+    ('methods = ["*"]', 'methods = ["CONNECT"]', "config fault 6 line 1", "in [[line]] number 1 methods has to be a list of 1 to 32"),
+    ('path = "/"', 'path = "/a/"', "config fault 7 line 1", "in [[line]] number 1 path has to begin with / and not to end with it"),
+    ('origin = "127.0.0.1:1"', 'origin = "localhost:1"', "config fault 8 line 1", 'in [[line]] number 1 origin has to be "deny" or an IPv4 address and a port'),
+    ("[[line]]", "[line]", "config fault 9", "a table has 1 to 256 lines, each of which begins with [[line]]"),
+    ('version = 1', 'version = 2', "config fault 11 line 1", 'in [[line]] number 1 cache has to be "on" or "off"'),
+]
 # The most bytes of a script, and of one happening in it.
 MOST_SCRIPT, MOST_HAPPENING = 16777216, 4200
 
@@ -112,7 +131,7 @@ def the_command_line_checks_a_table(stage):
         for words, ended in (
             (["check", file], (0, "ok 1 lines\n", "")),
             (["check", f"{TOOLS}/../deploy/table.toml"], (0, "ok 3 lines\n", "")),
-            (["check", wrong], (2, "", "config fault 4 key capacity\n")),
+            (["check", wrong], (2, f"{WRONG_CAPACITY}\n", "config fault 4 key capacity\n")),
             (["check", f"{file}.none"], (1, "", "read fault\n")),
             (["check"], (64, "", "usage fault\n")),
             (["sing"], (64, "", "usage fault\n")),
@@ -127,6 +146,22 @@ def the_command_line_checks_a_table(stage):
             expect(f"from `{' '.join(words)}` status, output and standard error", ended, run(stage, *words))
     for words in (["--help"], ["--version"], ["serve", "--help"]):
         expect(f"status of {words}", 0, run(stage, *words)[0])
+
+
+@scenario
+def a_check_says_what_may_stand_there(stage):
+    """`check` of a table at fault: beside the line that names the fault, one on standard output says what may stand there."""
+    good, file = table_of(["127.0.0.1:1"]), f"{stage.room.name}/table.toml"
+    for old, new, named, words in FAULTS:
+        text = good.replace(old, new, 1)
+        if named == "config fault 11 line 1":
+            text += 'cache = "maybe"\n'
+        with open(file, "w", encoding="utf-8") as it:
+            it.write(text)
+        status, out, err = run(stage, "check", file)
+        expect(f"of `{new}` status and standard error", (2, f"{named}\n"), (status, err))
+        if words not in out or out.count("\n") != 1:
+            raise Unexpected(f"of `{new}`, on standard output", f"a line with `{words}`", out)
 
 
 def replay(stage, script, **more):

@@ -6,6 +6,7 @@
 
 mod addresses;
 mod config;
+mod fault_texts;
 mod faults;
 mod host_index;
 mod laws;

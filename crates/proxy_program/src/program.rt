@@ -12,13 +12,19 @@ use std::net::Net;
 use std::process::ExitCode;
 use std::rt::{Clock, Env, Files};
 
-/// Checks a table, and tells how many lines it has.
+/// Checks a table, and tells how many lines it has, or in words what may stand where it is at fault.
 fn check<R: Files + Print + AllocGlobal>(rt: &R, path: &str) -> Result<(), Fault> {
     let table = read_table(rt, path)?;
-    let config = Config::read(rt.alloc(), table.as_slice())?;
-    match println!(rt; "ok {} lines", config.lines()) {
-        Ok(()) => Ok(()),
-        Err(_) => Err(Fault::Write),
+    match Config::read(rt.alloc(), table.as_slice()) {
+        Ok(config) => match println!(rt; "ok {} lines", config.lines()) {
+            Ok(()) => Ok(()),
+            Err(_) => Err(Fault::Write),
+        },
+        Err(fault) => {
+            // The line on standard error names the fault all the same.
+            let _ = println!(rt; "{fault}");
+            Err(Fault::from(fault))
+        }
     }
 }
 
