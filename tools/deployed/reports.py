@@ -1,8 +1,8 @@
 """tools/report, on a log that was written and counted by hand: tools/deployed/by_hand.log."""
 import os
+import resource
 import subprocess
 import sys
-import time
 
 from deployed.stand import DEPLOY, part
 from live.expect import Unexpected, expect, expect_within
@@ -60,6 +60,12 @@ def run(*words, **more):
     return subprocess.run([sys.executable, f"{TOOLS}/report", *words], capture_output=True, text=True, timeout=120, **more)
 
 
+def processor_seconds():
+    """Those of the programs that were run and have ended: others' work makes a machine slow, and not the report."""
+    spent = resource.getrusage(resource.RUSAGE_CHILDREN)
+    return spent.ru_utime + spent.ru_stime
+
+
 def words_of(text):
     """Each line without its bar and with single blanks."""
     return [" ".join(line.rstrip("# \n").split()) for line in text.splitlines()]
@@ -102,11 +108,11 @@ def a_million_lines(stand):
     """1,100,000 lines, each target stored again and again."""
     with open(LOG, encoding="utf-8") as it:
         lines = it.read()
-    file, began = stand.file("million", lines * 50000), time.monotonic()
+    file, began = stand.file("million", lines * 50000), processor_seconds()
     ran = run(file)
-    seconds = time.monotonic() - began
+    seconds = processor_seconds() - began
     if not ran.stdout.startswith("1,100,000 answers, 291,550,000 bytes of content"):
         raise Unexpected("a first line of", "1,100,000 answers, 291,550,000 bytes", ran.stdout[:200])
     expect("the ratio", "hit ratio: 35.7 % of 700,000", words_of(ran.stdout)[1])
     expect_within("the report", 0, 30, seconds)
-    return f"1,100,000 lines in {seconds:.1f} s"
+    return f"1,100,000 lines in {seconds:.1f} s of the processor"
