@@ -32,3 +32,4 @@ pub mod Pieces
 pub mod Decoding
 pub mod Written
 pub mod WrittenResponse
+pub mod FaultTexts

@@ -4,3 +4,4 @@ pub mod Judgement
 pub mod Keys
 pub mod Examples
 pub mod KeyOrder
+pub mod FaultTexts

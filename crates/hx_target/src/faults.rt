@@ -3,6 +3,8 @@ ghost use Rattle.std.specs.Prelude.{◌≡◌};
 ghost use Rattle.hx_target.specs.declared.faults.TargetFault.TheVariants.{OutOfMemory};
 
 use std::alloc::AllocError;
+use std::fmt;
+use std::fmt::Formatter;
 
 /// Why a target is refused, in the order in which the faults are looked for: of those that stand the first
 /// is answered.
@@ -34,5 +36,29 @@ impl From<AllocError> for TargetFault {
 
     fn from(_e: AllocError) -> TargetFault {
         TargetFault::OutOfMemory
+    }
+}
+
+impl fmt::Display for TargetFault {
+    ghost use Rattle.std.specs.Prelude.{Some};
+    ghost use Rattle.hx_target.specs.FaultTexts.{fault_text};
+
+    ghost output = { λ fault. Some (fault_text fault) };
+
+    fn fmt<W: fmt::Write>(&self, f: &mut Formatter<W>) -> fmt::Result {
+        f.write_str(match self {
+            TargetFault::Form =>
+                "a target has to begin with / or http://, and to be visible ASCII without #",
+            TargetFault::Scheme => "the scheme of a target has to be http",
+            TargetFault::Host =>
+                "there has to be one Host line, whose host is of letters, digits, -, . and _, or an IPv6 address in brackets",
+            TargetFault::Port =>
+                "a port has to be a number from 1 to 65535, of at most five digits, or to be left out",
+            TargetFault::Userinfo => "the authority of a target may not have an @",
+            TargetFault::Escape => "two hexadecimal digits have to stand behind each % of a path",
+            TargetFault::DotSegment => "no segment of a path may be . or .., escaped or not",
+            TargetFault::TooLong => "a target may have at most 8192 bytes",
+            TargetFault::OutOfMemory => "no memory is left for the target",
+        })
     }
 }
