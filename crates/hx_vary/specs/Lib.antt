@@ -1,2 +1,3 @@
 pub mod Vary
+pub mod Marks
 pub mod Cases

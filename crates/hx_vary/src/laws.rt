@@ -2,6 +2,7 @@
 
 ghost use Rattle.std.specs.Prelude.{◌≡◌, true, false, [], ◌∷◌, codes};
 ghost use Rattle.hx_vary.specs.Vary.{KeepsEachName, KeepsNothingOfAStar, KeptIsEnough, MatchesItself, is_star, nominated_of, vary_matches};
+ghost use Rattle.hx_vary.specs.Marks.{MarksMissNothing};
 ghost use Rattle.hx_vary.specs.Cases.{kept_for, speaks, varying};
 
 use crate::nominations::Nomination;
@@ -14,6 +15,11 @@ pub fn kept_is_enough()
 /// The request that was answered has each value that is kept of it.
 pub fn a_request_matches_itself()
     ensures { MatchesItself }
+{}
+
+/// What a request matches is not passed over by its mark.
+pub fn marks_miss_nothing()
+    ensures { MarksMissNothing }
 {}
 
 /// Nothing is kept for a response with a star, and else each nominated name with its value (RFC 9111, section 4.1).

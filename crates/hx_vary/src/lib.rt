@@ -6,12 +6,14 @@
 #![tactic(auto)]
 
 mod laws;
+mod marks;
 mod nominated_values;
 mod nominations;
 
 pub use laws::{
-    a_request_matches_itself, a_star_is_kept_as_one, kept_is_enough, star_nominates_everything,
-    vary_values_are_compared,
+    a_request_matches_itself, a_star_is_kept_as_one, kept_is_enough, marks_miss_nothing,
+    star_nominates_everything, vary_values_are_compared,
 };
+pub use marks::Marks;
 pub use nominated_values::NominatedValue;
 pub use nominations::{Nominated, Nomination, matches};

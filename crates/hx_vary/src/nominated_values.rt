@@ -56,7 +56,7 @@ impl NominatedValue {
     }
 }
 
-fn slice_of(value: &Option<Bytes>) -> Option<&[u8]>
+pub(crate) fn slice_of(value: &Option<Bytes>) -> Option<&[u8]>
     ensures { option_copied result ≡ value.now }
 {
     match value {

@@ -3,7 +3,9 @@
 ghost use Rattle.std.specs.Prelude.{◌≡◌, IfOk};
 ghost use Rattle.std.specs.List.{list_any};
 ghost use Rattle.hx_vary.specs.Vary.{is_star_member, vary_matches};
+ghost use Rattle.hx_vary.specs.Marks.{mark_of};
 
+use crate::marks::hash_of;
 use crate::nominated_values::NominatedValue;
 use hx_fields::{Bytes, Fields, is_token};
 use std::alloc::{AllocError, Global};
@@ -60,6 +62,18 @@ impl Nominated {
             values.push(kept.copy(alloc)?)?;
         }
         Ok(Nominated { values })
+    }
+
+    /// The mark of these values, by which a request that can't match is told. No memory is taken.
+    pub fn mark(&self) -> u64
+        ensures { result ≡ mark_of self.now }
+    {
+        for kept in &self.values {
+            if let Some(value) = &kept.value {
+                return hash_of(value.as_slice());
+            }
+        }
+        0
     }
 }
 
