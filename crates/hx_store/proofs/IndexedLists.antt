@@ -1,8 +1,12 @@
 -- The serials of a key, as entries come and go.
-use Rattle.std.proofs.Common.{◌≡◌, ℕ, suc, ◌-◌, ◌<◌, ◌≤◌, true, false, not, cond, ◌||◌, ◌&&◌, eqb, leb, Option, None, Some, List, [], ◌∷◌, length, take, slice_get, is_some, refl, sym, ◌∙◌, ap, subst, arith, inl, inr}
+use Rattle.std.proofs.Common.{◌≡◌, ℕ, Bool, suc, ◌-◌, ◌<◌, ◌≤◌, true, false, not, cond, ◌||◌, ◌&&◌, eqb, leb, Option, None, Some, List, [], ◌∷◌, length, take, slice_get, is_some, refl, sym, ◌∙◌, ap, subst, arith, inl, inr}
 use Rattle.std.proofs.lemmas.Bool.{cases_Bool, false≢true, eqb-true, eq-eqb, or_parts, or_left}
 use Rattle.std.proofs.lemmas.Bool.Decides.{nat_tests, leb_tells}
 use Rattle.std.proofs.lemmas.Option.{same_Some}
+use Rattle.std.specs.Prelude.{IfSome}
+use Rattle.std.specs.Map.{keys_of, remove_entry, set_value}
+use Rattle.std.specs.Ordering.{nat_cmp}
+use Rattle.std.specs.BTreeMap.{insert_entry, is_at}
 use Rattle.hx_target.specs.declared.keys.Key.{Key}
 use Rattle.hx_target.specs.Keys.{same_key}
 use Rattle.hx_target.specs.KeyOrder.{same_key_equiv}
@@ -11,11 +15,13 @@ use Rattle.hx_store.specs.Serials.{is_in, Distinct, insert_ascending}
 use Rattle.hx_store.specs.Stored.{Stored}
 use Rattle.hx_store.specs.Shelf.{serials, holds, find_entry, without, serials_of, promoted, in_front, without_key}
 use Rattle.hx_store.specs.Found.{NoneBelow, IsAscending}
-use Rattle.hx_store.specs.Index.{indexed, but, IsIndexOf, IsPutIn, IsTakenOut, without_others}
-use Rattle.hx_store.proofs.EntryLists.{eqb_comm, not_only, without_none, find-serial, find_holds, Distinct-filter, length-filter_le, length-without}
+use Rattle.hx_vary.specs.Marks.{mark_of}
+use Rattle.hx_store.specs.Index.{AreMarks, IsIndexOf, IsMarked, IsMarkedAnew, IsPutIn, IsTakenOut, but, indexed, marks_at, without_others}
+use Rattle.hx_store.proofs.EntryLists.{eqb_comm, not_only, without_none, without_gone, find_none, find-serial, find_holds, Distinct-filter, length-filter_le, length-without}
 use Rattle.hx_store.proofs.FoundSerials.{is_in-insert, finds_ascending, below_less}
 use Rattle.hx_store.proofs.KeyedEntries.{is_some-find, distinct-front}
 use Rattle.hx_store.proofs.Indices.{one_key, not_nothing}
+use Rattle.hx_store.proofs.MarkLists.{IsPart, keys-marked, keys-put, keys-removed, marks-anew, marks-more, marks-part, marks-put, marks-removed, part-front, part-without}
 
 -- ---- lists of serials
 
@@ -38,7 +44,7 @@ but-none s (x ∷ xs) h =
     let p = or_parts (eqb x s) (is_in s xs) h in
     ap (λ b. cond b xs (x ∷ but s xs)) p.0 ∙ ap (λ ys. x ∷ ys) (but-none s xs p.1)
 
-insert-below : (a : ℕ) (xs : List ℕ) → NoneBelow a xs → insert_ascending a xs ≡ a ∷ xs
+pub insert-below : (a : ℕ) (xs : List ℕ) → NoneBelow a xs → insert_ascending a xs ≡ a ∷ xs
 insert-below a [] h = refl
 insert-below a (x ∷ xs) h =
     let t : leb a x ≡ true = grind (arith, nat_tests, h.0) in
@@ -183,8 +189,34 @@ serials-front s q es e x d h is k =
 
 -- ---- the index
 
-pub index-without : (s : ℕ) (es : List Stored) (e : Stored) (old new : KeyIndex) → Distinct (serials es) → find_entry s es ≡ Some e →
-    IsIndexOf es old → IsTakenOut old e.key s new → IsIndexOf (without (s ∷ []) es) new
+-- at a key, the serials once one was put in at another, and once one was taken out there
+abbrev Gains : KeyIndex → Key → ℕ → KeyIndex → Type 0
+Gains old key s new = (q : Key) → indexed new q ≡ cond (same_key key q) (insert_ascending s (indexed old q)) (indexed old q)
+
+abbrev Loses : KeyIndex → Key → ℕ → KeyIndex → Type 0
+Loses old key s new = (q : Key) → indexed new q ≡ cond (same_key key q) (but s (indexed old q)) (indexed old q)
+
+gains : (key : Key) (s m : ℕ) (es : List Stored) (old new : KeyIndex) → holds s es ≡ false → IsIndexOf es old → IsPutIn old key s m new → Gains old key s new
+gains key s m es old new n i p q =
+    let ps = marks_at old q in
+    let none : is_in s (keys_of ps) ≡ false = ap (is_in s) (i q) ∙ not_of_key s q es n in
+    ap keys_of (p q)
+    ∙ (elim (same_key key q) as (λ b. keys_of (cond b (insert_entry nat_cmp ps s m) ps) ≡ cond b (insert_ascending s (keys_of ps)) (keys_of ps)) [
+      | true ↦ keys-put s m ps none
+      | false ↦ refl
+    ])
+
+loses : (key : Key) (s : ℕ) (old new : KeyIndex) → IsTakenOut old key s new → Loses old key s new
+loses key s old new t q =
+    let ps = marks_at old q in
+    ap keys_of (t q)
+    ∙ (elim (same_key key q) as (λ b. keys_of (cond b (remove_entry (is_at (nat_cmp s)) ps) ps) ≡ cond b (but s (keys_of ps)) (keys_of ps)) [
+      | true ↦ keys-removed s ps
+      | false ↦ refl
+    ])
+
+index-without : (s : ℕ) (es : List Stored) (e : Stored) (old new : KeyIndex) → Distinct (serials es) → find_entry s es ≡ Some e →
+    IsIndexOf es old → Loses old e.key s new → IsIndexOf (without (s ∷ []) es) new
 index-without s es e old new d h i t q =
     t q
     ∙ (elim (cases_Bool (same_key e.key q)) [
@@ -193,13 +225,13 @@ index-without s es e old new d h i t q =
     ])
     ∙ sym (serials-without s q es d)
 
-pub index-more : (e : Stored) (es : List Stored) (old new : KeyIndex) → IsIndexOf es old → IsPutIn old e.key e.serial new → IsIndexOf (e ∷ es) new
+index-more : (e : Stored) (es : List Stored) (old new : KeyIndex) → IsIndexOf es old → Gains old e.key e.serial new → IsIndexOf (e ∷ es) new
 index-more e es old new i p q = p q ∙ ap (λ xs. cond (same_key e.key q) (insert_ascending e.serial xs) xs) (i q)
 
 -- put in and taken out again
-pub index-again : (key : Key) (s : ℕ) (es : List Stored) (old mid new : KeyIndex) → IsIndexOf es old → IsPutIn old key s mid → IsTakenOut mid key s new →
+index_back : (key : Key) (s : ℕ) (es : List Stored) (old mid new : KeyIndex) → IsIndexOf es old → Gains old key s mid → Loses mid key s new →
     IsIndexOf es new
-index-again key s es old mid new i p t q =
+index_back key s es old mid new i p t q =
     t q
     ∙ (elim (cases_Bool (same_key key q)) [
       | inl y ↦ ap (λ b. cond b (but s (indexed mid q)) (indexed mid q)) y
@@ -210,7 +242,11 @@ index-again key s es old mid new i p t q =
     ])
     ∙ i q
 
-pub index-front : (s : ℕ) (es : List Stored) (e x : Stored) (index : KeyIndex) → Distinct (serials es) → find_entry s es ≡ Some e → x.serial ≡ s →
+pub index-again : (key : Key) (s m : ℕ) (es : List Stored) (old mid new : KeyIndex) → holds s es ≡ false → IsIndexOf es old → IsPutIn old key s m mid →
+    IsTakenOut mid key s new → IsIndexOf es new
+index-again key s m es old mid new n i p t = index_back key s es old mid new i (gains key s m es old mid n i p) (loses key s mid new t)
+
+index-front : (s : ℕ) (es : List Stored) (e x : Stored) (index : KeyIndex) → Distinct (serials es) → find_entry s es ≡ Some e → x.serial ≡ s →
     same_key e.key x.key ≡ true → IsIndexOf es index → IsIndexOf (x ∷ without (s ∷ []) es) index
 index-front s es e x index d h is k i q = i q ∙ sym (serials-front s q es e x d h is k)
 
@@ -261,11 +297,26 @@ kept-none s es index h k =
 
 pub kept-without : (s : ℕ) (es : List Stored) (e : Stored) (old new : KeyIndex) → find_entry s es ≡ Some e → IsTakenOut old e.key s new →
     IsKept es old → IsKept (without (s ∷ []) es) new
-kept-without s es e old new h t k = (Distinct-filter _ es k.0, index-without s es e old new k.0 h k.1 t)
+kept-without s es e old new h t k = (Distinct-filter _ es k.0, index-without s es e old new k.0 h k.1 (loses e.key s old new t))
 
-pub kept-front : (s : ℕ) (es : List Stored) (e x : Stored) (index : KeyIndex) → find_entry s es ≡ Some e → x.serial ≡ s → same_key e.key x.key ≡ true →
+kept-front : (s : ℕ) (es : List Stored) (e x : Stored) (index : KeyIndex) → find_entry s es ≡ Some e → x.serial ≡ s → same_key e.key x.key ≡ true →
     IsKept es index → IsKept (x ∷ without (s ∷ []) es) index
 kept-front s es e x index h is same k = (distinct-front s x es is k.0, index-front s es e x index k.0 h is same k.1)
+
+-- a new mark changes no serial
+same_serials : (key : Key) (s m : ℕ) (old new : KeyIndex) → IsMarkedAnew old key s m new → (q : Key) → indexed new q ≡ indexed old q
+same_serials key s m old new a q =
+    let ps = marks_at old q in
+    ap keys_of (a q)
+    ∙ (elim (same_key key q) as (λ b. keys_of (cond b (set_value (is_at (nat_cmp s)) ps m) ps) ≡ keys_of ps) [
+      | true ↦ keys-marked (is_at (nat_cmp s)) m ps
+      | false ↦ refl
+    ])
+
+pub kept-anew : (key : Key) (s m : ℕ) (es : List Stored) (e x : Stored) (old new : KeyIndex) → find_entry s es ≡ Some e → x.serial ≡ s →
+    same_key e.key x.key ≡ true → IsMarkedAnew old key s m new → IsKept es old → IsKept (x ∷ without (s ∷ []) es) new
+kept-anew key s m es e x old new h is same a k =
+    kept-front s es e x new h is same (k.0, λ q. same_serials key s m old new a q ∙ k.1 q)
 
 kept_promoted_by : (s : ℕ) (es : List Stored) (index : KeyIndex) (o : Option Stored) → find_entry s es ≡ o → IsKept es index →
     IsKept (in_front o (without (s ∷ []) es)) index
@@ -281,9 +332,81 @@ kept-last es e old new h t k =
     let l = last-is es e k.0 h in
     subst (λ zs. IsKept zs new) l.rest (kept-without e.serial es e old new l.found t k)
 
-pub kept-more : (e : Stored) (es : List Stored) (old new : KeyIndex) → holds e.serial es ≡ false → IsPutIn old e.key e.serial new →
+pub kept-more : (e : Stored) (m : ℕ) (es : List Stored) (old new : KeyIndex) → holds e.serial es ≡ false → IsPutIn old e.key e.serial m new →
     IsKept es old → IsKept (e ∷ es) new
-kept-more e es old new n p k = ((n, k.0), index-more e es old new k.1 p)
+kept-more e m es old new n p k = ((n, k.0), index-more e es old new k.1 (gains e.key e.serial m es old new n k.1 p))
+
+-- ---- what keeps the marks
+
+pub marked-part : (es zs : List Stored) (index : KeyIndex) → IsPart zs es → IsMarked es index → IsMarked zs index
+marked-part es zs index part k q = marks-part es zs (marks_at index q) part (k q)
+
+pub marked-taken : (key : Key) (s : ℕ) (es : List Stored) (old new : KeyIndex) → IsTakenOut old key s new → IsMarked es old → IsMarked es new
+marked-taken key s es old new t k q =
+    let ps = marks_at old q in
+    let Are : Bool → Type 0 = λ b. AreMarks es (cond b (remove_entry (is_at (nat_cmp s)) ps) ps) in
+    let are : Are (same_key key q) = elim (same_key key q) as Are [ true ↦ marks-removed (is_at (nat_cmp s)) es ps (k q) | false ↦ k q ] in
+    subst (AreMarks es) (sym (t q)) are
+
+marked-put : (key : Key) (s m : ℕ) (es : List Stored) (old new : KeyIndex) → IfSome (find_entry s es) (λ e. m ≡ mark_of e.nominated) →
+    IsPutIn old key s m new → IsMarked es old → IsMarked es new
+marked-put key s m es old new f p k q =
+    let ps = marks_at old q in
+    let Are : Bool → Type 0 = λ b. AreMarks es (cond b (insert_entry nat_cmp ps s m) ps) in
+    let are : Are (same_key key q) = elim (same_key key q) as Are [ true ↦ marks-put es s m ps f (k q) | false ↦ k q ] in
+    subst (AreMarks es) (sym (p q)) are
+
+pub marked-more : (x : Stored) (es : List Stored) (old new : KeyIndex) → holds x.serial es ≡ false → IsIndexOf es old →
+    IsPutIn old x.key x.serial (mark_of x.nominated) new → IsMarked es old → IsMarked (x ∷ es) new
+marked-more x es old new n i p k =
+    let first : IfSome (find_entry x.serial (x ∷ es)) (λ e. mark_of x.nominated ≡ mark_of e.nominated) = rw (eq-eqb x.serial x.serial refl) refl in
+    marked-put x.key x.serial (mark_of x.nominated) (x ∷ es) old new first p
+    (λ q. marks-more x es (marks_at old q) (ap (is_in x.serial) (i q) ∙ not_of_key x.serial q es n) (k q))
+
+-- put in and taken out again
+pub marked-again : (key : Key) (s m : ℕ) (es : List Stored) (old mid new : KeyIndex) → holds s es ≡ false → IsPutIn old key s m mid →
+    IsTakenOut mid key s new → IsMarked es old → IsMarked es new
+marked-again key s m es old mid new n p t k =
+    let none : IfSome (find_entry s es) (λ e. m ≡ mark_of e.nominated) = rw (find_none s es n) tt in
+    marked-taken key s es mid new t (marked-put key s m es old mid none p k)
+
+pub marked-without : (key : Key) (s : ℕ) (es : List Stored) (old new : KeyIndex) → IsTakenOut old key s new → IsMarked es old →
+    IsMarked (without (s ∷ []) es) new
+marked-without key s es old new t k = marked-taken key s (without (s ∷ []) es) old new t (marked-part es (without (s ∷ []) es) old (part-without s es) k)
+
+pub marked-none : (s : ℕ) (es : List Stored) (index : KeyIndex) → IsMarked es index → IsMarked (without (s ∷ []) es) index
+marked-none s es index k = marked-part es (without (s ∷ []) es) index (part-without s es) k
+
+pub marked-last : (es : List Stored) (e : Stored) (old new : KeyIndex) → Distinct (serials es) → slice_get es (length es - 1) ≡ Some e →
+    IsTakenOut old e.key e.serial new → IsMarked es old → IsMarked (take (length es - 1) es) new
+marked-last es e old new d h t k =
+    let l = last-is es e d h in
+    subst (λ zs. IsMarked zs new) l.rest (marked-without e.key e.serial es old new t k)
+
+-- a new form of a held entry in its place
+pub marked-anew : (s : ℕ) (es : List Stored) (e x : Stored) (old new : KeyIndex) → find_entry s es ≡ Some e → x.serial ≡ s → same_key e.key x.key ≡ true →
+    IsMarkedAnew old x.key s (mark_of x.nominated) new → IsKept es old → IsMarked es old → IsMarked (x ∷ without (s ∷ []) es) new
+marked-anew s es e x old new h is same a kept k q =
+    let ps = marks_at old q in
+    let zs = without (s ∷ []) es in
+    let rest : AreMarks zs ps = marks-part es zs ps (part-without s es) (k q) in
+    let once : is_in s (but s (keys_of ps)) ≡ false =
+    ap (λ xs. is_in s (but s xs)) (kept.1 q) ∙ ap (is_in s) (sym (serials-without s q es kept.0)) ∙ not_of_key s q zs (without_gone s es) in
+    let Are : Bool → Type 0 = λ b. AreMarks (x ∷ zs) (cond b (set_value (is_at (nat_cmp s)) ps (mark_of x.nominated)) ps) in
+    subst (AreMarks (x ∷ zs)) (sym (a q)) (elim (cases_Bool (same_key x.key q)) [
+      | inl y ↦ subst Are (sym y) (marks-anew s x zs ps is once rest)
+      | inr n ↦ subst Are (sym n) (marks-more x zs ps (
+          ap (λ z. is_in z (keys_of ps)) is ∙ ap (is_in s) (kept.1 q) ∙ of_its_key s q es e kept.0 h ∙ ap (λ y. same_key y q) (one_key e.key x.key same) ∙ n
+          ) rest)
+    ])
+
+marked_promoted_by : (s : ℕ) (es : List Stored) (index : KeyIndex) (o : Option Stored) → find_entry s es ≡ o → IsMarked es index →
+    IsMarked (in_front o (without (s ∷ []) es)) index
+marked_promoted_by s es index None h k = marked-none s es index k
+marked_promoted_by s es index (Some e) h k = marked-part es (e ∷ without (s ∷ []) es) index (part-front s es e h) k
+
+pub marked-promoted : (s : ℕ) (es : List Stored) (index : KeyIndex) → IsMarked es index → IsMarked (promoted s es) index
+marked-promoted s es index k = marked_promoted_by s es index (find_entry s es) refl k
 
 -- ---- entries that go
 

@@ -1,13 +1,12 @@
--- What a map from keys to sets of serials says of the serials at each key.
-use Rattle.std.proofs.Common.{None, Some, ◌≡◌, ℕ, Bool, true, false, cond, ◌&&◌, eqb, Option, List, [], ◌∷◌, refl, sym, ◌∙◌, ap, arith, inl, inr}
+-- What a map from keys to maps of marks says of the serials at each key.
+use Rattle.std.proofs.Common.{None, Some, ◌≡◌, ℕ, Bool, true, false, cond, ◌&&◌, Option, List, [], ◌∷◌, refl, sym, ◌∙◌, ap, inl, inr}
 use Rattle.std.specs.Option.{option_map_or, ForSome}
-use Rattle.std.specs.Ordering.{nat_cmp}
+use Rattle.std.specs.Ordering.{nat_cmp, match_ordering}
+use Rattle.std.specs.declared.cmp.Ordering.{Ordering}
+use Rattle.std.specs.declared.cmp.Ordering.TheVariants.{Less, Equal, Greater}
 use Rattle.std.specs.Cmp.Lexicographic.{bytes_decides}
-use Rattle.std.specs.BTreeMap.{get, is_at}
-use Rattle.std.specs.BTreeSet.{BTreeSet, insert_key}
-use Rattle.std.specs.Set.{remove_key}
-use Rattle.std.proofs.lemmas.Bool.{cases_Bool, false≢true, eqb-true, eq-eqb, or_parts, or_left}
-use Rattle.std.proofs.lemmas.Bool.Decides.{nat_tests}
+use Rattle.std.specs.BTreeMap.{BTreeMap, get, insert_entry, is_at}
+use Rattle.std.proofs.lemmas.Bool.{cases_Bool, false≢true, eqb-true, eq-eqb, or_left}
 use Rattle.std.specs.Map.{lookup}
 use Rattle.std.proofs.lemmas.Option.{same_Some}
 use Rattle.hx_target.specs.declared.keys.Key.{Key}
@@ -15,7 +14,7 @@ use Rattle.hx_target.specs.Keys.{same_key}
 use Rattle.hx_target.specs.KeyOrder.{key_cmp, key_ties}
 use Rattle.hx_store.specs.declared.key_index.KeyIndex.{KeyIndex}
 use Rattle.hx_store.specs.Serials.{is_in, insert_ascending}
-use Rattle.hx_store.specs.Index.{indexed, but, IsSameIndex, IsTrim, IsTrimBeside}
+use Rattle.hx_store.specs.Index.{marks_at, IsSameIndex, IsTrim, IsTrimBeside}
 use Rattle.hx_store.proofs.FoundSerials.{is_in-insert}
 
 both : (a b : Bool) → (a && b) ≡ true → (a ≡ true) × (b ≡ true)
@@ -32,55 +31,42 @@ one_key a b h =
     let path_query = (bytes_decides a.path_query b.path_query).0 p.1 in
     λ i. record { host = host i; port = port i; path_query = path_query i }
 
-abbrev pub keys_or_none : Option (BTreeSet ℕ) → List ℕ
-keys_or_none o = option_map_or (λ set. set.keys) o []
+abbrev pub entries_or_none : Option (BTreeMap ℕ ℕ) → List (ℕ × ℕ)
+entries_or_none o = option_map_or (λ marks. marks.entries) o []
 
 -- a map that has w at a key, and else what it had
-pub written : (key : Key) (old new : KeyIndex) (w : Option (BTreeSet ℕ)) →
+pub written : (key : Key) (old new : KeyIndex) (w : Option (BTreeMap ℕ ℕ)) →
     ((q : Key) → get key_cmp new.serials q ≡ cond (is_at (key_cmp key) q) w (get key_cmp old.serials q)) →
-    (q : Key) → indexed new q ≡ cond (same_key key q) (keys_or_none w) (indexed old q)
+    (q : Key) → marks_at new q ≡ cond (same_key key q) (entries_or_none w) (marks_at old q)
 written key old new w h q =
     let g = get key_cmp old.serials q in
-    ap keys_or_none (h q)
-    ∙ ap (λ b. keys_or_none (cond b w g)) (sym (key_ties key q))
-    ∙ (elim (same_key key q) as (λ b. keys_or_none (cond b w g) ≡ cond b (keys_or_none w) (keys_or_none g)) [ true ↦ refl | false ↦ refl ])
+    ap entries_or_none (h q)
+    ∙ ap (λ b. entries_or_none (cond b w g)) (sym (key_ties key q))
+    ∙ (elim (same_key key q) as (λ b. entries_or_none (cond b w g) ≡ cond b (entries_or_none w) (entries_or_none g)) [ true ↦ refl | false ↦ refl ])
 
 -- what is at the key is what f makes of what was there
-pub changed : (f : List ℕ → List ℕ) (key : Key) (old new : KeyIndex) (ks : List ℕ) →
-    ((q : Key) → indexed new q ≡ cond (same_key key q) ks (indexed old q)) → ks ≡ f (indexed old key) →
-    (q : Key) → indexed new q ≡ cond (same_key key q) (f (indexed old q)) (indexed old q)
+pub changed : (f : List (ℕ × ℕ) → List (ℕ × ℕ)) (key : Key) (old new : KeyIndex) (ks : List (ℕ × ℕ)) →
+    ((q : Key) → marks_at new q ≡ cond (same_key key q) ks (marks_at old q)) → ks ≡ f (marks_at old key) →
+    (q : Key) → marks_at new q ≡ cond (same_key key q) (f (marks_at old q)) (marks_at old q)
 changed f key old new ks h e q = elim (cases_Bool (same_key key q)) [
   | inl t ↦ (
-      h q ∙ ap (λ b. cond b ks (indexed old q)) t ∙ e ∙ ap (λ k. f (indexed old k)) (one_key key q t)
-      ∙ sym (ap (λ b. cond b (f (indexed old q)) (indexed old q)) t)
+      h q ∙ ap (λ b. cond b ks (marks_at old q)) t ∙ e ∙ ap (λ k. f (marks_at old k)) (one_key key q t)
+      ∙ sym (ap (λ b. cond b (f (marks_at old q)) (marks_at old q)) t)
       )
-  | inr n ↦ h q ∙ ap (λ b. cond b ks (indexed old q)) n ∙ sym (ap (λ b. cond b (f (indexed old q)) (indexed old q)) n)
+  | inr n ↦ h q ∙ ap (λ b. cond b ks (marks_at old q)) n ∙ sym (ap (λ b. cond b (f (marks_at old q)) (marks_at old q)) n)
 ]
 
 -- the same where f leaves it as it was
-pub unchanged : (key : Key) (old new : KeyIndex) (ks : List ℕ) →
-    ((q : Key) → indexed new q ≡ cond (same_key key q) ks (indexed old q)) → ks ≡ indexed old key → IsSameIndex old new
+pub unchanged : (key : Key) (old new : KeyIndex) (ks : List (ℕ × ℕ)) →
+    ((q : Key) → marks_at new q ≡ cond (same_key key q) ks (marks_at old q)) → ks ≡ marks_at old key → IsSameIndex old new
 unchanged key old new ks h e q =
     changed (λ xs. xs) key old new ks h e q
-    ∙ (elim (same_key key q) as (λ b. cond b (indexed old q) (indexed old q) ≡ indexed old q) [ true ↦ refl | false ↦ refl ])
-
-insert-step : (s x : ℕ) (xs : List ℕ) → insert_key nat_cmp xs s ≡ insert_ascending s xs → eqb x s ≡ false →
-    insert_key nat_cmp (x ∷ xs) s ≡ insert_ascending s (x ∷ xs)
-insert-step s x xs h n = grind (arith, nat_tests, h)
-
--- a new serial goes where the order has it
-pub insert-new : (s : ℕ) (xs : List ℕ) → is_in s xs ≡ false → insert_key nat_cmp xs s ≡ insert_ascending s xs
-insert-new s [] h = refl
-insert-new s (x ∷ xs) h = let p = or_parts (eqb x s) (is_in s xs) h in insert-step s x xs (insert-new s xs p.1) p.0
-
-pub remove-first : (s : ℕ) (xs : List ℕ) → remove_key (is_at (nat_cmp s)) xs ≡ but s xs
-remove-first s [] = refl
-remove-first s (x ∷ xs) = let h = remove-first s xs in grind (arith, nat_tests, h)
+    ∙ (elim (same_key key q) as (λ b. cond b (marks_at old q) (marks_at old q) ≡ marks_at old q) [ true ↦ refl | false ↦ refl ])
 
 -- ---- no key is in the index for nothing
 
-abbrev pub HasSome : BTreeSet ℕ → Type 0
-HasSome set = set.keys ≡ [] → ⊥
+abbrev pub HasSome : BTreeMap ℕ ℕ → Type 0
+HasSome marks = marks.entries ≡ [] → ⊥
 
 pub not_nothing : (s : ℕ) (xs : List ℕ) → insert_ascending s xs ≡ [] → ⊥
 not_nothing s xs h = false≢true (
@@ -89,10 +75,20 @@ not_nothing s xs h = false≢true (
     ∙ or_left _ _ (eq-eqb s s refl)
     )
 
-pub some_has : (set : BTreeSet ℕ) → HasSome set → ForSome (Some set) HasSome
-some_has set n x e k = n (ap (λ y. y.keys) (same_Some set x e) ∙ k)
+not_empty : (s m : ℕ) (p : ℕ × ℕ) (ps : List (ℕ × ℕ)) (o : Ordering) →
+    match_ordering o ((s, m) ∷ p ∷ ps) ((p.0, m) ∷ ps) (p ∷ insert_entry nat_cmp ps s m) ≡ [] → ⊥
+not_empty s m p ps Less h = cc
+not_empty s m p ps Equal h = cc
+not_empty s m p ps Greater h = cc
 
-pub trim-written : (key : Key) (old new : KeyIndex) (w : Option (BTreeSet ℕ)) →
+pub not_unmarked : (s m : ℕ) (ps : List (ℕ × ℕ)) → insert_entry nat_cmp ps s m ≡ [] → ⊥
+not_unmarked s m [] h = cc
+not_unmarked s m (p ∷ ps) h = not_empty s m p ps (nat_cmp s p.0) h
+
+pub some_has : (set : BTreeMap ℕ ℕ) → HasSome set → ForSome (Some set) HasSome
+some_has set n x e k = n (ap (λ y. y.entries) (same_Some set x e) ∙ k)
+
+pub trim-written : (key : Key) (old new : KeyIndex) (w : Option (BTreeMap ℕ ℕ)) →
     ((q : Key) → get key_cmp new.serials q ≡ cond (is_at (key_cmp key) q) w (get key_cmp old.serials q)) → ForSome w HasSome → IsTrim old → IsTrim new
 trim-written key old new w h n o q set e k =
     let g = get key_cmp old.serials q in
@@ -101,7 +97,7 @@ trim-written key old new w h n o q set e k =
       | inr f ↦ o q set (sym (h q ∙ ap (λ b. cond b w g) f) ∙ e) k
     ]
 
-pub trim-beside : (key : Key) (old new : KeyIndex) (w : Option (BTreeSet ℕ)) →
+pub trim-beside : (key : Key) (old new : KeyIndex) (w : Option (BTreeMap ℕ ℕ)) →
     ((q : Key) → get key_cmp new.serials q ≡ cond (is_at (key_cmp key) q) w (get key_cmp old.serials q)) → IsTrim old → IsTrimBeside key new
 trim-beside key old new w h o q f set e k =
     let g = get key_cmp old.serials q in

@@ -4,4 +4,6 @@ pub mod Recency
 pub mod RecencyOrder
 mod KeyedEntries
 mod Indices
+mod MarkLists
 mod IndexedLists
+mod MatchLists

@@ -1,11 +1,13 @@
 -- What finding the serials of a key means.
 use Rattle.std.specs.Prelude.{◌≡◌, ℕ, ◌≤◌, ◌==◌, ◌&&◌, List, [], ◌∷◌}
 use Rattle.std.specs.List.{list_any}
+use Rattle.hx_fields.specs.declared.field_line.Field.{Field}
 use Rattle.hx_target.specs.declared.keys.Key.{Key}
 use Rattle.hx_target.specs.Keys.{same_key}
+use Rattle.hx_vary.specs.Vary.{vary_matches}
 use Rattle.hx_store.specs.Stored.{Stored}
-use Rattle.hx_store.specs.Serials.{is_in}
-use Rattle.hx_store.specs.Shelf.{serials_of}
+use Rattle.hx_store.specs.Serials.{is_in, Distinct}
+use Rattle.hx_store.specs.Shelf.{serials, serials_of, matching_serials}
 
 abbrev pub NoneBelow : ℕ → List ℕ → Type 0
 NoneBelow s [] = Unit {0}
@@ -22,3 +24,12 @@ FindsThoseOfTheKey = (key : Key) (s : ℕ) (es : List Stored) →
 
 abbrev pub FindsAscending : Type 0
 FindsAscending = (key : Key) (es : List Stored) → IsAscending (serials_of key es)
+
+-- and it is found for a request exactly where that entry also nominates what the request has
+abbrev pub FindsThoseThatMatch : Type 0
+FindsThoseThatMatch = (key : Key) (request : List Field) (s : ℕ) (es : List Stored) → Distinct (serials es) →
+    is_in s (matching_serials key request es)
+    ≡ list_any (λ e. vary_matches e.nominated request && (same_key e.key key && (e.serial == s))) es
+
+abbrev pub MatchesAscend : Type 0
+MatchesAscend = (key : Key) (request : List Field) (es : List Stored) → Distinct (serials es) → IsAscending (matching_serials key request es)

@@ -1,51 +1,77 @@
--- An index from keys to serials.
-use Rattle.std.specs.Prelude.{◌≡◌, ℕ, Bool, true, false, not, ◌||◌, ◌==◌, List, [], ◌∷◌, if◌then◌else◌}
+-- An index from keys to serials, each beside the mark of its entry.
+use Rattle.std.specs.Prelude.{◌≡◌, ℕ, Bool, true, false, not, ◌||◌, ◌==◌, List, [], ◌∷◌, if◌then◌else◌, IfSome}
 use Rattle.std.specs.List.{filter}
+use Rattle.std.specs.Map.{keys_of, remove_entry, set_value}
 use Rattle.std.specs.Option.{option_map_or, ForSome}
-use Rattle.std.specs.BTreeMap.{get}
+use Rattle.std.specs.Ordering.{nat_cmp}
+use Rattle.std.specs.BTreeMap.{get, insert_entry, is_at}
 use Rattle.hx_target.specs.declared.keys.Key.{Key}
 use Rattle.hx_target.specs.Keys.{same_key}
 use Rattle.hx_target.specs.KeyOrder.{key_cmp}
 use Rattle.hx_store.specs.declared.key_index.KeyIndex.{KeyIndex}
-use Rattle.hx_store.specs.Serials.{insert_ascending, is_in}
+use Rattle.hx_vary.specs.Marks.{mark_of, may_match}
+use Rattle.hx_store.specs.Serials.{is_in}
 use Rattle.hx_store.specs.Stored.{Stored}
-use Rattle.hx_store.specs.Shelf.{serials_of}
+use Rattle.hx_store.specs.Shelf.{find_entry, serials_of}
 
--- the serials that the index has at a key
+-- the serials that the index has at a key, beside their marks
+abbrev pub marks_at : KeyIndex → Key → List (ℕ × ℕ)
+marks_at index key = option_map_or (λ marks. marks.entries) (get key_cmp index.serials key) []
+
+-- the serials alone
 abbrev pub indexed : KeyIndex → Key → List ℕ
-indexed index key = option_map_or (λ set. set.keys) (get key_cmp index.serials key) []
+indexed index key = keys_of (marks_at index key)
+
+-- the serials whose marks are among these
+abbrev pub may_be_of : List ℕ → List (ℕ × ℕ) → List ℕ
+may_be_of asked marks = keys_of (filter (λ p. may_match p.1 asked) marks)
 
 -- serials but the first that is this one
 abbrev pub but : ℕ → List ℕ → List ℕ
 but s [] = []
 but s (x ∷ xs) = if x == s then xs else x ∷ but s xs
 
--- at a key, what is there once a serial was put in at another, and once one was taken out there
-abbrev pub IsPutIn : KeyIndex → Key → ℕ → KeyIndex → Type 0
-IsPutIn old key s new = (q : Key) → indexed new q ≡ (if same_key key q then insert_ascending s (indexed old q) else indexed old q)
+-- at a key, what is there once a serial was put in at another with its mark, once it was marked anew there, and once it
+-- was taken out there
+abbrev pub IsPutIn : KeyIndex → Key → ℕ → ℕ → KeyIndex → Type 0
+IsPutIn old key s mark new =
+    (q : Key) → marks_at new q ≡ (if same_key key q then insert_entry nat_cmp (marks_at old q) s mark else marks_at old q)
+
+abbrev pub IsMarkedAnew : KeyIndex → Key → ℕ → ℕ → KeyIndex → Type 0
+IsMarkedAnew old key s mark new =
+    (q : Key) → marks_at new q ≡ (if same_key key q then set_value (is_at (nat_cmp s)) (marks_at old q) mark else marks_at old q)
 
 abbrev pub IsTakenOut : KeyIndex → Key → ℕ → KeyIndex → Type 0
-IsTakenOut old key s new = (q : Key) → indexed new q ≡ (if same_key key q then but s (indexed old q) else indexed old q)
+IsTakenOut old key s new =
+    (q : Key) → marks_at new q ≡ (if same_key key q then remove_entry (is_at (nat_cmp s)) (marks_at old q) else marks_at old q)
 
 abbrev pub IsSameIndex : KeyIndex → KeyIndex → Type 0
-IsSameIndex old new = (q : Key) → indexed new q ≡ indexed old q
+IsSameIndex old new = (q : Key) → marks_at new q ≡ marks_at old q
 
 -- the serial was put in where its key has others, and else nothing was done
-abbrev pub IsPutInIf : Bool → KeyIndex → Key → ℕ → KeyIndex → Type 0
-IsPutInIf true old key s new = IsPutIn old key s new
-IsPutInIf false old key s new = IsSameIndex old new × (indexed old key ≡ [])
+abbrev pub IsPutInIf : Bool → KeyIndex → Key → ℕ → ℕ → KeyIndex → Type 0
+IsPutInIf true old key s mark new = IsPutIn old key s mark new
+IsPutInIf false old key s mark new = IsSameIndex old new × (marks_at old key ≡ [])
 
 -- no key is in the index for nothing
 abbrev pub IsTrim : KeyIndex → Type 0
-IsTrim index = (q : Key) → ForSome (get key_cmp index.serials q) (λ set. set.keys ≡ [] → ⊥)
+IsTrim index = (q : Key) → ForSome (get key_cmp index.serials q) (λ marks. marks.entries ≡ [] → ⊥)
 
 -- the same of each key but this one
 abbrev pub IsTrimBeside : Key → KeyIndex → Type 0
-IsTrimBeside key index = (q : Key) → same_key key q ≡ false → ForSome (get key_cmp index.serials q) (λ set. set.keys ≡ [] → ⊥)
+IsTrimBeside key index = (q : Key) → same_key key q ≡ false → ForSome (get key_cmp index.serials q) (λ marks. marks.entries ≡ [] → ⊥)
 
 -- the index has the serials of these entries at each key
 abbrev pub IsIndexOf : List Stored → KeyIndex → Type 0
 IsIndexOf es index = (q : Key) → indexed index q ≡ serials_of q es
+
+-- each mark is that of the entry that its serial finds, if it finds one
+abbrev pub AreMarks : List Stored → List (ℕ × ℕ) → Type 0
+AreMarks es [] = Unit {0}
+AreMarks es (p ∷ ps) = IfSome (find_entry p.0 es) (λ e. p.1 ≡ mark_of e.nominated) × AreMarks es ps
+
+abbrev pub IsMarked : List Stored → KeyIndex → Type 0
+IsMarked es index = (q : Key) → AreMarks es (marks_at index q)
 
 -- the entries but those with these serials, and that of the serial `kept` in any case
 abbrev pub without_others : ℕ → List ℕ → List Stored → List Stored

@@ -1,11 +1,14 @@
 -- What a bounded store holds: a list of entries, the latest stored or used first.
 --
 -- serials, holds, find_entry: the entries by their serials     serials_of: those with a key
+-- is_match: an entry has a request's nominated values          matching_serials: those with a key that have them
 -- without, without_key: the entries that stay                  promoted: one comes first
-use Rattle.std.specs.Prelude.{ℕ, Bool, not, ◌==◌, Option, None, Some, List, [], ◌∷◌, if◌then◌else◌}
+use Rattle.std.specs.Prelude.{ℕ, Bool, false, not, ◌==◌, Option, None, Some, List, [], ◌∷◌, if◌then◌else◌}
 use Rattle.std.specs.List.{filter}
+use Rattle.hx_fields.specs.declared.field_line.Field.{Field}
 use Rattle.hx_target.specs.declared.keys.Key.{Key}
 use Rattle.hx_target.specs.Keys.{same_key}
+use Rattle.hx_vary.specs.Vary.{vary_matches}
 use Rattle.hx_store.specs.Stored.{Stored}
 use Rattle.hx_store.specs.Serials.{is_in, insert_ascending}
 
@@ -33,6 +36,15 @@ without_key key es = filter (λ e. not (same_key e.key key)) es
 abbrev pub serials_of : Key → List Stored → List ℕ
 serials_of key [] = []
 serials_of key (e ∷ es) = if same_key e.key key then insert_ascending e.serial (serials_of key es) else serials_of key es
+
+-- the entry that was found nominates what the request has (RFC 9111, section 4.1)
+abbrev pub is_match : List Field → Option Stored → Bool
+is_match request None = false
+is_match request (Some e) = vary_matches e.nominated request
+
+-- the serials of the entries with this key that nominate what the request has, ascending
+abbrev pub matching_serials : Key → List Field → List Stored → List ℕ
+matching_serials key request es = filter (λ s. is_match request (find_entry s es)) (serials_of key es)
 
 abbrev pub in_front : Option Stored → List Stored → List Stored
 in_front None es = es

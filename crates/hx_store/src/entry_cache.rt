@@ -3,9 +3,13 @@
 //! A call costs a look-up of the serial, whatever is held, and no entry is moved. It has no bound of its own.
 
 ghost use Rattle.std.specs.Prelude.{◌≡◌, ◌-◌, ◌∷◌, [], false, true, length, take, slice_get, option_copied, IfOk, IfErr, OnErr, OnOk, Some};
-ghost use Rattle.hx_store.specs.Shelf.{holds, find_entry, without, promoted};
+ghost use Rattle.std.specs.List.{filter};
+ghost use Rattle.hx_store.specs.Shelf.{holds, find_entry, is_match, without, promoted};
 
 use crate::entries::Entry;
+use crate::serial_list::Serials;
+use hx_fields::Fields;
+use hx_vary::matches;
 use lru::LruCache;
 use std::alloc::{AllocError, Global};
 use std::marker::Model;
@@ -66,6 +70,34 @@ impl EntryCache {
         ensures { option_copied result ≡ find_entry serial self.now }
     {
         self.entries.peek(&serial)
+    }
+
+    /// Those of some serials whose entries nominate what the request has. Fails for want of memory alone.
+    pub(crate) fn matching(
+        &self,
+        alloc: Global,
+        serials: &[u64],
+        request: &Fields,
+    ) -> Result<Serials, AllocError>
+        ensures { IfOk result (λ found. found ≡ filter (λ s. is_match request.now (find_entry s self.now)) serials.now) }
+    {
+        let mut found = Serials::new(alloc);
+        for serial in serials {
+            if self.is_match(alloc, *serial, request)? {
+                found.push(*serial)?;
+            }
+        }
+        Ok(found)
+    }
+
+    /// Whether the entry of this serial is here and nominates what the request has. Fails for want of memory alone.
+    fn is_match(&self, alloc: Global, serial: u64, request: &Fields) -> Result<bool, AllocError>
+        ensures { IfOk result (λ is. is ≡ is_match request.now (find_entry serial self.now)) }
+    {
+        match self.peek(serial) {
+            Some(entry) => matches(alloc, &entry.nominated, request),
+            None => Ok(false),
+        }
     }
 
     /// Puts an entry first. Want of memory changes nothing and hands it back.

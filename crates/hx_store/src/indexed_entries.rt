@@ -2,17 +2,18 @@
 //!
 //! A call costs at most the logarithm of what is held, and no entry is moved. There is no bound of its own.
 
-ghost use Rattle.std.specs.Prelude.{◌≡◌, ◌≤◌, ◌+◌, ◌-◌, ◌∷◌, [], false, true, length, take, slice_get, option_copied, IfOk, IfErr, OnErr, OnOk, Some};
+ghost use Rattle.std.specs.Prelude.{◌≡◌, ◌≤◌, ◌+◌, ◌-◌, ◌==◌, ◌∷◌, [], false, true, not, length, take, slice_get, option_copied, IfOk, IfErr, OnErr, OnOk, Some};
 ghost use Rattle.std.specs.Option.{ForSome};
 ghost use Rattle.hx_target.specs.Keys.{same_key};
 ghost use Rattle.hx_store.specs.Serials.{Distinct};
-ghost use Rattle.hx_store.specs.Shelf.{holds, find_entry, without, serials, serials_of, promoted, without_key};
+ghost use Rattle.hx_store.specs.Shelf.{holds, find_entry, without, serials, serials_of, matching_serials, promoted, without_key};
 ghost use Rattle.hx_store.specs.Index.{without_others};
 
 use crate::entries::Entry;
 use crate::entry_cache::EntryCache;
 use crate::key_index::KeyIndex;
 use crate::serial_list::Serials;
+use hx_fields::Fields;
 use hx_target::Key;
 use std::alloc::{AllocError, Global};
 use std::marker::Model;
@@ -38,7 +39,7 @@ impl Drop for IndexedEntries {
 impl Model for IndexedEntries {
     ghost use Rattle.std.specs.Prelude.{List};
     ghost use Rattle.hx_store.specs.Stored.{Stored};
-    ghost use Rattle.hx_store.specs.Index.{IsIndexOf, IsTrim};
+    ghost use Rattle.hx_store.specs.Index.{IsIndexOf, IsMarked, IsTrim};
     ghost use Rattle.hx_store.specs.Serials.{Distinct};
     ghost use Rattle.hx_store.specs.Shelf.{serials};
 
@@ -46,7 +47,7 @@ impl Model for IndexedEntries {
 
     ghost view = { λ s. s.entries };
 
-    ghost invariant = { λ s. (Distinct (serials s.entries) × IsIndexOf s.entries s.index) × IsTrim s.index };
+    ghost invariant = { λ s. (Distinct (serials s.entries) × IsIndexOf s.entries s.index) × IsTrim s.index × IsMarked s.entries s.index };
 }
 
 impl IndexedEntries {
@@ -98,6 +99,28 @@ impl IndexedEntries {
         self.index.first(key)
     }
 
+    /// Whether an entry with this key is here. No memory is taken.
+    pub(crate) fn has_key(&self, key: &Key) -> bool
+        ensures { result ≡ not (length (serials_of key.now self.now) == 0) }
+    {
+        self.index.has(key)
+    }
+
+    /// The serials of the entries with this key whose nominated values the request has, ascending. An entry is looked at
+    /// only where its mark may match. Fails for want of memory alone.
+    pub(crate) fn find_matching(
+        &self,
+        alloc: Global,
+        key: &Key,
+        request: &Fields,
+    ) -> Result<Serials, AllocError>
+        ensures found { IfOk result (λ found. found ≡ matching_serials key.now request.now self.now) }
+        ensures distinct { Distinct (serials self.now) }
+    {
+        let marked = self.index.find_marked(alloc, key, request)?;
+        self.entries.matching(alloc, marked.as_slice(), request)
+    }
+
     /// Puts an entry first. Want of memory changes nothing and hands it back.
     pub(crate) fn store(&mut self, entry: Entry) -> Result<(), Entry>
         requires { holds entry.serial self.old ≡ false }
@@ -106,7 +129,12 @@ impl IndexedEntries {
         ensures given_back { IfErr result (λ e. e ≡ entry) }
     {
         let serial = entry.serial;
-        if self.index.insert(self.alloc, &entry.key, serial).is_err() {
+        let mark = entry.nominated.mark();
+        if self
+            .index
+            .insert(self.alloc, &entry.key, serial, mark)
+            .is_err()
+        {
             return Err(entry);
         }
         match self.entries.store(entry) {
@@ -125,6 +153,8 @@ impl IndexedEntries {
         ensures value { find_entry entry.serial self.old ≡ Some result }
         ensures entries { self.new ≡ entry ∷ without (entry.serial ∷ []) self.old }
     {
+        self.index
+            .mark(&entry.key, entry.serial, entry.nominated.mark());
         self.entries.replace(entry)
     }
 

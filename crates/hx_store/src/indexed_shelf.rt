@@ -7,6 +7,7 @@ use crate::entries::Entry;
 use crate::indexed_entries::IndexedEntries;
 use crate::serial_list::Serials;
 use crate::shelves::Shelf;
+use hx_fields::Fields;
 use hx_target::Key;
 use std::alloc::{AllocError, Global};
 use std::marker::Model;
@@ -77,6 +78,19 @@ impl Shelf for IndexedShelf {
 
     fn find(&self, alloc: Global, key: &Key) -> Result<Serials, AllocError> {
         self.held.find(alloc, key)
+    }
+
+    fn has_key(&self, key: &Key) -> bool {
+        self.held.has_key(key)
+    }
+
+    fn find_matching(
+        &self,
+        alloc: Global,
+        key: &Key,
+        request: &Fields,
+    ) -> Result<Serials, AllocError> {
+        self.held.find_matching(alloc, key, request)
     }
 
     fn put(&mut self, entry: Entry, replaced: &[u64]) -> Result<Option<Entry>, Entry> {

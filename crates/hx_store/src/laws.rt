@@ -5,7 +5,7 @@ ghost use Rattle.hx_store.specs.Serials.{is_in};
 ghost use Rattle.hx_store.specs.Stored.{Stored};
 ghost use Rattle.hx_store.specs.Recency.{Done, Held, IsLater, Listed, bounded_of, held_of, place, recent_after, recent_of};
 ghost use Rattle.hx_store.specs.Shelf.{find_entry, holds, promoted, serials, serials_of, without, without_key};
-ghost use Rattle.hx_store.specs.Found.{FindsThoseOfTheKey, FindsAscending};
+ghost use Rattle.hx_store.specs.Found.{FindsThoseOfTheKey, FindsAscending, FindsThoseThatMatch, MatchesAscend};
 ghost use Rattle.hx_store.specs.Cases.{key_of, first, second, third, fourth};
 
 /// A store of two entries, 2 and 1: entry 3 replaces 2, entry 4 turns 1 out, and 3 is used.
@@ -32,6 +32,13 @@ pub fn what_is_held_is_found()
 pub fn found_serials_are_those_of_the_key()
     ensures those { FindsThoseOfTheKey }
     ensures ascending { FindsAscending }
+{}
+
+/// What is found of a key for a request is the serial of each entry with that key that nominates what the request has,
+/// and no other, ascending.
+pub fn found_matches_nominate_what_is_asked()
+    ensures those { FindsThoseThatMatch }
+    ensures ascending { MatchesAscend }
 {}
 
 /// The place of a serial is how many stand before it, and one that isn't listed has all before it.

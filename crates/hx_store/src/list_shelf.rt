@@ -1,13 +1,17 @@
 //! A shelf that is a list. A call costs one pass over the entries.
 
 ghost use Rattle.std.specs.Prelude.{◌≡◌, ◌<◌, ◌≤◌, ◌+◌, ◌==◌, ◌∷◌, [], length, position, take, slice_get, vec_capacity, MatchOption, IsOk, OnOk, OnErr, IfOk, IfErr, false};
+ghost use Rattle.std.specs.List.{list_any};
+ghost use Rattle.hx_target.specs.Keys.{same_key};
 ghost use Rattle.hx_store.specs.Places.{IsAbsent, IsPlace};
 ghost use Rattle.hx_store.specs.Shelf.{holds, without, without_key};
 
 use crate::entries::Entry;
 use crate::serial_list::Serials;
 use crate::shelves::Shelf;
+use hx_fields::Fields;
 use hx_target::Key;
+use hx_vary::matches;
 use std::alloc::{AllocError, Global};
 use std::marker::Model;
 
@@ -63,6 +67,13 @@ impl ListShelf {
     {
         self.entries.iter().position(|e| e.has_serial(serial))
     }
+}
+
+/// Whether an entry has this key.
+fn stands(entries: &[Entry], key: &Key) -> bool
+    ensures { result ≡ list_any (λ e. same_key e.key key.now) entries.now }
+{
+    entries.iter().any(|e| e.has_key(key))
 }
 
 /// The entry comes first, in place of those with the serials in `replaced`.
@@ -130,6 +141,28 @@ impl Shelf for ListShelf {
             rest -= 1;
             let entry = &self.entries[rest];
             if entry.has_key(key) {
+                found.insert(entry.serial)?;
+            }
+        }
+        Ok(found)
+    }
+
+    fn has_key(&self, key: &Key) -> bool {
+        stands(self.entries.as_slice(), key)
+    }
+
+    fn find_matching(
+        &self,
+        alloc: Global,
+        key: &Key,
+        request: &Fields,
+    ) -> Result<Serials, AllocError> {
+        let mut found = Serials::new(alloc);
+        let mut rest = self.entries.len();
+        while rest > 0 {
+            rest -= 1;
+            let entry = &self.entries[rest];
+            if entry.has_key(key) && matches(alloc, &entry.nominated, request)? {
                 found.insert(entry.serial)?;
             }
         }

@@ -3,14 +3,15 @@
 //! Every shelf meets the same clauses. What is true of each of them, that no serial stands twice and that
 //! no more entries stand than its capacity, is promised by `find` and `len`.
 
-ghost use Rattle.std.specs.Prelude.{◌≡◌, ◌<◌, ◌≤◌, ◌-◌, ℕ, List, [], ◌∷◌, false, true, length, take, slice_get, option_copied, IfOk, IfErr, IsOk, OnErr, OnOk, Some};
+ghost use Rattle.std.specs.Prelude.{◌≡◌, ◌<◌, ◌≤◌, ◌-◌, ◌==◌, ℕ, List, [], ◌∷◌, false, true, not, length, take, slice_get, option_copied, IfOk, IfErr, IsOk, OnErr, OnOk, Some};
 ghost use Rattle.std.specs.Option.{ForSome};
 ghost use Rattle.hx_target.specs.Keys.{same_key};
 ghost use Rattle.hx_store.specs.Serials.{Distinct};
-ghost use Rattle.hx_store.specs.Shelf.{holds, find_entry, without, without_key, serials, serials_of, promoted};
+ghost use Rattle.hx_store.specs.Shelf.{holds, find_entry, without, without_key, serials, serials_of, matching_serials, promoted};
 
 use crate::entries::Entry;
 use crate::serial_list::Serials;
+use hx_fields::Fields;
 use hx_target::Key;
 use std::alloc::{AllocError, Global};
 
@@ -47,6 +48,21 @@ pub trait Shelf {
     /// The serials of the entries with this key, ascending. Fails for want of memory alone.
     fn find(&self, alloc: Global, key: &Key) -> Result<Serials, AllocError>
         ensures found { IfOk result (λ found. found ≡ serials_of key.now (entries self.now)) }
+        ensures distinct { Distinct (serials (entries self.now)) };
+
+    /// Whether an entry with this key is held. No memory is taken.
+    fn has_key(&self, key: &Key) -> bool
+        ensures { result ≡ not (length (serials_of key.now (entries self.now)) == 0) };
+
+    /// The serials of the entries with this key whose nominated values the request has, ascending. Fails for want of
+    /// memory alone.
+    fn find_matching(
+        &self,
+        alloc: Global,
+        key: &Key,
+        request: &Fields,
+    ) -> Result<Serials, AllocError>
+        ensures found { IfOk result (λ found. found ≡ matching_serials key.now request.now (entries self.now)) }
         ensures distinct { Distinct (serials (entries self.now)) };
 
     /// Stores an entry, first, in place of those with the serials in `replaced`. Where more than the capacity

@@ -1,6 +1,6 @@
 use Rattle.std.proofs.Common.{◌≡◌, ◌-◌, length, slice_get, Some, subst, sym, ◌∙◌}
-use Rattle.hx_store.specs.Index.{IsTakenOut}
-use Rattle.hx_store.proofs.IndexedLists.{IsKept, kept-last, last-none}
+use Rattle.hx_store.specs.Index.{IsMarked, IsTakenOut}
+use Rattle.hx_store.proofs.IndexedLists.{IsKept, kept-last, last-none, marked-last}
 use Rattle.hx_store.proofs.indexed_entries.IndexedEntries.pop_last.Goals as goal
 
 pub invariant_of-self : goal.invariant_of-self
@@ -9,10 +9,18 @@ invariant_of-self c =
     let last : slice_get es (length es - 1) ≡ Some c.in-Some.entry = sym c.pop_last.ensures.value ∙ c.in-Some.is in
     let taken : IsTakenOut c.self.inside.index c.in-Some.entry.key c.in-Some.entry.serial c.remove.new.self =
     subst (λ e. IsTakenOut c.self.inside.index e.key e.serial c.remove.new.self) c.entry.view_is c.remove.ensures.taken in
-    rw c.pop_last.ensures.entries (kept-last es c.in-Some.entry c.self.inside.index c.remove.new.self last taken c.self.invariant.0, c.remove.ensures.trim c.self.invariant.1)
+    rw c.pop_last.ensures.entries (
+      kept-last es c.in-Some.entry c.self.inside.index c.remove.new.self last taken c.self.invariant.0,
+      c.remove.ensures.trim c.self.invariant.1,
+      marked-last es c.in-Some.entry c.self.inside.index c.remove.new.self c.self.invariant.0.0 last taken c.self.invariant.2,
+    )
 
 pub invariant_of-self-in-None : goal.invariant_of-self-in-None
 invariant_of-self-in-None c =
     let es = c.self.inside.entries in
     let same = last-none es (sym c.pop_last.ensures.value ∙ c.in-None.is) in
-    rw c.pop_last.ensures.entries (subst (λ zs. IsKept zs c.self.inside.index) (sym same) c.self.invariant.0, c.self.invariant.1)
+    rw c.pop_last.ensures.entries (
+      subst (λ zs. IsKept zs c.self.inside.index) (sym same) c.self.invariant.0,
+      c.self.invariant.1,
+      subst (λ zs. IsMarked zs c.self.inside.index) (sym same) c.self.invariant.2,
+    )

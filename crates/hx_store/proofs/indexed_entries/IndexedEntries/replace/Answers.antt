@@ -1,10 +1,20 @@
-use Rattle.std.proofs.Common.{rules, ◌≡◌, true, refl}
+use Rattle.std.proofs.Common.{rules, ◌≡◌, true, subst, refl}
 use Rattle.hx_target.specs.Keys.{same_key}
-use Rattle.hx_store.proofs.IndexedLists.{kept-front}
+use Rattle.hx_vary.specs.Marks.{mark_of}
+use Rattle.hx_store.specs.Index.{IsMarkedAnew}
+use Rattle.hx_store.proofs.IndexedLists.{kept-anew, marked-anew}
 use Rattle.hx_store.proofs.indexed_entries.IndexedEntries.replace.Goals as goal
 
 pub invariant_of-self : goal.invariant_of-self
 invariant_of-self c =
+    let es = c.self.inside.entries in
+    let x = c.args.entry in
     let found = c.replace.ensures.value in
-    let same : same_key c.replace.result.key c.args.entry.key ≡ true = search rules in
-    rw c.replace.ensures.entries (kept-front c.args.entry.serial c.self.inside.entries c.replace.result c.args.entry c.self.inside.index found refl same c.self.invariant.0, c.self.invariant.1)
+    let same : same_key c.replace.result.key x.key ≡ true = search rules in
+    let anew : IsMarkedAnew c.self.inside.index x.key x.serial (mark_of x.nominated) c.mark-2.new.self =
+    subst (λ e. IsMarkedAnew c.self.inside.index e.key e.serial (mark_of e.nominated) c.mark-2.new.self) c.entry.view_is (search rules) in
+    rw c.replace.ensures.entries (
+      kept-anew x.key x.serial (mark_of x.nominated) es c.replace.result x c.self.inside.index c.mark-2.new.self found refl same anew c.self.invariant.0,
+      c.mark-2.ensures.trim c.self.invariant.1,
+      marked-anew x.serial es c.replace.result x c.self.inside.index c.mark-2.new.self found refl same anew c.self.invariant.0 c.self.invariant.2,
+    )

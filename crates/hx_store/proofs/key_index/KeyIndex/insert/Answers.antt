@@ -1,12 +1,12 @@
 use Rattle.std.proofs.Common.{rules, ◌≡◌, cond, ap, subst, sym, ◌∙◌, Some, []}
-use Rattle.std.specs.BTreeMap.{get, is_at}
+use Rattle.std.specs.Ordering.{nat_cmp}
+use Rattle.std.specs.BTreeMap.{get, insert_entry, is_at}
 use Rattle.hx_target.specs.declared.keys.Key.{Key}
 use Rattle.hx_target.specs.Keys.{same_key}
 use Rattle.hx_target.specs.KeyOrder.{key_cmp}
 use Rattle.hx_store.specs.declared.key_index.KeyIndex.{KeyIndex}
-use Rattle.hx_store.specs.Serials.{insert_ascending}
-use Rattle.hx_store.specs.Index.{indexed, IsSameIndex}
-use Rattle.hx_store.proofs.Indices.{changed, not_nothing, some_has, trim-same, trim-written, written}
+use Rattle.hx_store.specs.Index.{marks_at, IsSameIndex}
+use Rattle.hx_store.proofs.Indices.{changed, not_unmarked, some_has, trim-same, trim-written, written}
 use Rattle.hx_store.proofs.key_index.KeyIndex.insert.Goals as goal
 
 pub returns-clause-ok : goal.returns-clause-ok
@@ -14,22 +14,22 @@ returns-clause-ok c =
     let old = c.args.self.now in
     let mid = c.insert_beside.new.self in
     let new : KeyIndex = record { serials = c.insert.new.self } in
-    let b : IsSameIndex old mid × (indexed old c.args.key.now ≡ []) = search rules in
+    let b : IsSameIndex old mid × (marks_at old c.args.key.now ≡ []) = search rules in
     let k : c.in_ok-copy.field-0 ≡ c.args.key.now = search rules in
-    let u : (q : Key) → get key_cmp c.insert.new.self q ≡ cond (is_at (key_cmp c.args.key.now) q) (Some c.in_ok-serials.serials) (get key_cmp mid.serials q) =
-    subst (λ z. (q : Key) → get key_cmp c.insert.new.self q ≡ cond (is_at (key_cmp z) q) (Some c.in_ok-serials.serials) (get key_cmp mid.serials q)) k c.in_ok-insert.ensures.updates.0 in
-    let w = written c.args.key.now mid new (Some c.in_ok-serials.serials) u in
-    let s : c.in_ok-serials.serials.keys ≡ insert_ascending c.args.serial (indexed old c.args.key.now) =
-    c.in_ok-serials.ensures ∙ ap (insert_ascending c.args.serial) (sym b.1) in
-    changed (insert_ascending c.args.serial) c.args.key.now old new _
-    (λ q. w q ∙ ap (cond (same_key c.args.key.now q) c.in_ok-serials.serials.keys) (b.0 q)) s
+    let u : (q : Key) → get key_cmp c.insert.new.self q ≡ cond (is_at (key_cmp c.args.key.now) q) (Some c.in_ok-marks.marks) (get key_cmp mid.serials q) =
+    subst (λ z. (q : Key) → get key_cmp c.insert.new.self q ≡ cond (is_at (key_cmp z) q) (Some c.in_ok-marks.marks) (get key_cmp mid.serials q)) k c.in_ok-insert.ensures.updates.0 in
+    let w = written c.args.key.now mid new (Some c.in_ok-marks.marks) u in
+    let s : c.in_ok-marks.marks.entries ≡ insert_entry nat_cmp (marks_at old c.args.key.now) c.args.serial c.args.mark =
+    c.in_ok-marks.ensures ∙ ap (λ ps. insert_entry nat_cmp ps c.args.serial c.args.mark) (sym b.1) in
+    changed (λ ps. insert_entry nat_cmp ps c.args.serial c.args.mark) c.args.key.now old new _
+    (λ q. w q ∙ ap (cond (same_key c.args.key.now q) c.in_ok-marks.marks.entries) (b.0 q)) s
 
 pub returns-clause-trim : goal.returns-clause-trim
 returns-clause-trim c o =
     let mid = c.insert_beside.new.self in
     let new : KeyIndex = record { serials = c.insert.new.self } in
-    trim-written c.in_ok-copy.field-0 mid new (Some c.in_ok-serials.serials) c.in_ok-insert.ensures.updates.0
-    (some_has c.in_ok-serials.serials (λ k. not_nothing c.args.serial [] (sym c.in_ok-serials.ensures ∙ k))) (c.insert_beside.ensures.trim o)
+    trim-written c.in_ok-copy.field-0 mid new (Some c.in_ok-marks.marks) c.in_ok-insert.ensures.updates.0
+    (some_has c.in_ok-marks.marks (λ k. not_unmarked c.args.serial c.args.mark [] (sym c.in_ok-marks.ensures ∙ k))) (c.insert_beside.ensures.trim o)
 
 pub returns-in_err-insert-clause-trim : goal.returns-in_err-insert-clause-trim
 returns-in_err-insert-clause-trim c o =

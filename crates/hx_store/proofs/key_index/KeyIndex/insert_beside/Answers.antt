@@ -1,55 +1,55 @@
 use Rattle.std.proofs.Common.{rules, ◌≡◌, ap, sym, ◌∙◌, Some, is_some}
-use Rattle.std.specs.BTreeMap.{WritesThrough, get_by}
+use Rattle.std.specs.Ordering.{nat_cmp}
+use Rattle.std.specs.BTreeMap.{WritesThrough, get_by, insert_entry}
 use Rattle.hx_target.specs.KeyOrder.{key_cmp}
 use Rattle.hx_store.specs.declared.key_index.KeyIndex.{KeyIndex}
-use Rattle.hx_store.specs.Serials.{insert_ascending}
-use Rattle.hx_store.specs.Index.{indexed, IsSameIndex}
-use Rattle.hx_store.proofs.Indices.{changed, not_nothing, some_has, trim-same, trim-written, unchanged, written}
+use Rattle.hx_store.specs.Index.{marks_at, IsSameIndex}
+use Rattle.hx_store.proofs.Indices.{changed, not_unmarked, some_has, trim-same, trim-written, unchanged, written}
 use Rattle.hx_store.proofs.key_index.KeyIndex.insert_beside.Goals as goal
 
-pub returns-in_err-insert_new-in-Some-clause-err : goal.returns-in_err-insert_new-in-Some-clause-err
-returns-in_err-insert_new-in-Some-clause-err c =
+pub returns-in_err-insert_mark-in-Some-clause-err : goal.returns-in_err-insert_mark-in-Some-clause-err
+returns-in_err-insert_mark-in-Some-clause-err c =
     let old = c.args.self.now in
-    let set = c.insert_new.new.serials in
+    let set = c.insert_mark.new.marks in
     let new : KeyIndex = record { serials = c.get_mut.follows.lender set } in
     let u : WritesThrough key_cmp (key_cmp c.args.key.now) old.serials set new.serials = search rules in
-    let m : get_by (key_cmp c.args.key.now) old.serials ≡ Some c.in-Some.serials.now = search rules in
-    let e : indexed old c.args.key.now ≡ c.in-Some.serials.now.keys = search rules in
-    let k : set.keys ≡ indexed old c.args.key.now = c.in_err-insert_new-in-Some.ensures.err ∙ sym e in
+    let m : get_by (key_cmp c.args.key.now) old.serials ≡ Some c.in-Some.marks.now = search rules in
+    let e : marks_at old c.args.key.now ≡ c.in-Some.marks.now.entries = search rules in
+    let k : set.entries ≡ marks_at old c.args.key.now = c.in_err-insert_mark-in-Some.ensures.err ∙ sym e in
     let same : IsSameIndex old new = unchanged c.args.key.now old new _ (written c.args.key.now old new (Some set) (u.3 (ap is_some m)).0) k in
     search rules
 
-pub returns-in_ok-insert_new-in-Some-clause-ok : goal.returns-in_ok-insert_new-in-Some-clause-ok
-returns-in_ok-insert_new-in-Some-clause-ok c =
+pub returns-in_ok-insert_mark-in-Some-clause-ok : goal.returns-in_ok-insert_mark-in-Some-clause-ok
+returns-in_ok-insert_mark-in-Some-clause-ok c =
     let old = c.args.self.now in
-    let set = c.insert_new.new.serials in
+    let set = c.insert_mark.new.marks in
     let new : KeyIndex = record { serials = c.get_mut.follows.lender set } in
     let u : WritesThrough key_cmp (key_cmp c.args.key.now) old.serials set new.serials = search rules in
-    let m : get_by (key_cmp c.args.key.now) old.serials ≡ Some c.in-Some.serials.now = search rules in
-    let e : indexed old c.args.key.now ≡ c.in-Some.serials.now.keys = search rules in
-    let k : set.keys ≡ insert_ascending c.args.serial (indexed old c.args.key.now) =
-    c.in_ok-insert_new-in-Some.ensures.ok ∙ ap (insert_ascending c.args.serial) (sym e) in
-    changed (insert_ascending c.args.serial) c.args.key.now old new _ (written c.args.key.now old new (Some set) (u.3 (ap is_some m)).0) k
+    let m : get_by (key_cmp c.args.key.now) old.serials ≡ Some c.in-Some.marks.now = search rules in
+    let e : marks_at old c.args.key.now ≡ c.in-Some.marks.now.entries = search rules in
+    let k : set.entries ≡ insert_entry nat_cmp (marks_at old c.args.key.now) c.args.serial c.args.mark =
+    c.in_ok-insert_mark-in-Some.ensures.ok ∙ ap (λ ps. insert_entry nat_cmp ps c.args.serial c.args.mark) (sym e) in
+    changed (λ ps. insert_entry nat_cmp ps c.args.serial c.args.mark) c.args.key.now old new _ (written c.args.key.now old new (Some set) (u.3 (ap is_some m)).0) k
 
-pub returns-in_err-insert_new-in-Some-clause-trim : goal.returns-in_err-insert_new-in-Some-clause-trim
-returns-in_err-insert_new-in-Some-clause-trim c o =
+pub returns-in_err-insert_mark-in-Some-clause-trim : goal.returns-in_err-insert_mark-in-Some-clause-trim
+returns-in_err-insert_mark-in-Some-clause-trim c o =
     let old = c.args.self.now in
-    let set = c.insert_new.new.serials in
+    let set = c.insert_mark.new.marks in
     let new : KeyIndex = record { serials = c.get_mut.follows.lender set } in
     let u : WritesThrough key_cmp (key_cmp c.args.key.now) old.serials set new.serials = search rules in
-    let m : get_by (key_cmp c.args.key.now) old.serials ≡ Some c.in-Some.serials.now = search rules in
+    let m : get_by (key_cmp c.args.key.now) old.serials ≡ Some c.in-Some.marks.now = search rules in
     trim-written c.args.key.now old new (Some set) (u.3 (ap is_some m)).0
-    (some_has set (λ k. o c.args.key.now c.in-Some.serials.now m (sym c.in_err-insert_new-in-Some.ensures.err ∙ k))) o
+    (some_has set (λ k. o c.args.key.now c.in-Some.marks.now m (sym c.in_err-insert_mark-in-Some.ensures.err ∙ k))) o
 
-pub returns-in_ok-insert_new-in-Some-clause-trim : goal.returns-in_ok-insert_new-in-Some-clause-trim
-returns-in_ok-insert_new-in-Some-clause-trim c o =
+pub returns-in_ok-insert_mark-in-Some-clause-trim : goal.returns-in_ok-insert_mark-in-Some-clause-trim
+returns-in_ok-insert_mark-in-Some-clause-trim c o =
     let old = c.args.self.now in
-    let set = c.insert_new.new.serials in
+    let set = c.insert_mark.new.marks in
     let new : KeyIndex = record { serials = c.get_mut.follows.lender set } in
     let u : WritesThrough key_cmp (key_cmp c.args.key.now) old.serials set new.serials = search rules in
-    let m : get_by (key_cmp c.args.key.now) old.serials ≡ Some c.in-Some.serials.now = search rules in
+    let m : get_by (key_cmp c.args.key.now) old.serials ≡ Some c.in-Some.marks.now = search rules in
     trim-written c.args.key.now old new (Some set) (u.3 (ap is_some m)).0
-    (some_has set (λ k. not_nothing c.args.serial c.in-Some.serials.now.keys (sym c.in_ok-insert_new-in-Some.ensures.ok ∙ k))) o
+    (some_has set (λ k. not_unmarked c.args.serial c.args.mark c.in-Some.marks.now.entries (sym c.in_ok-insert_mark-in-Some.ensures.ok ∙ k))) o
 
 pub returns-in-None-clause-trim : goal.returns-in-None-clause-trim
 returns-in-None-clause-trim c o =

@@ -1,29 +1,31 @@
 use Rattle.std.specs.Bool.{OnFalse}
 use Rattle.std.proofs.lemmas.Bool.{false≢true}
 use Rattle.std.proofs.Common.{rules, ◌≡◌, Bool, true, false, refl, length, ap, sym, ◌∙◌, Some, is_some}
-use Rattle.std.specs.BTreeMap.{WritesThrough, get_by}
+use Rattle.std.specs.Ordering.{nat_cmp}
+use Rattle.std.specs.Map.{remove_entry}
+use Rattle.std.specs.BTreeMap.{WritesThrough, get_by, is_at}
 use Rattle.hx_target.specs.KeyOrder.{key_cmp}
 use Rattle.hx_store.specs.declared.key_index.KeyIndex.{KeyIndex}
-use Rattle.hx_store.specs.Index.{indexed, but, IsTrim}
-use Rattle.hx_store.proofs.Indices.{changed, remove-first, some_has, trim-beside, trim-same, trim-written, written}
+use Rattle.hx_store.specs.Index.{marks_at, IsTrim}
+use Rattle.hx_store.proofs.Indices.{changed, some_has, trim-beside, trim-same, trim-written, written}
 use Rattle.hx_store.proofs.key_index.KeyIndex.take_out.Goals as goal
 
 pub returns-in-Some-clause-taken : goal.returns-in-Some-clause-taken
 returns-in-Some-clause-taken c =
     let new : KeyIndex = record { serials = c.get_mut.follows.lender c.remove.new.self } in
     let u : WritesThrough key_cmp (key_cmp c.args.key.now) c.args.self.now.serials c.remove.new.self new.serials = search rules in
-    let m : get_by (key_cmp c.args.key.now) c.args.self.now.serials ≡ Some c.in-Some.serials.now = search rules in
-    let e : indexed c.args.self.now c.args.key.now ≡ c.in-Some.serials.now.keys = search rules in
-    let k : c.remove.new.self.keys ≡ but c.args.serial (indexed c.args.self.now c.args.key.now) =
-    c.remove.ensures.keys ∙ remove-first c.args.serial c.in-Some.serials.now.keys ∙ ap (but c.args.serial) (sym e) in
-    changed (but c.args.serial) c.args.key.now c.args.self.now new _
+    let m : get_by (key_cmp c.args.key.now) c.args.self.now.serials ≡ Some c.in-Some.marks.now = search rules in
+    let e : marks_at c.args.self.now c.args.key.now ≡ c.in-Some.marks.now.entries = search rules in
+    let k : c.remove.new.self.entries ≡ remove_entry (is_at (nat_cmp c.args.serial)) (marks_at c.args.self.now c.args.key.now) =
+    c.remove.ensures.entries ∙ ap (remove_entry (is_at (nat_cmp c.args.serial))) (sym e) in
+    changed (remove_entry (is_at (nat_cmp c.args.serial))) c.args.key.now c.args.self.now new _
     (written c.args.key.now c.args.self.now new (Some c.remove.new.self) (u.3 (ap is_some m)).0) k
 
 pub returns-in-Some-clause-trim_beside : goal.returns-in-Some-clause-trim_beside
 returns-in-Some-clause-trim_beside c o =
     let new : KeyIndex = record { serials = c.get_mut.follows.lender c.remove.new.self } in
     let u : WritesThrough key_cmp (key_cmp c.args.key.now) c.args.self.now.serials c.remove.new.self new.serials = search rules in
-    let m : get_by (key_cmp c.args.key.now) c.args.self.now.serials ≡ Some c.in-Some.serials.now = search rules in
+    let m : get_by (key_cmp c.args.key.now) c.args.self.now.serials ≡ Some c.in-Some.marks.now = search rules in
     trim-beside c.args.key.now c.args.self.now new (Some c.remove.new.self) (u.3 (ap is_some m)).0 o
 
 on_false : (b : Bool) (P : Type 0) → (b ≡ false → P) → OnFalse b P
@@ -34,7 +36,7 @@ pub returns-in-Some-clause-trim : goal.returns-in-Some-clause-trim
 returns-in-Some-clause-trim c o =
     let new : KeyIndex = record { serials = c.get_mut.follows.lender c.remove.new.self } in
     let u : WritesThrough key_cmp (key_cmp c.args.key.now) c.args.self.now.serials c.remove.new.self new.serials = search rules in
-    let m : get_by (key_cmp c.args.key.now) c.args.self.now.serials ≡ Some c.in-Some.serials.now = search rules in
+    let m : get_by (key_cmp c.args.key.now) c.args.self.now.serials ≡ Some c.in-Some.marks.now = search rules in
     on_false c.is_empty.result (IsTrim new) (λ f. trim-written c.args.key.now c.args.self.now new (Some c.remove.new.self) (u.3 (ap is_some m)).0
     (some_has c.remove.new.self (λ k. false≢true (sym f ∙ c.is_empty.ensures.1 (ap length k)))) o)
 

@@ -1,0 +1,218 @@
+-- Serials beside the marks of their entries, as entries come and go.
+use Rattle.std.proofs.Common.{◌≡◌, ℕ, Bool, true, false, not, cond, ◌||◌, eqb, Option, None, Some, List, [], ◌∷◌, length, slice_get, is_some, refl, sym, ◌∙◌, ap, subst, arith, inl, inr, ◌⊎◌}
+use Rattle.std.specs.Prelude.{IfSome}
+use Rattle.std.specs.List.{filter, list_any}
+use Rattle.std.specs.Map.{keys_of, lookup, values_of, remove_entry, set_value}
+use Rattle.std.specs.Ordering.{nat_cmp, match_ordering}
+use Rattle.std.specs.declared.cmp.Ordering.{Ordering}
+use Rattle.std.specs.declared.cmp.Ordering.TheVariants.{Less, Equal, Greater}
+use Rattle.std.specs.BTreeMap.{insert_entry, is_at}
+use Rattle.std.proofs.lemmas.Bool.{cases_Bool, eq-eqb, eqb-true, false≢true, or_parts}
+use Rattle.std.proofs.lemmas.Bool.Decides.{nat_tests}
+use Rattle.hx_fields.specs.declared.field_line.Field.{Field}
+use Rattle.hx_vary.specs.Marks.{mark_of, marks_of, may_match}
+use Rattle.hx_vary.proofs.MarkLemmas.{misses_nothing}
+use Rattle.hx_store.specs.Serials.{is_in, insert_ascending}
+use Rattle.hx_store.specs.Stored.{Stored}
+use Rattle.hx_store.specs.Shelf.{find_entry, is_match, without, holds}
+use Rattle.hx_store.specs.Index.{AreMarks, but, may_be_of}
+use Rattle.hx_store.proofs.EntryLists.{eqb_comm, not_only, find_none, find-serial, without_gone}
+
+-- ---- the serials alone
+
+put-step : (s m : ℕ) (p : ℕ × ℕ) (ps : List (ℕ × ℕ)) → keys_of (insert_entry nat_cmp ps s m) ≡ insert_ascending s (keys_of ps) → eqb p.0 s ≡ false →
+    keys_of (insert_entry nat_cmp (p ∷ ps) s m) ≡ insert_ascending s (keys_of (p ∷ ps))
+put-step s m p ps h n = grind (arith, nat_tests, h)
+
+pub keys-put : (s m : ℕ) (ps : List (ℕ × ℕ)) → is_in s (keys_of ps) ≡ false →
+    keys_of (insert_entry nat_cmp ps s m) ≡ insert_ascending s (keys_of ps)
+keys-put s m [] h = refl
+keys-put s m (p ∷ ps) h = let q = or_parts (eqb p.0 s) (is_in s (keys_of ps)) h in put-step s m p ps (keys-put s m ps q.1) q.0
+
+pub keys-marked : (test : ℕ → Bool) (m : ℕ) (ps : List (ℕ × ℕ)) → keys_of (set_value test ps m) ≡ keys_of ps
+keys-marked test m [] = refl
+keys-marked test m (p ∷ ps) =
+    elim (test p.0) as (λ b. keys_of (cond b ((p.0, m) ∷ ps) (p ∷ set_value test ps m)) ≡ p.0 ∷ keys_of ps) [
+      | true ↦ refl
+      | false ↦ ap (λ xs. p.0 ∷ xs) (keys-marked test m ps)
+    ]
+
+pub at-eqb : (s t : ℕ) → is_at (nat_cmp s) t ≡ eqb t s
+at-eqb s t = grind (arith, nat_tests)
+
+pub keys-removed : (s : ℕ) (ps : List (ℕ × ℕ)) → keys_of (remove_entry (is_at (nat_cmp s)) ps) ≡ but s (keys_of ps)
+keys-removed s [] = refl
+keys-removed s (p ∷ ps) =
+    ap (λ b. keys_of (cond b ps (p ∷ remove_entry (is_at (nat_cmp s)) ps))) (at-eqb s p.0)
+    ∙ (elim (eqb p.0 s) as (λ b. keys_of (cond b ps (p ∷ remove_entry (is_at (nat_cmp s)) ps)) ≡ cond b (keys_of ps) (p.0 ∷ but s (keys_of ps))) [
+      | true ↦ refl
+      | false ↦ ap (λ xs. p.0 ∷ xs) (keys-removed s ps)
+    ])
+
+pub has-first : (xs : List ℕ) → is_some (slice_get xs 0) ≡ not (eqb (length xs) 0)
+has-first [] = refl
+has-first (x ∷ xs) = grind (arith, nat_tests)
+
+-- ---- a new mark
+
+pub set_absent : (test : ℕ → Bool) (ps : List (ℕ × ℕ)) (m : ℕ) → lookup test ps ≡ None → set_value test ps m ≡ ps
+set_absent test [] m h = refl
+set_absent test (p ∷ ps) m h = elim (cases_Bool (test p.0)) [
+  | inl t ↦ (
+      let both : Some p.1 ≡ None = sym (ap (λ b. cond b (Some p.1) (lookup test ps)) t) ∙ h in
+      absurd cc
+      )
+  | inr f ↦ ap (λ b. cond b ((p.0, m) ∷ ps) (p ∷ set_value test ps m)) f
+      ∙ ap (λ qs. p ∷ qs) (set_absent test ps m (sym (ap (λ b. cond b (Some p.1) (lookup test ps)) f) ∙ h))
+]
+
+not_cleared : (b : Bool) (p q : ℕ × ℕ) (ps qs : List (ℕ × ℕ)) → cond b (p ∷ ps) (q ∷ qs) ≡ [] → ⊥
+not_cleared true p q ps qs h = cc
+not_cleared false p q ps qs h = cc
+
+pub set_nothing : (test : ℕ → Bool) (ps : List (ℕ × ℕ)) (m : ℕ) → set_value test ps m ≡ [] → ps ≡ []
+set_nothing test [] m h = refl
+set_nothing test (p ∷ ps) m h = absurd (not_cleared (test p.0) (p.0, m) p ps (set_value test ps m) h)
+
+-- ---- the marks
+
+-- this mark is that of the entry that the serial finds, if it finds one
+abbrev pub Fits : List Stored → ℕ → ℕ → Type 0
+Fits es s m = IfSome (find_entry s es) (λ e. m ≡ mark_of e.nominated)
+
+put_by : (es : List Stored) (s m : ℕ) (p : ℕ × ℕ) (ps : List (ℕ × ℕ)) (o : Ordering) → (o ≡ Equal → s ≡ p.0) → Fits es s m → AreMarks es (p ∷ ps) →
+    AreMarks es (insert_entry nat_cmp ps s m) → AreMarks es (match_ordering o ((s, m) ∷ p ∷ ps) ((p.0, m) ∷ ps) (p ∷ insert_entry nat_cmp ps s m))
+put_by es s m p ps Less e f h more = (f, h)
+put_by es s m p ps Equal e f h more = (subst (λ t. Fits es t m) (e refl) f, h.1)
+put_by es s m p ps Greater e f h more = (h.0, more)
+
+same_number : (s t : ℕ) → nat_cmp s t ≡ Equal → s ≡ t
+same_number s t h = grind (arith, nat_tests)
+
+pub marks-put : (es : List Stored) (s m : ℕ) (ps : List (ℕ × ℕ)) → Fits es s m → AreMarks es ps → AreMarks es (insert_entry nat_cmp ps s m)
+marks-put es s m [] f h = (f, tt)
+marks-put es s m (p ∷ ps) f h = put_by es s m p ps (nat_cmp s p.0) (same_number s p.0) f h (marks-put es s m ps f h.1)
+
+pub marks-removed : (test : ℕ → Bool) (es : List Stored) (ps : List (ℕ × ℕ)) → AreMarks es ps → AreMarks es (remove_entry test ps)
+marks-removed test es [] h = tt
+marks-removed test es (p ∷ ps) h =
+    elim (test p.0) as (λ b. AreMarks es (cond b ps (p ∷ remove_entry test ps))) [ true ↦ h.1 | false ↦ (h.0, marks-removed test es ps h.1) ]
+
+-- each serial finds in zs what it finds in es, or nothing
+abbrev pub IsPart : List Stored → List Stored → Type 0
+IsPart zs es = (s : ℕ) → (find_entry s zs ≡ None) ⊎ (find_entry s zs ≡ find_entry s es)
+
+pub marks-part : (es zs : List Stored) (ps : List (ℕ × ℕ)) → IsPart zs es → AreMarks es ps → AreMarks zs ps
+marks-part es zs [] part h = tt
+marks-part es zs (p ∷ ps) part h =
+    let at : Fits zs p.0 p.1 = elim (part p.0) [
+      | inl n ↦ rw n tt
+      | inr e ↦ rw e h.0
+    ] in
+    (at, marks-part es zs ps part h.1)
+
+-- an entry in front whose serial isn't there
+pub marks-more : (x : Stored) (es : List Stored) (ps : List (ℕ × ℕ)) → is_in x.serial (keys_of ps) ≡ false → AreMarks es ps → AreMarks (x ∷ es) ps
+marks-more x es [] n h = tt
+marks-more x es (p ∷ ps) n h =
+    let q = or_parts (eqb p.0 x.serial) (is_in x.serial (keys_of ps)) n in
+    let apart : eqb x.serial p.0 ≡ false = eqb_comm x.serial p.0 ∙ q.0 in
+    (rw apart h.0, marks-more x es ps q.1 h.1)
+
+-- an entry in front whose serial stands there once, and is marked anew
+pub marks-anew : (s : ℕ) (x : Stored) (es : List Stored) (ps : List (ℕ × ℕ)) → x.serial ≡ s → is_in s (but s (keys_of ps)) ≡ false → AreMarks es ps →
+    AreMarks (x ∷ es) (set_value (is_at (nat_cmp s)) ps (mark_of x.nominated))
+marks-anew s x es [] is n h = tt
+marks-anew s x es (p ∷ ps) is n h =
+    let m = mark_of x.nominated in
+    let New : Bool → Type 0 = λ b. AreMarks (x ∷ es) (cond b ((p.0, m) ∷ ps) (p ∷ set_value (is_at (nat_cmp s)) ps m)) in
+    subst New (sym (at-eqb s p.0)) (elim (cases_Bool (eqb p.0 s)) [
+      | inl t ↦ (
+          let found : eqb x.serial p.0 ≡ true = eq-eqb _ _ (is ∙ sym (eqb-true p.0 s t)) in
+          let others : is_in x.serial (keys_of ps) ≡ false =
+          ap (λ z. is_in z (keys_of ps)) is ∙ sym (ap (λ b. is_in s (cond b (keys_of ps) (p.0 ∷ but s (keys_of ps)))) t) ∙ n in
+          let here : Fits (x ∷ es) p.0 m = rw found refl in
+          subst New (sym t) (here, marks-more x es ps others h.1)
+          )
+      | inr f ↦ (
+          let apart : eqb x.serial p.0 ≡ false = ap (λ z. eqb z p.0) is ∙ eqb_comm s p.0 ∙ f in
+          let rest = or_parts (eqb p.0 s) (is_in s (but s (keys_of ps))) (sym (ap (λ b. is_in s (cond b (keys_of ps) (p.0 ∷ but s (keys_of ps)))) f) ∙ n) in
+          let here : Fits (x ∷ es) p.0 p.1 = rw apart h.0 in
+          subst New (sym f) (here, marks-anew s x es ps is rest.1 h.1)
+          )
+    ])
+
+-- ---- what serials find
+
+find-without : (s t : ℕ) (es : List Stored) → eqb t s ≡ false → find_entry t (without (s ∷ []) es) ≡ find_entry t es
+find-without s t [] n = refl
+find-without s t (e ∷ es) n = elim (cases_Bool (eqb e.serial s)) [
+  | inl y ↦ (
+      let gone : is_in e.serial (s ∷ []) ≡ true = ap (λ z. is_in z (s ∷ [])) (eqb-true e.serial s y) ∙ ap (λ b. b || false) (eq-eqb s s refl) in
+      let apart : eqb e.serial t ≡ false = ap (λ z. eqb z t) (eqb-true e.serial s y) ∙ eqb_comm s t ∙ n in
+      ap (λ b. find_entry t (cond (not b) (e ∷ without (s ∷ []) es) (without (s ∷ []) es))) gone
+      ∙ find-without s t es n
+      ∙ sym (ap (λ b. cond b (Some e) (find_entry t es)) apart)
+      )
+  | inr f ↦ ap (λ b. find_entry t (cond (not b) (e ∷ without (s ∷ []) es) (without (s ∷ []) es))) (not_only e.serial s f)
+      ∙ ap (λ o. cond (eqb e.serial t) (Some e) o) (find-without s t es n)
+]
+
+pub part-without : (s : ℕ) (es : List Stored) → IsPart (without (s ∷ []) es) es
+part-without s es t = elim (cases_Bool (eqb t s)) [
+  | inl y ↦ inl (find_none t (without (s ∷ []) es) (ap (λ z. holds z (without (s ∷ []) es)) (eqb-true t s y) ∙ without_gone s es))
+  | inr n ↦ inr (find-without s t es n)
+]
+
+pub part-front : (s : ℕ) (es : List Stored) (x : Stored) → find_entry s es ≡ Some x → IsPart (x ∷ without (s ∷ []) es) es
+part-front s es x h t =
+    let is : x.serial ≡ s = find-serial s es x h in
+    elim (cases_Bool (eqb x.serial t)) [
+      | inl y ↦ inr (
+          ap (λ b. cond b (Some x) (find_entry t (without (s ∷ []) es))) y
+          ∙ sym h ∙ ap (λ z. find_entry z es) (sym is ∙ eqb-true x.serial t y)
+          )
+      | inr n ↦ inr (
+          ap (λ b. cond b (Some x) (find_entry t (without (s ∷ []) es))) n
+          ∙ find-without s t es (eqb_comm t s ∙ ap (λ z. eqb z t) (sym is) ∙ n)
+          )
+    ]
+
+-- ---- what a request may match
+
+mark_passes : (request : List Field) (es : List Stored) (s m : ℕ) → Fits es s m → is_match request (find_entry s es) ≡ true → may_match m (marks_of request) ≡ true
+mark_passes request es s m f h = by (find_entry s es) f h
+  where
+    by : (o : Option Stored) → IfSome o (λ (e : Stored). m ≡ mark_of e.nominated) → is_match request o ≡ true → may_match m (marks_of request) ≡ true
+    by None f h = absurd (false≢true h)
+    by (Some e) f h = ap (λ z. may_match z (marks_of request)) f ∙ misses_nothing e.nominated request h
+
+-- what isn't looked at doesn't match
+pub looks_enough : (request : List Field) (es : List Stored) (ps : List (ℕ × ℕ)) → AreMarks es ps →
+    filter (λ s. is_match request (find_entry s es)) (may_be_of (marks_of request) ps) ≡ filter (λ s. is_match request (find_entry s es)) (keys_of ps)
+looks_enough request es [] h = refl
+looks_enough request es (p ∷ ps) h =
+    let asked = marks_of request in
+    let is : ℕ → Bool = λ s. is_match request (find_entry s es) in
+    let more = looks_enough request es ps h.1 in
+    elim (cases_Bool (may_match p.1 asked)) [
+      | inl y ↦ ap (λ b. filter is (keys_of (cond b (p ∷ filter (λ (q : ℕ × ℕ). may_match q.1 asked) ps) (filter (λ (q : ℕ × ℕ). may_match q.1 asked) ps)))) y
+          ∙ ap (λ xs. cond (is p.0) (p.0 ∷ xs) xs) more
+      | inr n ↦ (
+          let no : is p.0 ≡ false = elim (cases_Bool (is p.0)) [
+            | inl t ↦ absurd (false≢true (sym n ∙ mark_passes request es p.0 p.1 h.0 t))
+            | inr f ↦ f
+          ] in
+          ap (λ b. filter is (keys_of (cond b (p ∷ filter (λ (q : ℕ × ℕ). may_match q.1 asked) ps) (filter (λ (q : ℕ × ℕ). may_match q.1 asked) ps)))) n
+          ∙ more ∙ sym (ap (λ b. cond b (p.0 ∷ filter is (keys_of ps)) (filter is (keys_of ps))) no)
+          )
+    ]
+
+-- where no mark is another than 0, each serial may match
+pub unmarked : (asked : List ℕ) (ps : List (ℕ × ℕ)) → list_any (λ m. not (eqb m 0)) (values_of ps) ≡ false → may_be_of asked ps ≡ keys_of ps
+unmarked asked [] h = refl
+unmarked asked (p ∷ ps) h =
+    let q = or_parts (not (eqb p.1 0)) (list_any (λ m. not (eqb m 0)) (values_of ps)) h in
+    let zero_is : eqb p.1 0 ≡ true = elim (cases_Bool (eqb p.1 0)) [ inl t ↦ t | inr f ↦ absurd (false≢true (sym q.0 ∙ ap not f)) ] in
+    ap (λ b. keys_of (cond (b || list_any (λ m. eqb m p.1) asked) (p ∷ filter (λ (r : ℕ × ℕ). may_match r.1 asked) ps) (filter (λ (r : ℕ × ℕ). may_match r.1 asked) ps))) zero_is
+    ∙ ap (λ xs. p.0 ∷ xs) (unmarked asked ps q.1)
