@@ -1,7 +1,7 @@
 -- The serials of a key whose entries nominate what a request has.
 use Rattle.std.proofs.Common.{◌≡◌, ℕ, ◌+◌, ◌-◌, ◌<◌, ◌≤◌, Bool, true, false, not, cond, ◌||◌, ◌&&◌, eqb, Some, List, [], ◌∷◌, length, refl, sym, ◌∙◌, ap, subst, drop, get_or, arith, inl, inr}
-use Rattle.std.specs.List.{filter, list_any}
-use Rattle.std.proofs.lemmas.Bool.{cases_Bool, eq-eqb, eqb-true, false≢true, false_from_ne_true, or_right}
+use Rattle.std.specs.List.{filter, list_all, list_any}
+use Rattle.std.proofs.lemmas.Bool.{and_parts, cases_Bool, eq-eqb, eqb-true, false≢true, false_from_ne_true, or_right}
 use Rattle.std.proofs.lemmas.Bool.Decides.{leb_tells}
 use Rattle.std.proofs.lemmas.Grind.{common_steps}
 use Rattle.std.proofs.lemmas.List.{drop_more}
@@ -139,3 +139,10 @@ finds_matches key request s es d =
 pub matches_ascend : (key : Key) (request : List Field) (es : List Stored) → Distinct (serials es) → IsAscending (matching_serials key request es)
 matches_ascend key request es d =
     subst IsAscending (walked key request es d) (finds_ascending key (filter (λ (e : Stored). vary_matches e.nominated request) es))
+
+-- where all pass a test, none is left out
+pub filter_all : {X : Type 0} (p : X → Bool) (xs : List X) → list_all p xs ≡ true → filter p xs ≡ xs
+filter_all p [] all = refl
+filter_all p (x ∷ xs) all =
+    let parts = and_parts (p x) (list_all p xs) all in
+    rw parts.0 (ap (λ ys. x ∷ ys) (filter_all p xs parts.1))

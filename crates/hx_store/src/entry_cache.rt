@@ -3,7 +3,7 @@
 //! A call costs a look-up of the serial, whatever is held, and no entry is moved. It has no bound of its own.
 
 ghost use Rattle.std.specs.Prelude.{◌≡◌, ◌-◌, ◌∷◌, [], false, true, length, take, slice_get, option_copied, IfOk, IfErr, OnErr, OnOk, Some};
-ghost use Rattle.std.specs.List.{filter};
+ghost use Rattle.std.specs.List.{filter, list_all};
 ghost use Rattle.hx_store.specs.Shelf.{holds, find_entry, is_match, without, promoted};
 
 use crate::entries::Entry;
@@ -72,8 +72,40 @@ impl EntryCache {
         self.entries.peek(&serial)
     }
 
-    /// Those of some serials whose entries nominate what the request has. Fails for want of memory alone.
+    /// Those of some serials whose entries nominate what the request has. Mostly all do, and no other list is made. Fails for
+    /// want of memory alone.
     pub(crate) fn matching(
+        &self,
+        alloc: Global,
+        serials: Serials,
+        request: &Fields,
+    ) -> Result<Serials, AllocError>
+        ensures { IfOk result (λ found. found ≡ filter (λ s. is_match request.now (find_entry s self.now)) serials) }
+    {
+        if self.all_match(alloc, serials.as_slice(), request)? {
+            return Ok(serials);
+        }
+        self.those_that_match(alloc, serials.as_slice(), request)
+    }
+
+    /// Whether the entries of all of these serials nominate what the request has. Fails for want of memory alone.
+    fn all_match(
+        &self,
+        alloc: Global,
+        serials: &[u64],
+        request: &Fields,
+    ) -> Result<bool, AllocError>
+        ensures { IfOk result (λ all. all ≡ list_all (λ s. is_match request.now (find_entry s self.now)) serials.now) }
+    {
+        for serial in serials {
+            if !self.is_match(alloc, *serial, request)? {
+                return Ok(false);
+            }
+        }
+        Ok(true)
+    }
+
+    fn those_that_match(
         &self,
         alloc: Global,
         serials: &[u64],

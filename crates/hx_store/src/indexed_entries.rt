@@ -118,7 +118,7 @@ impl IndexedEntries {
         ensures distinct { Distinct (serials self.now) }
     {
         let marked = self.index.find_marked(alloc, key, request)?;
-        self.entries.matching(alloc, marked.as_slice(), request)
+        self.entries.matching(alloc, marked, request)
     }
 
     /// Puts an entry first. Want of memory changes nothing and hands it back.

@@ -14,8 +14,8 @@ returns-clause-found c =
     let request = c.args.request.now in
     let marks = marks_at c.self.inside.index key in
     let is : ℕ → Bool = λ s. is_match request (find_entry s es) in
-    let marked : c.as_slice.result.now ≡ may_be_of (marks_of request) marks = search rules in
-    let all : filter is c.as_slice.result.now ≡ matching_serials key request c.args.self.now =
+    let marked : c.in_ok-marked.marked ≡ may_be_of (marks_of request) marks = search rules in
+    let all : filter is c.in_ok-marked.marked ≡ matching_serials key request c.args.self.now =
     ap (filter is) marked ∙ looks_enough request es marks (c.self.invariant.2 key) ∙ ap (filter is) (c.self.invariant.0.1 key)
     ∙ ap (matching_serials key request) c.self.view_is in
     subst (λ (xs : List ℕ). IfOk c.matching.result (λ found. found ≡ xs)) all c.matching.ensures

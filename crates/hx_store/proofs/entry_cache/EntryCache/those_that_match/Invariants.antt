@@ -1,7 +1,7 @@
 use Rattle.std.proofs.Common.{◌≡◌, ◌++◌, ℕ, Bool, drop}
 use Rattle.std.specs.List.{filter}
 use Rattle.hx_store.specs.Shelf.{find_entry, is_match}
-use Rattle.hx_store.proofs.entry_cache.EntryCache.matching.Given as goal
+use Rattle.hx_store.proofs.entry_cache.EntryCache.those_that_match.Given as goal
 
 abbrev pub invariant-loop-serial : goal.invariant-loop-serial
 invariant-loop-serial l =
