@@ -7,9 +7,11 @@ use Rattle.hx_vary.specs.Vary.{vary_matches}
 use Rattle.hx_hop.specs.declared.asked_for.Asked.{Asked}
 use Rattle.hx_store.specs.Stored.{Stored}
 use Rattle.hx_target.specs.Keys.{same_key}
-use Rattle.hx_store.specs.Shelf.{find_entry}
+use Rattle.hx_fields.specs.declared.field_line.Field.{Field}
+use Rattle.hx_store.specs.Serials.{Distinct}
+use Rattle.hx_store.specs.Shelf.{find_entry, is_match, matching_serials, serials as serials_held, serials_of}
 use Rattle.hx_reuse.specs.Chosen.{of_key, comes_later, later, latest, chosen_of}
-use Rattle.hx_reuse.proofs.Members.{IsMember, HasDistinctSerials, AreSerialsOf}
+use Rattle.hx_reuse.proofs.Members.{IsMember, HasDistinctSerials, AreSerialsOf, are_serials, distinct_entries}
 
 -- an order on entries by two numbers each
 not_later_trans : (e f g : Stored) → comes_later e f ≡ false → comes_later f g ≡ false → comes_later e g ≡ false
@@ -193,7 +195,7 @@ module _ (held : List Stored) (asked : Asked) (serials : List ℕ) (distinct : H
       member_found (λ s. find_entry s held) serials e.serial e (are.none_missing e m) (find_entry-find e.serial held ∙ (r.1 ∙ ap Some same))
 
   -- the latest of the entries with the key's serials is the chosen one
-  pub latest_is_chosen : latest (filter (λ e. vary_matches e.nominated asked.fields) (filter_map (λ s. find_entry s held) serials)) ≡ chosen_of held asked
+  latest_is_chosen : latest (filter (λ e. vary_matches e.nominated asked.fields) (filter_map (λ s. find_entry s held) serials)) ≡ chosen_of held asked
   latest_is_chosen =
       let here : Stored → Bool = λ e. vary_matches e.nominated asked.fields in
       let found : List Stored = filter_map (λ s. find_entry s held) serials in
@@ -201,3 +203,39 @@ module _ (held : List Stored) (asked : Asked) (serials : List ℕ) (distinct : H
       (λ e m. (filter_member (λ x. same_key x.key asked.target.key) held e (found_is e (filter_member here found e m).0)).0)
       (λ e m. let r = filter_member here found e m in member_filter here (of_key held asked) e r.1 (found_is e r.0))
       (λ e m. let r = filter_member here (of_key held asked) e m in member_filter here found e r.1 (found_all e r.0))
+
+abbrev cons_option_if : Bool → Option Stored → List Stored → List Stored
+cons_option_if true o es = cons_option o es
+cons_option_if false o es = es
+
+-- the entries of the serials that match are those that match of the entries of the serials
+matching_found : (held : List Stored) (request : List Field) (ss : List ℕ) →
+    filter_map (λ s. find_entry s held) (filter (λ s. is_match request (find_entry s held)) ss)
+    ≡ filter (λ e. vary_matches e.nominated request) (filter_map (λ s. find_entry s held) ss)
+matching_found held request [] = refl
+matching_found held request (s ∷ ss) =
+    let found : List ℕ → List Stored = λ rs. filter_map (λ r. find_entry r held) rs in
+    let rest = filter (λ r. is_match request (find_entry r held)) ss in
+    let here : Stored → Bool = λ e. vary_matches e.nominated request in
+    let more : found rest ≡ filter here (found ss) = matching_found held request ss in
+    let Same : Option Stored → Type 0 = λ o. cons_option_if (is_match request o) o (found rest) ≡ filter here (cons_option o (found ss)) in
+    kept s (is_match request (find_entry s held)) rest
+    ∙ (elim (find_entry s held) as Same [
+      | None ↦ more
+      | Some e ↦ elim (here e) as (λ b. cons_option_if b (Some e) (found rest) ≡ cond b (e ∷ filter here (found ss)) (filter here (found ss))) [
+        | true ↦ ap (λ es. e ∷ es) more
+        | false ↦ more
+      ]
+    ])
+  where
+    kept : (s : ℕ) (b : Bool) (rest : List ℕ) → filter_map (λ r. find_entry r held) (cond b (s ∷ rest) rest) ≡ cons_option_if b (find_entry s held) (filter_map (λ r. find_entry r held) rest)
+    kept s true rest = refl
+    kept s false rest = refl
+
+-- the latest of those that match by the shelf's word is the chosen one
+pub latest_is_the_chosen : (held : List Stored) (asked : Asked) → Distinct (serials_held held) →
+    latest (filter_map (λ s. find_entry s held) (matching_serials asked.target.key asked.fields held)) ≡ chosen_of held asked
+latest_is_the_chosen held asked distinct =
+    let serials = serials_of asked.target.key held in
+    ap latest (matching_found held asked.fields serials)
+    ∙ latest_is_chosen held asked serials (distinct_entries held distinct) (are_serials held asked serials refl)

@@ -1,16 +1,17 @@
 -- Which rule is the least, from what is known of the request and of the chosen entry.
-use Rattle.std.proofs.Common.{◌≡◌, ℕ, inl, Bool, true, false, cond, List, [], ◌∷◌, ◌++◌, length, refl, ◌∙◌, ap, arith}
-use Rattle.std.specs.Prelude.{◌==◌, find, Option, Some, None, option_map, is_none}
+use Rattle.std.proofs.Common.{◌≡◌, ℕ, inl, Bool, true, false, cond, List, [], ◌∷◌, ◌++◌, length, refl, sym, ◌∙◌, ap, arith}
+use Rattle.std.specs.Prelude.{◌==◌, not, find, Option, Some, None, option_map, is_none}
 use Rattle.std.specs.List.{AllByRecursion}
 use Rattle.std.proofs.lemmas.Grind.{common_steps}
 use Rattle.hx_hop.specs.declared.asked_for.Asked.{Asked}
 use Rattle.hx_store.specs.Stored.{Stored}
+use Rattle.hx_store.specs.Shelf.{serials_of}
 use Rattle.hx_reuse.specs.declared.decision.Decision.TheVariants.{Hit, Forward}
 use Rattle.hx_reuse.specs.declared.rule.ReuseRule.{ReuseRule}
 use Rattle.hx_reuse.specs.declared.rule.ReuseRule.TheVariants.{Operator, UriMiss, VaryMiss, ResponseNoCache, RequestNoCache, AboveMaxAge, BelowMinFresh, MustRevalidate, NoLifetime, StaleNoCache, NoMaxStale, PastMaxStale, StaleMaxAge, StaleMinFresh}
 use Rattle.hx_reuse.specs.Chosen.{of_key, chosen_of}
 use Rattle.hx_reuse.specs.Rules.{against, standing, stands, is_some_and, request_rules, entry_rules, reuse_rule_of, names_entry, decided, decision_of}
-use Rattle.hx_reuse.proofs.Members.{IsMember, AreSerialsOf}
+use Rattle.hx_reuse.proofs.Members.{IsMember, AreSerialsOf, are_serials}
 
 -- the first of a list that has it, and the first of the rest
 find_front : {X : Type 0} (p : X → Bool) (xs ys : List X) (r : X) → find p xs ≡ Some r → find p (xs ++ ys) ≡ Some r
@@ -71,6 +72,25 @@ none_of_key held asked (s ∷ ss) are h = absurd (not_empty s ss h)
 pub some_of_key : (held : List Stored) (asked : Asked) (serials : List ℕ) → AreSerialsOf held asked serials → (length serials == 0) ≡ false → (length (of_key held asked) == 0) ≡ false
 some_of_key held asked [] are h = absurd cc
 some_of_key held asked (s ∷ ss) are h = let e = are.each_held s (inl refl) in some_there (of_key held asked) e.0 e.1
+
+-- the same by the shelf's word, whether the key is held
+pub unheld : (held : List Stored) (asked : Asked) → not (length (serials_of asked.target.key held) == 0) ≡ false → of_key held asked ≡ []
+unheld held asked h =
+    let ss = serials_of asked.target.key held in
+    none_of_key held asked ss (are_serials held asked ss refl) (turned (length ss == 0) h)
+  where
+    turned : (b : Bool) → not b ≡ false → b ≡ true
+    turned true h = refl
+    turned false h = sym h
+
+pub key_held : (held : List Stored) (asked : Asked) → not (length (serials_of asked.target.key held) == 0) ≡ true → (length (of_key held asked) == 0) ≡ false
+key_held held asked h =
+    let ss = serials_of asked.target.key held in
+    some_of_key held asked ss (are_serials held asked ss refl) (turned (length ss == 0) h)
+  where
+    turned : (b : Bool) → not b ≡ true → b ≡ false
+    turned true h = sym h
+    turned false h = refl
 
 -- the outcome at a rule below 7, at one from 7 on, and at none
 forward_low : (o : Option ReuseRule) (s : Option ℕ) (r : ReuseRule) → o ≡ Some r → names_entry r ≡ false → Forward r None ≡ decided o s

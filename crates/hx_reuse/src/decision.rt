@@ -1,8 +1,6 @@
 //! What is done with a request: the least rule that stands, or the response that may be sent.
 ghost use Rattle.std.specs.Prelude.{◌≡◌, true, IfOk};
 ghost use Rattle.hx_directives.specs.Occurrences.{occurrences_of};
-ghost use Rattle.hx_store.specs.Serials.{Distinct};
-ghost use Rattle.hx_store.specs.Shelf.{serials as serials_held, serials_of};
 ghost use Rattle.hx_reuse.specs.Rules.{decision_of};
 
 use crate::against::{request_rule, rule_on};
@@ -22,24 +20,21 @@ pub enum Decision {
     Forward(ReuseRule, Option<u64>),
 }
 
-/// What is done with a request at a moment in Unix seconds: its directives, the serials that the shelf holds for its key,
-/// and the operator's word, whether a stored response may answer it, are handed in.
+/// What is done with a request at a moment in Unix seconds: its directives, and the operator's word, whether a stored
+/// response may answer it, are handed in.
 pub fn decide<S: Shelf>(
     alloc: Global,
     asked: &Asked,
     asked_directives: &Directives,
     shelf: &S,
-    serials: &[u64],
     now: u64,
     caches: bool,
 ) -> Result<Decision, AllocError>
-    requires directives { asked_directives.now ≡ occurrences_of asked.now.fields }
-    requires distinct { Distinct (serials_held (S.entries shelf.now)) }
-    requires serials { serials.now ≡ serials_of asked.now.target.key (S.entries shelf.now) }
+    requires { asked_directives.now ≡ occurrences_of asked.now.fields }
     ensures { IfOk result (λ decision. decision ≡ decision_of caches (S.entries shelf.now) asked.now now) }
 {
     if caches {
-        decide_from_store(alloc, asked, asked_directives, shelf, serials, now)
+        decide_from_store(alloc, asked, asked_directives, shelf, now)
     } else {
         Ok(Decision::Forward(ReuseRule::Operator, None))
     }
@@ -51,23 +46,24 @@ fn decide_from_store<S: Shelf>(
     asked: &Asked,
     asked_directives: &Directives,
     shelf: &S,
-    serials: &[u64],
     now: u64,
 ) -> Result<Decision, AllocError>
-    requires directives { asked_directives.now ≡ occurrences_of asked.now.fields }
-    requires distinct { Distinct (serials_held (S.entries shelf.now)) }
-    requires serials { serials.now ≡ serials_of asked.now.target.key (S.entries shelf.now) }
+    requires { asked_directives.now ≡ occurrences_of asked.now.fields }
     ensures { IfOk result (λ decision. decision ≡ decision_of true (S.entries shelf.now) asked.now now) }
 {
-    match request_rule(asked) {
-        Some(rule) => Ok(Decision::Forward(rule, None)),
-        None if serials.is_empty() => Ok(Decision::Forward(ReuseRule::UriMiss, None)),
-        None => match latest_of(alloc, asked, shelf, serials)? {
-            Some(entry) => match rule_on(entry, asked, asked_directives, now) {
-                Some(rule) => Ok(Decision::Forward(rule, Some(entry.serial))),
-                None => Ok(Decision::Hit(entry.serial)),
-            },
-            None => Ok(Decision::Forward(ReuseRule::VaryMiss, None)),
-        },
+    if let Some(rule) = request_rule(asked) {
+        return Ok(Decision::Forward(rule, None));
+    }
+    let key = &asked.target.key;
+    if !shelf.has_key(key) {
+        return Ok(Decision::Forward(ReuseRule::UriMiss, None));
+    }
+    let matching = shelf.find_matching(alloc, key, &asked.fields)?;
+    let Some(entry) = latest_of(shelf, matching.as_slice()) else {
+        return Ok(Decision::Forward(ReuseRule::VaryMiss, None));
+    };
+    match rule_on(entry, asked, asked_directives, now) {
+        Some(rule) => Ok(Decision::Forward(rule, Some(entry.serial))),
+        None => Ok(Decision::Hit(entry.serial)),
     }
 }

@@ -1,13 +1,12 @@
 use Rattle.std.proofs.Common.{◌≡◌, drop}
-use Rattle.std.specs.Prelude.{filter, fold}
+use Rattle.std.specs.Prelude.{fold}
 use Rattle.std.specs.List.{filter_map}
 use Rattle.std.specs.Option.{option_copied}
-use Rattle.hx_vary.specs.Vary.{vary_matches}
 use Rattle.hx_store.specs.Shelf.{find_entry}
 use Rattle.hx_reuse.specs.Chosen.{later, latest}
 use Rattle.hx_reuse.proofs.chosen.latest_of.Given as goal
 
 abbrev pub invariant-loop-serial : goal.invariant-loop-serial
 invariant-loop-serial g l =
-    fold later (option_copied l.best) (filter (λ e. vary_matches e.nominated l.asked.fields) (filter_map (λ s. find_entry s (g.S.Shelf.entries l.shelf)) (drop l.serial-index l.serials)))
-    ≡ latest (filter (λ e. vary_matches e.nominated l.asked.fields) (filter_map (λ s. find_entry s (g.S.Shelf.entries l.shelf)) l.serials))
+    fold later (option_copied l.best) (filter_map (λ s. find_entry s (g.S.Shelf.entries l.shelf)) (drop l.serial-index l.serials))
+    ≡ latest (filter_map (λ s. find_entry s (g.S.Shelf.entries l.shelf)) l.serials)

@@ -1,41 +1,70 @@
-use Rattle.std.proofs.Common.{sym, ◌∙◌, ap}
-use Rattle.std.specs.Prelude.{Some, true}
-use Rattle.hx_store.specs.Stored.{Stored}
-use Rattle.hx_reuse.specs.declared.decision.Decision.TheVariants.{Hit, Forward}
+use Rattle.std.proofs.Common.{rules, ◌≡◌, false, true, sym, ◌∙◌, ap}
+use Rattle.std.specs.Prelude.{◌==◌, not, length, find, Some, None}
+use Rattle.std.specs.List.{filter_map}
 use Rattle.std.specs.Option.{option_copied}
-use Rattle.hx_reuse.proofs.Members.{distinct_entries, are_serials}
-use Rattle.hx_reuse.proofs.Latest.{latest_is_chosen}
-use Rattle.hx_reuse.proofs.RuleLemmas.{by_request, by_uri, by_vary, by_rule, by_none, none_of_key, some_of_key}
+use Rattle.hx_store.specs.Stored.{Stored}
+use Rattle.hx_store.specs.Shelf.{find_entry, matching_serials, serials_of}
+use Rattle.hx_reuse.specs.declared.decision.Decision.TheVariants.{Hit, Forward}
+use Rattle.hx_reuse.specs.Chosen.{chosen_of, latest}
+use Rattle.hx_reuse.specs.Rules.{request_rules, stands}
+use Rattle.hx_reuse.proofs.Latest.{latest_is_the_chosen}
+use Rattle.hx_reuse.proofs.RuleLemmas.{by_none, by_request, by_rule, by_uri, by_vary, key_held, unheld}
 use Rattle.hx_reuse.proofs.decision.decide_from_store.Goals as goal
 
 pub returns-in-Some : goal.returns-in-Some
-returns-in-Some g c = by_request (g.S.Shelf.entries c.args.shelf.now) c.args.asked.now c.args.now c.in-Some.rule (sym (c.in-Some.ensures true (g.S.Shelf.entries c.args.shelf.now) c.args.now))
+returns-in-Some g c =
+    let es = g.S.Shelf.entries c.args.shelf.now in
+    by_request es c.args.asked.now c.args.now c.in-Some.rule (sym (c.in-Some.ensures true es c.args.now))
 
-pub returns-in-None : goal.returns-in-None
-returns-in-None g c =
-    by_uri (g.S.Shelf.entries c.args.shelf.now) c.args.asked.now c.args.now (sym (c.in-None.ensures true (g.S.Shelf.entries c.args.shelf.now) c.args.now))
-    (none_of_key (g.S.Shelf.entries c.args.shelf.now) c.args.asked.now c.args.serials.now (are_serials (g.S.Shelf.entries c.args.shelf.now) c.args.asked.now c.args.serials.now c.requires.serials) (sym c.if-is_empty.ensures))
+pub returns-then-not-has_key : goal.returns-then-not-has_key
+returns-then-not-has_key g c =
+    let es = g.S.Shelf.entries c.args.shelf.now in
+    let asked = c.args.asked.now in
+    let free : find (λ r. stands r true es asked c.args.now) request_rules ≡ None =
+    sym (c.request_rule.ensures true es c.args.now) ∙ c.in_default.is in
+    let absent : not (length (serials_of asked.target.key es) == 0) ≡ false = search rules in
+    by_uri es asked c.args.now free (unheld es asked absent)
+
+pub returns-in_default-latest_of : goal.returns-in_default-latest_of
+returns-in_default-latest_of g c =
+    let es = g.S.Shelf.entries c.args.shelf.now in
+    let asked = c.args.asked.now in
+    let free : find (λ r. stands r true es asked c.args.now) request_rules ≡ None =
+    sym (c.request_rule.ensures true es c.args.now) ∙ c.in_default.is in
+    let held : not (length (serials_of asked.target.key es) == 0) ≡ true = search rules in
+    let matching : c.as_slice.result.now ≡ matching_serials asked.target.key asked.fields es = search rules in
+    let chosen : chosen_of es asked ≡ None =
+    sym (latest_is_the_chosen es asked c.find_matching.ensures.distinct)
+    ∙ ap (λ ss. latest (filter_map (λ s. find_entry s es) ss)) (sym matching)
+    ∙ sym c.latest_of.ensures ∙ ap option_copied c.in_default-latest_of.is in
+    by_vary es asked c.args.now free (key_held es asked held) chosen
 
 pub returns-in-Some-rule_on : goal.returns-in-Some-rule_on
 returns-in-Some-rule_on g c =
+    let es = g.S.Shelf.entries c.args.shelf.now in
+    let asked = c.args.asked.now in
+    let free : find (λ r. stands r true es asked c.args.now) request_rules ≡ None =
+    sym (c.request_rule.ensures true es c.args.now) ∙ c.in_default.is in
+    let held : not (length (serials_of asked.target.key es) == 0) ≡ true = search rules in
+    let matching : c.as_slice.result.now ≡ matching_serials asked.target.key asked.fields es = search rules in
+    let chosen : chosen_of es asked ≡ Some c.in-Some-latest_of.entry.now =
+    sym (latest_is_the_chosen es asked c.find_matching.ensures.distinct)
+    ∙ ap (λ ss. latest (filter_map (λ s. find_entry s es) ss)) (sym matching)
+    ∙ sym c.latest_of.ensures ∙ ap option_copied c.in-Some-latest_of.is in
     ap (λ (e : Stored). Forward c.in-Some-rule_on.rule (Some e.serial)) c.entry.view_is
-    ∙ by_rule (g.S.Shelf.entries c.args.shelf.now) c.args.asked.now c.args.now (sym (c.in-None.ensures true (g.S.Shelf.entries c.args.shelf.now) c.args.now))
-    (some_of_key (g.S.Shelf.entries c.args.shelf.now) c.args.asked.now c.args.serials.now (are_serials (g.S.Shelf.entries c.args.shelf.now) c.args.asked.now c.args.serials.now c.requires.serials) (sym c.if-is_empty.ensures))
-    c.in-Some-2.entry.now
-    (sym (latest_is_chosen (g.S.Shelf.entries c.args.shelf.now) c.args.asked.now c.args.serials.now (distinct_entries (g.S.Shelf.entries c.args.shelf.now) c.requires.distinct) (are_serials (g.S.Shelf.entries c.args.shelf.now) c.args.asked.now c.args.serials.now c.requires.serials)) ∙ sym c.in_ok-entry-in-None-2.ensures ∙ ap option_copied c.in-Some-2.is)
-    c.in-Some-rule_on.rule (sym c.in-Some-rule_on.ensures)
+    ∙ by_rule es asked c.args.now free (key_held es asked held) c.in-Some-latest_of.entry.now chosen c.in-Some-rule_on.rule (sym c.in-Some-rule_on.ensures)
 
-pub returns-in-None-rule_on : goal.returns-in-None-rule_on
-returns-in-None-rule_on g c =
+pub returns : goal.returns
+returns g c =
+    let es = g.S.Shelf.entries c.args.shelf.now in
+    let asked = c.args.asked.now in
+    let free : find (λ r. stands r true es asked c.args.now) request_rules ≡ None =
+    sym (c.request_rule.ensures true es c.args.now) ∙ c.in_default.is in
+    let held : not (length (serials_of asked.target.key es) == 0) ≡ true = search rules in
+    let matching : c.as_slice.result.now ≡ matching_serials asked.target.key asked.fields es = search rules in
+    let chosen : chosen_of es asked ≡ Some c.in-Some-latest_of.entry.now =
+    sym (latest_is_the_chosen es asked c.find_matching.ensures.distinct)
+    ∙ ap (λ ss. latest (filter_map (λ s. find_entry s es) ss)) (sym matching)
+    ∙ sym c.latest_of.ensures ∙ ap option_copied c.in-Some-latest_of.is in
     ap (λ (e : Stored). Hit e.serial) c.entry.view_is
-    ∙ by_none (g.S.Shelf.entries c.args.shelf.now) c.args.asked.now c.args.now (sym (c.in-None.ensures true (g.S.Shelf.entries c.args.shelf.now) c.args.now))
-    (some_of_key (g.S.Shelf.entries c.args.shelf.now) c.args.asked.now c.args.serials.now (are_serials (g.S.Shelf.entries c.args.shelf.now) c.args.asked.now c.args.serials.now c.requires.serials) (sym c.if-is_empty.ensures))
-    c.in-Some-2.entry.now
-    (sym (latest_is_chosen (g.S.Shelf.entries c.args.shelf.now) c.args.asked.now c.args.serials.now (distinct_entries (g.S.Shelf.entries c.args.shelf.now) c.requires.distinct) (are_serials (g.S.Shelf.entries c.args.shelf.now) c.args.asked.now c.args.serials.now c.requires.serials)) ∙ sym c.in_ok-entry-in-None-2.ensures ∙ ap option_copied c.in-Some-2.is)
-    (sym c.in-None-rule_on.ensures)
-
-pub returns-in-None-3 : goal.returns-in-None-3
-returns-in-None-3 g c =
-    by_vary (g.S.Shelf.entries c.args.shelf.now) c.args.asked.now c.args.now (sym (c.in-None.ensures true (g.S.Shelf.entries c.args.shelf.now) c.args.now))
-    (some_of_key (g.S.Shelf.entries c.args.shelf.now) c.args.asked.now c.args.serials.now (are_serials (g.S.Shelf.entries c.args.shelf.now) c.args.asked.now c.args.serials.now c.requires.serials) (sym c.if-is_empty.ensures))
-    (sym (latest_is_chosen (g.S.Shelf.entries c.args.shelf.now) c.args.asked.now c.args.serials.now (distinct_entries (g.S.Shelf.entries c.args.shelf.now) c.requires.distinct) (are_serials (g.S.Shelf.entries c.args.shelf.now) c.args.asked.now c.args.serials.now c.requires.serials)) ∙ sym c.in_ok-entry-in-None-2.ensures ∙ ap option_copied c.in-None-3.is)
+    ∙ by_none es asked c.args.now free (key_held es asked held) c.in-Some-latest_of.entry.now chosen (sym c.in-None.ensures)
