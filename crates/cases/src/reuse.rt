@@ -160,17 +160,8 @@ fn decided(
     now: u64,
     caches: bool,
 ) -> Result<Decision, AllocError> {
-    let serials = shelf.find(alloc, &asked.target.key)?;
     let directives = Directives::of(alloc, &asked.fields)?;
-    decide(
-        alloc,
-        asked,
-        &directives,
-        shelf,
-        serials.as_slice(),
-        now,
-        caches,
-    )
+    decide(alloc, asked, &directives, shelf, now, caches)
 }
 
 fn write_decision(text: &mut String, decision: Decision) -> Result<(), AllocError> {

@@ -10,7 +10,7 @@ use Rattle.hx_allow.specs.declared.verdicts.Verdict.{Verdict}
 use Rattle.hx_allow.specs.declared.verdicts.Verdict.TheVariants as verdict
 use Rattle.hx_store.specs.Stored.{Stored}
 use Rattle.hx_store.specs.Serials.{is_in}
-use Rattle.hx_store.specs.Shelf.{holds, find_entry, serials_of}
+use Rattle.hx_store.specs.Shelf.{holds, find_entry, is_match, serials_of}
 use Rattle.hx_store.proofs.Recency.{is_in-filter}
 use Rattle.hx_reuse.specs.Rules.{decision_of}
 use Rattle.hx_reuse.specs.Meaning.{NamesTheResponse}
@@ -34,7 +34,7 @@ use Rattle.proxy_core.specs.declared.outcome.Outcome.{Outcome}
 use Rattle.proxy_core.specs.declared.event.Event.{Event}
 use Rattle.proxy_core.specs.declared.event.Event.TheVariants.{Arrive, Answer, Fail, Wake, Abandon}
 use Rattle.proxy_core.specs.Validating.{condition_at, is_validation, validated, refreshed}
-use Rattle.proxy_core.specs.Storing.{is_unasked, is_storable, replaced_by, nominates, made}
+use Rattle.proxy_core.specs.Storing.{is_unasked, is_storable, replaced_by, made}
 use Rattle.proxy_core.specs.Leading.{leader_for}
 use Rattle.proxy_core.specs.Outcomes.{find_exchange, id_of, sent, allowed, arrived, sent_on, unanswered, woken, is_only_if_cached, error_rule_at, fallback_by, fallback_for, failed, is_error_status, passed, passed_unless, revalidated, answered, outcome_of}
 use Rattle.proxy_core.specs.State.{State, NoneFrom, stored_in, used_in, removed_in, stored_form}
@@ -150,8 +150,8 @@ module _ (table : Table) (es : List Stored) (now id : ℕ) (x : Exchange) (r : R
   unfolding KindOf
   kind_passed true (Some s) k g =
       let none : is_in s (replaced_by es x.asked) ≡ false =
-      is_in-filter s (λ serial. nominates es x.asked (find_entry serial es)) (serials_of x.asked.target.key es)
-      ∙ ap (λ b. b && nominates es x.asked (find_entry s es)) (none_of_key x.asked.target.key s es (g s (omega arith)))
+      is_in-filter s (λ serial. is_match x.asked.fields (find_entry serial es)) (serials_of x.asked.target.key es)
+      ∙ ap (λ b. b && is_match x.asked.fields (find_entry s es)) (none_of_key x.asked.target.key s es (g s (omega arith)))
       in
       stores s (made s x r now) refl refl k refl refl none
   kind_passed true None k g = idle refl refl

@@ -3,14 +3,14 @@
 -- facts_of: what the storing rules ask beside the two heads     is_storable: no storing rule stands
 -- made: the stored response                                     replaced_by: those that it takes the place of
 -- is_unasked: a 304 that answers nothing                        invalidates: what is held for its key goes
-use Rattle.std.specs.Prelude.{ℕ, ◌==◌, nat_lt, nat_le, ◌&&◌, ◌||◌, not, List, filter, length, codes, Bool, true, false, Option, Some, None, is_none, cond}
+use Rattle.std.specs.Prelude.{ℕ, ◌==◌, nat_lt, nat_le, ◌&&◌, ◌||◌, not, List, length, codes, Bool, true, false, Option, Some, None, is_none, cond}
 use Rattle.http.specs.Method.{safe_methods, is_among}
 use Rattle.hx_fields.specs.Lines.{has, without_named}
 use Rattle.hx_framing.specs.declared.responses.Response.{Response}
 use Rattle.hx_target.specs.declared.keys.Key.{Key}
 use Rattle.hx_age.specs.Age.{times_of}
 use Rattle.hx_age.specs.Lifetime.{lifetime_of}
-use Rattle.hx_vary.specs.Vary.{kept_values, is_star, vary_matches}
+use Rattle.hx_vary.specs.Vary.{kept_values, is_star}
 use Rattle.hx_vary.specs.declared.nominations.Nomination.{Nomination}
 use Rattle.hx_vary.specs.declared.nominations.Nomination.TheVariants.{Star, Names}
 use Rattle.hx_hop.specs.Answering.{answered_of}
@@ -19,7 +19,7 @@ use Rattle.hx_hop.specs.declared.asked_for.Asked.{Asked}
 use Rattle.hx_allow.specs.Lines.{Table}
 use Rattle.hx_allow.specs.Matching.{caches_of}
 use Rattle.hx_store.specs.Stored.{Stored}
-use Rattle.hx_store.specs.Shelf.{find_entry, serials_of}
+use Rattle.hx_store.specs.Shelf.{matching_serials}
 use Rattle.hx_storable.specs.Rules.{storage_rule_of}
 use Rattle.hx_storable.specs.declared.known_facts.Facts.{Facts}
 use Rattle.hx_validate.specs.Validators.{has_validator}
@@ -61,15 +61,10 @@ made serial x r now = record {
   times = times_of (answered_of r now).fields x.request_time now;
 }
 
--- the held response of this serial nominates what the request has
-abbrev pub nominates : List Stored → Asked → Option Stored → Bool
-nominates es asked None = false
-nominates es asked (Some e) = vary_matches e.nominated asked.fields
-
 -- the serials, ascending, of the held responses that a stored one takes the place of: those of its key that would
 -- answer the same request (RFC 9111, section 4.1)
 abbrev pub replaced_by : List Stored → Asked → List ℕ
-replaced_by es asked = filter (λ serial. nominates es asked (find_entry serial es)) (serials_of asked.target.key es)
+replaced_by es asked = matching_serials asked.target.key asked.fields es
 
 -- a 304 to a client that set no condition (RFC 9110, section 15.4.5)
 abbrev pub is_unasked : Asked → Response → Bool

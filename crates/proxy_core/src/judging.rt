@@ -22,16 +22,7 @@ pub(crate) fn judge_by<S: Shelf>(
     requires { asked_directives.now ≡ occurrences_of asked.now.fields }
     ensures { IfOk result (λ decision. decision ≡ decision_of caches (S.entries shelf.now) asked.now now) }
 {
-    let serials = shelf.find(alloc, &asked.target.key)?;
-    decide(
-        alloc,
-        asked,
-        asked_directives,
-        shelf,
-        serials.as_slice(),
-        now,
-        caches,
-    )
+    decide(alloc, asked, asked_directives, shelf, now, caches)
 }
 
 /// The same, where the directives aren't read yet.

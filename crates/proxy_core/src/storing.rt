@@ -3,8 +3,7 @@ ghost use Rattle.std.specs.Prelude.{◌≡◌, ◌<◌, Some, None, IfOk, IfSome
 ghost use Rattle.hx_directives.specs.Occurrences.{occurrences_of};
 ghost use Rattle.hx_hop.specs.Answering.{answered_of};
 ghost use Rattle.hx_vary.specs.Vary.{kept_values, nominated_of};
-ghost use Rattle.hx_store.specs.Shelf.{find_entry};
-ghost use Rattle.proxy_core.specs.Storing.{names_nothing, facts_of, is_storable, made, nominates, replaced_by};
+ghost use Rattle.proxy_core.specs.Storing.{names_nothing, facts_of, is_storable, made, replaced_by};
 ghost use Rattle.proxy_core.specs.Outcomes.{stored_serial, removed_by};
 
 use crate::origin_answer::OriginAnswer;
@@ -15,7 +14,7 @@ use hx_hop::{Answered, Asked, lists_cache_field};
 use hx_storable::{Facts, first_rule_against, the_least_storage_rule_is_named};
 use hx_store::{Entry, Serials, Shelf};
 use hx_validate::has_validator;
-use hx_vary::{Nominated, Nomination, matches};
+use hx_vary::{Nominated, Nomination};
 use std::alloc::{AllocError, Global};
 
 /// What a new stored response has beside the answer: its serial, and what it nominates.
@@ -142,21 +141,6 @@ impl<S: Shelf> Core<S> {
     }
 }
 
-/// Whether a held response nominates what the request has.
-fn nominates<S: Shelf>(
-    alloc: Global,
-    shelf: &S,
-    asked: &Asked,
-    serial: u64,
-) -> Result<bool, AllocError>
-    ensures { IfOk result (λ is. is ≡ nominates (S.entries shelf.now) asked.now (find_entry serial (S.entries shelf.now))) }
-{
-    match shelf.peek(serial) {
-        Some(entry) => matches(alloc, &entry.nominated, &asked.fields),
-        None => Ok(false),
-    }
-}
-
 /// The serials of the held responses that a stored one takes the place of.
 pub(crate) fn replaced_by<S: Shelf>(
     alloc: Global,
@@ -165,14 +149,7 @@ pub(crate) fn replaced_by<S: Shelf>(
 ) -> Result<Serials, AllocError>
     ensures { IfOk result (λ replaced. replaced ≡ replaced_by (S.entries shelf.now) asked.now) }
 {
-    let serials = shelf.find(alloc, &asked.target.key)?;
-    let mut replaced = Serials::new(alloc);
-    for serial in serials.as_slice() {
-        if nominates(alloc, shelf, asked, *serial)? {
-            replaced.push(*serial)?;
-        }
-    }
-    Ok(replaced)
+    shelf.find_matching(alloc, &asked.target.key, &asked.fields)
 }
 
 /// What goes for an answer that isn't stored.
