@@ -69,7 +69,9 @@ fn call_shelf<S: Shelf>(shelf: &mut S, fresh: Entry, path: &Key) -> Result<(), S
     expect(freshen(shelf, fresh)? == 2)?;
     expect(shelf.remove(4).is_some())?;
     expect(shelf.remove(4).is_none())?;
+    expect(shelf.has_key(path))?;
     expect(shelf.invalidate(path) == 2)?;
+    expect(!shelf.has_key(path))?;
     expect(shelf.len() == 1 && shelf.contains(2))
 }
 

@@ -1,7 +1,8 @@
 //! The shelf with an index beside the shelf that is a list, through the same 5,000 calls: each gives the same of both.
 
-use super::entries::{entry, key};
-use hx_store::{IndexedShelf, ListShelf, Shelf};
+use super::entries::{entry_for, key};
+use hx_fields::Fields;
+use hx_store::{IndexedShelf, ListShelf, Serials, Shelf};
 use std::alloc::{AllocError, Global};
 use std::process::Abort;
 use std::test::Fail;
@@ -31,6 +32,31 @@ fn path_of(serial: u64) -> &'static str {
     }
 }
 
+/// How many requests differ in what `entry_for` has its entries nominate.
+const REQUESTS: u64 = 12;
+
+/// One of several requests: a field absent, once, on two lines, or with their value on one; the other absent, present or
+/// empty.
+fn request(alloc: Global, n: u64) -> Result<Fields, AllocError> {
+    let mut fields = Fields::new(alloc);
+    fields.push(b"Host", b"h")?;
+    match n % 4 {
+        0 => {}
+        1 => fields.push(b"Accept-Language", b"de")?,
+        2 => {
+            fields.push(b"accept-language", b"de")?;
+            fields.push(b"Accept-Language", b"en")?;
+        }
+        _ => fields.push(b"Accept-Language", b"de, en")?,
+    }
+    match n / 4 % 3 {
+        0 => {}
+        1 => fields.push(b"Accept", b"text/html")?,
+        _ => fields.push(b"Accept", b"")?,
+    }
+    Ok(fields)
+}
+
 /// The nth call, which is mostly about a serial of late.
 fn nth(n: u64, dice: u64) -> Call {
     let serial = n.saturating_sub(dice / 16 % 24);
@@ -46,7 +72,7 @@ fn nth(n: u64, dice: u64) -> Call {
 
 /// Puts an entry in place of two others, and gives the serial that is handed back.
 fn put<S: Shelf>(alloc: Global, shelf: &mut S, serial: u64, replaced: u64) -> Result<u64, Fail> {
-    let entry = entry(alloc, serial, path_of(serial))?;
+    let entry = entry_for(alloc, serial, path_of(serial), &request(alloc, serial)?)?;
     if shelf.contains(entry.serial) {
         return Err("a new serial".into());
     }
@@ -57,9 +83,9 @@ fn put<S: Shelf>(alloc: Global, shelf: &mut S, serial: u64, replaced: u64) -> Re
     }
 }
 
-/// Freshens the entry of a serial, where it is held, and gives its serial.
+/// Freshens the entry of a serial, where it is held, with other values of the request, and gives its serial.
 fn freshen<S: Shelf>(alloc: Global, shelf: &mut S, serial: u64) -> Result<u64, Fail> {
-    let entry = entry(alloc, serial, path_of(serial))?;
+    let entry = entry_for(alloc, serial, path_of(serial), &request(alloc, serial / 2)?)?;
     match shelf.peek(entry.serial) {
         Some(held) if held.key.is_same(&entry.key) => {}
         _ => return Ok(0),
@@ -70,12 +96,22 @@ fn freshen<S: Shelf>(alloc: Global, shelf: &mut S, serial: u64) -> Result<u64, F
     Ok(shelf.freshen(entry).serial)
 }
 
-/// The serials of a path, one behind the other in one number.
+/// Serials, one behind the other in one number, behind what that is so far.
+fn joined(sum: u64, serials: &Serials) -> u64 {
+    let mut sum = sum;
+    for serial in serials.as_slice() {
+        sum = sum.wrapping_mul(6_007).wrapping_add(*serial);
+    }
+    sum.wrapping_mul(6_007)
+}
+
+/// What is found of a path, and of each request, in one number.
 fn found<S: Shelf>(alloc: Global, shelf: &S, path: &str) -> Result<u64, AllocError> {
     let key = key(alloc, path)?;
-    let mut sum = 0u64;
-    for serial in shelf.find(alloc, &key)?.as_slice() {
-        sum = sum.wrapping_mul(6_007).wrapping_add(*serial);
+    let mut sum = joined(u64::from(shelf.has_key(&key)), &shelf.find(alloc, &key)?);
+    for n in 0..REQUESTS {
+        let matching = shelf.find_matching(alloc, &key, &request(alloc, n)?)?;
+        sum = joined(sum, &matching);
     }
     Ok(sum)
 }

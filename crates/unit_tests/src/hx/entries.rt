@@ -19,7 +19,7 @@ const TIMES: Times = Times {
 
 fn fields(alloc: Global) -> Result<Fields, AllocError> {
     let mut fields = Fields::new(alloc);
-    fields.push(b"Vary", b"Accept")?;
+    fields.push(b"Vary", b"Accept-Language, Accept")?;
     fields.push(b"Cache-Control", b"max-age=60")?;
     Ok(fields)
 }
@@ -32,8 +32,8 @@ pub(super) fn key(alloc: Global, path: &str) -> Result<Key, AllocError> {
     })
 }
 
-fn nominated(alloc: Global, fields: &Fields) -> Result<Nominated, Fail> {
-    match Nominated::of(alloc, fields, fields)? {
+fn nominated(alloc: Global, fields: &Fields, request: &Fields) -> Result<Nominated, Fail> {
+    match Nominated::of(alloc, fields, request)? {
         Nomination::Names(nominated) => Ok(nominated),
         Nomination::Star => Err("names".into()),
     }
@@ -41,8 +41,18 @@ fn nominated(alloc: Global, fields: &Fields) -> Result<Nominated, Fail> {
 
 /// A stored response of a path, whose content is the path.
 pub(super) fn entry(alloc: Global, serial: u64, path: &str) -> Result<Entry, Fail> {
+    entry_for(alloc, serial, path, &Fields::new(alloc))
+}
+
+/// The same, of the request that it answered.
+pub(super) fn entry_for(
+    alloc: Global,
+    serial: u64,
+    path: &str,
+    request: &Fields,
+) -> Result<Entry, Fail> {
     let fields = fields(alloc)?;
-    let nominated = nominated(alloc, &fields)?;
+    let nominated = nominated(alloc, &fields, request)?;
     let directives = Directives::of(alloc, &fields)?;
     Ok(Entry {
         serial,

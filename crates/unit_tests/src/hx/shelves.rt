@@ -79,6 +79,7 @@ fn are_found(
     let key = key(alloc, path)?;
     let found = shelf.find(alloc, &key)?;
     assert!(rt; found.as_slice() == serials);
+    assert_eq!(rt; shelf.has_key(&key), !serials.is_empty());
     Ok(())
 }
 
