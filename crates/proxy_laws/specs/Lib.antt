@@ -1,2 +1,3 @@
 pub mod ClientConditions
 pub mod StoredAnswers
+pub mod OneResponse

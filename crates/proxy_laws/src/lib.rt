@@ -3,6 +3,7 @@
 #![tactic(auto)]
 
 ghost use Rattle.proxy_laws.specs.ClientConditions.{AnswersNoOther, AnswersTheCondition};
+ghost use Rattle.proxy_laws.specs.OneResponse.{PassesOneResponse, RefusesAsOneResponse};
 ghost use Rattle.proxy_laws.specs.StoredAnswers.{StoresNowhereElse, StoresWhereItMay};
 
 /// In a good history the answer to an open exchange is stored exactly where RFC 9111, section 3 lets it be, with the choices that
@@ -17,4 +18,11 @@ pub fn an_answer_is_stored_where_it_may_be()
 pub fn a_client_gets_its_304_where_it_may()
     ensures every { AnswersTheCondition }
     ensures only { AnswersNoOther }
+{}
+
+/// What a client gets for an answer that is passed on, or by the proxy itself, is one response: read by a client that knows what it
+/// asked, it ends where the proxy ended it (RFC 9112, sections 6.3 and 11.1).
+pub fn a_client_gets_one_response()
+    ensures passed { PassesOneResponse }
+    ensures own { RefusesAsOneResponse }
 {}
