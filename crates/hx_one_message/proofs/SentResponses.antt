@@ -30,13 +30,13 @@ use Rattle.hx_one_message.proofs.SentRequests.{line_of}
 
 -- ---- what was read
 
-record IsCleanAnswer (h : Bool) (r : Response) : Type 0 where
-  status : (200 ≤ r.status) × (r.status ≤ 599)
-  fields : All IsWritableField r.fields
-  lengths : has r.fields (codes "content-length") ≡ false
-  codings : has r.fields (codes "transfer-encoding") ≡ false
-  announced : IfSome r.announced (λ n. n < 2 ^ 64)
-  without : is_without_content h r.status ≡ true → r.content ≡ []
+pub record IsCleanAnswer (h : Bool) (r : Response) : Type 0 where
+  pub status : (200 ≤ r.status) × (r.status ≤ 599)
+  pub fields : All IsWritableField r.fields
+  pub lengths : has r.fields (codes "content-length") ≡ false
+  pub codings : has r.fields (codes "transfer-encoding") ≡ false
+  pub announced : IfSome r.announced (λ n. n < 2 ^ 64)
+  pub without : is_without_content h r.status ≡ true → r.content ≡ []
 
 fields_clean : (head : StatusHead) (text : List ℕ) → Judges text (Ok head) → All IsWritableField (without_lengths head.fields)
 fields_clean head text (g, is, same) =
@@ -60,7 +60,7 @@ below_limit true head = by_coding (has head.fields transfer_encoding)
     by_coding true = tt
     by_coding false = by_length (length_told head.fields)
 
-clean : (max : ℕ) (h e : Bool) (bytes : List ℕ) (r : Response) (rest : List ℕ) → Reads max h e bytes (Spelled r rest) → IsCleanAnswer h r
+pub clean : (max : ℕ) (h e : Bool) (bytes : List ℕ) (r : Response) (rest : List ℕ) → Reads max h e bytes (Spelled r rest) → IsCleanAnswer h r
 clean max h e bytes r rest reads =
     let is = made max h e bytes r rest reads in
     let same : r ≡ response_of h is.head is.content = is.same in
@@ -85,7 +85,7 @@ module _ (fields : List Field) (now : ℕ) where
   date : Field
   date = line (codes "Date") (date_text_of now)
 
-  dated_fit : now < 253402300800 → All IsWritableField fields → All IsWritableField (dated_of fields now)
+  pub dated_fit : now < 253402300800 → All IsWritableField fields → All IsWritableField (dated_of fields now)
   dated_fit early all = by_test (has_one_date fields)
     where
       by_test : (t : Bool) → All IsWritableField (cond t fields (without_named fields (codes "Date") ++ line (codes "Date") (date_text_of now) ∷ []))
@@ -95,7 +95,7 @@ module _ (fields : List Field) (now : ℕ) where
           (All-filter (λ f. not (is_named (codes "Date") f)) IsWritableField fields all)
           (All-cons IsWritableField (line (codes "Date") (date_text_of now)) [] (line_of (codes "Date") (date_text_of now) date_token (omega arith) (date_value now early)) (All-nil IsWritableField))
 
-  dated_without : (name : List ℕ) → has fields name ≡ false → is_named name (line (codes "Date") (date_text_of now)) ≡ false → has (dated_of fields now) name ≡ false
+  pub dated_without : (name : List ℕ) → has fields name ≡ false → is_named name (line (codes "Date") (date_text_of now)) ≡ false → has (dated_of fields now) name ≡ false
   dated_without name none other = by_test (has_one_date fields)
     where
       by_test : (t : Bool) → has (cond t fields (without_named fields (codes "Date") ++ line (codes "Date") (date_text_of now) ∷ [])) name ≡ false
@@ -104,10 +104,10 @@ module _ (fields : List Field) (now : ℕ) where
           list_any-append (is_named name) (without_named fields (codes "Date")) (line (codes "Date") (date_text_of now) ∷ [])
           ∙ or_from _ _ (list_any_fewer (λ f. not (is_named (codes "Date") f)) (is_named name) fields none) (or_from _ _ other refl)
 
-stripped_without : (fields : List Field) (name : List ℕ) → has fields name ≡ false → has (stripped fields) name ≡ false
+pub stripped_without : (fields : List Field) (name : List ℕ) → has fields name ≡ false → has (stripped fields) name ≡ false
 stripped_without fields name none = list_any_fewer (λ f. not (is_hop_line fields f)) (is_named name) fields none
 
-sent_without : (fields added : List Field) (now : ℕ) (name : List ℕ) → has fields name ≡ false → has added name ≡ false → is_named name (line (codes "Date") (date_text_of now)) ≡ false
+pub sent_without : (fields added : List Field) (now : ℕ) (name : List ℕ) → has fields name ≡ false → has added name ≡ false → is_named name (line (codes "Date") (date_text_of now)) ≡ false
     → has (dated_of (stripped fields) now ++ added) name ≡ false
 sent_without fields added now name none other date =
     list_any-append (is_named name) (dated_of (stripped fields) now) added

@@ -3,3 +3,4 @@ pub mod ClientConditions
 pub mod StoredAnswers
 pub mod ReplyValues
 pub mod OneResponse
+pub mod StoredReplies

@@ -230,3 +230,6 @@ text_value (Target fault) = fronted 114 (codes "efused: ") (target_word fault) r
 
 pub plain_value : IsFieldValue (codes "text/plain")
 plain_value = visible_field_value (codes "text/plain") (word (codes "text/plain") refl)
+
+pub decimal_value : (n : ℕ) → IsFieldValue (decimal n)
+decimal_value n = visible_field_value (decimal n) (decimal_visible n)

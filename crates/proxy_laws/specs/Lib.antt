@@ -1,3 +1,4 @@
 pub mod ClientConditions
 pub mod StoredAnswers
 pub mod OneResponse
+pub mod StoredReplies
