@@ -1,11 +1,12 @@
 -- What a map from keys to maps of marks says of the serials at each key.
 use Rattle.std.proofs.Common.{None, Some, ◌≡◌, ℕ, Bool, true, false, cond, ◌&&◌, Option, List, [], ◌∷◌, refl, sym, ◌∙◌, ap, inl, inr}
-use Rattle.std.specs.Option.{option_map_or, ForSome}
+use Rattle.std.specs.Prelude.{unwrap_or}
+use Rattle.std.specs.Option.{ForSome}
 use Rattle.std.specs.Ordering.{nat_cmp, match_ordering}
 use Rattle.std.specs.declared.cmp.Ordering.{Ordering}
 use Rattle.std.specs.declared.cmp.Ordering.TheVariants.{Less, Equal, Greater}
 use Rattle.std.specs.Cmp.Lexicographic.{bytes_decides}
-use Rattle.std.specs.BTreeMap.{BTreeMap, get, insert_entry, is_at}
+use Rattle.std.specs.BTreeMap.{get, insert_entry, is_at}
 use Rattle.std.proofs.lemmas.Bool.{cases_Bool, false≢true, eqb-true, eq-eqb, or_left}
 use Rattle.std.specs.Map.{lookup}
 use Rattle.std.proofs.lemmas.Option.{same_Some}
@@ -31,11 +32,11 @@ one_key a b h =
     let path_query = (bytes_decides a.path_query b.path_query).0 p.1 in
     λ i. record { host = host i; port = port i; path_query = path_query i }
 
-abbrev pub entries_or_none : Option (BTreeMap ℕ ℕ) → List (ℕ × ℕ)
-entries_or_none o = option_map_or (λ marks. marks.entries) o []
+abbrev pub entries_or_none : Option (List (ℕ × ℕ)) → List (ℕ × ℕ)
+entries_or_none o = unwrap_or o []
 
 -- a map that has w at a key, and else what it had
-pub written : (key : Key) (old new : KeyIndex) (w : Option (BTreeMap ℕ ℕ)) →
+pub written : (key : Key) (old new : KeyIndex) (w : Option (List (ℕ × ℕ))) →
     ((q : Key) → get key_cmp new.serials q ≡ cond (is_at (key_cmp key) q) w (get key_cmp old.serials q)) →
     (q : Key) → marks_at new q ≡ cond (same_key key q) (entries_or_none w) (marks_at old q)
 written key old new w h q =
@@ -65,8 +66,8 @@ unchanged key old new ks h e q =
 
 -- ---- no key is in the index for nothing
 
-abbrev pub HasSome : BTreeMap ℕ ℕ → Type 0
-HasSome marks = marks.entries ≡ [] → ⊥
+abbrev pub HasSome : List (ℕ × ℕ) → Type 0
+HasSome marks = marks ≡ [] → ⊥
 
 pub not_nothing : (s : ℕ) (xs : List ℕ) → insert_ascending s xs ≡ [] → ⊥
 not_nothing s xs h = false≢true (
@@ -85,10 +86,10 @@ pub not_unmarked : (s m : ℕ) (ps : List (ℕ × ℕ)) → insert_entry nat_cmp
 not_unmarked s m [] h = cc
 not_unmarked s m (p ∷ ps) h = not_empty s m p ps (nat_cmp s p.0) h
 
-pub some_has : (set : BTreeMap ℕ ℕ) → HasSome set → ForSome (Some set) HasSome
-some_has set n x e k = n (ap (λ y. y.entries) (same_Some set x e) ∙ k)
+pub some_has : (set : List (ℕ × ℕ)) → HasSome set → ForSome (Some set) HasSome
+some_has set n x e k = n (same_Some set x e ∙ k)
 
-pub trim-written : (key : Key) (old new : KeyIndex) (w : Option (BTreeMap ℕ ℕ)) →
+pub trim-written : (key : Key) (old new : KeyIndex) (w : Option (List (ℕ × ℕ))) →
     ((q : Key) → get key_cmp new.serials q ≡ cond (is_at (key_cmp key) q) w (get key_cmp old.serials q)) → ForSome w HasSome → IsTrim old → IsTrim new
 trim-written key old new w h n o q set e k =
     let g = get key_cmp old.serials q in
@@ -97,7 +98,7 @@ trim-written key old new w h n o q set e k =
       | inr f ↦ o q set (sym (h q ∙ ap (λ b. cond b w g) f) ∙ e) k
     ]
 
-pub trim-beside : (key : Key) (old new : KeyIndex) (w : Option (BTreeMap ℕ ℕ)) →
+pub trim-beside : (key : Key) (old new : KeyIndex) (w : Option (List (ℕ × ℕ))) →
     ((q : Key) → get key_cmp new.serials q ≡ cond (is_at (key_cmp key) q) w (get key_cmp old.serials q)) → IsTrim old → IsTrimBeside key new
 trim-beside key old new w h o q f set e k =
     let g = get key_cmp old.serials q in

@@ -1,8 +1,8 @@
 -- An index from keys to serials, each beside the mark of its entry.
-use Rattle.std.specs.Prelude.{◌≡◌, ℕ, Bool, true, false, not, ◌||◌, ◌==◌, List, [], ◌∷◌, if◌then◌else◌, IfSome}
+use Rattle.std.specs.Prelude.{◌≡◌, ℕ, Bool, true, false, not, ◌||◌, ◌==◌, List, [], ◌∷◌, if◌then◌else◌, IfSome, unwrap_or}
 use Rattle.std.specs.List.{filter}
 use Rattle.std.specs.Map.{keys_of, remove_entry, set_value}
-use Rattle.std.specs.Option.{option_map_or, ForSome}
+use Rattle.std.specs.Option.{ForSome}
 use Rattle.std.specs.Ordering.{nat_cmp}
 use Rattle.std.specs.BTreeMap.{get, insert_entry, is_at}
 use Rattle.hx_target.specs.declared.keys.Key.{Key}
@@ -16,7 +16,7 @@ use Rattle.hx_store.specs.Shelf.{find_entry, serials_of}
 
 -- the serials that the index has at a key, beside their marks
 abbrev pub marks_at : KeyIndex → Key → List (ℕ × ℕ)
-marks_at index key = option_map_or (λ marks. marks.entries) (get key_cmp index.serials key) []
+marks_at index key = unwrap_or (get key_cmp index.serials key) []
 
 -- the serials alone
 abbrev pub indexed : KeyIndex → Key → List ℕ
@@ -55,11 +55,11 @@ IsPutInIf false old key s mark new = IsSameIndex old new × (marks_at old key �
 
 -- no key is in the index for nothing
 abbrev pub IsTrim : KeyIndex → Type 0
-IsTrim index = (q : Key) → ForSome (get key_cmp index.serials q) (λ marks. marks.entries ≡ [] → ⊥)
+IsTrim index = (q : Key) → ForSome (get key_cmp index.serials q) (λ marks. marks ≡ [] → ⊥)
 
 -- the same of each key but this one
 abbrev pub IsTrimBeside : Key → KeyIndex → Type 0
-IsTrimBeside key index = (q : Key) → same_key key q ≡ false → ForSome (get key_cmp index.serials q) (λ marks. marks.entries ≡ [] → ⊥)
+IsTrimBeside key index = (q : Key) → same_key key q ≡ false → ForSome (get key_cmp index.serials q) (λ marks. marks ≡ [] → ⊥)
 
 -- the index has the serials of these entries at each key
 abbrev pub IsIndexOf : List Stored → KeyIndex → Type 0

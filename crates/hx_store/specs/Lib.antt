@@ -2,6 +2,7 @@ pub mod Stored
 pub mod Serials
 pub mod Shelf
 pub mod Keyed
+pub mod KeptMarks
 pub mod Index
 pub mod Found
 pub mod Recency

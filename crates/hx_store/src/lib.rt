@@ -10,6 +10,7 @@ mod entry_cache;
 mod indexed_entries;
 mod indexed_shelf;
 mod key_index;
+mod key_marks;
 mod laws;
 mod list_shelf;
 mod serial_list;

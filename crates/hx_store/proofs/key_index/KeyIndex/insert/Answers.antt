@@ -15,21 +15,21 @@ returns-clause-ok c =
     let mid = c.insert_beside.new.self in
     let new : KeyIndex = record { serials = c.insert.new.self } in
     let b : IsSameIndex old mid × (marks_at old c.args.key.now ≡ []) = search rules in
-    let k : c.in_ok-copy.field-0 ≡ c.args.key.now = search rules in
-    let u : (q : Key) → get key_cmp c.insert.new.self q ≡ cond (is_at (key_cmp c.args.key.now) q) (Some c.in_ok-marks.marks) (get key_cmp mid.serials q) =
-    subst (λ z. (q : Key) → get key_cmp c.insert.new.self q ≡ cond (is_at (key_cmp z) q) (Some c.in_ok-marks.marks) (get key_cmp mid.serials q)) k c.in_ok-insert.ensures.updates.0 in
-    let w = written c.args.key.now mid new (Some c.in_ok-marks.marks) u in
-    let s : c.in_ok-marks.marks.entries ≡ insert_entry nat_cmp (marks_at old c.args.key.now) c.args.serial c.args.mark =
-    c.in_ok-marks.ensures ∙ ap (λ ps. insert_entry nat_cmp ps c.args.serial c.args.mark) (sym b.1) in
+    let k : c.in_ok-key.key ≡ c.args.key.now = search rules in
+    let u : (q : Key) → get key_cmp c.insert.new.self q ≡ cond (is_at (key_cmp c.args.key.now) q) (Some c.one.result) (get key_cmp mid.serials q) =
+    subst (λ z. (q : Key) → get key_cmp c.insert.new.self q ≡ cond (is_at (key_cmp z) q) (Some c.one.result) (get key_cmp mid.serials q)) k c.in_ok-insert.ensures.updates.0 in
+    let w = written c.args.key.now mid new (Some c.one.result) u in
+    let s : c.one.result ≡ insert_entry nat_cmp (marks_at old c.args.key.now) c.args.serial c.args.mark =
+    c.one.ensures ∙ ap (λ ps. insert_entry nat_cmp ps c.args.serial c.args.mark) (sym b.1) in
     changed (λ ps. insert_entry nat_cmp ps c.args.serial c.args.mark) c.args.key.now old new _
-    (λ q. w q ∙ ap (cond (same_key c.args.key.now q) c.in_ok-marks.marks.entries) (b.0 q)) s
+    (λ q. w q ∙ ap (cond (same_key c.args.key.now q) c.one.result) (b.0 q)) s
 
 pub returns-clause-trim : goal.returns-clause-trim
 returns-clause-trim c o =
     let mid = c.insert_beside.new.self in
     let new : KeyIndex = record { serials = c.insert.new.self } in
-    trim-written c.in_ok-copy.field-0 mid new (Some c.in_ok-marks.marks) c.in_ok-insert.ensures.updates.0
-    (some_has c.in_ok-marks.marks (λ k. not_unmarked c.args.serial c.args.mark [] (sym c.in_ok-marks.ensures ∙ k))) (c.insert_beside.ensures.trim o)
+    trim-written c.in_ok-key.key mid new (Some c.one.result) c.in_ok-insert.ensures.updates.0
+    (some_has c.one.result (λ k. not_unmarked c.args.serial c.args.mark [] (sym c.one.ensures ∙ k))) (c.insert_beside.ensures.trim o)
 
 pub returns-in_err-insert-clause-trim : goal.returns-in_err-insert-clause-trim
 returns-in_err-insert-clause-trim c o =

@@ -7,49 +7,49 @@ use Rattle.hx_store.specs.Index.{marks_at, IsSameIndex}
 use Rattle.hx_store.proofs.Indices.{changed, not_unmarked, some_has, trim-same, trim-written, unchanged, written}
 use Rattle.hx_store.proofs.key_index.KeyIndex.insert_beside.Goals as goal
 
-pub returns-in_err-insert_mark-in-Some-clause-err : goal.returns-in_err-insert_mark-in-Some-clause-err
-returns-in_err-insert_mark-in-Some-clause-err c =
+pub returns-in_err-insert-in-Some-clause-err : goal.returns-in_err-insert-in-Some-clause-err
+returns-in_err-insert-in-Some-clause-err c =
     let old = c.args.self.now in
-    let set = c.insert_mark.new.marks in
+    let set = c.insert.new.self in
     let new : KeyIndex = record { serials = c.get_mut.follows.lender set } in
     let u : WritesThrough key_cmp (key_cmp c.args.key.now) old.serials set new.serials = search rules in
     let m : get_by (key_cmp c.args.key.now) old.serials ≡ Some c.in-Some.marks.now = search rules in
-    let e : marks_at old c.args.key.now ≡ c.in-Some.marks.now.entries = search rules in
-    let k : set.entries ≡ marks_at old c.args.key.now = c.in_err-insert_mark-in-Some.ensures.err ∙ sym e in
+    let e : marks_at old c.args.key.now ≡ c.in-Some.marks.now = search rules in
+    let k : set ≡ marks_at old c.args.key.now = c.in_err-insert-in-Some.ensures.err ∙ sym e in
     let same : IsSameIndex old new = unchanged c.args.key.now old new _ (written c.args.key.now old new (Some set) (u.3 (ap is_some m)).0) k in
     search rules
 
-pub returns-in_ok-insert_mark-in-Some-clause-ok : goal.returns-in_ok-insert_mark-in-Some-clause-ok
-returns-in_ok-insert_mark-in-Some-clause-ok c =
+pub returns-in_ok-insert-in-Some-clause-ok : goal.returns-in_ok-insert-in-Some-clause-ok
+returns-in_ok-insert-in-Some-clause-ok c =
     let old = c.args.self.now in
-    let set = c.insert_mark.new.marks in
+    let set = c.insert.new.self in
     let new : KeyIndex = record { serials = c.get_mut.follows.lender set } in
     let u : WritesThrough key_cmp (key_cmp c.args.key.now) old.serials set new.serials = search rules in
     let m : get_by (key_cmp c.args.key.now) old.serials ≡ Some c.in-Some.marks.now = search rules in
-    let e : marks_at old c.args.key.now ≡ c.in-Some.marks.now.entries = search rules in
-    let k : set.entries ≡ insert_entry nat_cmp (marks_at old c.args.key.now) c.args.serial c.args.mark =
-    c.in_ok-insert_mark-in-Some.ensures.ok ∙ ap (λ ps. insert_entry nat_cmp ps c.args.serial c.args.mark) (sym e) in
+    let e : marks_at old c.args.key.now ≡ c.in-Some.marks.now = search rules in
+    let k : set ≡ insert_entry nat_cmp (marks_at old c.args.key.now) c.args.serial c.args.mark =
+    c.in_ok-insert-in-Some.ensures.ok ∙ ap (λ ps. insert_entry nat_cmp ps c.args.serial c.args.mark) (sym e) in
     changed (λ ps. insert_entry nat_cmp ps c.args.serial c.args.mark) c.args.key.now old new _ (written c.args.key.now old new (Some set) (u.3 (ap is_some m)).0) k
 
-pub returns-in_err-insert_mark-in-Some-clause-trim : goal.returns-in_err-insert_mark-in-Some-clause-trim
-returns-in_err-insert_mark-in-Some-clause-trim c o =
+pub returns-in_err-insert-in-Some-clause-trim : goal.returns-in_err-insert-in-Some-clause-trim
+returns-in_err-insert-in-Some-clause-trim c o =
     let old = c.args.self.now in
-    let set = c.insert_mark.new.marks in
+    let set = c.insert.new.self in
     let new : KeyIndex = record { serials = c.get_mut.follows.lender set } in
     let u : WritesThrough key_cmp (key_cmp c.args.key.now) old.serials set new.serials = search rules in
     let m : get_by (key_cmp c.args.key.now) old.serials ≡ Some c.in-Some.marks.now = search rules in
     trim-written c.args.key.now old new (Some set) (u.3 (ap is_some m)).0
-    (some_has set (λ k. o c.args.key.now c.in-Some.marks.now m (sym c.in_err-insert_mark-in-Some.ensures.err ∙ k))) o
+    (some_has set (λ k. o c.args.key.now c.in-Some.marks.now m (sym c.in_err-insert-in-Some.ensures.err ∙ k))) o
 
-pub returns-in_ok-insert_mark-in-Some-clause-trim : goal.returns-in_ok-insert_mark-in-Some-clause-trim
-returns-in_ok-insert_mark-in-Some-clause-trim c o =
+pub returns-in_ok-insert-in-Some-clause-trim : goal.returns-in_ok-insert-in-Some-clause-trim
+returns-in_ok-insert-in-Some-clause-trim c o =
     let old = c.args.self.now in
-    let set = c.insert_mark.new.marks in
+    let set = c.insert.new.self in
     let new : KeyIndex = record { serials = c.get_mut.follows.lender set } in
     let u : WritesThrough key_cmp (key_cmp c.args.key.now) old.serials set new.serials = search rules in
     let m : get_by (key_cmp c.args.key.now) old.serials ≡ Some c.in-Some.marks.now = search rules in
     trim-written c.args.key.now old new (Some set) (u.3 (ap is_some m)).0
-    (some_has set (λ k. not_unmarked c.args.serial c.args.mark c.in-Some.marks.now.entries (sym c.in_ok-insert_mark-in-Some.ensures.ok ∙ k))) o
+    (some_has set (λ k. not_unmarked c.args.serial c.args.mark c.in-Some.marks.now (sym c.in_ok-insert-in-Some.ensures.ok ∙ k))) o
 
 pub returns-in-None-clause-trim : goal.returns-in-None-clause-trim
 returns-in-None-clause-trim c o =

@@ -12,12 +12,12 @@ use Rattle.hx_store.proofs.key_index.KeyIndex.mark.Goals as goal
 pub returns-in-Some-clause-marked : goal.returns-in-Some-clause-marked
 returns-in-Some-clause-marked c =
     let old = c.args.self.now in
-    let map = c.set_mark.new.marks in
+    let map = c.set_mark.new.self in
     let new : KeyIndex = record { serials = c.get_mut.follows.lender map } in
     let u : WritesThrough key_cmp (key_cmp c.args.key.now) old.serials map new.serials = search rules in
     let m : get_by (key_cmp c.args.key.now) old.serials ≡ Some c.in-Some.marks.now = search rules in
-    let e : marks_at old c.args.key.now ≡ c.in-Some.marks.now.entries = search rules in
-    let k : map.entries ≡ set_value (is_at (nat_cmp c.args.serial)) (marks_at old c.args.key.now) c.args.mark =
+    let e : marks_at old c.args.key.now ≡ c.in-Some.marks.now = search rules in
+    let k : map ≡ set_value (is_at (nat_cmp c.args.serial)) (marks_at old c.args.key.now) c.args.mark =
     c.set_mark.ensures ∙ ap (λ ps. set_value (is_at (nat_cmp c.args.serial)) ps c.args.mark) (sym e) in
     changed (λ ps. set_value (is_at (nat_cmp c.args.serial)) ps c.args.mark) c.args.key.now old new _
     (written c.args.key.now old new (Some map) (u.3 (ap is_some m)).0) k
@@ -25,13 +25,13 @@ returns-in-Some-clause-marked c =
 pub returns-in-Some-clause-trim : goal.returns-in-Some-clause-trim
 returns-in-Some-clause-trim c o =
     let old = c.args.self.now in
-    let map = c.set_mark.new.marks in
+    let map = c.set_mark.new.self in
     let new : KeyIndex = record { serials = c.get_mut.follows.lender map } in
     let u : WritesThrough key_cmp (key_cmp c.args.key.now) old.serials map new.serials = search rules in
     let m : get_by (key_cmp c.args.key.now) old.serials ≡ Some c.in-Some.marks.now = search rules in
     trim-written c.args.key.now old new (Some map) (u.3 (ap is_some m)).0
     (some_has map (λ k. o c.args.key.now c.in-Some.marks.now m
-    (set_nothing (is_at (nat_cmp c.args.serial)) c.in-Some.marks.now.entries c.args.mark (sym c.set_mark.ensures ∙ k)))) o
+    (set_nothing (is_at (nat_cmp c.args.serial)) c.in-Some.marks.now c.args.mark (sym c.set_mark.ensures ∙ k)))) o
 
 pub returns-in_default-clause-trim : goal.returns-in_default-clause-trim
 returns-in_default-clause-trim c o =

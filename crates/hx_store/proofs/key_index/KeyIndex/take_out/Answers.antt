@@ -1,5 +1,6 @@
 use Rattle.std.specs.Bool.{OnFalse}
 use Rattle.std.proofs.lemmas.Bool.{false≢true}
+use Rattle.std.specs.Prelude.{◌==◌}
 use Rattle.std.proofs.Common.{rules, ◌≡◌, Bool, true, false, refl, length, ap, sym, ◌∙◌, Some, is_some}
 use Rattle.std.specs.Ordering.{nat_cmp}
 use Rattle.std.specs.Map.{remove_entry}
@@ -15,9 +16,9 @@ returns-in-Some-clause-taken c =
     let new : KeyIndex = record { serials = c.get_mut.follows.lender c.remove.new.self } in
     let u : WritesThrough key_cmp (key_cmp c.args.key.now) c.args.self.now.serials c.remove.new.self new.serials = search rules in
     let m : get_by (key_cmp c.args.key.now) c.args.self.now.serials ≡ Some c.in-Some.marks.now = search rules in
-    let e : marks_at c.args.self.now c.args.key.now ≡ c.in-Some.marks.now.entries = search rules in
-    let k : c.remove.new.self.entries ≡ remove_entry (is_at (nat_cmp c.args.serial)) (marks_at c.args.self.now c.args.key.now) =
-    c.remove.ensures.entries ∙ ap (remove_entry (is_at (nat_cmp c.args.serial))) (sym e) in
+    let e : marks_at c.args.self.now c.args.key.now ≡ c.in-Some.marks.now = search rules in
+    let k : c.remove.new.self ≡ remove_entry (is_at (nat_cmp c.args.serial)) (marks_at c.args.self.now c.args.key.now) =
+    c.remove.ensures ∙ ap (remove_entry (is_at (nat_cmp c.args.serial))) (sym e) in
     changed (remove_entry (is_at (nat_cmp c.args.serial))) c.args.key.now c.args.self.now new _
     (written c.args.key.now c.args.self.now new (Some c.remove.new.self) (u.3 (ap is_some m)).0) k
 
@@ -38,7 +39,7 @@ returns-in-Some-clause-trim c o =
     let u : WritesThrough key_cmp (key_cmp c.args.key.now) c.args.self.now.serials c.remove.new.self new.serials = search rules in
     let m : get_by (key_cmp c.args.key.now) c.args.self.now.serials ≡ Some c.in-Some.marks.now = search rules in
     on_false c.is_empty.result (IsTrim new) (λ f. trim-written c.args.key.now c.args.self.now new (Some c.remove.new.self) (u.3 (ap is_some m)).0
-    (some_has c.remove.new.self (λ k. false≢true (sym f ∙ c.is_empty.ensures.1 (ap length k)))) o)
+    (some_has c.remove.new.self (λ k. false≢true (sym f ∙ c.is_empty.ensures ∙ ap (λ ps. length ps == 0) k))) o)
 
 pub returns-in-None-clause-trim_beside : goal.returns-in-None-clause-trim_beside
 returns-in-None-clause-trim_beside c o q f =

@@ -2,7 +2,7 @@ use Rattle.std.proofs.Common.{◌≡◌, List, ℕ, subst, sym, ◌∙◌}
 use Rattle.std.specs.Prelude.{IfOk}
 use Rattle.hx_vary.specs.Marks.{marks_of}
 use Rattle.hx_store.proofs.MarkLists.{unmarked}
-use Rattle.hx_store.proofs.key_index.marked_of.Goals as goal
+use Rattle.hx_store.proofs.key_marks.marked_of.Goals as goal
 
 pub returns-else-has_marks : goal.returns-else-has_marks
 returns-else-has_marks c =

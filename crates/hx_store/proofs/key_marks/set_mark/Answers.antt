@@ -3,7 +3,7 @@ use Rattle.std.specs.Ordering.{nat_cmp}
 use Rattle.std.specs.Map.{lookup}
 use Rattle.std.specs.BTreeMap.{is_at}
 use Rattle.hx_store.proofs.MarkLists.{set_absent}
-use Rattle.hx_store.proofs.key_index.set_mark.Goals as goal
+use Rattle.hx_store.proofs.key_marks.set_mark.Goals as goal
 
 pub returns-in_default : goal.returns-in_default
 returns-in_default c =
