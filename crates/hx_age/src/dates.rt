@@ -12,10 +12,7 @@ use hx_fields::Fields;
 pub fn single_date(fields: &Fields, name: &[u8]) -> Option<u64>
     ensures { result ≡ single_date (values_of fields.now name.now) }
 {
-    if fields.count(name) != 1 {
-        return None;
-    }
-    match fields.value(name) {
+    match fields.only_value(name) {
         Some(text) => date_seconds(text),
         None => None,
     }

@@ -1,12 +1,8 @@
 -- Addresses of origins: four decimal numbers and a port.
 use Rattle.std.specs.Prelude.{ℕ, nat_le, ◌==◌, nat_lt, Bool, false, not, ◌&&◌, if◌then◌else◌, List, [], ◌∷◌, length, slice_index, Option, Some, None}
 use Rattle.std.specs.Option.{option_map, option_and_then}
+use Rattle.hx_fields.specs.Names.{cut_at}
 use Rattle.hx_target.specs.Hosts.{short_number}
-
--- what stands before the first of these bytes, and what stands behind it
-abbrev pub cut_at : ℕ → List ℕ → Option (List ℕ × List ℕ)
-cut_at separator [] = None
-cut_at separator (b ∷ bs) = if b == separator then Some ([], bs) else option_map (λ p. (b ∷ p.0, p.1)) (cut_at separator bs)
 
 -- a zero in front of further digits
 abbrev pub has_leading_zero : List ℕ → Bool

@@ -1,21 +1,10 @@
 //! Addresses of origins: four decimal numbers and a port.
 ghost use Rattle.std.specs.Prelude.{◌≡◌};
 ghost use Rattle.std.specs.Option.{option_map, option_copied};
-ghost use Rattle.hx_allow.specs.Addresses.{cut_at, has_leading_zero, is_number, after_octet, port_text, is_address};
+ghost use Rattle.hx_allow.specs.Addresses.{has_leading_zero, is_number, after_octet, port_text, is_address};
 
+use hx_fields::cut_at;
 use hx_target::short_number;
-
-/// What stands before the first of these bytes, and what stands behind it.
-fn cut_at(separator: u8, text: &[u8]) -> Option<(&[u8], &[u8])>
-    ensures { option_map (λ p. (p.0.now, p.1.now)) result ≡ cut_at separator text.now }
-{
-    for (i, b) in text.iter().enumerate() {
-        if *b == separator {
-            return Some((&text[..i], &text[i + 1..]));
-        }
-    }
-    None
-}
 
 fn has_leading_zero(text: &[u8]) -> bool
     ensures { result ≡ has_leading_zero text.now }

@@ -5,8 +5,8 @@ use Rattle.std.proofs.Math.Seq.{drop-cons, take-suc}
 use Rattle.std.proofs.lemmas.List.{get_or-drop, length-drop}
 use Rattle.std.proofs.lemmas.Grind.{common_steps}
 use Rattle.hx_fields.specs.Names.{pieces, in_front, cuts, next_place, trimmed, is_nonempty}
-use Rattle.hx_fields.specs.declared.cutting.Place.{Place}
-use Rattle.hx_fields.specs.declared.cutting.Place.TheVariants.{Outside, Quoted, Escaped}
+use Rattle.hx_fields.specs.declared.cutting.QuoteState.{QuoteState}
+use Rattle.hx_fields.specs.declared.cutting.QuoteState.TheVariants.{Outside, Quoted, Escaped}
 
 -- these bytes in front of the first piece
 abbrev pub all_in_front : List ℕ → List (List ℕ) → List (List ℕ)
@@ -23,7 +23,7 @@ all_in_front-in_front cur b [] = refl
 all_in_front-in_front cur b (p ∷ ps) = ap (λ q. q ∷ ps) (sym (append_assoc cur (b ∷ []) p))
 
 -- nothing in front changes nothing
-pub all_in_front-nil : (place : Place) (text : List ℕ) → all_in_front [] (pieces place text) ≡ pieces place text
+pub all_in_front-nil : (place : QuoteState) (text : List ℕ) → all_in_front [] (pieces place text) ≡ pieces place text
 all_in_front-nil place [] = refl
 all_in_front-nil place (b ∷ bs) =
     let P : List (List ℕ) → Type 0 = λ ps. all_in_front [] (in_front b ps) ≡ in_front b ps in
@@ -40,16 +40,16 @@ pub filter-cons : {X : Type 0} (p : X → Bool) (x : X) (xs : List X) → filter
 filter-cons p x xs = elim (p x) as (λ t. cond t (x ∷ filter p xs) (filter p xs) ≡ cond t (x ∷ []) [] ++ filter p xs) [ true ↦ refl | false ↦ refl ]
 
 -- a byte that cuts stands outside quotes, and so does the next
-pub next_place-cuts : (place : Place) (b : ℕ) → cuts place b ≡ true → next_place place b ≡ Outside
+pub next_place-cuts : (place : QuoteState) (b : ℕ) → cuts place b ≡ true → next_place place b ≡ Outside
 next_place-cuts Outside b h = grind (arith, common_steps)
 next_place-cuts Quoted b h = cc
 next_place-cuts Escaped b h = cc
 
 -- the pieces at a byte that doesn't cut, and at one that does
-pub pieces-goes_on : (place : Place) (b : ℕ) (bs : List ℕ) → cuts place b ≡ false → pieces place (b ∷ bs) ≡ in_front b (pieces (next_place place b) bs)
+pub pieces-goes_on : (place : QuoteState) (b : ℕ) (bs : List ℕ) → cuts place b ≡ false → pieces place (b ∷ bs) ≡ in_front b (pieces (next_place place b) bs)
 pieces-goes_on place b bs h = rw h refl
 
-pub pieces-cut : (place : Place) (b : ℕ) (bs : List ℕ) → cuts place b ≡ true → pieces place (b ∷ bs) ≡ [] ∷ pieces Outside bs
+pub pieces-cut : (place : QuoteState) (b : ℕ) (bs : List ℕ) → cuts place b ≡ true → pieces place (b ∷ bs) ≡ [] ∷ pieces Outside bs
 pieces-cut place b bs h = rw h refl
 
 -- a part with one more byte
@@ -60,7 +60,7 @@ range_grows v s i within at =
     let inside : i - s < length (drop s v) = simp length-drop (omega arith) in
     rw e (take-suc (drop s v) (i - s) 0 inside ∙ ap (λ x. slice_range v s i ++ x ∷ []) (get_or-drop s v (i - s) 0 ∙ ap (λ k. get_or v k 0) place))
 
-module _ (value : List ℕ) (start i : ℕ) (place : Place) (within : start ≤ i) (at : i < length value) where
+module _ (value : List ℕ) (start i : ℕ) (place : QuoteState) (within : start ≤ i) (at : i < length value) where
   -- the next byte joins the front
   pub front_grows : cuts place (get_or value i 0) ≡ false
       → all_in_front (slice_range value start i) (pieces place (drop i value))

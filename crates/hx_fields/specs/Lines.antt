@@ -2,9 +2,10 @@
 --
 -- is_named: a line is of a name            has: some line is
 -- values_of: the values, in order          count_of: how many lines there are
+-- only_value: the value where there is one line
 -- combined_of: as one value                members_of: as one list
 -- without_named: the other lines
-use Rattle.std.specs.Prelude.{ℕ, Bool, not, List, map, filter, length, Option}
+use Rattle.std.specs.Prelude.{ℕ, Bool, not, List, [], ◌∷◌, map, filter, length, Option, Some, None}
 use Rattle.std.specs.List.{list_any}
 use Rattle.hx_fields.specs.declared.field_line.Field.{Field}
 use Rattle.hx_fields.specs.Names.{is_same_name, joined, members_of_value, flatten}
@@ -24,6 +25,15 @@ values_of fields name = map (λ (f : Field). f.value) (filter (is_named name) fi
 -- how many lines a name has
 abbrev pub count_of : List Field → List ℕ → ℕ
 count_of fields name = length (values_of fields name)
+
+-- the value of a name that has one line
+abbrev pub only : List (List ℕ) → Option (List ℕ)
+only [] = None
+only (value ∷ []) = Some value
+only (value ∷ other ∷ more) = None
+
+abbrev pub only_value : List Field → List ℕ → Option (List ℕ)
+only_value fields name = only (values_of fields name)
 
 -- the combined value of a name, or none where no line has it (RFC 9110, section 5.3)
 abbrev pub combined_of : List Field → List ℕ → Option (List ℕ)

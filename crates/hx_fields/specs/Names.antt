@@ -4,11 +4,13 @@
 -- is_same_name: two names are one          joined: values as one value
 -- is_blank, trimmed: the spaces and tabs round a value
 -- pieces, members_of_value: what stands between the commas of a value
+-- cut_at: a text before and behind a byte
 use Rattle.std.specs.Prelude.{ℕ, ◌-◌, ◌==◌, nat_lt, if◌then◌else◌, Bool, false, ◌||◌, List, [], ◌∷◌, ◌++◌, length, take, drop, map, filter, codes, Option, Some, None}
+use Rattle.std.specs.Option.{option_map}
 use Rattle.std.specs.List.{prefix_len, suffix_len, concat}
 use Rattle.std.specs.Str.{str_eq_ignore_ascii_case}
-use Rattle.hx_fields.specs.declared.cutting.Place.{Place}
-use Rattle.hx_fields.specs.declared.cutting.Place.TheVariants.{Outside, Quoted, Escaped}
+use Rattle.hx_fields.specs.declared.cutting.QuoteState.{QuoteState}
+use Rattle.hx_fields.specs.declared.cutting.QuoteState.TheVariants.{Outside, Quoted, Escaped}
 
 -- field names compare without ASCII case (RFC 9110, section 5.1)
 abbrev pub is_same_name : List ℕ → List ℕ → Bool
@@ -40,13 +42,13 @@ backslash = 92
 
 -- where the next byte stands: in a quoted string a backslash takes the next byte with it (RFC 9110, section 5.6.4)
 -- own: an unclosed quote runs to the end of its line
-abbrev pub next_place : Place → ℕ → Place
+abbrev pub next_place : QuoteState → ℕ → QuoteState
 next_place Outside b = if b == quote then Quoted else Outside
 next_place Quoted b = if b == quote then Outside else if b == backslash then Escaped else Quoted
 next_place Escaped b = Quoted
 
 -- a comma separates members only outside quotes
-abbrev pub cuts : Place → ℕ → Bool
+abbrev pub cuts : QuoteState → ℕ → Bool
 cuts Outside b = b == comma
 cuts Quoted b = false
 cuts Escaped b = false
@@ -57,7 +59,7 @@ in_front b [] = (b ∷ []) ∷ []
 in_front b (p ∷ ps) = (b ∷ p) ∷ ps
 
 -- the pieces of a text between the commas that separate members; its first byte stands at this place
-abbrev pub pieces : Place → List ℕ → List (List ℕ)
+abbrev pub pieces : QuoteState → List ℕ → List (List ℕ)
 pieces place [] = [] ∷ []
 pieces place (b ∷ bs) =
     if cuts place b then [] ∷ pieces Outside bs else in_front b (pieces (next_place place b) bs)
@@ -73,3 +75,8 @@ members_of_value value = filter is_nonempty (map trimmed (pieces Outside value))
 abbrev pub flatten : List (List (List ℕ)) → List (List ℕ)
 flatten [] = []
 flatten (xs ∷ xss) = xs ++ flatten xss
+
+-- what stands before the first of these bytes, and what stands behind it
+abbrev pub cut_at : ℕ → List ℕ → Option (List ℕ × List ℕ)
+cut_at separator [] = None
+cut_at separator (b ∷ bs) = if b == separator then Some ([], bs) else option_map (λ p. (b ∷ p.0, p.1)) (cut_at separator bs)

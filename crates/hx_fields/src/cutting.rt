@@ -1,12 +1,13 @@
 //! Where a list's members stand in the bytes of a value. No function here takes memory.
 ghost use Rattle.std.specs.Prelude.{◌≡◌, ◌≤◌, ◌-◌, ◌∷◌, [], length, take, drop, ◌<◌, ◌+◌, MatchOption, IfSome};
+ghost use Rattle.std.specs.Option.{option_map};
 ghost use Rattle.std.specs.List.{prefix_len, suffix_len};
-ghost use Rattle.hx_fields.specs.Names.{is_same_name, pieces, is_blank, trimmed, cuts, next_place, members_of_value};
-ghost use Rattle.hx_fields.specs.declared.cutting.Place.{Place};
+ghost use Rattle.hx_fields.specs.Names.{is_same_name, pieces, is_blank, trimmed, cuts, next_place, members_of_value, cut_at};
+ghost use Rattle.hx_fields.specs.declared.cutting.QuoteState.{QuoteState};
 
 /// Where a byte of a value stands.
 #[derive(Clone, Copy, Debug, PartialEq, Eq)]
-pub(crate) enum Place {
+pub(crate) enum QuoteState {
     Outside,
     Quoted,
     /// In quotes, behind a backslash.
@@ -57,43 +58,43 @@ pub fn trim_blanks(text: &[u8]) -> &[u8]
     &rest[..trailing_start(rest)]
 }
 
-fn cuts(place: Place, b: u8) -> bool
+fn cuts(place: QuoteState, b: u8) -> bool
     ensures { result ≡ cuts place b }
 {
-    place == Place::Outside && b == b','
+    place == QuoteState::Outside && b == b','
 }
 
-fn next_place(place: Place, b: u8) -> Place
+fn next_place(place: QuoteState, b: u8) -> QuoteState
     ensures { result ≡ next_place place b }
 {
     match place {
-        Place::Outside => {
+        QuoteState::Outside => {
             if b == b'"' {
-                Place::Quoted
+                QuoteState::Quoted
             } else {
-                Place::Outside
+                QuoteState::Outside
             }
         }
-        Place::Quoted => {
+        QuoteState::Quoted => {
             if b == b'"' {
-                Place::Outside
+                QuoteState::Outside
             } else if b == b'\\' {
-                Place::Escaped
+                QuoteState::Escaped
             } else {
-                Place::Quoted
+                QuoteState::Quoted
             }
         }
-        Place::Escaped => Place::Quoted,
+        QuoteState::Escaped => QuoteState::Quoted,
     }
 }
 
 /// Where the first piece ends: at a comma that separates members, or at the end.
 fn piece_end(text: &[u8]) -> usize
     ensures within { result ≤ length text.now }
-    ensures last { result ≡ length text.now → pieces Place.Outside text.now ≡ text.now ∷ [] }
-    ensures cut { result < length text.now → pieces Place.Outside text.now ≡ take result text.now ∷ pieces Place.Outside (drop (result + 1) text.now) }
+    ensures last { result ≡ length text.now → pieces QuoteState.Outside text.now ≡ text.now ∷ [] }
+    ensures cut { result < length text.now → pieces QuoteState.Outside text.now ≡ take result text.now ∷ pieces QuoteState.Outside (drop (result + 1) text.now) }
 {
-    let mut place = Place::Outside;
+    let mut place = QuoteState::Outside;
     for (i, b) in text.iter().enumerate() {
         if cuts(place, *b) {
             return i;
@@ -124,4 +125,16 @@ pub fn next_member(value: &[u8]) -> Option<(&[u8], &[u8])>
             return Some((piece, rest));
         }
     }
+}
+
+/// What stands before the first of these bytes, and what stands behind it.
+pub fn cut_at(separator: u8, text: &[u8]) -> Option<(&[u8], &[u8])>
+    ensures { option_map (λ p. (p.0.now, p.1.now)) result ≡ cut_at separator text.now }
+{
+    for (i, b) in text.iter().enumerate() {
+        if *b == separator {
+            return Some((&text[..i], &text[i + 1..]));
+        }
+    }
+    None
 }

@@ -1,6 +1,6 @@
 //! A list of field lines, in the order in which they came.
 ghost use Rattle.std.specs.Prelude.{◌≡◌, ◌++◌, ◌∷◌, [], length, IfOk, OnOk, OnErr, slice_get, count_by, option_copied};
-ghost use Rattle.hx_fields.specs.Lines.{is_named, has, count_of, values_of, combined_of, members_of, without_named};
+ghost use Rattle.hx_fields.specs.Lines.{is_named, has, count_of, values_of, only_value, combined_of, members_of, without_named};
 ghost use Rattle.hx_fields.specs.Names.{members_of_value};
 
 use crate::byte_string::Bytes;
@@ -118,6 +118,17 @@ impl Fields {
             }
         }
         None
+    }
+
+    /// The value of a name that has exactly one line.
+    pub fn only_value(&self, name: &[u8]) -> Option<&[u8]>
+        ensures { option_copied result ≡ only_value self.now name.now }
+    {
+        if self.count(name) == 1 {
+            self.value(name)
+        } else {
+            None
+        }
     }
 
     /// Takes out the lines of this name. No memory is taken.

@@ -1,6 +1,7 @@
 //! What the definitions give on values that can be judged by eye.
 ghost use Rattle.std.specs.Prelude.{◌≡◌, ◌∷◌, [], codes, Some, None};
-ghost use Rattle.hx_fields.specs.Lines.{members_of, combined_of};
+ghost use Rattle.hx_fields.specs.Lines.{members_of, combined_of, only_value};
+ghost use Rattle.hx_fields.specs.Names.{cut_at};
 ghost use Rattle.hx_fields.specs.Examples.{line};
 
 /// Commas in quotes and behind a backslash in quotes separate nothing; empty members don't count.
@@ -15,4 +16,18 @@ pub fn values_are_joined()
     ensures two { combined_of (line (codes "Accept-Language") (codes "de") ∷ line (codes "accept-language") (codes "en") ∷ []) (codes "Accept-Language") ≡ Some (codes "de, en") }
     ensures absent { combined_of (line (codes "Accept") (codes "de") ∷ []) (codes "Accept-Language") ≡ None }
     ensures empty { combined_of (line (codes "Accept-Language") [] ∷ []) (codes "Accept-Language") ≡ Some [] }
+{}
+
+/// A name has an only value where exactly one line has it.
+pub fn one_line_has_the_only_value()
+    ensures one { only_value (line (codes "etag") (codes "\"a\"") ∷ line (codes "Date") [] ∷ []) (codes "ETag") ≡ Some (codes "\"a\"") }
+    ensures two { only_value (line (codes "ETag") (codes "\"a\"") ∷ line (codes "etag") (codes "\"b\"") ∷ []) (codes "ETag") ≡ None }
+    ensures absent { only_value (line (codes "Date") [] ∷ []) (codes "ETag") ≡ None }
+{}
+
+/// A text is cut at the first of the bytes that are looked for.
+pub fn a_text_is_cut_at_the_first_of_a_byte()
+    ensures first { cut_at 58 (codes "a:b:c") ≡ Some (codes "a", codes "b:c") }
+    ensures alone { cut_at 58 (codes ":") ≡ Some ([], []) }
+    ensures absent { cut_at 58 (codes "abc") ≡ None }
 {}

@@ -13,9 +13,12 @@ mod member_list;
 mod tokens;
 
 pub use crate::byte_string::Bytes;
-pub use crate::cutting::{is_same_name, next_member, trim_blanks};
+pub use crate::cutting::{cut_at, is_same_name, next_member, trim_blanks};
 pub use crate::field_line::Field;
 pub use crate::field_lines::Fields;
-pub use crate::laws::{members_are_cut_outside_quotes, values_are_joined};
+pub use crate::laws::{
+    a_text_is_cut_at_the_first_of_a_byte, members_are_cut_outside_quotes,
+    one_line_has_the_only_value, values_are_joined,
+};
 pub use crate::member_list::Members;
 pub use crate::tokens::is_token;

@@ -25,10 +25,7 @@ fn is_date(text: &[u8]) -> bool
 fn has_one_date(fields: &Fields) -> bool
     ensures { result ≡ has_one_date fields.now }
 {
-    if fields.count(b"Date") != 1 {
-        return false;
-    }
-    match fields.value(b"Date") {
+    match fields.only_value(b"Date") {
         Some(value) => is_date(value),
         None => false,
     }

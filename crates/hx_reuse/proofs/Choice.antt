@@ -12,7 +12,8 @@ use Rattle.hx_store.specs.Serials.{Distinct}
 use Rattle.hx_store.specs.Shelf.{serials, find_entry}
 use Rattle.hx_reuse.specs.Chosen.{comes_later, of_key, matching, latest, chosen_of}
 use Rattle.hx_reuse.specs.Meaning.{IsCandidate, IsChosen}
-use Rattle.hx_reuse.proofs.Members.{IsMember, distinct_entries}
+use Rattle.hx_fields.proofs.FirstThat.{IsMember}
+use Rattle.hx_reuse.proofs.Members.{distinct_entries}
 use Rattle.hx_reuse.proofs.Latest.{fold_latest, fold_some, same_serial, filter_member, member_filter, find_member, member_find, find_entry-find, nat_eq_true, nat_eq_same}
 
 -- the members are what the list contains

@@ -11,7 +11,8 @@ use Rattle.hx_fields.specs.declared.field_line.Field.{Field}
 use Rattle.hx_store.specs.Serials.{Distinct}
 use Rattle.hx_store.specs.Shelf.{find_entry, is_match, matching_serials, serials as serials_held, serials_of}
 use Rattle.hx_reuse.specs.Chosen.{of_key, comes_later, later, latest, chosen_of}
-use Rattle.hx_reuse.proofs.Members.{IsMember, HasDistinctSerials, AreSerialsOf, are_serials, distinct_entries}
+use Rattle.hx_fields.proofs.FirstThat.{IsMember}
+use Rattle.hx_reuse.proofs.Members.{HasDistinctSerials, AreSerialsOf, are_serials, distinct_entries}
 
 -- an order on entries by two numbers each
 not_later_trans : (e f g : Stored) → comes_later e f ≡ false → comes_later f g ≡ false → comes_later e g ≡ false

@@ -8,8 +8,7 @@ use Rattle.hx_reuse.specs.declared.rule.ReuseRule.TheVariants.{Operator, Method,
 use Rattle.hx_reuse.specs.Words.{number_of}
 use Rattle.hx_reuse.specs.Rules.{stands, reuse_rules, reuse_rule_of}
 use Rattle.hx_reuse.specs.Meaning.{IsLeast}
-use Rattle.hx_reuse.proofs.Members.{IsMember}
-use Rattle.hx_reuse.proofs.FirstThat.{ascends, passes, fails_before, none_passes, none_found, first_found}
+use Rattle.hx_fields.proofs.FirstThat.{IsMember, ascends, passes, fails_before, none_passes, none_found, first_found}
 
 -- each rule is in the table
 listed : (r : ReuseRule) → IsMember r reuse_rules

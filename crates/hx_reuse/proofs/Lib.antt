@@ -1,6 +1,5 @@
 pub mod Members
-pub mod JoinedTests
-pub mod FirstThat
+pub mod ValueTests
 pub mod Latest
 pub mod RuleLemmas
 pub mod LeastRule

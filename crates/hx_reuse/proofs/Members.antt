@@ -2,17 +2,13 @@
 use Rattle.std.proofs.Common.{◌≡◌, ℕ, ◌⊎◌, inl, inr, Bool, true, false, cond, List, [], ◌∷◌, refl, sym, ◌∙◌, ap, arith, subst}
 use Rattle.std.specs.Prelude.{nat_le, ◌||◌, ◌==◌}
 use Rattle.std.proofs.lemmas.Bool.Decides.{nat_tests}
+use Rattle.hx_fields.proofs.FirstThat.{IsMember}
 use Rattle.hx_target.specs.Keys.{same_key}
 use Rattle.hx_hop.specs.declared.asked_for.Asked.{Asked}
 use Rattle.hx_store.specs.Stored.{Stored}
 use Rattle.hx_store.specs.Serials.{Distinct, is_in, insert_ascending}
 use Rattle.hx_store.specs.Shelf.{serials, serials_of}
 use Rattle.hx_reuse.specs.Chosen.{of_key}
-
--- x is one of the list
-abbrev pub IsMember : {X : Type 0} → X → List X → Type 0
-IsMember x [] = ⊥
-IsMember x (y ∷ ys) = (y ≡ x) ⊎ IsMember x ys
 
 -- each serial names one entry
 abbrev pub HasDistinctSerials : List Stored → Type 0

@@ -13,9 +13,9 @@ use Rattle.hx_reuse.specs.Words.{error_number_of}
 use Rattle.hx_reuse.specs.Rules.{Standing, must_revalidate}
 use Rattle.hx_reuse.specs.ErrorRules.{stated_once, response_limit, request_limit, is_past, against_on_error, error_rules, standing_on, error_rule_on}
 use Rattle.hx_reuse.specs.OnError.{StatesLimit, AsksForLimit, staleness_at, MayBeSentOnError, IsLeastOnError}
-use Rattle.hx_reuse.proofs.Members.{IsMember}
-use Rattle.hx_reuse.proofs.FirstThat.{ascends, passes, fails_before, none_passes, none_found, first_found}
-use Rattle.hx_reuse.proofs.JoinedTests.{not_false, not_true, left_false, right_false, neither, last_false, both_false, either_false, some_value, has_value, test_false, none_tests, not_below, is_not_below}
+use Rattle.hx_fields.proofs.FirstThat.{IsMember, ascends, passes, fails_before, none_passes, none_found, first_found}
+use Rattle.hx_fields.proofs.JoinedTests.{not_false, not_true, left_false, right_false, neither, last_absent, first_absent, either_false, some_value, has_value, not_below, is_not_below}
+use Rattle.hx_reuse.proofs.ValueTests.{test_false, none_tests}
 
 -- ---- the table
 
@@ -108,8 +108,8 @@ module _ (response : Stored) (request : List Occurrence) (now : ℕ) where
 
   some_limit : ((most : ℕ) × StatesLimit response most) ⊎ ((most : ℕ) × AsksForLimit request most) → is_none (response_limit here) && is_none (request_limit here) ≡ false
   some_limit (inl limit) =
-      both_false (is_none (response_limit here)) (is_none (request_limit here)) (has_value (response_limit here) limit.0 (ap stated_once limit.1))
-  some_limit (inr limit) = last_false (is_none (response_limit here)) (is_none (request_limit here)) (has_value (request_limit here) limit.0 limit.1)
+      first_absent (is_none (response_limit here)) (is_none (request_limit here)) (has_value (response_limit here) limit.0 (ap stated_once limit.1))
+  some_limit (inr limit) = last_absent (is_none (response_limit here)) (is_none (request_limit here)) (has_value (request_limit here) limit.0 limit.1)
 
   module _ (may : MayBeSentOnError response request now) where
     none_stands : (rule : ErrorRule) → against_on_error rule here ≡ false

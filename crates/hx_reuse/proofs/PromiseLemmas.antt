@@ -17,8 +17,9 @@ use Rattle.hx_store.specs.Stored.{Stored}
 use Rattle.hx_reuse.specs.ErrorRules.{error_rule_on}
 use Rattle.hx_reuse.specs.Reusable.{MayBeReused, IsSentFresh, IsSentStale}
 use Rattle.hx_reuse.specs.Promises.{ForbidsStale, IsSent}
-use Rattle.hx_reuse.proofs.Members.{IsMember, distinct_entries}
-use Rattle.hx_reuse.proofs.JoinedTests.{never}
+use Rattle.hx_fields.proofs.FirstThat.{IsMember}
+use Rattle.hx_reuse.proofs.Members.{distinct_entries}
+use Rattle.hx_fields.proofs.JoinedTests.{never}
 use Rattle.hx_reuse.proofs.Choice.{member_contained}
 use Rattle.hx_reuse.proofs.ReusableLemmas.{reused_is_allowed}
 use Rattle.hx_reuse.proofs.OnErrorLemmas.{sent_may_be}

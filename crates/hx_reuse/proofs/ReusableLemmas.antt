@@ -17,7 +17,8 @@ use Rattle.hx_reuse.specs.declared.rule.ReuseRule.TheVariants.{Operator, Method,
 use Rattle.hx_reuse.specs.Chosen.{of_key, chosen_of}
 use Rattle.hx_reuse.specs.Rules.{Standing, stands, against, standing, fresh, must_revalidate, above_max_age, below_min_fresh, accepts_stale, past_limit, is_some_and, decision_of}
 use Rattle.hx_reuse.specs.Reusable.{IsWithinMaxAge, IsFreshForMinFresh, IsSentFresh, IsSentStale, TakesStaleness, MayBeReused}
-use Rattle.hx_reuse.proofs.JoinedTests.{never, second_false, both_false, last_false, under_not, not_first, not_false, left_false, right_false, neither, test_false, none_tests, no_value, not_below, is_not_below, below, is_below, not_true}
+use Rattle.hx_fields.proofs.JoinedTests.{never, second_false, first_absent, last_absent, under_not, not_first, not_false, left_false, right_false, neither, no_value, not_below, is_not_below, below, is_below, not_true}
+use Rattle.hx_reuse.proofs.ValueTests.{test_false, none_tests}
 use Rattle.hx_reuse.proofs.Latest.{member_filter}
 use Rattle.hx_reuse.proofs.RuleLemmas.{some_there}
 use Rattle.hx_reuse.proofs.Choice.{chosen_is_latest, latest_is_the_chosen, member_contained}
@@ -112,9 +113,9 @@ module _ (e : Stored) (asked : Asked) (now : ℕ) where
 
   none_where_fresh : has here.response directive.NoCache ≡ false → IsSentFresh e asked now → fresh here ≡ true → (rule : ReuseRule) → against rule here ≡ false
   none_where_fresh free sent f ResponseNoCache = free
-  none_where_fresh free sent f RequestNoCache = last_false (fresh here) (has here.request directive.NoCache) sent.not_to_be_validated
-  none_where_fresh free sent f AboveMaxAge = last_false (fresh here) (above_max_age here) (not_above sent.within_max_age)
-  none_where_fresh free sent f BelowMinFresh = last_false (fresh here) (below_min_fresh here) (not_short sent.fresh_for_min_fresh)
+  none_where_fresh free sent f RequestNoCache = last_absent (fresh here) (has here.request directive.NoCache) sent.not_to_be_validated
+  none_where_fresh free sent f AboveMaxAge = last_absent (fresh here) (above_max_age here) (not_above sent.within_max_age)
+  none_where_fresh free sent f BelowMinFresh = last_absent (fresh here) (below_min_fresh here) (not_short sent.fresh_for_min_fresh)
   none_where_fresh free sent f MustRevalidate = not_first (fresh here) (must_revalidate here) f
   none_where_fresh free sent f NoLifetime = not_first (fresh here) (not here.lifetime.explicit) f
   none_where_fresh free sent f StaleNoCache = not_first (fresh here) (has here.request directive.NoCache) f
@@ -126,26 +127,26 @@ module _ (e : Stored) (asked : Asked) (now : ℕ) where
 
   none_where_stale : has here.response directive.NoCache ≡ false → IsSentStale e asked now → fresh here ≡ false → (rule : ReuseRule) → against rule here ≡ false
   none_where_stale free sent f ResponseNoCache = free
-  none_where_stale free sent f RequestNoCache = both_false (fresh here) (has here.request directive.NoCache) f
-  none_where_stale free sent f AboveMaxAge = both_false (fresh here) (above_max_age here) f
-  none_where_stale free sent f BelowMinFresh = both_false (fresh here) (below_min_fresh here) f
+  none_where_stale free sent f RequestNoCache = first_absent (fresh here) (has here.request directive.NoCache) f
+  none_where_stale free sent f AboveMaxAge = first_absent (fresh here) (above_max_age here) f
+  none_where_stale free sent f BelowMinFresh = first_absent (fresh here) (below_min_fresh here) f
   none_where_stale free sent f MustRevalidate =
       let must = has here.response directive.MustRevalidate in
       let proxy = has here.response directive.ProxyRevalidate in
       let shared = has here.response directive.SMaxage in
-      last_false (not (fresh here)) (must_revalidate here)
+      last_absent (not (fresh here)) (must_revalidate here)
       (neither (must || proxy) shared (neither must proxy sent.no_must_revalidate sent.no_proxy_revalidate) sent.no_s_maxage)
-  none_where_stale free sent f NoLifetime = last_false (not (fresh here)) (not here.lifetime.explicit) (not_true here.lifetime.explicit sent.states_its_lifetime)
-  none_where_stale free sent f StaleNoCache = last_false (not (fresh here)) (has here.request directive.NoCache) sent.not_to_be_validated
+  none_where_stale free sent f NoLifetime = last_absent (not (fresh here)) (not here.lifetime.explicit) (not_true here.lifetime.explicit sent.states_its_lifetime)
+  none_where_stale free sent f StaleNoCache = last_absent (not (fresh here)) (has here.request directive.NoCache) sent.not_to_be_validated
   none_where_stale free sent f NoMaxStale =
       let limit = max_stale here.request in
-      last_false (not (fresh here)) (not (accepts_stale limit)) (not_true (accepts_stale limit) (accepts_what_it_takes limit (here.age - here.lifetime.seconds) sent.within_max_stale))
+      last_absent (not (fresh here)) (not (accepts_stale limit)) (not_true (accepts_stale limit) (accepts_what_it_takes limit (here.age - here.lifetime.seconds) sent.within_max_stale))
   none_where_stale free sent f PastMaxStale =
       let limit = max_stale here.request in
       let staleness = here.age - here.lifetime.seconds in
-      last_false (not (fresh here)) (past_limit staleness limit) (not_past_what_it_takes limit staleness sent.within_max_stale)
-  none_where_stale free sent f StaleMaxAge = last_false (not (fresh here)) (above_max_age here) (not_above sent.within_max_age)
-  none_where_stale free sent f StaleMinFresh = last_false (not (fresh here)) (is_some (first_valid here.request directive.MinFresh)) (ap is_some sent.no_min_fresh)
+      last_absent (not (fresh here)) (past_limit staleness limit) (not_past_what_it_takes limit staleness sent.within_max_stale)
+  none_where_stale free sent f StaleMaxAge = last_absent (not (fresh here)) (above_max_age here) (not_above sent.within_max_age)
+  none_where_stale free sent f StaleMinFresh = last_absent (not (fresh here)) (is_some (first_valid here.request directive.MinFresh)) (ap is_some sent.no_min_fresh)
   none_where_stale free sent f rule = refl
 
   none_against : has here.response directive.NoCache ≡ false → IsSentFresh e asked now ⊎ IsSentStale e asked now → (rule : ReuseRule) → against rule here ≡ false

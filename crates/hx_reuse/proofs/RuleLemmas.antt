@@ -11,7 +11,8 @@ use Rattle.hx_reuse.specs.declared.rule.ReuseRule.{ReuseRule}
 use Rattle.hx_reuse.specs.declared.rule.ReuseRule.TheVariants.{Operator, UriMiss, VaryMiss, ResponseNoCache, RequestNoCache, AboveMaxAge, BelowMinFresh, MustRevalidate, NoLifetime, StaleNoCache, NoMaxStale, PastMaxStale, StaleMaxAge, StaleMinFresh}
 use Rattle.hx_reuse.specs.Chosen.{of_key, chosen_of}
 use Rattle.hx_reuse.specs.Rules.{against, standing, stands, is_some_and, request_rules, entry_rules, reuse_rule_of, names_entry, decided, decision_of}
-use Rattle.hx_reuse.proofs.Members.{IsMember, AreSerialsOf, are_serials}
+use Rattle.hx_fields.proofs.FirstThat.{IsMember}
+use Rattle.hx_reuse.proofs.Members.{AreSerialsOf, are_serials}
 
 -- the first of a list that has it, and the first of the rest
 find_front : {X : Type 0} (p : X → Bool) (xs ys : List X) (r : X) → find p xs ≡ Some r → find p (xs ++ ys) ≡ Some r

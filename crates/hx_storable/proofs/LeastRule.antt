@@ -8,7 +8,7 @@ use Rattle.hx_storable.specs.declared.rule.StoreRule.{StoreRule}
 use Rattle.hx_storable.specs.declared.rule.StoreRule.TheVariants.{Operator, Method, Bypass, Status, MustUnderstand, ResponseNoStore, RequestNoStore, Private, Authorization, NothingAllows, VaryStar, ConnectionField, NothingToReuse, TooLarge, Overtaken, Serials}
 use Rattle.hx_storable.specs.Rules.{stands, number_of, storage_rules, storage_rule_of}
 use Rattle.hx_storable.specs.Storable.{IsLeast, IsStored}
-use Rattle.hx_storable.proofs.FirstThat.{IsMember, ascends, passes, fails_before, none_passes, none_found, first_found}
+use Rattle.hx_fields.proofs.FirstThat.{IsMember, ascends, passes, fails_before, none_passes, none_found, first_found}
 
 -- each rule is in the table
 listed : (r : StoreRule) → IsMember r storage_rules

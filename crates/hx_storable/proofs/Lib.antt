@@ -1,4 +1,2 @@
-pub mod FirstThat
-pub mod JoinedTests
 pub mod LeastRule
 pub mod StorableLemmas

@@ -2,13 +2,13 @@
 use Rattle.std.proofs.Common.{◌≡◌, ℕ, Bool, true, false, List, cond, map, refl, sym, ◌∙◌, ap, codes, None, Some}
 use Rattle.std.specs.Prelude.{Option, is_some}
 use Rattle.hx_fields.specs.declared.field_line.Field.{Field}
-use Rattle.hx_fields.specs.Lines.{has, is_named}
+use Rattle.hx_fields.specs.Lines.{has, is_named, only, only_value}
 use Rattle.hx_hop.specs.declared.validators.Conditions.{Conditions}
 use Rattle.hx_vary.specs.Vary.{is_same_value}
 use Rattle.hx_validate.specs.Answering.{agrees_by, same_conditions}
 use Rattle.hx_validate.specs.EntityTags.{Tag, strong_tags, tag_of, weak_tags}
 use Rattle.hx_validate.specs.Meaning.{TheSameTagAnswers}
-use Rattle.hx_validate.specs.Validators.{conditions_of, is_entity_tag, only, only_value, passing}
+use Rattle.hx_validate.specs.Validators.{conditions_of, is_entity_tag, passing}
 use Rattle.hx_validate.proofs.Lines.{bytes_eq-refl, filter_no_hit}
 
 -- a value is the same as itself

@@ -4,13 +4,13 @@ use Rattle.std.specs.Prelude.{Option, ◌&&◌}
 use Rattle.std.proofs.lemmas.Bool.{and_parts}
 use Rattle.std.proofs.lemmas.Slice.Eq.{bytes_eq-Decides}
 use Rattle.hx_fields.specs.declared.field_line.Field.{Field}
-use Rattle.hx_fields.specs.Lines.{has}
+use Rattle.hx_fields.specs.Lines.{has, only_value}
 use Rattle.hx_vary.specs.Vary.{is_same_value}
 use Rattle.hx_hop.specs.declared.validators.Conditions.{Conditions}
 use Rattle.hx_validate.specs.Answering.{agrees, agrees_by, modified_agrees, same_conditions, tag_agrees}
 use Rattle.hx_validate.specs.EntityTags.{Tag, strong_eq, tag_of, weak_eq}
 use Rattle.hx_validate.specs.Identified.{AnswersNothingElse, AnswersWhatItIdentifies, HasThatDate, HasThatTag, HasWhatWasSent, Identifies, NeverFreshensAnother, SeveralTagsAnswerNothing, TagsAgree}
-use Rattle.hx_validate.specs.Validators.{conditions_of, only_value, tag_value}
+use Rattle.hx_validate.specs.Validators.{conditions_of, tag_value}
 use Rattle.hx_validate.proofs.Echoes.{held_at, same_value}
 use Rattle.hx_validate.proofs.Lines.{bytes_eq-refl}
 

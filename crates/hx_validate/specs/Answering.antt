@@ -4,7 +4,7 @@
 -- freshened_of: the stored response with the lines of the 304
 use Rattle.std.specs.Prelude.{ℕ, if◌then◌else◌, Bool, true, false, not, ◌&&◌, ◌||◌, List, [], ◌++◌, filter, bytes_eq, codes, Option, Some, None}
 use Rattle.hx_fields.specs.declared.field_line.Field.{Field}
-use Rattle.hx_fields.specs.Lines.{has, is_named}
+use Rattle.hx_fields.specs.Lines.{has, is_named, only_value}
 use Rattle.hx_age.specs.declared.moments.Times.{Times}
 use Rattle.hx_vary.specs.Vary.{is_same_value, nominated_of}
 use Rattle.hx_vary.specs.declared.nominated_values.NominatedValue.{NominatedValue}
@@ -15,7 +15,7 @@ use Rattle.hx_hop.specs.declared.asked_for.Asked.{Asked}
 use Rattle.hx_hop.specs.declared.answered_with.Answered.{Answered}
 use Rattle.hx_hop.specs.declared.validators.Conditions.{Conditions}
 use Rattle.hx_validate.specs.EntityTags.{Tag, strong_eq, tag_of, weak_eq}
-use Rattle.hx_validate.specs.Validators.{conditions_of, only_value}
+use Rattle.hx_validate.specs.Validators.{conditions_of}
 
 -- what was sent is what the stored response has now
 abbrev pub same_conditions : Conditions → Conditions → Bool

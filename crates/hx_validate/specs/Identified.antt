@@ -5,13 +5,13 @@
 -- Below them are the statements that the laws of `src/laws.rt` prove.
 use Rattle.std.specs.Prelude.{◌≡◌, ◌⊎◌, ℕ, true, false, List, codes, Some, None}
 use Rattle.hx_fields.specs.declared.field_line.Field.{Field}
-use Rattle.hx_fields.specs.Lines.{has}
+use Rattle.hx_fields.specs.Lines.{has, only_value}
 use Rattle.hx_store.specs.Stored.{Stored}
 use Rattle.hx_hop.specs.declared.answered_with.Answered.{Answered}
 use Rattle.hx_hop.specs.declared.validators.Conditions.{Conditions}
 use Rattle.hx_validate.specs.Answering.{answers304}
 use Rattle.hx_validate.specs.EntityTags.{Tag, strong_eq, tag_of, weak_eq}
-use Rattle.hx_validate.specs.Validators.{modified_value, only_value, tag_value}
+use Rattle.hx_validate.specs.Validators.{modified_value, tag_value}
 
 -- the stored response has still the validators that were sent
 abbrev pub HasWhatWasSent : Stored → Conditions → Type 0

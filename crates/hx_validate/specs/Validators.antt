@@ -1,22 +1,13 @@
 -- The validators of a response, and what the proxy sends of them (RFC 9110, section 8.8; RFC 9111, section 4.3.1).
 --
--- only_value: of a name that has one line      tag_value, modified_value: the value that is a validator
+-- tag_value, modified_value: the value that is a validator
 -- has_validator: one stands                    conditions_of: both
 use Rattle.std.specs.Prelude.{ℕ, if◌then◌else◌, Bool, ◌||◌, List, [], ◌∷◌, codes, Option, Some, None, is_some}
 use Rattle.httpdate.specs.Date.{parse_secs}
 use Rattle.hx_fields.specs.declared.field_line.Field.{Field}
-use Rattle.hx_fields.specs.Lines.{values_of}
+use Rattle.hx_fields.specs.Lines.{only_value}
 use Rattle.hx_hop.specs.declared.validators.Conditions.{Conditions}
 use Rattle.hx_validate.specs.EntityTags.{tag_of}
-
--- the value of a name that has one line
-abbrev pub only : List (List ℕ) → Option (List ℕ)
-only [] = None
-only (value ∷ []) = Some value
-only (value ∷ other ∷ more) = None
-
-abbrev pub only_value : List Field → List ℕ → Option (List ℕ)
-only_value fields name = only (values_of fields name)
 
 -- a value, if it passes
 abbrev pub passing : (List ℕ → Bool) → Option (List ℕ) → Option (List ℕ)

@@ -8,7 +8,7 @@ ghost use Rattle.hx_validate.specs.Validators.{conditions_of};
 ghost use Rattle.hx_validate.specs.Answering.{agrees, agrees_by, answers304, modified_agrees, same_conditions, tag_agrees};
 
 use crate::entity_tags::{EntityTag, strong_eq, weak_eq};
-use crate::validators::{modified_value, only_value, tag_value};
+use crate::validators::{modified_value, tag_value};
 use hx_fields::{Bytes, Fields};
 use hx_hop::{Answered, Conditions};
 use hx_store::Entry;
@@ -70,9 +70,9 @@ fn agrees(sent: &Conditions, fields: &Fields) -> bool
     ensures { result ≡ agrees sent.now fields.now }
 {
     if fields.has(b"ETag") {
-        tag_agrees(sent.etag.as_ref(), only_value(fields, b"ETag"))
+        tag_agrees(sent.etag.as_ref(), fields.only_value(b"ETag"))
     } else if fields.has(b"Last-Modified") {
-        modified_agrees(sent.modified.as_ref(), only_value(fields, b"Last-Modified"))
+        modified_agrees(sent.modified.as_ref(), fields.only_value(b"Last-Modified"))
     } else {
         true
     }

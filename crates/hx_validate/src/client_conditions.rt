@@ -9,7 +9,8 @@ ghost use Rattle.hx_validate.specs.EntityTags.{tagged};
 ghost use Rattle.hx_validate.specs.NotModified.{changed_at, held_tag, is_carried, is_since, is_tag_of, lists_it, names_it, not_modified_of, unchanged, wants_304};
 
 use crate::entity_tags::EntityTag;
-use crate::validators::{only_value, single_date, tag_value};
+use crate::validators::tag_value;
+use hx_age::single_date;
 use hx_fields::{Field, Fields, is_same_name, next_member};
 use hx_hop::Asked;
 use hx_store::Entry;
@@ -79,7 +80,7 @@ fn lists_tag_of(request: &Fields, fields: &Fields) -> bool
 fn names_it(request: &Fields, fields: &Fields) -> bool
     ensures { result ≡ names_it request.now fields.now }
 {
-    only_value(request, b"If-None-Match") == Some(b"*".as_slice()) || lists_tag_of(request, fields)
+    request.only_value(b"If-None-Match") == Some(b"*".as_slice()) || lists_tag_of(request, fields)
 }
 
 /// When a stored response last changed, in Unix seconds.

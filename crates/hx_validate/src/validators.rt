@@ -3,10 +3,7 @@
 //! The definitions are in `specs/Validators.antt`. A validator that is repeated or malformed is none, and no
 //! condition is sent for it.
 ghost use Rattle.std.specs.Prelude.{◌≡◌, IfOk, option_copied};
-ghost use Rattle.httpdate.specs.Date.{parse_secs};
-ghost use Rattle.hx_fields.specs.Lines.{values_of};
-ghost use Rattle.hx_age.specs.Dates.{single_date};
-ghost use Rattle.hx_validate.specs.Validators.{conditions_of, has_validator, is_date, is_entity_tag, modified_value, only_value, tag_value};
+ghost use Rattle.hx_validate.specs.Validators.{conditions_of, has_validator, is_date, is_entity_tag, modified_value, tag_value};
 
 use crate::entity_tags::EntityTag;
 use httpdate::HttpDate;
@@ -14,17 +11,6 @@ use hx_fields::{Bytes, Fields};
 use hx_hop::Conditions;
 use hx_store::Entry;
 use std::alloc::{AllocError, Global};
-
-/// The value of a name that has exactly one line.
-pub(crate) fn only_value<'a>(fields: &'a Fields, name: &[u8]) -> Option<&'a [u8]>
-    ensures { option_copied result ≡ only_value fields.now name.now }
-{
-    if fields.count(name) == 1 {
-        fields.value(name)
-    } else {
-        None
-    }
-}
 
 fn is_entity_tag(value: &[u8]) -> bool
     ensures { result ≡ is_entity_tag value.now }
@@ -42,7 +28,7 @@ fn is_date(value: &[u8]) -> bool
 pub(crate) fn tag_value(fields: &Fields) -> Option<&[u8]>
     ensures { option_copied result ≡ tag_value fields.now }
 {
-    match only_value(fields, b"ETag") {
+    match fields.only_value(b"ETag") {
         Some(value) if is_entity_tag(value) => Some(value),
         _ => None,
     }
@@ -52,28 +38,9 @@ pub(crate) fn tag_value(fields: &Fields) -> Option<&[u8]>
 pub(crate) fn modified_value(fields: &Fields) -> Option<&[u8]>
     ensures { option_copied result ≡ modified_value fields.now }
 {
-    match only_value(fields, b"Last-Modified") {
+    match fields.only_value(b"Last-Modified") {
         Some(value) if is_date(value) => Some(value),
         _ => None,
-    }
-}
-
-fn date_seconds(text: &[u8]) -> Option<u64>
-    ensures { result ≡ parse_secs text.now }
-{
-    match HttpDate::parse_ascii(text) {
-        Ok(date) => Some(date.unix_secs()),
-        Err(_) => None,
-    }
-}
-
-/// The moment of a name that has one line, where that line is a date, in Unix seconds.
-pub(crate) fn single_date(fields: &Fields, name: &[u8]) -> Option<u64>
-    ensures { result ≡ single_date (values_of fields.now name.now) }
-{
-    match only_value(fields, name) {
-        Some(text) => date_seconds(text),
-        None => None,
     }
 }
 

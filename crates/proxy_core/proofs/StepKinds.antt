@@ -18,7 +18,7 @@ use Rattle.hx_reuse.specs.declared.rule.ReuseRule.{ReuseRule}
 use Rattle.hx_reuse.specs.declared.rule.ErrorRule.{ErrorRule}
 use Rattle.hx_reuse.specs.declared.decision.Decision.{Decision}
 use Rattle.hx_reuse.specs.declared.decision.Decision.TheVariants as decision
-use Rattle.hx_reuse.proofs.Members.{IsMember}
+use Rattle.hx_fields.proofs.FirstThat.{IsMember}
 use Rattle.hx_reuse.proofs.Choice.{member_contained, chosen_is_held}
 use Rattle.hx_reuse.proofs.MeaningLemmas.{is_held, names_the_least}
 use Rattle.hx_status.specs.declared.status.Detail.{Detail}

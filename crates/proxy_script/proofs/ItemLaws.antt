@@ -2,7 +2,7 @@
 use Rattle.std.proofs.Common.{◌≡◌, ℕ, suc, ◌+◌, ◌<◌, ◌≤◌, List, [], ◌∷◌, ◌++◌, add-one, length, get_or, take, drop, refl, ap, sym, ◌∙◌, subst, Bool, true, false, cond, ◌==◌, nat_le, Option, None, Some, arith, append_assoc}
 use Rattle.std.proofs.lemmas.List.{length-append, get_or_at, take_at, length-take-le, drop_more, take-append-drop}
 use Rattle.std.proofs.lemmas.Bool.{eqb-true, leb-false, lt-leb}
-use Rattle.proxy_script.specs.Numbers.{cut_at}
+use Rattle.hx_fields.specs.Names.{cut_at}
 use Rattle.proxy_script.specs.Lines.{line_text, FitsLine, is_config, placed}
 use Rattle.proxy_script.specs.Happenings as happening
 use Rattle.proxy_script.specs.Script.{Said, Table, Moment, Happens, line_of, block_of, spelled, Fits, IsPlaced, Found, Whole, Short, Bad, block_at, with_block, item_by, item_under, item_on, item_at}

@@ -6,7 +6,8 @@ use Rattle.std.specs.Fmt.{decimal}
 use Rattle.std.specs.Str.{bytes_eq}
 use Rattle.std.proofs.lemmas.Bool.{ltb-true, lt-ltb}
 use Rattle.std.proofs.lemmas.Slice.Eq.{bytes_eq-Decides}
-use Rattle.proxy_script.specs.Numbers.{cut_at, number_of}
+use Rattle.hx_fields.specs.Names.{cut_at}
+use Rattle.proxy_script.specs.Numbers.{number_of}
 use Rattle.proxy_script.specs.Lines.{word_text, words, failures, IsOfALink, word_in, rest_text, line_text, FitsLine, if_moment, both, failure_of, two_numbers, number_and_failure, header_with, word_of, header_by, header_of, is_config, same, if_placed, placed}
 use Rattle.proxy_script.specs.declared.words.Word.{Word}
 use Rattle.proxy_script.specs.declared.words.Word.TheVariants as word

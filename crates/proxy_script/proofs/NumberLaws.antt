@@ -7,7 +7,8 @@ use Rattle.std.specs.Str.{all_ascii_digits}
 use Rattle.std.specs.Char.{is_ascii_digit}
 use Rattle.std.specs.Fmt.{decimal}
 use Rattle.std.proofs.lemmas.Fmt.{decimal-digits_value, digits_decimal, digits_value-decimal, decimal_nonempty, first_decimal, decimal_digit}
-use Rattle.proxy_script.specs.Numbers.{cut_at, number_then, number_on, number_of}
+use Rattle.hx_fields.specs.Names.{cut_at}
+use Rattle.proxy_script.specs.Numbers.{number_then, number_on, number_of}
 
 -- the parts of equal pairs
 pub same_pair : {A B : Type 0} {x y : A} {u v : B} → ◌≡◌ {A = Option (A × B)} (Some (x, u)) (Some (y, v)) → (x ≡ y) × (u ≡ v)

@@ -1,7 +1,8 @@
 -- The lines of a script: how each is spelled, and what a text says as a line.
 use Rattle.std.specs.Prelude.{ℕ, ◌^◌, ◌<◌, List, [], ◌∷◌, ◌++◌, Bool, true, false, not, find, nat_lt, Option, None, Some, if◌then◌else◌, codes, decimal, bytes_eq}
 use Rattle.std.specs.Option.{option_map, option_and_then}
-use Rattle.proxy_script.specs.Numbers.{cut_at, number_of}
+use Rattle.hx_fields.specs.Names.{cut_at}
+use Rattle.proxy_script.specs.Numbers.{number_of}
 use Rattle.proxy_script.specs.declared.words.Word.{Word}
 use Rattle.proxy_script.specs.declared.words.Word.TheVariants as word
 use Rattle.hx_status.specs.Refusals.{kind_word}

@@ -1,12 +1,7 @@
--- Cuts at a byte, and decimal numbers below 2 ^ 64 without leading zeros.
+-- Decimal numbers below 2 ^ 64 without leading zeros.
 use Rattle.std.specs.Prelude.{ℕ, ◌+◌, ◌-◌, ◌*◌, ◌^◌, List, [], ◌∷◌, length, ◌&&◌, ◌==◌, nat_lt, Option, None, Some, if◌then◌else◌}
 use Rattle.std.specs.Option.{option_map}
 use Rattle.std.specs.Char.{is_ascii_digit}
-
--- what stands before the first of these bytes, and what stands behind it
-abbrev pub cut_at : ℕ → List ℕ → Option (List ℕ × List ℕ)
-cut_at separator [] = None
-cut_at separator (b ∷ bs) = if b == separator then Some ([], bs) else option_map (λ p. (b ∷ p.0, p.1)) (cut_at separator bs)
 
 -- the number with one more digit, below 2 ^ 64
 abbrev pub digit_after : ℕ → ℕ → Option ℕ

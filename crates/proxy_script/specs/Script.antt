@@ -5,7 +5,7 @@
 -- IsScript: the bytes are the spelling of a table and of items
 use Rattle.std.specs.Prelude.{◌≡◌, ℕ, ◌+◌, ◌==◌, nat_le, List, [], ◌∷◌, ◌++◌, length, Bool, false, Option, None, Some, if◌then◌else◌, slice_index, take, drop}
 use Rattle.std.specs.List.{flat_map, AllByRecursion}
-use Rattle.proxy_script.specs.Numbers.{cut_at}
+use Rattle.hx_fields.specs.Names.{cut_at}
 use Rattle.proxy_script.specs.Lines.{line_text, FitsLine, is_config, placed}
 use Rattle.proxy_script.specs.Happenings.{Said as Happening}
 use Rattle.proxy_script.specs.Happenings as happening

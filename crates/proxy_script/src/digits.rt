@@ -1,19 +1,7 @@
 //! Cutting a text, and decimal numbers.
 ghost use Rattle.std.specs.Prelude.{◌≡◌};
 ghost use Rattle.std.specs.Option.{option_map};
-ghost use Rattle.proxy_script.specs.Numbers.{cut_at, digit_after, number_on, number_of};
-
-/// What stands before the first of these bytes, and what stands behind it.
-pub fn cut_at(separator: u8, bytes: &[u8]) -> Option<(&[u8], &[u8])>
-    ensures { option_map (λ p. (p.0.now, p.1.now)) result ≡ cut_at separator bytes.now }
-{
-    for (i, b) in bytes.iter().enumerate() {
-        if *b == separator {
-            return Some((&bytes[..i], &bytes[i + 1..]));
-        }
-    }
-    None
-}
+ghost use Rattle.proxy_script.specs.Numbers.{digit_after, number_on, number_of};
 
 /// The number with one more digit.
 fn with_digit(value: u64, digit: u8) -> Option<u64>

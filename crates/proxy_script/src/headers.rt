@@ -2,8 +2,9 @@
 ghost use Rattle.std.specs.Prelude.{◌≡◌};
 ghost use Rattle.proxy_script.specs.Lines.{moment_of, two_numbers, number_and_failure, header_with, header_of, is_config};
 
-use crate::digits::{cut_at, number_of};
+use crate::digits::number_of;
 use crate::words::{Word, failure_of, word_of};
+use hx_fields::cut_at;
 use hx_status::FailKind;
 
 /// The first moment that isn't one.

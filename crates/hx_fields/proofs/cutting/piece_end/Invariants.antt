@@ -1,7 +1,7 @@
 use Rattle.std.proofs.Common.{◌≡◌, drop}
 use Rattle.std.specs.Prelude.{slice_range}
 use Rattle.hx_fields.specs.Names.{pieces}
-use Rattle.hx_fields.specs.declared.cutting.Place.TheVariants.{Outside}
+use Rattle.hx_fields.specs.declared.cutting.QuoteState.TheVariants.{Outside}
 use Rattle.hx_fields.proofs.Pieces.{all_in_front}
 use Rattle.hx_fields.proofs.cutting.piece_end.Given as goal
 

@@ -1,7 +1,7 @@
 use Rattle.std.proofs.Common.{◌≡◌, ◌++◌, take, drop}
 use Rattle.std.specs.Option.{option_map}
-use Rattle.hx_allow.specs.Addresses.{cut_at}
-use Rattle.hx_allow.proofs.addresses.cut_at.Given as goal
+use Rattle.hx_fields.specs.Names.{cut_at}
+use Rattle.hx_fields.proofs.cutting.cut_at.Given as goal
 
 -- the cut of the bytes is that of what is left, behind what was passed
 abbrev pub invariant-loop-i : goal.invariant-loop-i
