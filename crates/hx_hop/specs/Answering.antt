@@ -4,7 +4,7 @@ use Rattle.httpdate.specs.Date.{parse_secs}
 use Rattle.hx_fields.specs.declared.field_line.Field.{Field}
 use Rattle.hx_fields.specs.Lines.{values_of, without_named}
 use Rattle.hx_framing.specs.declared.responses.Response.{Response}
-use Rattle.hx_hop.specs.declared.answered_with.Answered.{Answered}
+use Rattle.hx_hop.specs.declared.response_view.Answered.{Answered}
 use Rattle.hx_hop.specs.Forwarding.{line}
 use Rattle.hx_hop.specs.Moments.{date_text_of}
 use Rattle.hx_hop.specs.Stripping.{stripped}

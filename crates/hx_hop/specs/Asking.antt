@@ -6,7 +6,7 @@ use Rattle.hx_framing.specs.declared.requests.Request.{Request}
 use Rattle.hx_target.specs.declared.faults.TargetFault.{TargetFault}
 use Rattle.hx_target.specs.declared.targets.Target.{Target}
 use Rattle.hx_target.specs.Judgement.{Judged}
-use Rattle.hx_hop.specs.declared.asked_for.Asked.{Asked}
+use Rattle.hx_hop.specs.declared.request_view.Asked.{Asked}
 use Rattle.hx_hop.specs.Stripping.{connection_names, stripped}
 
 -- The lines that go on: the target has taken in Host, and the reader has carried out Expect (RFC 9110, section 10.1.1).

@@ -2,7 +2,7 @@
 -- own: such a request isn't answered from the store ("Ranges and preconditions go to the origin").
 use Rattle.std.specs.Prelude.{ℕ, ◌==◌, Bool, false, not, ◌||◌, List, length, codes, Option, Some, None}
 use Rattle.hx_fields.specs.Lines.{has}
-use Rattle.hx_hop.specs.declared.asked_for.Asked.{Asked}
+use Rattle.hx_hop.specs.declared.request_view.Asked.{Asked}
 
 abbrev pub has_byte : Option (List ℕ) → Bool
 has_byte None = false

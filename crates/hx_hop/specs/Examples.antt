@@ -4,7 +4,7 @@ use Rattle.hx_fields.specs.declared.field_line.Field.{Field}
 use Rattle.hx_framing.specs.declared.requests.Request.{Request}
 use Rattle.hx_framing.specs.declared.responses.Response.{Response}
 use Rattle.hx_target.specs.declared.targets.Target.{Target}
-use Rattle.hx_hop.specs.declared.asked_for.Asked.{Asked}
+use Rattle.hx_hop.specs.declared.request_view.Asked.{Asked}
 use Rattle.hx_hop.specs.declared.validators.Conditions.{Conditions}
 use Rattle.hx_hop.specs.Forwarding.{line}
 

@@ -5,7 +5,7 @@ ghost use Rattle.hx_target.specs.Judgement.{is_malformed};
 ghost use Rattle.hx_hop.specs.Asking.{kept_fields, closes, asked_of, asked_by, IsAsked};
 
 use crate::Asked;
-use crate::asked_for::copy_content;
+use crate::request_view::copy_content;
 use crate::stripping::{connection_names, strip};
 use hx_fields::Fields;
 use hx_framing::Request;

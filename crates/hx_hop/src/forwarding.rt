@@ -3,7 +3,7 @@ ghost use Rattle.std.specs.Prelude.{◌≡◌, ◌++◌, ◌∷◌, [], IfOk, On
 ghost use Rattle.std.specs.Option.{option_copied};
 ghost use Rattle.hx_hop.specs.Forwarding.{host_text, via_text, is_condition, client_lines, opt_line, condition_lines, forwarded_lines, forwarded_of};
 
-use crate::asked_for::copy_content;
+use crate::request_view::copy_content;
 use crate::{Asked, Conditions};
 use hx_fields::{Bytes, Field, Fields, is_same_name};
 use hx_framing::Request;

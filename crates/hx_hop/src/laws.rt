@@ -4,7 +4,7 @@ ghost use Rattle.std.specs.Prelude.{◌≡◌, Result, None, Some, [], ◌∷◌
 ghost use Rattle.hx_framing.specs.declared.requests.Request.{Request};
 ghost use Rattle.hx_framing.specs.Text.{request_text};
 ghost use Rattle.hx_target.specs.declared.faults.TargetFault.{TargetFault};
-ghost use Rattle.hx_hop.specs.declared.asked_for.Asked.{Asked as AskedFor};
+ghost use Rattle.hx_hop.specs.declared.request_view.Asked.{Asked as AskedFor};
 ghost use Rattle.hx_hop.specs.Answering.{answered_of, dated_of};
 ghost use Rattle.hx_hop.specs.Bypass.{asks_for_range, has_content, has_precondition};
 ghost use Rattle.hx_hop.specs.Asking.{IsAsked, asked_of, closes, kept_fields};

@@ -7,18 +7,16 @@
 //! Nothing here knows the store or the operator's table, and no clock is read.
 #![tactic(auto)]
 
-mod answered_with;
 mod answering;
-mod asked_for;
 mod asking;
 mod forwarding;
 mod laws;
+mod request_view;
+mod response_view;
 mod stripping;
 mod validators;
 
-pub use answered_with::Answered;
 pub use answering::{answered, date_text, dated};
-pub use asked_for::Asked;
 pub use asking::ask;
 pub use forwarding::forward_request;
 pub use laws::{
@@ -29,5 +27,7 @@ pub use laws::{
     one_host_goes_forward, only_what_was_asked_goes_forward, stripped_before_it_is_dated,
     the_first_request_is_forwarded, the_rest_goes_on, what_goes_past_the_cache,
 };
+pub use request_view::Asked;
+pub use response_view::Answered;
 pub use stripping::{lists_cache_field, strip};
 pub use validators::Conditions;

@@ -4,7 +4,7 @@ use Rattle.std.specs.Prelude.{nat_eq, filter, find, fold, Option, Some, None}
 use Rattle.std.specs.List.{filter_map, cons_option}
 use Rattle.std.proofs.lemmas.Bool.Decides.{nat_tests}
 use Rattle.hx_vary.specs.Vary.{vary_matches}
-use Rattle.hx_hop.specs.declared.asked_for.Asked.{Asked}
+use Rattle.hx_hop.specs.declared.request_view.Asked.{Asked}
 use Rattle.hx_store.specs.Stored.{Stored}
 use Rattle.hx_target.specs.Keys.{same_key}
 use Rattle.hx_fields.specs.declared.field_line.Field.{Field}

@@ -4,7 +4,7 @@ use Rattle.std.specs.Prelude.{nat_le, ◌||◌, ◌==◌}
 use Rattle.std.proofs.lemmas.Bool.Decides.{nat_tests}
 use Rattle.hx_fields.proofs.FirstThat.{IsMember}
 use Rattle.hx_target.specs.Keys.{same_key}
-use Rattle.hx_hop.specs.declared.asked_for.Asked.{Asked}
+use Rattle.hx_hop.specs.declared.request_view.Asked.{Asked}
 use Rattle.hx_store.specs.Stored.{Stored}
 use Rattle.hx_store.specs.Serials.{Distinct, is_in, insert_ascending}
 use Rattle.hx_store.specs.Shelf.{serials, serials_of}

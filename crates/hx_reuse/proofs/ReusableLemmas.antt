@@ -7,7 +7,7 @@ use Rattle.hx_directives.specs.declared.names.Directive.TheVariants as directive
 use Rattle.hx_directives.specs.declared.answers.MaxStale.{MaxStale}
 use Rattle.hx_directives.specs.declared.answers.MaxStale.TheVariants.{Absent, Any, UpTo}
 use Rattle.hx_target.specs.Keys.{same_key}
-use Rattle.hx_hop.specs.declared.asked_for.Asked.{Asked}
+use Rattle.hx_hop.specs.declared.request_view.Asked.{Asked}
 use Rattle.hx_store.specs.Stored.{Stored}
 use Rattle.hx_store.specs.Serials.{Distinct}
 use Rattle.hx_store.specs.Shelf.{serials}

@@ -6,7 +6,7 @@ use Rattle.hx_directives.specs.Occurrences.{occurrences_of}
 use Rattle.hx_directives.specs.declared.occurrences.Occurrence.{Occurrence}
 use Rattle.hx_target.specs.declared.keys.Key.{Key}
 use Rattle.hx_vary.specs.Vary.{kept_values}
-use Rattle.hx_hop.specs.declared.asked_for.Asked.{Asked}
+use Rattle.hx_hop.specs.declared.request_view.Asked.{Asked}
 use Rattle.hx_store.specs.Stored.{Stored}
 
 -- one Cache-Control line

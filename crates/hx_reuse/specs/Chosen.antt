@@ -6,7 +6,7 @@
 use Rattle.std.specs.Prelude.{◌==◌, nat_lt, if◌then◌else◌, Bool, ◌&&◌, ◌||◌, List, filter, Option, Some, None, fold}
 use Rattle.hx_target.specs.Keys.{same_key}
 use Rattle.hx_vary.specs.Vary.{vary_matches}
-use Rattle.hx_hop.specs.declared.asked_for.Asked.{Asked}
+use Rattle.hx_hop.specs.declared.request_view.Asked.{Asked}
 use Rattle.hx_store.specs.Stored.{Stored}
 
 abbrev pub of_key : List Stored → Asked → List Stored

@@ -15,7 +15,7 @@ use Rattle.hx_directives.specs.declared.answers.Seconds.{Seconds}
 use Rattle.hx_directives.specs.declared.answers.Seconds.TheVariants.{Value}
 use Rattle.hx_age.specs.Lifetime.{lifetime_of}
 use Rattle.hx_age.specs.Age.{age_of, staleness_of}
-use Rattle.hx_hop.specs.declared.asked_for.Asked.{Asked}
+use Rattle.hx_hop.specs.declared.request_view.Asked.{Asked}
 use Rattle.hx_store.specs.Stored.{Stored}
 use Rattle.hx_reuse.specs.Chosen.{chosen_of}
 use Rattle.hx_reuse.specs.Rules.{Standing, stands_at, must_revalidate, is_some_and}

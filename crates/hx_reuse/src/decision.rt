@@ -3,8 +3,8 @@ ghost use Rattle.std.specs.Prelude.{◌≡◌, true, IfOk};
 ghost use Rattle.hx_directives.specs.Occurrences.{occurrences_of};
 ghost use Rattle.hx_reuse.specs.Rules.{decision_of};
 
-use crate::against::{request_rule, rule_on};
 use crate::chosen::latest_of;
+use crate::reuse_rules::{request_rule, rule_on};
 use crate::rule::ReuseRule;
 use hx_directives::Directives;
 use hx_hop::Asked;

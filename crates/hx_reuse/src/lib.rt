@@ -6,11 +6,11 @@
 //! Nothing here reads a clock or changes a store.
 #![tactic(auto)]
 
-mod against;
 mod chosen;
 mod decision;
 mod laws;
 mod on_error;
+mod reuse_rules;
 mod rule;
 mod worked_cases;
 

@@ -8,7 +8,7 @@ ghost use Rattle.hx_directives.specs.declared.names.Directive.TheVariants.{Stale
 ghost use Rattle.hx_reuse.specs.Rules.{is_some_and, stands_at};
 ghost use Rattle.hx_reuse.specs.ErrorRules.{stated_once, error_rules, against_on_error, leave_on_error};
 
-use crate::against::must_revalidate;
+use crate::reuse_rules::must_revalidate;
 use crate::rule::ErrorRule;
 use hx_age::{Lifetime, current_age, staleness};
 use hx_directives::{Directive, Directives, Seconds};

@@ -4,18 +4,18 @@
 //! `specs/Member.antt` and `specs/Refusals.antt` say each text to the byte. No other crate makes one.
 #![tactic(auto)]
 
+mod cache_status;
 mod cause;
 mod laws;
-mod refusing;
+mod own_replies;
 mod status;
-mod telling;
 mod worked_cases;
 
+pub use crate::cache_status::member;
 pub use crate::cause::{Cause, FailKind};
 pub use crate::laws::{only_the_table_forbids, texts_tell_the_rule, words_tell_the_fault};
-pub use crate::refusing::refusal;
+pub use crate::own_replies::refusal;
 pub use crate::status::{Detail, How, Status};
-pub use crate::telling::member;
 pub use crate::worked_cases::{
     bypass_rules_in_order, failed_origins, least_reuse_rule, line_without_cache,
     no_lifetime_is_only_validated, refused_messages, refused_targets, second_request_waits,

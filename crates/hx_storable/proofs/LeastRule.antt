@@ -1,8 +1,8 @@
 -- The first storage rule of the table that stands is the least that does.
 use Rattle.std.proofs.Common.{◌≡◌, inl, inr, true, false, refl}
 use Rattle.std.specs.Prelude.{Some}
-use Rattle.hx_hop.specs.declared.asked_for.Asked.{Asked}
-use Rattle.hx_hop.specs.declared.answered_with.Answered.{Answered}
+use Rattle.hx_hop.specs.declared.request_view.Asked.{Asked}
+use Rattle.hx_hop.specs.declared.response_view.Answered.{Answered}
 use Rattle.hx_storable.specs.declared.known_facts.Facts.{Facts}
 use Rattle.hx_storable.specs.declared.rule.StoreRule.{StoreRule}
 use Rattle.hx_storable.specs.declared.rule.StoreRule.TheVariants.{Operator, Method, Bypass, Status, MustUnderstand, ResponseNoStore, RequestNoStore, Private, Authorization, NothingAllows, VaryStar, ConnectionField, NothingToReuse, TooLarge, Overtaken, Serials}

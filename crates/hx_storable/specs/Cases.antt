@@ -2,8 +2,8 @@
 use Rattle.std.specs.Prelude.{ℕ, List, [], ◌∷◌, codes, None, true, false}
 use Rattle.hx_fields.specs.Examples.{line}
 use Rattle.hx_fields.specs.declared.field_line.Field.{Field}
-use Rattle.hx_hop.specs.declared.asked_for.Asked.{Asked}
-use Rattle.hx_hop.specs.declared.answered_with.Answered.{Answered}
+use Rattle.hx_hop.specs.declared.request_view.Asked.{Asked}
+use Rattle.hx_hop.specs.declared.response_view.Answered.{Answered}
 use Rattle.hx_storable.specs.declared.known_facts.Facts.{Facts}
 
 -- one Cache-Control line

@@ -12,8 +12,8 @@ use Rattle.hx_directives.specs.Answers.{has}
 use Rattle.hx_directives.specs.declared.names.Directive.{Directive}
 use Rattle.hx_directives.specs.declared.occurrences.Occurrence.{Occurrence}
 use Rattle.hx_directives.specs.declared.names.Directive.TheVariants as directive
-use Rattle.hx_hop.specs.declared.asked_for.Asked.{Asked}
-use Rattle.hx_hop.specs.declared.answered_with.Answered.{Answered}
+use Rattle.hx_hop.specs.declared.request_view.Asked.{Asked}
+use Rattle.hx_hop.specs.declared.response_view.Answered.{Answered}
 use Rattle.hx_hop.specs.Bypass.{has_content, asks_for_range, has_precondition}
 use Rattle.hx_storable.specs.declared.known_facts.Facts.{Facts}
 use Rattle.hx_storable.specs.declared.rule.StoreRule.{StoreRule}

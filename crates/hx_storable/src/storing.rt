@@ -4,8 +4,8 @@ ghost use Rattle.hx_fields.specs.Lines.{has as has_line};
 ghost use Rattle.hx_directives.specs.Occurrences.{occurrences_of};
 ghost use Rattle.hx_directives.specs.Answers.{has};
 ghost use Rattle.hx_directives.specs.declared.names.Directive.TheVariants as directive;
-ghost use Rattle.hx_hop.specs.declared.asked_for.Asked.{Asked as AskedFor};
-ghost use Rattle.hx_hop.specs.declared.answered_with.Answered.{Answered as AnsweredWith};
+ghost use Rattle.hx_hop.specs.declared.request_view.Asked.{Asked as AskedFor};
+ghost use Rattle.hx_hop.specs.declared.response_view.Answered.{Answered as AnsweredWith};
 ghost use Rattle.hx_hop.specs.Bypass.{has_content, asks_for_range, has_precondition};
 ghost use Rattle.hx_storable.specs.Rules.{is_heuristic, is_understood, allows_shared, allows_storing, stands, rules_on_facts, storage_rule_of};
 

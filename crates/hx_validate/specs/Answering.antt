@@ -11,8 +11,8 @@ use Rattle.hx_vary.specs.declared.nominated_values.NominatedValue.{NominatedValu
 use Rattle.hx_vary.specs.declared.nominations.Nomination.{Nomination}
 use Rattle.hx_vary.specs.declared.nominations.Nomination.TheVariants.{Star, Names}
 use Rattle.hx_store.specs.Stored.{Stored}
-use Rattle.hx_hop.specs.declared.asked_for.Asked.{Asked}
-use Rattle.hx_hop.specs.declared.answered_with.Answered.{Answered}
+use Rattle.hx_hop.specs.declared.request_view.Asked.{Asked}
+use Rattle.hx_hop.specs.declared.response_view.Answered.{Answered}
 use Rattle.hx_hop.specs.declared.validators.Conditions.{Conditions}
 use Rattle.hx_validate.specs.EntityTags.{Tag, strong_eq, tag_of, weak_eq}
 use Rattle.hx_validate.specs.Validators.{conditions_of}

@@ -4,10 +4,10 @@ use Rattle.std.specs.List.{list_all}
 use Rattle.hx_fields.specs.declared.field_line.Field.{Field}
 use Rattle.hx_fields.specs.Lines.{has, values_of}
 use Rattle.hx_fields.specs.Names.{is_same_name}
-use Rattle.hx_hop.specs.declared.answered_with.Answered.{Answered}
+use Rattle.hx_hop.specs.declared.response_view.Answered.{Answered}
 use Rattle.hx_store.specs.Stored.{Stored}
 use Rattle.hx_age.specs.declared.moments.Times.{Times}
-use Rattle.hx_hop.specs.declared.asked_for.Asked.{Asked}
+use Rattle.hx_hop.specs.declared.request_view.Asked.{Asked}
 use Rattle.hx_vary.specs.Vary.{is_star, kept_values}
 use Rattle.hx_validate.specs.Answering.{answers304, freshened_fields, freshened_of}
 use Rattle.hx_validate.specs.EntityTags.{Tag, is_tag_byte, strong_eq, tag_of, weak_eq}

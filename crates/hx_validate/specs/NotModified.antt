@@ -6,7 +6,7 @@ use Rattle.hx_fields.specs.declared.field_line.Field.{Field}
 use Rattle.hx_fields.specs.Lines.{combined_of, has, is_named, members_of, values_of}
 use Rattle.hx_age.specs.Dates.{single_date}
 use Rattle.hx_store.specs.Stored.{Stored}
-use Rattle.hx_hop.specs.declared.asked_for.Asked.{Asked}
+use Rattle.hx_hop.specs.declared.request_view.Asked.{Asked}
 use Rattle.hx_validate.specs.EntityTags.{Tag, both, tag_of, weak_tags}
 use Rattle.hx_validate.specs.Validators.{tag_value}
 

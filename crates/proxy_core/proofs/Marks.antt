@@ -4,7 +4,7 @@ use Rattle.std.proofs.lemmas.Bool.{eq-eqb, false≢true, or_parts}
 use Rattle.std.proofs.lemmas.Option.{same_Some}
 use Rattle.hx_target.specs.declared.keys.Key.{Key}
 use Rattle.hx_target.specs.Keys.{same_key}
-use Rattle.hx_hop.specs.declared.asked_for.Asked.{Asked}
+use Rattle.hx_hop.specs.declared.request_view.Asked.{Asked}
 use Rattle.hx_allow.specs.Lines.{Table}
 use Rattle.proxy_core.specs.declared.exchange.Exchange.{Exchange}
 use Rattle.proxy_core.specs.declared.outcome.Outcome.{Outcome}

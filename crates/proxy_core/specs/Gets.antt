@@ -6,7 +6,7 @@ use Rattle.std.specs.BTreeMap.{get}
 use Rattle.hx_target.specs.declared.keys.Key.{Key}
 use Rattle.hx_target.specs.Keys.{same_key}
 use Rattle.hx_target.specs.KeyOrder.{key_cmp}
-use Rattle.hx_hop.specs.declared.asked_for.Asked.{Asked}
+use Rattle.hx_hop.specs.declared.request_view.Asked.{Asked}
 use Rattle.proxy_core.specs.declared.exchange.Exchange.{Exchange}
 use Rattle.proxy_core.specs.declared.get_index.GetIndex.{GetIndex}
 use Rattle.proxy_core.specs.Leading.{is_get}

@@ -6,7 +6,7 @@
 -- ReachesExactly, GoesWhereAllowed: the first part     SendsExactly, SendsThatResponse: the second
 -- NamesTheFirst: the third                             Headline: all of them, of each step of a trace
 use Rattle.std.specs.Prelude.{◌≡◌, ◌≢◌, ℕ, List, [], ◌∷◌, Some}
-use Rattle.hx_hop.specs.declared.asked_for.Asked.{Asked}
+use Rattle.hx_hop.specs.declared.request_view.Asked.{Asked}
 use Rattle.hx_allow.specs.Lines.{Table}
 use Rattle.hx_allow.specs.Matching.{verdict_of}
 use Rattle.hx_allow.specs.declared.verdicts.Verdict.TheVariants.{Allowed}

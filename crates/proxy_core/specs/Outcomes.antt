@@ -11,7 +11,7 @@ use Rattle.hx_directives.specs.declared.names.Directive.TheVariants.{OnlyIfCache
 use Rattle.hx_framing.specs.Text.{request_text}
 use Rattle.hx_framing.specs.declared.responses.Response.{Response}
 use Rattle.std.specs.Option.{option_and_then}
-use Rattle.hx_hop.specs.declared.asked_for.Asked.{Asked}
+use Rattle.hx_hop.specs.declared.request_view.Asked.{Asked}
 use Rattle.hx_hop.specs.Forwarding.{forwarded_of}
 use Rattle.hx_hop.specs.Moments.{date_text_of}
 use Rattle.hx_allow.specs.Lines.{Table}

@@ -9,7 +9,7 @@ use Rattle.hx_framing.specs.declared.responses.Response.{Response}
 use Rattle.hx_age.specs.Lifetime.{lifetime_of}
 use Rattle.hx_age.specs.Age.{times_of, age_of, ttl_of}
 use Rattle.hx_hop.specs.Answering.{answered_of}
-use Rattle.hx_hop.specs.declared.asked_for.Asked.{Asked}
+use Rattle.hx_hop.specs.declared.request_view.Asked.{Asked}
 use Rattle.hx_store.specs.Stored.{Stored}
 use Rattle.hx_validate.specs.NotModified.{wants_304, not_modified_of}
 use Rattle.hx_status.specs.Member.{member_text}

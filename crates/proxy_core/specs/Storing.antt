@@ -15,7 +15,7 @@ use Rattle.hx_vary.specs.declared.nominations.Nomination.{Nomination}
 use Rattle.hx_vary.specs.declared.nominations.Nomination.TheVariants.{Star, Names}
 use Rattle.hx_hop.specs.Answering.{answered_of}
 use Rattle.hx_hop.specs.Stripping.{lists_cache_field}
-use Rattle.hx_hop.specs.declared.asked_for.Asked.{Asked}
+use Rattle.hx_hop.specs.declared.request_view.Asked.{Asked}
 use Rattle.hx_allow.specs.Lines.{Table}
 use Rattle.hx_allow.specs.Matching.{caches_of}
 use Rattle.hx_store.specs.Stored.{Stored}

@@ -3,7 +3,7 @@
 -- IsOver: an event's request goes over a line     IsToldByTheOperator: what becomes of one that arrives
 -- Below them are the statements that the laws of `src/laws.rt` prove.
 use Rattle.std.specs.Prelude.{◌≡◌, ◌⊎◌, ℕ, true, false, List, ◌∷◌, Option, Some, None}
-use Rattle.hx_hop.specs.declared.asked_for.Asked.{Asked}
+use Rattle.hx_hop.specs.declared.request_view.Asked.{Asked}
 use Rattle.hx_allow.specs.Lines.{Table}
 use Rattle.hx_allow.specs.Matching.{verdict_of, caches_of}
 use Rattle.hx_allow.specs.declared.verdicts.Verdict.TheVariants.{Allowed}

@@ -10,8 +10,8 @@ use Rattle.hx_age.specs.Lifetime.{lifetime_of}
 use Rattle.hx_vary.specs.Vary.{is_star}
 use Rattle.hx_hop.specs.Answering.{answered_of}
 use Rattle.hx_hop.specs.Stripping.{lists_cache_field}
-use Rattle.hx_hop.specs.declared.answered_with.Answered.{Answered}
-use Rattle.hx_hop.specs.declared.asked_for.Asked.{Asked}
+use Rattle.hx_hop.specs.declared.response_view.Answered.{Answered}
+use Rattle.hx_hop.specs.declared.request_view.Asked.{Asked}
 use Rattle.hx_hop.specs.declared.validators.Conditions.{Conditions}
 use Rattle.hx_allow.specs.Lines.{Table}
 use Rattle.hx_allow.specs.Matching.{caches_of}

@@ -8,7 +8,7 @@ use Rattle.hx_framing.specs.declared.fault.FrameFault.TheVariants as frame
 use Rattle.hx_framing.specs.declared.answer.Next.{Next}
 use Rattle.hx_framing.specs.declared.answer.Next.TheVariants as next
 use Rattle.hx_framing.specs.Progress.{fed, finished}
-use Rattle.hx_hop.specs.declared.asked_for.Asked.{Asked}
+use Rattle.hx_hop.specs.declared.request_view.Asked.{Asked}
 use Rattle.proxy_engine.specs.Admitted.{Refusal}
 use Rattle.hx_status.specs.declared.cause.Cause.{Cause}
 use Rattle.hx_target.specs.declared.keys.Key.{Key}

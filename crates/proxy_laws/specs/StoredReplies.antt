@@ -15,7 +15,7 @@ use Rattle.hx_framing.specs.WrittenResponse.{SentResponse, response_back, sent_t
 use Rattle.hx_age.specs.Age.{age_of}
 use Rattle.hx_age.specs.declared.moments.Times.{Times}
 use Rattle.hx_hop.specs.Answering.{answered_of}
-use Rattle.hx_hop.specs.declared.asked_for.Asked.{Asked}
+use Rattle.hx_hop.specs.declared.request_view.Asked.{Asked}
 use Rattle.hx_status.specs.declared.status.Status.{Status}
 use Rattle.hx_status.specs.Member.{member_text}
 use Rattle.hx_store.specs.Stored.{Stored}

@@ -6,8 +6,8 @@ use Rattle.hx_fields.specs.Names.{cut_at}
 use Rattle.proxy_script.specs.Lines.{line_text, FitsLine, is_config, placed}
 use Rattle.proxy_script.specs.Happenings as happening
 use Rattle.proxy_script.specs.Script.{Said, Table, Moment, Happens, line_of, block_of, spelled, Fits, IsPlaced, Found, Whole, Short, Bad, block_at, with_block, item_by, item_under, item_on, item_at}
-use Rattle.proxy_script.specs.declared.headers.Header.{Header}
-use Rattle.proxy_script.specs.declared.headers.Header.TheVariants.{Config, At, Accept, Client, Link, End, Gone, Shut, Fail}
+use Rattle.proxy_script.specs.declared.line_parser.Header.{Header}
+use Rattle.proxy_script.specs.declared.line_parser.Header.TheVariants.{Config, At, Accept, Client, Link, End, Gone, Shut, Fail}
 use Rattle.proxy_script.proofs.NumberLaws.{cut_found, cut_again}
 use Rattle.proxy_script.proofs.LineLaws.{line_one_line, placed_again, placed_found}
 

@@ -14,8 +14,8 @@ use Rattle.proxy_script.specs.declared.words.Word.TheVariants as word
 use Rattle.hx_status.specs.Refusals.{kind_word}
 use Rattle.hx_status.specs.declared.cause.FailKind.{FailKind}
 use Rattle.hx_status.specs.declared.cause.FailKind.TheVariants.{Refused, TimedOut, Closed, BadAnswer, TooLarge}
-use Rattle.proxy_script.specs.declared.headers.Header.{Header}
-use Rattle.proxy_script.specs.declared.headers.Header.TheVariants.{Config, At, Accept, Client, Link, End, Gone, Shut, Fail}
+use Rattle.proxy_script.specs.declared.line_parser.Header.{Header}
+use Rattle.proxy_script.specs.declared.line_parser.Header.TheVariants.{Config, At, Accept, Client, Link, End, Gone, Shut, Fail}
 use Rattle.proxy_script.proofs.NumberLaws.{cut_found, cut_again, lacks, lacks-append, lacks_decimal, number_found, number_again, same_pair}
 
 -- what is found passes the test

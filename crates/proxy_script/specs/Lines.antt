@@ -8,8 +8,8 @@ use Rattle.proxy_script.specs.declared.words.Word.TheVariants as word
 use Rattle.hx_status.specs.Refusals.{kind_word}
 use Rattle.hx_status.specs.declared.cause.FailKind.{FailKind}
 use Rattle.hx_status.specs.declared.cause.FailKind.TheVariants.{Refused, TimedOut, Closed, BadAnswer, TooLarge}
-use Rattle.proxy_script.specs.declared.headers.Header.{Header}
-use Rattle.proxy_script.specs.declared.headers.Header.TheVariants.{Config, At, Accept, Client, Link, End, Gone, Shut, Fail}
+use Rattle.proxy_script.specs.declared.line_parser.Header.{Header}
+use Rattle.proxy_script.specs.declared.line_parser.Header.TheVariants.{Config, At, Accept, Client, Link, End, Gone, Shut, Fail}
 
 abbrev pub word_text : Word → List ℕ
 word_text word.Config = codes "config"

@@ -9,14 +9,14 @@ use Rattle.hx_fields.specs.Names.{cut_at}
 use Rattle.proxy_script.specs.Lines.{line_text, FitsLine, is_config, placed}
 use Rattle.proxy_script.specs.Happenings.{Said as Happening}
 use Rattle.proxy_script.specs.Happenings as happening
-use Rattle.proxy_script.specs.declared.headers.Header.{Header}
-use Rattle.proxy_script.specs.declared.headers.Header.TheVariants.{Config, At, Accept, Client, Link, End, Gone, Shut, Fail}
+use Rattle.proxy_script.specs.declared.line_parser.Header.{Header}
+use Rattle.proxy_script.specs.declared.line_parser.Header.TheVariants.{Config, At, Accept, Client, Link, End, Gone, Shut, Fail}
 use Rattle.proxy_script.specs.declared.items.Item.{Item}
 use Rattle.proxy_script.specs.declared.items.Item.TheVariants as item
-use Rattle.proxy_script.specs.declared.fronts.Front.{Front}
-use Rattle.proxy_script.specs.declared.fronts.Front.TheVariants as front
-use Rattle.proxy_script.specs.declared.fronts.Block.{Block}
-use Rattle.proxy_script.specs.declared.fronts.Block.TheVariants as block
+use Rattle.proxy_script.specs.declared.parser.Front.{Front}
+use Rattle.proxy_script.specs.declared.parser.Front.TheVariants as front
+use Rattle.proxy_script.specs.declared.parser.Block.{Block}
+use Rattle.proxy_script.specs.declared.parser.Block.TheVariants as block
 
 -- what an item says: the table, the moment, or what happens
 pub data Said : Type 0 where

@@ -8,17 +8,17 @@
 
 mod digits;
 mod effect_list;
-mod fronts;
 mod happening;
-mod headers;
 mod items;
 mod laws;
+mod line_parser;
+mod parser;
 mod spelling;
 mod words;
 
 pub use effect_list::{Effect, effects_text};
-pub use fronts::{Front, read_item};
 pub use happening::Happening;
 pub use items::Item;
 pub use laws::items_are_found_as_they_are_spelled;
+pub use parser::{Front, read_item};
 pub use spelling::item_text;

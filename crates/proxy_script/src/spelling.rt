@@ -5,7 +5,7 @@ ghost use Rattle.proxy_script.specs.Lines.{word_text, word_in, rest_text, line_t
 ghost use Rattle.proxy_script.specs.Script.{said, line_of, block_of, spelled};
 
 use crate::effect_list::push_number;
-use crate::headers::Header;
+use crate::line_parser::Header;
 use crate::words::Word;
 use crate::{Happening, Item};
 use hx_status::FailKind;

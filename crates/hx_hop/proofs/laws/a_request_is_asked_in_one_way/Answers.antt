@@ -5,7 +5,7 @@ use Rattle.hx_framing.specs.declared.requests.Request.{Request}
 use Rattle.hx_target.specs.declared.faults.TargetFault.{TargetFault}
 use Rattle.hx_target.specs.declared.targets.Target.{Target}
 use Rattle.hx_target.specs.Judgement.{Judged}
-use Rattle.hx_hop.specs.declared.asked_for.Asked.{Asked}
+use Rattle.hx_hop.specs.declared.request_view.Asked.{Asked}
 use Rattle.hx_hop.specs.Asking.{IsAsked, asked_by}
 use Rattle.hx_hop.proofs.laws.a_request_is_asked_in_one_way.Goals as goal
 

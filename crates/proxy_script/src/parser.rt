@@ -5,7 +5,7 @@ ghost use Rattle.proxy_script.specs.Lines.{placed};
 ghost use Rattle.proxy_script.specs.Happenings.{said};
 ghost use Rattle.proxy_script.specs.Script.{Found, Happens, block_at, item_by, item_at, seen, seen_block};
 
-use crate::headers::{Header, header_of, is_config};
+use crate::line_parser::{Header, header_of, is_config};
 use crate::{Happening, Item};
 use hx_fields::cut_at;
 
