@@ -8,6 +8,8 @@ pub mod NumberLemmas
 pub mod LengthTold
 pub mod FramingLemmas
 pub mod HeadLineLemmas
+pub mod GivenLemmas
+pub mod GivenHeads
 pub mod LengthLemmas
 pub mod ChunkStreams
 pub mod ChunkSteps

@@ -9,6 +9,7 @@ pub mod PlainContent
 pub mod Contents
 pub mod Queue
 pub mod HeadLines
+pub mod GivenFields
 pub mod RequestReading
 pub mod RequestFound
 pub mod RequestStream

@@ -42,6 +42,7 @@ mod status_head;
 mod taken;
 mod text_laws;
 mod unread;
+pub mod value_laws;
 mod version;
 mod writing;
 pub mod writing_laws;
