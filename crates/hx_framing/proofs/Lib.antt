@@ -10,6 +10,8 @@ pub mod FramingLemmas
 pub mod HeadLineLemmas
 pub mod GivenLemmas
 pub mod GivenHeads
+pub mod HeadDecisions
+pub mod Existence
 pub mod LengthLemmas
 pub mod ChunkStreams
 pub mod ChunkSteps

@@ -15,6 +15,7 @@ mod content;
 mod content_length;
 mod content_reading;
 mod decoded;
+pub mod existence_laws;
 mod fault;
 mod found;
 mod head_laws;
