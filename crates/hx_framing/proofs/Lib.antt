@@ -17,6 +17,8 @@ pub mod ChunkStreams
 pub mod ChunkSteps
 pub mod ChunkPieces
 pub mod ChunkSound
+pub mod ChunkFaultSound
+pub mod ChunkFaultComplete
 pub mod BodyLemmas
 pub mod RequestLemmas
 pub mod RequestFinding

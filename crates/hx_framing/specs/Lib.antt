@@ -29,6 +29,7 @@ pub mod SizeLine
 pub mod Chunking
 pub mod Chunks
 pub mod ChunkGrammar
+pub mod ChunkFaults
 pub mod Pieces
 pub mod Decoding
 pub mod Written
