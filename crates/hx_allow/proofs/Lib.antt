@@ -7,3 +7,6 @@ pub mod TablePaths
 pub mod Versions
 pub mod Origins
 pub mod PathTails
+pub mod LeastUnknown
+pub mod Deciding
+pub mod TomlTables

@@ -8,3 +8,5 @@ pub mod Matching
 pub mod PathTails
 pub mod Tables
 pub mod Values
+pub mod Unknown
+pub mod Deciding

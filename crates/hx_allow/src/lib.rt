@@ -15,6 +15,7 @@ mod lines;
 mod matching;
 mod path_tails;
 mod reading;
+mod table_laws;
 mod tables;
 mod values;
 mod verdicts;
@@ -26,5 +27,8 @@ pub use laws::{
     a_table_of_two_lines_is_read, a_whole_table_is_read, lines_without_cache_are_read,
     one_verdict_for_each_table_path, table_versions, the_first_line_at_fault_is_told,
     the_first_line_that_matches_decides, version_one_reads_as_before,
+};
+pub use table_laws::{
+    a_table_is_toml_within_the_limit, fewer_lines_decide_alike, the_least_unknown_key_is_told,
 };
 pub use verdicts::Verdict;

@@ -49,13 +49,13 @@ record Sound (bytes c rest : List ℕ) : Type 0 where
 
 -- ---- tools
 
-no_lf_push : (l : List ℕ) (b : ℕ) → has_no_lf l ≡ true → (b == 10) ≡ false → has_no_lf (l ++ b ∷ []) ≡ true
+pub no_lf_push : (l : List ℕ) (b : ℕ) → has_no_lf l ≡ true → (b == 10) ≡ false → has_no_lf (l ++ b ∷ []) ≡ true
 no_lf_push [] b none other = ap (λ t. not t && true) other
 no_lf_push (x ∷ l) b none other =
     let p = and_parts (not (x == 10)) (has_no_lf l) none in
     ap (λ t. t && has_no_lf (l ++ b ∷ [])) p.0 ∙ no_lf_push l b p.1 other
 
-no_lf_take : (n : ℕ) (l : List ℕ) → has_no_lf l ≡ true → has_no_lf (take n l) ≡ true
+pub no_lf_take : (n : ℕ) (l : List ℕ) → has_no_lf l ≡ true → has_no_lf (take n l) ≡ true
 no_lf_take zero l none = refl
 no_lf_take (suc n) [] none = refl
 no_lf_take (suc n) (x ∷ l) none =
@@ -63,7 +63,7 @@ no_lf_take (suc n) (x ∷ l) none =
     ap (λ t. t && has_no_lf (take n l)) p.0 ∙ no_lf_take n l p.1
 
 -- a line that ends in CR
-cr_line : (l : List ℕ) → ends_in_cr l ≡ true → l ≡ but_last l ++ 13 ∷ []
+pub cr_line : (l : List ℕ) → ends_in_cr l ≡ true → l ≡ but_last l ++ 13 ∷ []
 cr_line [] e = absurd cc
 cr_line (x ∷ xs) e =
     let l = x ∷ xs in
@@ -73,7 +73,7 @@ cr_line (x ∷ xs) e =
     sym (take_all (length l) l (omega arith)) ∙ ap (λ n. take n l) (sym whole) ∙ take_more l (length l - 1) 0 inside ∙ ap (λ b. but_last l ++ b ∷ []) last
 
 -- what a size that was read says of its line
-size_says : (l : List ℕ) (left n : ℕ) → size_at l left ≡ Ok n → (ends_in_cr l ≡ true) × (is_size (but_last l) ≡ true) × (n ≡ size_of (but_last l)) × (n ≤ left)
+pub size_says : (l : List ℕ) (left n : ℕ) → size_at l left ≡ Ok n → (ends_in_cr l ≡ true) × (is_size (but_last l) ≡ true) × (n ≡ size_of (but_last l)) × (n ≤ left)
 size_says l left n h = by_test (ends_in_cr l) refl (is_size (but_last l)) refl h
   where
     by_size : (k : ℕ) (t : Bool) → nat_le k left ≡ t → ok_or (cond t (Some k) None) fault.TooLarge ≡ Ok n → (n ≡ k) × (n ≤ left)
@@ -130,7 +130,7 @@ on_end_cr b bytes c rest later left sofar h = by_test (b == 10) refl h
     by_test false p h = absurd cc
 
 -- a line with its LF
-with_lf : (l bytes : List ℕ) (b : ℕ) → ends_in_cr l ≡ true → b ≡ 10 → l ++ b ∷ bytes ≡ but_last l ++ 13 ∷ 10 ∷ bytes
+pub with_lf : (l bytes : List ℕ) (b : ℕ) → ends_in_cr l ≡ true → b ≡ 10 → l ++ b ∷ bytes ≡ but_last l ++ 13 ∷ 10 ∷ bytes
 with_lf l bytes b e is_lf = ap (λ m. m ++ b ∷ bytes) (cr_line l e) ∙ append_assoc (but_last l) (13 ∷ []) (b ∷ bytes) ∙ ap (λ x. but_last l ++ 13 ∷ x ∷ bytes) is_lf
 
 on_size : (b : ℕ) (bytes c rest : List ℕ) → Sound bytes c rest → (left : ℕ) (sofar l : List ℕ) → has_no_lf l ≡ true

@@ -38,7 +38,7 @@ none_at_all m n bytes all none =
     none_in_fewer m (m + n) bytes (omega arith) (ap has_no_lf whole ∙ none)
 
 -- a byte of a size line that isn't its LF
-size_on : (s : Chunking) (text : List ℕ) (b : ℕ) → (b == 10) ≡ false → length text < most_size_line_bytes → size_step (with_line s phase.Size text) b ≡ Go (with_line s phase.Size (text ++ b ∷ []))
+pub size_on : (s : Chunking) (text : List ℕ) (b : ℕ) → (b == 10) ≡ false → length text < most_size_line_bytes → size_step (with_line s phase.Size text) b ≡ Go (with_line s phase.Size (text ++ b ∷ []))
 size_on s text b other short = rw (other, lt-ltb (length text) most_size_line_bytes short)
 
 pub size_text : (s : Chunking) (text more : List ℕ) → has_no_lf more ≡ true → length text + length more ≤ most_size_line_bytes
@@ -51,12 +51,12 @@ size_text s text (b ∷ more) one_line short =
     ∙ ap (λ l. Some (with_line s phase.Size l)) (append_assoc text (b ∷ []) more)
 
 -- a line that ends in CR
-cr_last : (text : List ℕ) → ends_in_cr (text ++ 13 ∷ []) ≡ true
+pub cr_last : (text : List ℕ) → ends_in_cr (text ++ 13 ∷ []) ≡ true
 cr_last text =
     let last : length (text ++ 13 ∷ []) - 1 ≡ length text = omega (arith, length-append text (13 ∷ [])) in
     ap (λ k. slice_index (text ++ 13 ∷ []) k == 13) last ∙ ap (λ b. b == 13) (get_or_at text 13 [] 0 (length text) refl)
 
-cr_off : (text : List ℕ) → but_last (text ++ 13 ∷ []) ≡ text
+pub cr_off : (text : List ℕ) → but_last (text ++ 13 ∷ []) ≡ text
 cr_off text =
     let last : length (text ++ 13 ∷ []) - 1 ≡ length text = omega (arith, length-append text (13 ∷ [])) in
     ap (λ k. take k (text ++ 13 ∷ [])) last ∙ take_at text (13 ∷ []) (length text) refl
@@ -139,7 +139,7 @@ chunk_run left used sofar rest c is fits =
     ∙ ap (λ t. follow (cond t (Go (in_phase phase.Trailers 0 left used sofar [])) (Go (in_phase phase.Data (length c.bytes) (left - length c.bytes) used sofar []))) (chunks_from (c.bytes ++ 13 ∷ 10 ∷ rest)) (c.bytes ++ 13 ∷ 10 ∷ rest)) some
     ∙ chunks_behind c.bytes (13 ∷ 10 ∷ rest) (in_phase phase.Data (length c.bytes) (left - length c.bytes) used sofar []) (in_phase phase.DataEnd 0 (left - length c.bytes) used (sofar ++ c.bytes) []) (data_run (left - length c.bytes) used sofar c.bytes is.some)
 
-chunks_run : (cs : List Chunk) (left used : ℕ) (sofar rest : List ℕ) → AllByRecursion IsChunk cs → length (content cs) ≤ left
+pub chunks_run : (cs : List Chunk) (left used : ℕ) (sofar rest : List ℕ) → AllByRecursion IsChunk cs → length (content cs) ≤ left
     → chunks_from (print_chunks cs rest) (in_phase phase.Size 0 left used sofar [])
     ≡ chunks_from rest (in_phase phase.Size 0 (left - length (content cs)) used (sofar ++ content cs) [])
 chunks_run [] left used sofar rest all fits =
@@ -156,7 +156,7 @@ chunks_run (c ∷ cs) left used sofar rest all fits =
 
 -- ---- trailers
 
-trailer_on : (need left used : ℕ) (sofar text : List ℕ) (b : ℕ) → (b == 10) ≡ false → used + length text < most_trailer_bytes
+pub trailer_on : (need left used : ℕ) (sofar text : List ℕ) (b : ℕ) → (b == 10) ≡ false → used + length text < most_trailer_bytes
     → trailer_step (in_phase phase.Trailers need left used sofar text) b ≡ Go (in_phase phase.Trailers need left used sofar (text ++ b ∷ []))
 trailer_on need left used sofar text b other room = rw (other, lt-ltb (used + length text) most_trailer_bytes room)
 
@@ -171,7 +171,7 @@ trailer_text need left used sofar text (b ∷ more) one_line room =
     ∙ ap (λ l. Some (in_phase phase.Trailers need left used sofar l)) (append_assoc text (b ∷ []) more)
 
 -- the LF behind a CR
-trailer_closed : (need left used : ℕ) (sofar text : List ℕ) → 0 < length text → used + length text + 1 < most_trailer_bytes
+pub trailer_closed : (need left used : ℕ) (sofar text : List ℕ) → 0 < length text → used + length text + 1 < most_trailer_bytes
     → trailer_step (in_phase phase.Trailers need left used sofar (text ++ 13 ∷ [])) 10 ≡ Go (in_phase phase.Trailers need left (used + length (text ++ 13 ∷ []) + 1) sofar [])
 trailer_closed need left used sofar text some room =
     let parts = length-append text (13 ∷ []) in

@@ -26,35 +26,35 @@ use Rattle.hx_framing.specs.HeadLines.{is_colon, is_line_end, name_of, is_field_
 
 -- ---- bytes
 
-abbrev IsNo : ℕ → ℕ → Type 0
+abbrev pub IsNo : ℕ → ℕ → Type 0
 IsNo stop b = (b == stop) ≡ false
 
 -- a byte of a value
-value_byte : (b : ℕ) → IsTrue (is_value_byte b) → IsNo 13 b × IsNo 10 b
+pub value_byte : (b : ℕ) → IsTrue (is_value_byte b) → IsNo 13 b × IsNo 10 b
 value_byte b value =
     let not_cr : b ≢ 13 = λ e. absurd (let h = subst (λ (v : ℕ). is_value_byte v ≡ true) e value in cc) in
     let not_lf : b ≢ 10 = λ e. absurd (let h = subst (λ (v : ℕ). is_value_byte v ≡ true) e value in cc) in
     (ne_eqb b 13 not_cr, ne_eqb b 10 not_lf)
 
-token_byte : (b : ℕ) → IsTrue (is_token_byte b) → IsNo 13 b × IsNo 10 b
+pub token_byte : (b : ℕ) → IsTrue (is_token_byte b) → IsNo 13 b × IsNo 10 b
 token_byte b token = or_parts (b == 13) (b == 10) (token_is_no_newline b token)
 
-token_no_colon : (b : ℕ) → IsTrue (is_token_byte b) → is_colon b ≡ false
+pub token_no_colon : (b : ℕ) → IsTrue (is_token_byte b) → is_colon b ≡ false
 token_no_colon b token = ne_eqb b 58 (λ e. absurd (let h = subst (λ (v : ℕ). is_token_byte v ≡ true) e token in let k = colon_ends_token in cc))
 
-uri_byte : (b : ℕ) → IsTrue (is_uri_byte b) → IsNo 10 b
+pub uri_byte : (b : ℕ) → IsTrue (is_uri_byte b) → IsNo 10 b
 uri_byte b uri = ne_eqb b 10 (λ e. absurd (let h = subst (λ (v : ℕ). is_uri_byte v ≡ true) e uri in cc))
 
-digit_byte : (b : ℕ) → IsTrue (is_ascii_digit b) → IsNo 10 b
+pub digit_byte : (b : ℕ) → IsTrue (is_ascii_digit b) → IsNo 10 b
 digit_byte b digit = ne_eqb b 10 (λ e. absurd (let h = subst (λ (v : ℕ). is_ascii_digit v ≡ true) e digit in cc))
 
 -- what each byte of a text is
-each : (test : ℕ → Bool) (P : ℕ → Type 0) (text : List ℕ) → ((b : ℕ) → IsTrue (test b) → P b) → AllPass test text → All P text
+pub each : (test : ℕ → Bool) (P : ℕ → Type 0) (text : List ℕ) → ((b : ℕ) → IsTrue (test b) → P b) → AllPass test text → All P text
 each test P text step pass = λ k d inside. step (get_or text k d) (pass k d inside)
 
 -- ---- the first place of a byte
 
-first_at : (p : ℕ → Bool) (xs : List ℕ) (y : ℕ) (ys : List ℕ) → All (λ b. p b ≡ false) xs → p y ≡ true
+pub first_at : (p : ℕ → Bool) (xs : List ℕ) (y : ℕ) (ys : List ℕ) → All (λ b. p b ≡ false) xs → p y ≡ true
     → position_or_len p (xs ++ y ∷ ys) ≡ length xs
 first_at p [] y ys none here = ap (λ t. cond (not t) (1 + position_or_len p ys) 0) here
 first_at p (x ∷ xs) y ys none here =
@@ -64,7 +64,7 @@ first_at p (x ∷ xs) y ys none here =
 -- ---- the ends of lines
 
 -- a line with the CR of its end
-abbrev with_return : List ℕ → LineEnd → List ℕ
+abbrev pub with_return : List ℕ → LineEnd → List ℕ
 with_return text crlf = text ++ 13 ∷ []
 with_return text lf = text
 
@@ -83,15 +83,15 @@ without_return-none (b ∷ text) none =
     let last : (get_or (b ∷ text) (length (b ∷ text) - 1) 0 == 13) ≡ false = none (length (b ∷ text) - 1) 0 (omega arith) in
     ap (λ t. take (length (b ∷ text) - cond t 1 0) (b ∷ text)) last ∙ take_all (length (b ∷ text) - 0) (b ∷ text) (omega arith)
 
-without_return-is : (text : List ℕ) (end : LineEnd) → All (IsNo 13) text → without_return (with_return text end) ≡ text
+pub without_return-is : (text : List ℕ) (end : LineEnd) → All (IsNo 13) text → without_return (with_return text end) ≡ text
 without_return-is text crlf none = without_return-cr text
 without_return-is text lf none = without_return-none text none
 
 -- a line and its end are the first line of what is left
-abbrev lines_of : List ℕ → List (List ℕ)
+abbrev pub lines_of : List ℕ → List (List ℕ)
 lines_of text = slice_split (λ b. b == 10) text
 
-one_line : (text rest : List ℕ) (end : LineEnd) → All (IsNo 10) text → lines_of (text ++ (print_end end ++ rest)) ≡ with_return text end ∷ lines_of rest
+pub one_line : (text rest : List ℕ) (end : LineEnd) → All (IsNo 10) text → lines_of (text ++ (print_end end ++ rest)) ≡ with_return text end ∷ lines_of rest
 one_line text rest crlf none =
     let both : All (IsNo 10) (text ++ 13 ∷ []) = All-append (IsNo 10) text (13 ∷ []) none (All-cons (IsNo 10) 13 [] refl (All-nil (IsNo 10))) in
     ap lines_of (sym (append_assoc text (13 ∷ []) (10 ∷ rest))) ∙ slice_split_at (λ b. b == 10) (text ++ 13 ∷ []) 10 rest both refl
@@ -99,10 +99,10 @@ one_line text rest lf none = slice_split_at (λ b. b == 10) text 10 rest none re
 
 -- ---- field lines
 
-abbrev text_of : Field → List ℕ
+abbrev pub text_of : Field → List ℕ
 text_of f = with_return (f.name ++ 58 ∷ f.raw) f.end
 
-section_lines : (fields : List Field) (last : LineEnd) → All IsField fields
+pub section_lines : (fields : List Field) (last : LineEnd) → All IsField fields
     → lines_of (print_section fields last) ≡ map text_of fields ++ with_return [] last ∷ [] ∷ []
 section_lines [] crlf fine = refl
 section_lines [] lf fine = refl
@@ -124,11 +124,11 @@ text_of-from f = by_end f.end
     by_end crlf = append_assoc f.name (58 ∷ f.raw) (13 ∷ [])
     by_end lf = refl
 
-same_token_byte : (b : ℕ) → is_token_byte b ≡ tokens.is_token_byte b
+pub same_token_byte : (b : ℕ) → is_token_byte b ≡ tokens.is_token_byte b
 unfolding is_token_byte
 same_token_byte b = refl
 
-token : (name : List ℕ) → IsToken name → tokens.is_token name ≡ true
+pub token : (name : List ℕ) → IsToken name → tokens.is_token name ≡ true
 token name is =
     and_from (nat_lt 0 (length name)) (list_all tokens.is_token_byte name) (lt-ltb 0 (length name) is.0)
     (list_all-from_AllPass tokens.is_token_byte name (λ k d inside. sym (same_token_byte (get_or name k d)) ∙ is.1 k d inside))
@@ -180,13 +180,13 @@ names_of (f ∷ fields) fine =
     let later = names_of fields (All-tail IsField f fields fine) in
     λ i. first i ∷ later i
 
-empty_end : (last : LineEnd) → is_empty_line (with_return [] last) ≡ true
+pub empty_end : (last : LineEnd) → is_empty_line (with_return [] last) ≡ true
 empty_end crlf = refl
 empty_end lf = refl
 
 -- ---- empty lines in front
 
-blank_is : (ends : List LineEnd) (x : ℕ) (rest : List ℕ) (at : ℕ) → is_newline x ≡ false
+pub blank_is : (ends : List LineEnd) (x : ℕ) (rest : List ℕ) (at : ℕ) → is_newline x ≡ false
     → blank_from at (print_blank ends ++ x ∷ rest) ≡ at + length (print_blank ends)
 blank_is [] x [] at other =
     let parts = or_parts (x == 13) (x == 10) other in ap (λ t. cond t (at + 1) at) parts.1 ∙ omega arith
@@ -229,7 +229,7 @@ whole bytes ends x start end fields last other none fine is = record {
 name_of_version : All (IsNo 10) (codes "HTTP/1.")
 name_of_version = λ k d inside. not-true _ (AllPass-from_list_all (λ b. not (b == 10)) (codes "HTTP/1.") refl k d inside)
 
-version : (minor : ℕ) → minor ≤ 1 → All (IsNo 10) (print_version minor)
+pub version : (minor : ℕ) → minor ≤ 1 → All (IsNo 10) (print_version minor)
 version minor small =
     All-append (IsNo 10) (codes "HTTP/1.") ((48 + minor) ∷ []) name_of_version
     (All-cons (IsNo 10) (48 + minor) [] (ne_eqb (48 + minor) 10 (λ e. omega arith)) (All-nil (IsNo 10)))

@@ -8,11 +8,17 @@ pub mod NumberLemmas
 pub mod LengthTold
 pub mod FramingLemmas
 pub mod HeadLineLemmas
+pub mod GivenLemmas
+pub mod GivenHeads
+pub mod HeadDecisions
+pub mod Existence
 pub mod LengthLemmas
 pub mod ChunkStreams
 pub mod ChunkSteps
 pub mod ChunkPieces
 pub mod ChunkSound
+pub mod ChunkFaultSound
+pub mod ChunkFaultComplete
 pub mod BodyLemmas
 pub mod RequestLemmas
 pub mod RequestFinding

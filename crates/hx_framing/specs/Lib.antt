@@ -9,6 +9,7 @@ pub mod PlainContent
 pub mod Contents
 pub mod Queue
 pub mod HeadLines
+pub mod GivenFields
 pub mod RequestReading
 pub mod RequestFound
 pub mod RequestStream
@@ -28,6 +29,7 @@ pub mod SizeLine
 pub mod Chunking
 pub mod Chunks
 pub mod ChunkGrammar
+pub mod ChunkFaults
 pub mod Pieces
 pub mod Decoding
 pub mod Written

@@ -6,6 +6,7 @@
 #![tactic(auto)]
 
 mod answer;
+pub mod chunk_fault_laws;
 pub mod chunk_laws;
 mod chunk_phase;
 mod chunk_pieces;
@@ -15,6 +16,7 @@ mod content;
 mod content_length;
 mod content_reading;
 mod decoded;
+pub mod existence_laws;
 mod fault;
 mod found;
 mod head_laws;
@@ -42,6 +44,7 @@ mod status_head;
 mod taken;
 mod text_laws;
 mod unread;
+pub mod value_laws;
 mod version;
 mod writing;
 pub mod writing_laws;

@@ -1,15 +1,16 @@
 -- Which rule is the least, from what is known of the request and of the chosen entry.
 use Rattle.std.proofs.Common.{◌≡◌, ℕ, inl, Bool, true, false, cond, List, [], ◌∷◌, ◌++◌, length, refl, sym, ◌∙◌, ap, arith}
-use Rattle.std.specs.Prelude.{◌==◌, not, find, Option, Some, None, option_map, is_none}
+use Rattle.std.specs.Prelude.{◌==◌, not, filter, find, Option, Some, None, option_map, is_none}
 use Rattle.std.specs.List.{AllByRecursion}
 use Rattle.std.proofs.lemmas.Grind.{common_steps}
+use Rattle.hx_vary.specs.Vary.{vary_matches}
 use Rattle.hx_hop.specs.declared.request_view.Asked.{Asked}
 use Rattle.hx_store.specs.Stored.{Stored}
 use Rattle.hx_store.specs.Shelf.{serials_of}
 use Rattle.hx_reuse.specs.declared.decision.Decision.TheVariants.{Hit, Forward}
 use Rattle.hx_reuse.specs.declared.rule.ReuseRule.{ReuseRule}
 use Rattle.hx_reuse.specs.declared.rule.ReuseRule.TheVariants.{Operator, UriMiss, VaryMiss, ResponseNoCache, RequestNoCache, AboveMaxAge, BelowMinFresh, MustRevalidate, NoLifetime, StaleNoCache, NoMaxStale, PastMaxStale, StaleMaxAge, StaleMinFresh}
-use Rattle.hx_reuse.specs.Chosen.{of_key, chosen_of}
+use Rattle.hx_reuse.specs.Chosen.{of_key, chosen_of, latest}
 use Rattle.hx_reuse.specs.Rules.{against, standing, stands, is_some_and, request_rules, entry_rules, reuse_rule_of, names_entry, decided, decision_of}
 use Rattle.hx_fields.proofs.FirstThat.{IsMember}
 use Rattle.hx_reuse.proofs.Members.{AreSerialsOf, are_serials}
@@ -92,6 +93,14 @@ key_held held asked h =
     turned : (b : Bool) → not b ≡ true → b ≡ false
     turned true h = sym h
     turned false h = refl
+
+-- where a response is chosen the key is held
+pub chosen_key : (held : List Stored) (asked : Asked) (e : Stored) → chosen_of held asked ≡ Some e → (length (of_key held asked) == 0) ≡ false
+chosen_key held asked e h = at (of_key held asked) h
+  where
+    at : (xs : List Stored) → latest (filter (λ x. vary_matches x.nominated asked.fields) xs) ≡ Some e → (length xs == 0) ≡ false
+    at [] k = absurd cc
+    at (x ∷ xs) k = grind (arith, common_steps)
 
 -- the outcome at a rule below 7, at one from 7 on, and at none
 forward_low : (o : Option ReuseRule) (s : Option ℕ) (r : ReuseRule) → o ≡ Some r → names_entry r ≡ false → Forward r None ≡ decided o s

@@ -28,6 +28,6 @@ later (Some best) e = if comes_later e best then Some e else Some best
 abbrev pub latest : List Stored → Option Stored
 latest es = fold later None es
 
--- the most recent of those that match (RFC 9111, section 4, last paragraph)
+-- the most recent of those that match (RFC 9111, section 4)
 abbrev pub chosen_of : List Stored → Asked → Option Stored
 chosen_of held asked = latest (matching held asked)

@@ -27,7 +27,7 @@ pub record IsCandidate (held : List Stored) (asked : Asked) (response : Stored) 
   pub has_the_key : same_key response.key asked.target.key ≡ true
   pub has_the_values : vary_matches response.nominated asked.fields ≡ true
 
--- of all that could answer none comes later (RFC 9111, section 4, last paragraph)
+-- of all that could answer none comes later (RFC 9111, section 4)
 pub record IsChosen (held : List Stored) (asked : Asked) (response : Stored) : Type 0 where
   pub is_candidate : IsCandidate held asked response
   pub none_later : (other : Stored) → IsCandidate held asked other → comes_later other response ≡ false

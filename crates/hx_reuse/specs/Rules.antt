@@ -66,31 +66,57 @@ abbrev pub past_limit : ℕ → MaxStale → Bool
 past_limit n (UpTo limit) = nat_lt limit n
 past_limit n _ = false
 
--- the conditions of the rules on the chosen response
+-- the conditions of the rules on the chosen response. That a request's directives count is own: RFC 9111, section 5.2.1
+-- calls them advisory.
 abbrev pub against : ReuseRule → Standing → Bool
+-- RFC 9111, section 5.2.2.4
 against ResponseNoCache s = has s.response directive.NoCache
+-- RFC 9111, section 5.2.1.4
 against RequestNoCache s = fresh s && has s.request directive.NoCache
+-- RFC 9111, section 5.2.1.1
 against AboveMaxAge s = fresh s && above_max_age s
+-- RFC 9111, section 5.2.1.3
 against BelowMinFresh s = fresh s && below_min_fresh s
+-- RFC 9111, sections 5.2.2.2, 5.2.2.8 and 5.2.2.10
 against MustRevalidate s = not (fresh s) && must_revalidate s
+-- own: what states no lifetime is never sent stale (RFC 9111, section 4.2.4 lets a cache send what isn't forbidden)
 against NoLifetime s = not (fresh s) && not s.lifetime.explicit
+-- RFC 9111, section 5.2.1.4
 against StaleNoCache s = not (fresh s) && has s.request directive.NoCache
+-- RFC 9111, section 4.2.4
 against NoMaxStale s = not (fresh s) && not (accepts_stale (max_stale s.request))
+-- RFC 9111, section 5.2.1.2
 against PastMaxStale s = not (fresh s) && past_limit (staleness_of s.lifetime s.age) (max_stale s.request)
+-- RFC 9111, section 5.2.1.1
 against StaleMaxAge s = not (fresh s) && above_max_age s
+-- RFC 9111, section 5.2.1.3: what is stale isn't fresh for any time
 against StaleMinFresh s = not (fresh s) && is_some (first_valid s.request directive.MinFresh)
-against _ s = false
+-- these speak of no response
+against Operator s = false
+against Method s = false
+against Content s = false
+against Range s = false
+against Precondition s = false
+against UriMiss s = false
+against VaryMiss s = false
 
 -- the condition of each rule; the first word is the operator's, whether a stored response may answer the request
 abbrev pub stands : ReuseRule → Bool → List Stored → Asked → ℕ → Bool
 -- own: what the operator keeps from the store
 stands Operator caches held asked now = not caches
+-- RFC 9111, section 4: the method of the request has to let a stored response answer it
 stands Method caches held asked now = not (bytes_eq asked.method (codes "GET") || bytes_eq asked.method (codes "HEAD"))
+-- own: content of a GET or HEAD may change what it asks for
 stands Content caches held asked now = has_content asked
+-- own: ranges are the origin's matter (RFC 9111, section 3.3 lets a cache be without them)
 stands Range caches held asked now = asks_for_range asked
+-- own: conditions of RFC 9111, section 4.3.2 that only the origin judges here
 stands Precondition caches held asked now = has_precondition asked
+-- RFC 9111, sections 2 and 4
 stands UriMiss caches held asked now = length (of_key held asked) == 0
+-- RFC 9111, section 4.1
 stands VaryMiss caches held asked now = is_none (chosen_of held asked)
+-- those on the chosen response
 stands rule caches held asked now = is_some_and (λ e. against rule (standing e asked now)) (chosen_of held asked)
 
 -- the rules by their numbers

@@ -1,6 +1,8 @@
 //! What is done with a request: the least rule that stands, or the response that may be sent.
-ghost use Rattle.std.specs.Prelude.{◌≡◌, true, IfOk};
+ghost use Rattle.std.specs.Prelude.{◌≡◌, ◌==◌, if◌then◌else◌, length, true, IfOk};
 ghost use Rattle.hx_directives.specs.Occurrences.{occurrences_of};
+ghost use Rattle.hx_store.specs.Shelf.{serials_of};
+ghost use Rattle.hx_reuse.specs.declared.rule.ReuseRule.TheVariants.{UriMiss, VaryMiss};
 ghost use Rattle.hx_reuse.specs.Rules.{decision_of};
 
 use crate::chosen::latest_of;
@@ -9,6 +11,7 @@ use crate::rule::ReuseRule;
 use hx_directives::Directives;
 use hx_hop::Asked;
 use hx_store::Shelf;
+use hx_target::Key;
 use std::alloc::{AllocError, Global};
 
 /// What the reuse rules say of a request.
@@ -55,15 +58,23 @@ fn decide_from_store<S: Shelf>(
         return Ok(Decision::Forward(rule, None));
     }
     let key = &asked.target.key;
-    if !shelf.has_key(key) {
-        return Ok(Decision::Forward(ReuseRule::UriMiss, None));
-    }
     let matching = shelf.find_matching(alloc, key, &asked.fields)?;
     let Some(entry) = latest_of(shelf, matching.as_slice()) else {
-        return Ok(Decision::Forward(ReuseRule::VaryMiss, None));
+        return Ok(Decision::Forward(miss_rule(shelf, key), None));
     };
     match rule_on(entry, asked, asked_directives, now) {
         Some(rule) => Ok(Decision::Forward(rule, Some(entry.serial))),
         None => Ok(Decision::Hit(entry.serial)),
+    }
+}
+
+/// What a request misses whose key no held response matches: the key itself, or its values.
+fn miss_rule<S: Shelf>(shelf: &S, key: &Key) -> ReuseRule
+    ensures { result ≡ (if length (serials_of key.now (S.entries shelf.now)) == 0 then UriMiss else VaryMiss) }
+{
+    if shelf.has_key(key) {
+        ReuseRule::VaryMiss
+    } else {
+        ReuseRule::UriMiss
     }
 }

@@ -1,4 +1,5 @@
 pub mod Moments
+pub mod FaultTexts
 pub mod Replies
 pub mod Storing
 pub mod Leading

@@ -1,14 +1,16 @@
-use Rattle.std.proofs.Common.{rules, ◌≡◌, false, true, sym, ◌∙◌, ap}
+use Rattle.std.proofs.Common.{rules, ◌≡◌, ℕ, Bool, List, cond, refl, false, true, sym, ◌∙◌, ap}
 use Rattle.std.specs.Prelude.{◌==◌, not, length, find, Some, None}
 use Rattle.std.specs.List.{filter_map}
 use Rattle.std.specs.Option.{option_copied}
+use Rattle.hx_hop.specs.declared.request_view.Asked.{Asked}
 use Rattle.hx_store.specs.Stored.{Stored}
 use Rattle.hx_store.specs.Shelf.{find_entry, matching_serials, serials_of}
 use Rattle.hx_reuse.specs.declared.decision.Decision.TheVariants.{Hit, Forward}
 use Rattle.hx_reuse.specs.Chosen.{chosen_of, latest}
-use Rattle.hx_reuse.specs.Rules.{request_rules, stands}
+use Rattle.hx_reuse.specs.declared.rule.ReuseRule.TheVariants.{UriMiss, VaryMiss}
+use Rattle.hx_reuse.specs.Rules.{decision_of, request_rules, stands}
 use Rattle.hx_reuse.proofs.Latest.{latest_is_the_chosen}
-use Rattle.hx_reuse.proofs.RuleLemmas.{by_none, by_request, by_rule, by_uri, by_vary, key_held, unheld}
+use Rattle.hx_reuse.proofs.RuleLemmas.{by_none, by_request, by_rule, by_uri, by_vary, chosen_key, key_held, unheld}
 use Rattle.hx_reuse.proofs.decision.decide_from_store.Goals as goal
 
 pub returns-in-Some : goal.returns-in-Some
@@ -16,14 +18,11 @@ returns-in-Some g c =
     let es = g.S.Shelf.entries c.args.shelf.now in
     by_request es c.args.asked.now c.args.now c.in-Some.rule (sym (c.in-Some.ensures true es c.args.now))
 
-pub returns-then-not-has_key : goal.returns-then-not-has_key
-returns-then-not-has_key g c =
-    let es = g.S.Shelf.entries c.args.shelf.now in
-    let asked = c.args.asked.now in
-    let free : find (λ r. stands r true es asked c.args.now) request_rules ≡ None =
-    sym (c.request_rule.ensures true es c.args.now) ∙ c.in_default.is in
-    let absent : not (length (serials_of asked.target.key es) == 0) ≡ false = search rules in
-    by_uri es asked c.args.now free (unheld es asked absent)
+-- by whether the key is held
+missed : (es : List Stored) (asked : Asked) (now : ℕ) (b : Bool) → (length (serials_of asked.target.key es) == 0) ≡ b →
+    find (λ r. stands r true es asked now) request_rules ≡ None → chosen_of es asked ≡ None → Forward (cond b UriMiss VaryMiss) None ≡ decision_of true es asked now
+missed es asked now true h free chosen = by_uri es asked now free (unheld es asked (ap not h))
+missed es asked now false h free chosen = by_vary es asked now free (key_held es asked (ap not h)) chosen
 
 pub returns-in_default-latest_of : goal.returns-in_default-latest_of
 returns-in_default-latest_of g c =
@@ -31,13 +30,13 @@ returns-in_default-latest_of g c =
     let asked = c.args.asked.now in
     let free : find (λ r. stands r true es asked c.args.now) request_rules ≡ None =
     sym (c.request_rule.ensures true es c.args.now) ∙ c.in_default.is in
-    let held : not (length (serials_of asked.target.key es) == 0) ≡ true = search rules in
     let matching : c.as_slice.result.now ≡ matching_serials asked.target.key asked.fields es = search rules in
     let chosen : chosen_of es asked ≡ None =
     sym (latest_is_the_chosen es asked c.find_matching.ensures.distinct)
     ∙ ap (λ ss. latest (filter_map (λ s. find_entry s es) ss)) (sym matching)
     ∙ sym c.latest_of.ensures ∙ ap option_copied c.in_default-latest_of.is in
-    by_vary es asked c.args.now free (key_held es asked held) chosen
+    ap (λ r. Forward r None) c.miss_rule.ensures
+    ∙ missed es asked c.args.now _ refl free chosen
 
 pub returns-in-Some-rule_on : goal.returns-in-Some-rule_on
 returns-in-Some-rule_on g c =
@@ -45,14 +44,13 @@ returns-in-Some-rule_on g c =
     let asked = c.args.asked.now in
     let free : find (λ r. stands r true es asked c.args.now) request_rules ≡ None =
     sym (c.request_rule.ensures true es c.args.now) ∙ c.in_default.is in
-    let held : not (length (serials_of asked.target.key es) == 0) ≡ true = search rules in
     let matching : c.as_slice.result.now ≡ matching_serials asked.target.key asked.fields es = search rules in
     let chosen : chosen_of es asked ≡ Some c.in-Some-latest_of.entry.now =
     sym (latest_is_the_chosen es asked c.find_matching.ensures.distinct)
     ∙ ap (λ ss. latest (filter_map (λ s. find_entry s es) ss)) (sym matching)
     ∙ sym c.latest_of.ensures ∙ ap option_copied c.in-Some-latest_of.is in
     ap (λ (e : Stored). Forward c.in-Some-rule_on.rule (Some e.serial)) c.entry.view_is
-    ∙ by_rule es asked c.args.now free (key_held es asked held) c.in-Some-latest_of.entry.now chosen c.in-Some-rule_on.rule (sym c.in-Some-rule_on.ensures)
+    ∙ by_rule es asked c.args.now free (chosen_key es asked c.in-Some-latest_of.entry.now chosen) c.in-Some-latest_of.entry.now chosen c.in-Some-rule_on.rule (sym c.in-Some-rule_on.ensures)
 
 pub returns : goal.returns
 returns g c =
@@ -60,11 +58,10 @@ returns g c =
     let asked = c.args.asked.now in
     let free : find (λ r. stands r true es asked c.args.now) request_rules ≡ None =
     sym (c.request_rule.ensures true es c.args.now) ∙ c.in_default.is in
-    let held : not (length (serials_of asked.target.key es) == 0) ≡ true = search rules in
     let matching : c.as_slice.result.now ≡ matching_serials asked.target.key asked.fields es = search rules in
     let chosen : chosen_of es asked ≡ Some c.in-Some-latest_of.entry.now =
     sym (latest_is_the_chosen es asked c.find_matching.ensures.distinct)
     ∙ ap (λ ss. latest (filter_map (λ s. find_entry s es) ss)) (sym matching)
     ∙ sym c.latest_of.ensures ∙ ap option_copied c.in-Some-latest_of.is in
     ap (λ (e : Stored). Hit e.serial) c.entry.view_is
-    ∙ by_none es asked c.args.now free (key_held es asked held) c.in-Some-latest_of.entry.now chosen (sym c.in-None.ensures)
+    ∙ by_none es asked c.args.now free (chosen_key es asked c.in-Some-latest_of.entry.now chosen) c.in-Some-latest_of.entry.now chosen (sym c.in-None.ensures)

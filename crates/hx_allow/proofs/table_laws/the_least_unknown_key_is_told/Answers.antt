@@ -1,0 +1,14 @@
+use Rattle.hx_allow.proofs.LeastUnknown.{first_is_least, none_told, told_at_top, told_in_line}
+use Rattle.hx_allow.proofs.table_laws.the_least_unknown_key_is_told.Goals as goal
+
+pub returns-clause-found : goal.returns-clause-found
+returns-clause-found c = first_is_least
+
+pub returns-clause-none : goal.returns-clause-none
+returns-clause-none c = none_told
+
+pub returns-clause-top : goal.returns-clause-top
+returns-clause-top c = told_at_top
+
+pub returns-clause-line : goal.returns-clause-line
+returns-clause-line c = told_in_line

@@ -1,0 +1,14 @@
+-- The line that decides on a request, itself.
+use Rattle.std.specs.Prelude.{ℕ, List, Option, filter}
+use Rattle.std.specs.Option.{option_and_then}
+use Rattle.hx_target.specs.declared.targets.Target.{Target}
+use Rattle.hx_allow.specs.Lines.{Line}
+use Rattle.hx_allow.specs.Matching.{matches_host, verdict_of, line_number, numbered}
+
+-- the line that the verdict names
+abbrev pub deciding : List Line → List ℕ → Target → Option Line
+deciding lines method target = option_and_then (numbered lines) (line_number (verdict_of lines method target))
+
+-- the lines without those of other hosts
+abbrev pub lines_for_host : List ℕ → List Line → List Line
+lines_for_host host lines = filter (λ (line : Line). matches_host line.host host) lines
