@@ -24,3 +24,4 @@ pub mod Releases
 pub mod Gets
 pub mod Kept
 pub mod Cases
+pub mod ReadAnswers
