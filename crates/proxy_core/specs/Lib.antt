@@ -25,3 +25,4 @@ pub mod Releases
 pub mod Gets
 pub mod Kept
 pub mod Cases
+pub mod ReadAnswers

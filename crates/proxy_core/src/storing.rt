@@ -43,7 +43,9 @@ impl NewEntry {
         let content = answer.response.content.copy(alloc)?;
         let times = Times::of(&fields, exchange.request_time, answer.response_time);
         fields.remove_named(b"Age");
-        let directives = Directives::of(alloc, &fields)?;
+        // What is stored stays long: its lists get room for just what they have.
+        let fields = fields.copy(alloc)?;
+        let directives = Directives::of(alloc, &fields)?.copy(alloc)?;
         Ok(Entry {
             serial,
             key,

@@ -21,3 +21,4 @@ pub mod Doing
 pub mod Staying
 pub mod Dropping
 pub mod Readable
+pub mod FinalAnswers

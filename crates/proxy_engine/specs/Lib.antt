@@ -19,3 +19,4 @@ pub mod OpenEnds
 pub mod Orderly
 pub mod Drops
 pub mod Lives
+pub mod FinalAnswers

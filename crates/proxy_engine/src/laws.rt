@@ -4,8 +4,10 @@ ghost use Rattle.proxy_engine.specs.Story.{Story};
 ghost use Rattle.proxy_engine.specs.Due.{Act, IsDueFirst};
 ghost use Rattle.proxy_engine.specs.Drops.{ActsAreShort, ActsTellDrops, TakesDropNone};
 ghost use Rattle.proxy_engine.specs.Lives.{ActsInOneWay, HasOneTrace, LivesAreRuns};
+ghost use Rattle.proxy_engine.specs.FinalAnswers.{AnswersAreFinal, AnswersAreRead};
 ghost use Rattle.proxy_engine.specs.Orderly.{BeginsOrderly, TakesInOrder, ActsInOrder, TakesStay, ActsStay};
 
+use hx_framing::response_laws::what_is_read_is_final;
 use hx_hop::a_request_is_asked_in_one_way;
 
 /// One act is due first, or none is: so `work` has no choice.
@@ -60,3 +62,12 @@ pub fn a_life_has_one_trace()
 pub fn lives_are_runs()
     ensures { LivesAreRuns }
 {}
+
+/// Whatever an engine lives through, each answer that it hands to its core is one that an origin's stream spells, and has a final
+/// status, from 200 to 599.
+pub fn answers_are_final()
+    ensures read { AnswersAreRead }
+    ensures final { AnswersAreFinal }
+{
+    what_is_read_is_final();
+}

@@ -4,3 +4,4 @@ pub mod StoredAnswers
 pub mod ReplyValues
 pub mod OneResponse
 pub mod StoredReplies
+pub mod HeldReplies

@@ -1,11 +1,13 @@
 -- A stored response is sent as one response (RFC 9112, sections 6.3 and 11.1).
 --
 -- IsSendable: what can be sent as one     StoresSendable, FreshensSendable: so is what is made of an answer, and what a 304 leaves
--- SendsWholeAsOne, SendsA304AsOne: so it is sent
+-- HoldsSendable: so is whatever is held     SendsWholeAsOne, SendsA304AsOne: so it is sent
+use Rattle.std.specs.List.{AllByRecursion}
 use Rattle.std.specs.Prelude.{◌≡◌, ℕ, ◌<◌, ◌≤◌, ◌^◌, ◌++◌, Bool, true, false, List, [], ◌∷◌, length, codes, decimal, All, None, Some}
 use Rattle.hx_fields.specs.declared.field_line.Field.{Field}
 use Rattle.httparse.specs.Grammar.{IsToken}
 use Rattle.hx_fields.specs.Lines.{has}
+use Rattle.hx_allow.specs.Lines.{Table}
 use Rattle.hx_framing.specs.declared.responses.Response.{Response}
 use Rattle.hx_framing.specs.Lengths.{is_without_content}
 use Rattle.hx_framing.specs.Reading.{Spelled}
@@ -23,8 +25,11 @@ use Rattle.hx_validate.specs.Answering.{freshened_of}
 use Rattle.hx_validate.specs.NotModified.{not_modified_of}
 use Rattle.hx_one_message.specs.OneResponse.{FitsAReader}
 use Rattle.proxy_core.specs.declared.exchange.Exchange.{Exchange}
+use Rattle.proxy_core.specs.Histories.{IsGoodHistory, held_entry}
+use Rattle.proxy_core.specs.ReadAnswers.{IsReadEvent}
 use Rattle.proxy_core.specs.Replies.{content_sent, is_head, length_told, line}
 use Rattle.proxy_core.specs.Storing.{made}
+use Rattle.proxy_core.specs.Traces.{Item}
 
 -- its status is final, its lines stand in a text as they are and don't speak of its content, and where the status has none it has none
 pub record IsSendable (e : Stored) : Type 0 where
@@ -66,6 +71,12 @@ StoresSendable = (max_body serial now : ℕ) (to_head ended : Bool) (bytes rest 
 abbrev pub FreshensSendable : Type 0
 FreshensSendable = (max_body now : ℕ) (to_head ended : Bool) (bytes rest : List ℕ) (e : Stored) (r : Response) (asked : Asked) (times : Times)
     → IsSendable e → Reads max_body to_head ended bytes (Spelled r rest) → now < 253402300800 → IsSendable (freshened_of e (answered_of r now) asked times)
+
+-- at each moment of a good history whose answers were read (law `answers_are_final` of proxy_engine says that they are), so is the
+-- response of each serial, held or not
+abbrev pub HoldsSendable : Type 0
+HoldsSendable = (table : Table) (limit first : ℕ) (trace : List Item) → IsGoodHistory table limit first trace
+    → AllByRecursion (λ item. IsReadEvent item.event) trace → (serial : ℕ) (e : Stored) → held_entry table limit trace serial ≡ Some e → IsSendable e
 
 abbrev pub SendsWholeAsOne : Type 0
 SendsWholeAsOne = (most now : ℕ) (name : List ℕ) (e : Stored) (told : Status) (asked : Asked)

@@ -4,7 +4,7 @@
 
 ghost use Rattle.proxy_laws.specs.ClientConditions.{AnswersNoOther, AnswersTheCondition};
 ghost use Rattle.proxy_laws.specs.OneResponse.{PassesOneResponse, RefusesAsOneResponse};
-ghost use Rattle.proxy_laws.specs.StoredReplies.{FreshensSendable, SendsA304AsOne, SendsWholeAsOne, StoresSendable};
+ghost use Rattle.proxy_laws.specs.StoredReplies.{FreshensSendable, HoldsSendable, SendsA304AsOne, SendsWholeAsOne, StoresSendable};
 ghost use Rattle.proxy_laws.specs.StoredAnswers.{StoresNowhereElse, StoresWhereItMay};
 
 /// In a good history the answer to an open exchange is stored exactly where RFC 9111, section 3 lets it be, with the choices that
@@ -29,10 +29,11 @@ pub fn a_client_gets_one_response()
 {}
 
 /// So is a stored response, whole and as a 304: what is made of an answer that was read can be sent, and so can what a 304 leaves of
-/// it (RFC 9111, sections 3 and 4.3.4).
+/// it, and whatever is held at any moment of a good history (RFC 9111, sections 3 and 4.3.4).
 pub fn a_stored_response_is_sent_as_one()
     ensures stored { StoresSendable }
     ensures freshened { FreshensSendable }
+    ensures held { HoldsSendable }
     ensures whole { SendsWholeAsOne }
     ensures not_modified { SendsA304AsOne }
 {}
