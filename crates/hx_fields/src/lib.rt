@@ -6,6 +6,7 @@
 
 mod byte_string;
 mod cutting;
+mod digits;
 mod field_line;
 mod field_lines;
 mod laws;
@@ -14,6 +15,7 @@ mod tokens;
 
 pub use crate::byte_string::Bytes;
 pub use crate::cutting::{cut_at, is_same_name, next_member, trim_blanks};
+pub use crate::digits::digit_value;
 pub use crate::field_line::Field;
 pub use crate::field_lines::Fields;
 pub use crate::laws::{

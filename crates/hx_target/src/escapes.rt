@@ -2,10 +2,10 @@
 //!
 //! The definitions are in `specs/Paths.antt`. A path is read as it came: nothing here decodes it twice.
 ghost use Rattle.std.specs.Prelude.{◌≡◌, ◌≤◌, ◌++◌, length, drop, IfOk, OnOk, true};
-ghost use Rattle.std.specs.Char.{digit_value, is_ascii_hexdigit, to_ascii_uppercase};
+ghost use Rattle.std.specs.Char.{is_ascii_hexdigit, to_ascii_uppercase};
 ghost use Rattle.hx_target.specs.Paths.{is_unreserved, octet_of, begins_escape, begins_bad_escape, has_bad_escape, normal_escape, table_path_of};
 
-use hx_fields::Bytes;
+use hx_fields::{Bytes, digit_value};
 use std::alloc::{AllocError, Global};
 
 /// What follows the first bytes of a text.
@@ -45,18 +45,6 @@ pub fn has_bad_escape(path: &[u8]) -> bool
         }
     }
     false
-}
-
-/// The value of a hexadecimal digit.
-fn digit_value(digit: u8) -> u8
-    requires { is_ascii_hexdigit digit ≡ true }
-    ensures { result ≡ digit_value digit }
-{
-    match digit {
-        b'0'..=b'9' => digit - b'0',
-        b'A'..=b'F' => digit - b'A' + 10,
-        _ => digit - b'a' + 10,
-    }
 }
 
 /// The byte that two hexadecimal digits spell.

@@ -1,6 +1,5 @@
-//! Cutting a text, and decimal numbers.
+//! Decimal numbers.
 ghost use Rattle.std.specs.Prelude.{◌≡◌};
-ghost use Rattle.std.specs.Option.{option_map};
 ghost use Rattle.proxy_script.specs.Numbers.{digit_after, number_on, number_of};
 
 /// The number with one more digit.
