@@ -26,11 +26,14 @@ pub mod RequestOnce
 pub mod RequestStreams
 pub mod RequestContents
 pub mod RequestHeads
+pub mod MemoryLemmas
+pub mod RequestMemory
 pub mod ResponseLemmas
 pub mod ResponseFinding
 pub mod ResponseOnce
 pub mod ResponseStreams
 pub mod ResponseContents
+pub mod ResponseMemory
 pub mod WrittenLines
 pub mod WrittenEnds
 pub mod WrittenFields
