@@ -12,6 +12,7 @@ pub mod GivenLemmas
 pub mod GivenHeads
 pub mod HeadDecisions
 pub mod Existence
+pub mod ReadingLemmas
 pub mod LengthLemmas
 pub mod ChunkStreams
 pub mod ChunkSteps

@@ -27,6 +27,7 @@ mod lines;
 mod places;
 mod plain;
 mod plan;
+pub mod reading_laws;
 mod request_head;
 pub mod request_laws;
 mod request_phase;
