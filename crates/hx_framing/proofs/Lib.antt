@@ -13,6 +13,7 @@ pub mod GivenHeads
 pub mod HeadDecisions
 pub mod Existence
 pub mod ReadingLemmas
+pub mod BoundLemmas
 pub mod LengthLemmas
 pub mod ChunkStreams
 pub mod ChunkSteps

@@ -6,6 +6,7 @@
 #![tactic(auto)]
 
 mod answer;
+pub mod bound_laws;
 pub mod chunk_fault_laws;
 pub mod chunk_laws;
 mod chunk_phase;
