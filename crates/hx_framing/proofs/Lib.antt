@@ -12,6 +12,8 @@ pub mod GivenLemmas
 pub mod GivenHeads
 pub mod HeadDecisions
 pub mod Existence
+pub mod ReadingLemmas
+pub mod BoundLemmas
 pub mod LengthLemmas
 pub mod ChunkStreams
 pub mod ChunkSteps
