@@ -10,3 +10,4 @@ pub mod Tables
 pub mod Values
 pub mod Unknown
 pub mod Deciding
+pub mod Examples

@@ -15,10 +15,12 @@ mod lines;
 mod matching;
 mod path_tails;
 mod reading;
+mod table_cases;
 mod table_laws;
 mod tables;
 mod values;
 mod verdicts;
+mod worked_cases;
 
 pub use config::Config;
 pub use faults::{ConfigFault, NumberKey};
@@ -28,7 +30,21 @@ pub use laws::{
     one_verdict_for_each_table_path, table_versions, the_first_line_at_fault_is_told,
     the_first_line_that_matches_decides, version_one_reads_as_before,
 };
+pub use table_cases::{
+    a_table_has_1_to_256_lines, cache_of_a_line, faults_of_a_line_in_order,
+    faults_of_a_table_in_order, faults_of_texts, lines_in_their_order, missing_keys_of_a_line,
+    versions_of_tables, what_a_line_says, what_a_table_says, which_faults_take_memory,
+};
 pub use table_laws::{
     a_table_is_toml_within_the_limit, fewer_lines_decide_alike, the_least_unknown_key_is_told,
 };
 pub use verdicts::Verdict;
+pub use worked_cases::{
+    a_line_has_1_to_32_methods, addresses_of_origins, bounds_of_the_numbers,
+    faults_have_these_numbers, hosts_of_lines, keys_at_the_top, keys_of_a_line, keys_of_numbers,
+    lines_of_a_host_decide, methods_of_lines, names_of_proxies,
+    numbers_are_whole_and_within_bounds, numbers_in_addresses, origins_of_lines, paths_of_lines,
+    several_lines_decide, tails_of_paths, texts_are_strings, the_first_line_denies,
+    which_hosts_match, which_lines_are_cached, which_methods_match, which_origin_a_line_has,
+    which_paths_match,
+};

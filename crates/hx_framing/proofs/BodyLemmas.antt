@@ -1,5 +1,5 @@
 -- Contents: bytes that come later, the stream's end, and what is taken of a content.
-use Rattle.std.proofs.Common.{◌≡◌, ℕ, ◌+◌, ◌<◌, ◌≤◌, Bool, true, false, cond, List, [], ◌∷◌, ◌++◌, length, drop, take, nat_lt, refl, sym, ap, ◌∙◌, subst, arith, Option, Some, None, length-append}
+use Rattle.std.proofs.Common.{◌≡◌, ℕ, ◌<◌, ◌≤◌, Bool, true, false, cond, List, [], ◌++◌, length, drop, take, nat_lt, refl, sym, ap, ◌∙◌, subst, arith, Option, Some, length-append}
 use Rattle.std.proofs.lemmas.List.{append-nil, drop-append-le, take-append-le}
 use Rattle.std.proofs.lemmas.Bool.{ltb-true, ltb-false, lt-ltb, le-ltb}
 use Rattle.hx_framing.specs.declared.fault.FrameFault.{FrameFault}
@@ -18,7 +18,7 @@ use Rattle.hx_framing.specs.Decoding.{Decodes}
 use Rattle.hx_framing.specs.Contents.{body_at, body_from, begun, announced_body, closed_body, Advances, IsOpen}
 use Rattle.hx_framing.specs.ChunkGrammar.{has_no_lf}
 use Rattle.hx_framing.specs.Places.{most_head_bytes}
-use Rattle.hx_framing.specs.Reading.{Reading, Incomplete, Over, Spelled, Faulty, with_body, IsSettled, extended}
+use Rattle.hx_framing.specs.Reading.{Reading, Over, Spelled, with_body, IsSettled, extended}
 use Rattle.hx_framing.proofs.ChunkStreams.{chunks_append}
 
 -- ---- a message made of a content

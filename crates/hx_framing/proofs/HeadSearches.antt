@@ -1,5 +1,5 @@
 -- A search for the end of a head goes on where it stood.
-use Rattle.std.proofs.Common.{◌≡◌, ℕ, ◌+◌, ◌<◌, ◌≤◌, ◌-◌, ◌&&◌, Bool, true, false, cond, List, [], ◌∷◌, ◌++◌, length, drop, take, ◌==◌, suc, zero, refl, sym, ap, ◌∙◌, subst, arith, Option, Some, None, length-drop, length-append, append_assoc, leb}
+use Rattle.std.proofs.Common.{◌≡◌, ℕ, ◌+◌, ◌<◌, ◌≤◌, ◌-◌, ◌&&◌, Bool, true, false, cond, List, [], ◌∷◌, ◌++◌, length, drop, take, ◌==◌, suc, zero, refl, sym, ap, ◌∙◌, subst, arith, Some, None, length-drop, length-append, append_assoc, leb}
 use Rattle.std.proofs.lemmas.Bool.{leb-true, leb-false}
 use Rattle.std.proofs.lemmas.List.{append-nil, drop-append-le, drop-drop, take-append-le, take_all}
 use Rattle.std.proofs.Math.Seq.{take-append-add}

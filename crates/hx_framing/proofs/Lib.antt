@@ -12,6 +12,8 @@ pub mod GivenLemmas
 pub mod GivenHeads
 pub mod HeadDecisions
 pub mod Existence
+pub mod ReadingLemmas
+pub mod BoundLemmas
 pub mod LengthLemmas
 pub mod ChunkStreams
 pub mod ChunkSteps
@@ -26,11 +28,14 @@ pub mod RequestOnce
 pub mod RequestStreams
 pub mod RequestContents
 pub mod RequestHeads
+pub mod MemoryLemmas
+pub mod RequestMemory
 pub mod ResponseLemmas
 pub mod ResponseFinding
 pub mod ResponseOnce
 pub mod ResponseStreams
 pub mod ResponseContents
+pub mod ResponseMemory
 pub mod WrittenLines
 pub mod WrittenEnds
 pub mod WrittenFields

@@ -3,7 +3,6 @@ use Rattle.std.proofs.Common.{◌≡◌, ℕ, ◌+◌, ◌-◌, ◌<◌, ◌≤�
 use Rattle.std.proofs.Math.Seq.{take-append-add, drop-append-add}
 use Rattle.std.proofs.lemmas.Bool.{lt-ltb, le-ltb, ltb-true, ltb-false}
 use Rattle.std.proofs.lemmas.List.{drop_all, take_all}
-use Rattle.hx_framing.specs.declared.content.Content.{Content}
 use Rattle.hx_framing.specs.declared.content.Content.TheVariants as content
 use Rattle.hx_framing.specs.declared.fault.FrameFault.TheVariants as fault
 use Rattle.hx_framing.specs.declared.taken.Taken.TheVariants as taken

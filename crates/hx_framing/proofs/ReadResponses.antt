@@ -14,7 +14,7 @@ use Rattle.hx_framing.specs.Contents.{body_at}
 use Rattle.hx_framing.specs.Lengths.{framing_of_response, is_interim, is_taken_status, is_without_content, framing_of_final, with_status, without_lengths}
 use Rattle.hx_framing.specs.Places.{head_length, most_head_bytes}
 use Rattle.hx_framing.specs.Reading.{Faulty, Spelled, cut_off, with_body}
-use Rattle.hx_framing.specs.ResponseReading.{FrontBy, Reads, response_of, with_framing, with_head, without_head}
+use Rattle.hx_framing.specs.ResponseReading.{FrontBy, Reads, response_of, with_framing, without_head}
 use Rattle.hx_framing.specs.StatusHead.{Judges}
 
 or_true : (t : Bool) → (t || true) ≡ true

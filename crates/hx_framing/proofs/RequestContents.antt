@@ -1,5 +1,5 @@
 -- What a request reader reads in a content, and what it is left with.
-use Rattle.std.proofs.Common.{◌≡◌, ℕ, ◌≤◌, Bool, true, false, List, [], ◌∷◌, ◌++◌, length, drop, refl, sym, ap, ◌∙◌, subst, Option}
+use Rattle.std.proofs.Common.{◌≡◌, ℕ, Bool, true, false, List, ◌++◌, drop, refl, sym, ap, ◌∙◌, subst, Option}
 use Rattle.hx_framing.specs.declared.request_head.Head.{Head}
 use Rattle.hx_framing.specs.declared.requests.Request.{Request}
 use Rattle.hx_framing.specs.declared.fault.FrameFault.{FrameFault}
@@ -9,7 +9,7 @@ use Rattle.hx_framing.specs.declared.taken.Taken.{Taken}
 use Rattle.hx_framing.specs.declared.taken.Taken.TheVariants as taken
 use Rattle.hx_framing.specs.declared.request_phase.RequestPhase.TheVariants as phase
 use Rattle.hx_framing.specs.Body.{Body, Short, Bad, Whole}
-use Rattle.hx_framing.specs.Contents.{body_from, Advances}
+use Rattle.hx_framing.specs.Contents.{Advances}
 use Rattle.hx_framing.specs.Reading.{Reading, Incomplete, Spelled, Faulty, cut_off, with_body}
 use Rattle.hx_framing.specs.Progress.{Progress}
 use Rattle.hx_framing.specs.RequestReading.{request_of, Reads}

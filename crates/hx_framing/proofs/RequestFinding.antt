@@ -1,7 +1,7 @@
 -- What is found behind a head of a request stream.
-use Rattle.std.proofs.Common.{◌≡◌, ℕ, ◌+◌, ◌<◌, ◌≤◌, ◌&&◌, Bool, true, false, not, cond, List, [], ◌++◌, length, drop, take, nat_lt, ◌==◌, refl, sym, ap, ◌∙◌, subst, arith, Option, Some, None, Result, Ok, Err, length-append, length-take, length-drop, drop-drop}
+use Rattle.std.proofs.Common.{◌≡◌, ℕ, ◌+◌, ◌<◌, ◌≤◌, ◌&&◌, Bool, true, false, not, cond, List, ◌++◌, length, drop, take, ◌==◌, refl, sym, ap, ◌∙◌, subst, arith, Option, Some, None, Ok, Err, length-take, length-drop, drop-drop}
 use Rattle.std.proofs.lemmas.Bool.{le-ltb}
-use Rattle.std.proofs.lemmas.List.{append-nil, drop-append-le, take-append-le}
+use Rattle.std.proofs.lemmas.List.{drop-append-le, take-append-le}
 use Rattle.hx_framing.specs.declared.request_head.Head.{Head}
 use Rattle.hx_framing.specs.declared.requests.Request.{Request}
 use Rattle.hx_framing.specs.declared.plan.Plan.{Plan}
@@ -17,7 +17,7 @@ use Rattle.hx_framing.specs.Lengths.{plan_of}
 use Rattle.hx_framing.specs.Body.{Body, Short, Bad, Whole}
 use Rattle.hx_framing.specs.Contents.{body_at, body_from, begun, Advances, IsOpen}
 use Rattle.hx_framing.specs.Reading.{Reading, Incomplete, Continue, Over, Spelled, Faulty, cut_off, with_body}
-use Rattle.hx_framing.specs.RequestReading.{request_of, with_plan, with_head, without_head, ReadsBy, Reads}
+use Rattle.hx_framing.specs.RequestReading.{request_of, with_plan, without_head, ReadsBy, Reads}
 use Rattle.hx_framing.specs.RequestFound.{Resumes, IsFound}
 use Rattle.hx_framing.proofs.HeadEnds.{head_within_bytes, front_stable}
 use Rattle.hx_framing.proofs.BodyLemmas.{begun_is}

@@ -1,7 +1,7 @@
 -- What is found at the front of a response stream.
-use Rattle.std.proofs.Common.{◌≡◌, ℕ, ◌+◌, ◌<◌, ◌≤◌, Bool, true, false, cond, List, [], ◌∷◌, ◌++◌, length, drop, take, refl, sym, ap, ◌∙◌, subst, arith, Option, Some, None, Result, Ok, Err, length-append, length-drop, drop-drop}
+use Rattle.std.proofs.Common.{◌≡◌, ℕ, ◌+◌, ◌<◌, ◌≤◌, Bool, true, false, cond, List, [], ◌∷◌, ◌++◌, length, drop, take, refl, sym, ap, ◌∙◌, subst, arith, Option, Some, Ok, Err, length-append, length-drop, drop-drop}
 use Rattle.std.proofs.lemmas.Bool.{le-ltb}
-use Rattle.std.proofs.lemmas.List.{append-nil, drop-append-le, take-append-le}
+use Rattle.std.proofs.lemmas.List.{drop-append-le, take-append-le}
 use Rattle.hx_framing.specs.declared.status_head.StatusHead.{StatusHead}
 use Rattle.hx_framing.specs.declared.responses.Response.{Response}
 use Rattle.hx_framing.specs.declared.plan.Framing.{Framing}
@@ -18,7 +18,7 @@ use Rattle.hx_framing.specs.Lengths.{framing_of_response, is_interim}
 use Rattle.hx_framing.specs.Body.{Body, Short, Bad, Whole}
 use Rattle.hx_framing.specs.Contents.{body_at, body_from, begun, Advances, IsOpen}
 use Rattle.hx_framing.specs.Reading.{Reading, Incomplete, Spelled, Faulty, cut_off, with_body}
-use Rattle.hx_framing.specs.ResponseReading.{response_of, with_framing, with_head, FrontBy, IsInterim, Passes, Reads}
+use Rattle.hx_framing.specs.ResponseReading.{response_of, with_framing, FrontBy, Passes, Reads}
 use Rattle.hx_framing.specs.ResponseFound.{Resumes, IsFront, IsFound}
 use Rattle.hx_framing.proofs.HeadEnds.{front_stable}
 use Rattle.hx_framing.proofs.HeadSearches.{open_head}

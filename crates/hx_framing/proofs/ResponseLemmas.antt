@@ -11,7 +11,7 @@ use Rattle.hx_framing.specs.Places.{head_length}
 use Rattle.hx_framing.specs.StatusHead.{Judges}
 use Rattle.hx_framing.specs.Lengths.{framing_of_response}
 use Rattle.hx_framing.specs.Contents.{body_at}
-use Rattle.hx_framing.specs.Reading.{Reading, Incomplete, Over, Spelled, Faulty, cut_off, with_body, IsSettled, extended}
+use Rattle.hx_framing.specs.Reading.{Reading, Incomplete, Over, Faulty, cut_off, with_body, IsSettled, extended}
 use Rattle.hx_framing.specs.ResponseReading.{response_of, with_framing, with_head, FrontBy, Front, IsInterim, Passes, Reads}
 use Rattle.hx_framing.proofs.HeadEnds.{head_within_bytes, front_stable}
 use Rattle.hx_framing.proofs.BodyLemmas.{body_ended, body_over, settled_decided, body_extended, body_append, body_stays}

@@ -1,10 +1,9 @@
 -- A response that is written is read back whole.
-use Rattle.std.proofs.Common.{◌≡◌, ℕ, ◌+◌, ◌-◌, ◌/◌, ◌≤◌, ◌<◌, ◌^◌, ◌&&◌, ◌||◌, ◌==◌, Bool, true, false, not, cond, is_some, List, [], ◌∷◌, ◌++◌, length, take, drop, map, length-append, append_assoc, append-nil, take_all, refl, sym, ap, ◌∙◌, subst, arith, Option, Some, None, Result, Ok, Err, nat_lt, nat_le}
+use Rattle.std.proofs.Common.{◌≡◌, ℕ, ◌+◌, ◌-◌, ◌/◌, ◌≤◌, ◌<◌, ◌^◌, ◌&&◌, ◌||◌, ◌==◌, Bool, true, false, not, cond, is_some, List, [], ◌∷◌, ◌++◌, length, take, drop, map, length-append, append_assoc, append-nil, take_all, refl, sym, ap, ◌∙◌, subst, arith, Option, Some, None, Result, Ok, Err, nat_lt}
 use Rattle.std.specs.Prelude.{All, IfSome, codes, decimal}
-use Rattle.std.specs.List.{filter, flat_map, list_all, list_any}
+use Rattle.std.specs.List.{filter}
 use Rattle.std.specs.Char.{is_ascii_digit}
-use Rattle.std.specs.Str.Parse.{digits_value}
-use Rattle.std.proofs.lemmas.Bool.{and_parts, or_from, le-ltb, le-leb}
+use Rattle.std.proofs.lemmas.Bool.{or_from, le-ltb, le-leb}
 use Rattle.std.proofs.lemmas.Bool.Decides.{nat_tests}
 use Rattle.std.proofs.lemmas.Fmt.{decimal_step}
 use Rattle.std.proofs.lemmas.Grind.{flat_map-append}
@@ -16,7 +15,6 @@ use Rattle.itoa.proofs.Decimal.{length_two}
 use Rattle.http_header.proofs.TokenLemmas.{AllPass-from_test}
 use Rattle.httparse.specs.Grammar as grammar
 use Rattle.httparse.specs.Grammar.{IsResponseHead, ResponseHead, print_end, print_field, print_reason, print_response, print_version, status_code}
-use Rattle.httparse.specs.Pieces.{Stops, is_newline}
 use Rattle.httparse.proofs.GrammarLemmas.{print_response-append}
 use Rattle.hx_fields.specs.declared.field_line.Field.{Field}
 use Rattle.hx_fields.specs.Names.{flatten}
@@ -25,15 +23,13 @@ use Rattle.hx_framing.specs.declared.fault.FrameFault.{FrameFault}
 use Rattle.hx_framing.specs.declared.fault.FrameFault.TheVariants as fault
 use Rattle.hx_framing.specs.declared.plan.Framing.{Framing}
 use Rattle.hx_framing.specs.declared.plan.Framing.TheVariants as framing
-use Rattle.hx_framing.specs.declared.responses.Response.{Response}
 use Rattle.hx_framing.specs.declared.status_head.StatusHead.{StatusHead}
-use Rattle.hx_framing.specs.Body.{Body, Short, Whole}
+use Rattle.hx_framing.specs.Body.{Short, Whole}
 use Rattle.hx_framing.specs.ContentLength.{announced_up_to, comma_pieces, length_told, one_number}
 use Rattle.hx_framing.specs.Contents.{body_at}
-use Rattle.hx_framing.specs.Head.{field_of}
 use Rattle.hx_framing.specs.Lengths.{announced_of, codings, framing_of_final, framing_of_response, framing_or, is_above, is_interim, is_only_chunked, is_taken_status, is_without_content, transfer_encoding, with_status, without_lengths}
 use Rattle.hx_framing.specs.Places.{blank_length, empty_line_from, head_length, most_head_bytes}
-use Rattle.hx_framing.specs.Reading.{Reading, Spelled, with_body}
+use Rattle.hx_framing.specs.Reading.{Spelled, with_body}
 use Rattle.hx_framing.specs.ResponseReading.{FrontBy, Reads, content_of, response_of, with_framing}
 use Rattle.hx_framing.specs.StatusHead.{IsStatusHead, Judges, status_head_of}
 use Rattle.hx_framing.specs.Text as text

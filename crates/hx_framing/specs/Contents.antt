@@ -2,7 +2,7 @@
 --
 -- body_at: the content that bytes spell    body_from: the rest of one that was begun    Advances: one goes on
 -- IsOpen: what stays unread of one that goes on
-use Rattle.std.specs.Prelude.{◌≡◌, ℕ, ◌<◌, ◌≤◌, ◌++◌, Bool, false, cond, List, [], length, take, drop, nat_lt, Some, None}
+use Rattle.std.specs.Prelude.{◌≡◌, ℕ, ◌≤◌, ◌++◌, Bool, cond, List, [], length, take, drop, nat_lt, Some, None}
 use Rattle.hx_framing.specs.declared.fault.FrameFault.TheVariants as fault
 use Rattle.hx_framing.specs.declared.plan.Framing.{Framing}
 use Rattle.hx_framing.specs.declared.plan.Framing.TheVariants as framing

@@ -18,6 +18,7 @@ pub mod StatusHead
 pub mod ContentLength
 pub mod Lengths
 pub mod LengthExamples
+pub mod ReadingExamples
 pub mod ResponseReading
 pub mod ResponseStream
 pub mod ResponseFound

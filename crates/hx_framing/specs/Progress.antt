@@ -2,9 +2,12 @@
 --
 -- Progress: a stream so far and what was given of it    start, fed, finished, moved: how it goes on
 -- next_of: the answer to a reading    IsDue: there is something to do    cost: what an answer takes of what is to come
-use Rattle.std.specs.Prelude.{ℕ, Bool, true, false, List, [], ◌∷◌, ◌++◌}
+-- needs_memory: want of memory may stand in place of the answer    is_no_head: the fault is that of bytes that are no head
+use Rattle.std.specs.Prelude.{ℕ, Bool, true, false, not, List, [], ◌∷◌, ◌++◌}
 use Rattle.hx_framing.specs.declared.answer.Next.{Next}
 use Rattle.hx_framing.specs.declared.answer.Next.TheVariants as next
+use Rattle.hx_framing.specs.declared.fault.FrameFault.{FrameFault}
+use Rattle.hx_framing.specs.declared.fault.FrameFault.TheVariants as fault
 use Rattle.hx_framing.specs.Reading.{Reading, Incomplete, Continue, Over, Spelled, Faulty}
 
 -- max_body, to_head: the most content in bytes, and whether it answers a HEAD
@@ -61,3 +64,25 @@ cost next.NeedsContinue = 1
 cost (next.Message m) = 1
 cost (next.Refused f) = 0
 cost next.End = 0
+
+-- no head stands there, or one of another version: the bytes tell, before anything is copied
+abbrev pub is_no_head : FrameFault → Bool
+is_no_head fault.Head = true
+is_no_head fault.Version = true
+is_no_head fault.BothLengths = false
+is_no_head fault.Length = false
+is_no_head fault.Coding = false
+is_no_head fault.Chunk = false
+is_no_head fault.TooLarge = false
+is_no_head fault.Expect = false
+is_no_head fault.Truncated = false
+is_no_head fault.Status = false
+
+-- want of memory may stand in place of this answer: not of the end, nor of a refusal of bytes that are no head
+-- own: a fault behind a head may stay hidden, since the head is copied before its content is judged
+abbrev pub needs_memory : {M : Type 0} → Next M → Bool
+needs_memory next.More = true
+needs_memory next.NeedsContinue = true
+needs_memory (next.Message m) = true
+needs_memory (next.Refused f) = not (is_no_head f)
+needs_memory next.End = false

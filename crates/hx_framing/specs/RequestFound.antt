@@ -1,12 +1,13 @@
 -- What is found at the front of a request stream, and how its content goes on.
-use Rattle.std.specs.Prelude.{◌≡◌, ℕ, ◌<◌, ◌≤◌, ◌++◌, Bool, true, false, List, length, drop}
+use Rattle.std.specs.Prelude.{◌≡◌, ℕ, ◌<◌, ◌≤◌, ◌++◌, Bool, true, false, List, length, take, drop, Some, Ok}
 use Rattle.hx_framing.specs.declared.request_head.Head.{Head}
 use Rattle.hx_framing.specs.declared.requests.Request.{Request}
 use Rattle.hx_framing.specs.declared.content.Content.{Content}
 use Rattle.hx_framing.specs.declared.found.Found.{Found}
 use Rattle.hx_framing.specs.declared.found.Found.TheVariants as found
 use Rattle.hx_framing.specs.Contents.{body_from, IsOpen}
-use Rattle.hx_framing.specs.Places.{IsOpenHead}
+use Rattle.hx_framing.specs.Places.{head_length, most_head_bytes, IsOpenHead}
+use Rattle.hx_framing.specs.Head.{Judges}
 use Rattle.hx_framing.specs.Reading.{Incomplete, Continue, Over, Spelled, Faulty, with_body}
 use Rattle.hx_framing.specs.RequestReading.{request_of, Reads}
 
@@ -30,3 +31,8 @@ IsFound max_body ended bytes (found.Going head content n) =
 IsFound max_body ended bytes (found.Message m n) = IsBehind bytes n × Reads max_body ended false bytes (Spelled m (drop n bytes))
 IsFound max_body ended bytes (found.Faulty f) = Reads max_body ended false bytes (Faulty f)
 IsFound max_body ended bytes found.Over = Reads max_body ended false bytes Over
+
+-- a head stands at the front of the bytes, so that what is due is told behind it
+abbrev pub HasHead : List ℕ → Type 0
+HasHead bytes =
+    (n : ℕ) × (head : Head) × (head_length (take most_head_bytes bytes) ≡ Some n) × Judges (take n bytes) (Ok head)

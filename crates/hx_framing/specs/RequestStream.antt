@@ -4,7 +4,7 @@ use Rattle.hx_framing.specs.declared.requests.Request.{Request}
 use Rattle.hx_framing.specs.declared.answer.Next.{Next}
 use Rattle.hx_framing.specs.Reading.{Reading, Spelled}
 use Rattle.hx_framing.specs.RequestReading.{Reads}
-use Rattle.hx_framing.specs.Progress.{Progress, next_of}
+use Rattle.hx_framing.specs.Progress.{Progress, next_of, needs_memory}
 
 -- the bytes begin with this request; what follows is rest
 abbrev pub SpellsRequest : ℕ → List ℕ → Request → List ℕ → Type 0
@@ -23,3 +23,7 @@ pub record Answers (p : Progress Request) (answer : Next Request) : Type 0 where
   pub spells : StreamSpells p.max_body p.stream p.given rest
   pub reads : Reads p.max_body p.ended p.told rest reading
   pub answer_is : answer ≡ next_of reading
+
+-- want of memory may stand in place of the answer
+abbrev pub NeedsMemory : Progress Request → Type 0
+NeedsMemory p = (answer : Next Request) → Answers p answer → needs_memory answer ≡ true

@@ -50,3 +50,7 @@ IsFound max_body to_head ended bytes (found.Message m n) =
 IsFound max_body to_head ended bytes (found.Faulty f) =
     (1 ≤ length bytes + cond ended 1 0) × Reads max_body to_head ended bytes (Faulty f)
 IsFound max_body to_head ended bytes found.Over = ⊥
+
+-- the head of a final response stands behind the interim ones, so that what is due is told behind it
+abbrev pub HasFinal : List ℕ → Type 0
+HasFinal bytes = (head : StatusHead) × (at : ℕ) × IsFront bytes (front.Final head at)

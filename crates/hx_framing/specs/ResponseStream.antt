@@ -1,11 +1,11 @@
 -- A stream of one response: what a reader answers of it (RFC 9112, sections 4, 6 and 9.3).
-use Rattle.std.specs.Prelude.{◌≡◌, ℕ, Bool, List, [], ◌∷◌}
+use Rattle.std.specs.Prelude.{◌≡◌, ℕ, Bool, true, List, [], ◌∷◌}
 use Rattle.hx_framing.specs.declared.responses.Response.{Response}
 use Rattle.hx_framing.specs.declared.answer.Next.{Next}
 use Rattle.hx_framing.specs.declared.answer.Next.TheVariants.{End}
 use Rattle.hx_framing.specs.Reading.{Reading, Spelled}
 use Rattle.hx_framing.specs.ResponseReading.{Reads}
-use Rattle.hx_framing.specs.Progress.{Progress, next_of}
+use Rattle.hx_framing.specs.Progress.{Progress, next_of, needs_memory}
 
 -- the bytes, of which no more come where ended holds, begin with this response; what follows is rest
 abbrev pub SpellsResponse : ℕ → Bool → Bool → List ℕ → Response → List ℕ → Type 0
@@ -26,3 +26,7 @@ AnswersBy p (message ∷ more) answer = answer ≡ End
 pub record Answers (p : Progress Response) (answer : Next Response) : Type 0 where
   pub spells : IsGiven p p.given
   pub by : AnswersBy p p.given answer
+
+-- want of memory may stand in place of the answer
+abbrev pub NeedsMemory : Progress Response → Type 0
+NeedsMemory p = (answer : Next Response) → Answers p answer → needs_memory answer ≡ true

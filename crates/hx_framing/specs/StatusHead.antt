@@ -1,14 +1,17 @@
 -- Which bytes are the head of a response, and what it gives (RFC 9112, sections 2, 4 and 5).
-use Rattle.std.specs.Prelude.{◌≡◌, ℕ, ◌≤◌, if◌then◌else◌, List, [], map, length, take, Result, Ok, Err}
+use Rattle.std.specs.Prelude.{◌≡◌, ℕ, ◌≤◌, true, false, if◌then◌else◌, List, [], map, length, take, Result, Ok, Err}
 use Rattle.httparse.specs.Grammar.{ResponseHead, ReadsResponse, status_code}
 use Rattle.httparse.specs.declared.spans.HeaderSpan.{HeaderSpan}
 use Rattle.httparse.specs.declared.spans.ResponseSpans.{ResponseSpans}
 use Rattle.hx_framing.specs.declared.status_head.StatusHead.{StatusHead}
+use Rattle.hx_framing.specs.declared.status_head.Judged.{Judged}
+use Rattle.hx_framing.specs.declared.status_head.Judged.TheVariants as judged
 use Rattle.hx_framing.specs.declared.fault.FrameFault.{FrameFault}
 use Rattle.hx_framing.specs.declared.fault.FrameFault.TheVariants as fault
 use Rattle.hx_framing.specs.Places.{most_field_lines}
 use Rattle.hx_framing.specs.Version.{start_line, begins_with_other_version}
 use Rattle.hx_framing.specs.Head.{field_of, field_at}
+use Rattle.hx_framing.specs.Lengths.{is_interim}
 
 -- what a head of the grammar gives; its reason phrase is dropped
 abbrev pub status_head_of : ResponseHead → StatusHead
@@ -32,3 +35,9 @@ status_head_fault bytes = if begins_with_other_version (start_line bytes) then f
 abbrev pub Judges : List ℕ → Result StatusHead FrameFault → Type 0
 Judges bytes (Ok head) = (h : ResponseHead) × IsStatusHead bytes h × (head ≡ status_head_of h)
 Judges bytes (Err f) = ((h : ResponseHead) → ¬ (IsStatusHead bytes h)) × (f ≡ status_head_fault bytes)
+
+-- the same, where the head of an interim response is only told (RFC 9110, section 15.2)
+abbrev pub JudgesAs : List ℕ → Judged → Type 0
+JudgesAs bytes judged.Interim = (head : StatusHead) × Judges bytes (Ok head) × (is_interim head.status ≡ true)
+JudgesAs bytes (judged.Final head) = Judges bytes (Ok head) × (is_interim head.status ≡ false)
+JudgesAs bytes (judged.Faulty f) = Judges bytes (Err f)

@@ -6,6 +6,7 @@
 #![tactic(auto)]
 
 mod answer;
+pub mod bound_laws;
 pub mod chunk_fault_laws;
 pub mod chunk_laws;
 mod chunk_phase;
@@ -27,6 +28,7 @@ mod lines;
 mod places;
 mod plain;
 mod plan;
+pub mod reading_laws;
 mod request_head;
 pub mod request_laws;
 mod request_phase;

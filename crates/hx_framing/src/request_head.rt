@@ -1,9 +1,10 @@
 //! Heads of requests (RFC 9112, sections 2 to 5). The definitions are in `specs/Head.antt`.
-ghost use Rattle.std.specs.Prelude.{◌≡◌, IfOk, IfSome, IfNone};
+ghost use Rattle.std.specs.Prelude.{◌≡◌, IfOk, IfSome, IfNone, OnErr, Ok};
 ghost use Rattle.http_header.specs.Token.{IsToken};
 ghost use Rattle.httparse.specs.Grammar.{RequestHead};
 ghost use Rattle.httparse.specs.Spans.{IsRequestAt, IsRequestWithin, span_bytes};
 ghost use Rattle.hx_framing.specs.Head.{IsHead, Judges, head_at, head_fault};
+ghost use Rattle.hx_framing.specs.declared.request_head.Head.{Head};
 ghost use Rattle.hx_framing.specs.RequestReading.{request_of};
 
 use crate::fault::FrameFault;
@@ -123,12 +124,13 @@ fn head_fault(bytes: &[u8]) -> FrameFault
     }
 }
 
-/// Judges the bytes of a whole head.
+/// Judges the bytes of a whole head. Only a head is copied, so want of memory hides no fault of other bytes.
 pub(crate) fn judge_head(
     alloc: Global,
     bytes: &[u8],
 ) -> Result<Result<Head, FrameFault>, AllocError>
-    ensures { IfOk result (λ judged. Judges bytes.now judged) }
+    ensures judged { IfOk result (λ judged. Judges bytes.now judged) }
+    ensures memory_last { OnErr result ((head : Head) × Judges bytes.now (Ok head)) }
 {
     let mut spans = [EMPTY_HEADER_SPAN; MOST_FIELD_LINES];
     match find_head(bytes, &mut spans) {

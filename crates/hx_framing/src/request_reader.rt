@@ -3,7 +3,7 @@
 ghost use Rattle.std.specs.Prelude.{◌≡◌, ◌+◌, ◌*◌, ◌≤◌, false, IsOk, IfOk, OnOk, OnErr, length};
 ghost use Rattle.hx_framing.specs.declared.requests.Request.{Request};
 ghost use Rattle.hx_framing.specs.Progress.{Progress, start, fed, finished, moved, cost};
-ghost use Rattle.hx_framing.specs.RequestStream.{Answers};
+ghost use Rattle.hx_framing.specs.RequestStream.{Answers, NeedsMemory};
 
 use crate::answer::Next;
 use crate::content::Content;
@@ -120,7 +120,8 @@ impl RequestReader {
         self.ended
     }
 
-    /// What is due behind the messages given. An `Err` changes nothing.
+    /// What is due behind the messages given. An `Err` changes nothing. Want of memory hides neither the end nor a
+    /// refusal of bytes that are no head; a fault behind a head it may hide, since the head is copied first.
     pub fn next(&mut self, alloc: Global) -> Result<Next<Request>, AllocError>
         ensures answers { IfOk result (λ answer. (p : Progress Request) → StandsFor self.old p
             → Answers p answer) }
@@ -129,6 +130,7 @@ impl RequestReader {
         ensures weight { IfOk result (λ answer. weight self.new + cost answer ≤ weight self.old) }
         ensures unfinished { IfOk result (λ answer. answer ≡ Next.More → IsUnfinished self.new) }
         ensures room { self.old.spare ≤ self.new.spare }
+        ensures memory_last { OnErr result ((p : Progress Request) → StandsFor self.old p → NeedsMemory p) }
         ensures err { OnErr result (self.new ≡ self.old) }
     {
         match replace(&mut self.phase, RequestPhase::BeforeHead) {
@@ -158,6 +160,7 @@ impl RequestReader {
         ensures weight { IfOk result (λ answer. weight self.new + cost answer ≤ weight self.old) }
         ensures unfinished { IfOk result (λ answer. answer ≡ Next.More → IsUnfinished self.new) }
         ensures room { self.old.spare ≤ self.new.spare }
+        ensures memory_last { OnErr result ((p : Progress Request) → StandsFor self.old p → NeedsMemory p) }
         ensures err { OnErr result (self.new ≡ self.old) }
     {
         let head_length = self.unread.head_length();
@@ -203,6 +206,8 @@ impl RequestReader {
             ≤ 2 * length self.old.unread + 1) }
         ensures unfinished { IfOk result (λ answer. answer ≡ Next.More → IsUnfinished self.new) }
         ensures room { self.old.spare ≤ self.new.spare }
+        ensures memory_last { OnErr result ((p : Progress Request)
+            → StandsFor (record self.old { phase = phase.InContent head content }) p → NeedsMemory p) }
         ensures err { OnErr result (self.new ≡ record self.old { phase = phase.InContent head content }) }
     {
         match content.advance(alloc, false, self.unread.as_slice(), self.unread.searched()) {

@@ -1,10 +1,10 @@
 //! What stands at the front of the unread bytes of a request stream. The definitions are in
 //! `specs/RequestReading.antt` and `specs/RequestFound.antt`.
-ghost use Rattle.std.specs.Prelude.{◌≡◌, ◌<◌, IfOk, Some, None, Ok, Err, length, take, drop};
+ghost use Rattle.std.specs.Prelude.{◌≡◌, ◌<◌, IfOk, OnErr, Some, None, Ok, Err, length, take, drop};
 ghost use Rattle.hx_framing.specs.Places.{head_length as head_length_of, most_head_bytes};
 ghost use Rattle.hx_framing.specs.Head.{Judges};
 ghost use Rattle.hx_framing.specs.Lengths.{plan_of};
-ghost use Rattle.hx_framing.specs.RequestFound.{IsFound};
+ghost use Rattle.hx_framing.specs.RequestFound.{IsFound, HasHead};
 
 use crate::content::Content;
 use crate::fault::FrameFault;
@@ -47,7 +47,8 @@ fn with_plan(
     requires some { 0 < at }
     requires judged { Judges (take at bytes.now) (Ok head) }
     requires plan { plan_of max_body head ≡ Ok plan }
-    ensures { IfOk result (IsFound max_body ended bytes.now) }
+    ensures found { IfOk result (IsFound max_body ended bytes.now) }
+    ensures memory_last { OnErr result (HasHead bytes.now) }
 {
     let mut content = Content::begun(alloc, max_body, plan.framing);
     if plan.wants_continue {
@@ -70,7 +71,8 @@ pub(crate) fn read_request(
     head_length: Option<usize>,
 ) -> Result<Found<Head, Request>, AllocError>
     requires { head_length ≡ head_length_of (take most_head_bytes bytes.now) }
-    ensures { IfOk result (IsFound max_body ended bytes.now) }
+    ensures found { IfOk result (IsFound max_body ended bytes.now) }
+    ensures memory_last { OnErr result (HasHead bytes.now) }
 {
     let Some(at) = head_length else {
         return Ok(without_head(max_body, ended, bytes));

@@ -3,7 +3,7 @@
 ghost use Rattle.std.specs.Prelude.{◌≡◌, ◌+◌, ◌*◌, ◌≤◌, false, cond, IsOk, IfOk, OnOk, OnErr, length};
 ghost use Rattle.hx_framing.specs.declared.responses.Response.{Response};
 ghost use Rattle.hx_framing.specs.Progress.{Progress, start, fed, finished, moved, IsDue, cost};
-ghost use Rattle.hx_framing.specs.ResponseStream.{Answers};
+ghost use Rattle.hx_framing.specs.ResponseStream.{Answers, NeedsMemory};
 
 use crate::answer::Next;
 use crate::content::Content;
@@ -127,7 +127,8 @@ impl ResponseReader {
         self.ended
     }
 
-    /// What is due: one message, and then the end. An `Err` changes nothing.
+    /// What is due: one message, and then the end. An `Err` changes nothing. Want of memory hides neither the end nor
+    /// a refusal of bytes that are no head; a fault behind the final head it may hide, since that head is copied first.
     pub fn next(&mut self, alloc: Global) -> Result<Next<Response>, AllocError>
         ensures answers { IfOk result (λ answer. (p : Progress Response) → StandsFor self.old p
             → Answers p answer) }
@@ -137,6 +138,7 @@ impl ResponseReader {
         ensures due { IfOk result (λ answer. IsDue answer → 1 ≤ weight self.new + cost answer) }
         ensures unfinished { IfOk result (λ answer. answer ≡ Next.More → IsUnfinished self.new) }
         ensures room { self.old.spare ≤ self.new.spare }
+        ensures memory_last { OnErr result ((p : Progress Response) → StandsFor self.old p → NeedsMemory p) }
         ensures err { OnErr result (self.new ≡ self.old) }
     {
         match replace(&mut self.phase, ResponsePhase::BeforeHead) {
@@ -171,6 +173,7 @@ impl ResponseReader {
         ensures due { IfOk result (λ answer. IsDue answer → 1 ≤ weight self.new + cost answer) }
         ensures unfinished { IfOk result (λ answer. answer ≡ Next.More → IsUnfinished self.new) }
         ensures room { self.old.spare ≤ self.new.spare }
+        ensures memory_last { OnErr result ((p : Progress Response) → StandsFor self.old p → NeedsMemory p) }
         ensures err { OnErr result (self.new ≡ self.old) }
     {
         let head_length = self.unread.head_length();
@@ -224,6 +227,8 @@ impl ResponseReader {
         ensures due { IfOk result (λ answer. IsDue answer → 1 ≤ weight self.new + cost answer) }
         ensures unfinished { IfOk result (λ answer. answer ≡ Next.More → IsUnfinished self.new) }
         ensures room { self.old.spare ≤ self.new.spare }
+        ensures memory_last { OnErr result ((p : Progress Response)
+            → StandsFor (record self.old { phase = phase.InContent head content }) p → NeedsMemory p) }
         ensures err { OnErr result (self.new ≡ record self.old { phase = phase.InContent head content }) }
     {
         match content.advance(

@@ -1,21 +1,21 @@
 //! What stands at the front of a response stream. The definitions are in `specs/ResponseReading.antt` and
 //! `specs/ResponseFound.antt`.
-ghost use Rattle.std.specs.Prelude.{◌≡◌, ◌≤◌, IfOk, Ok, ℕ, Bool, length, take};
+ghost use Rattle.std.specs.Prelude.{◌≡◌, ◌≤◌, IfOk, OnErr, Ok, ℕ, Bool, length, take};
 ghost use Rattle.hx_framing.specs.Places.{head_length as head_length_of, most_head_bytes};
 ghost use Rattle.hx_framing.specs.declared.status_front.StatusFront.TheVariants as front;
 ghost use Rattle.hx_framing.specs.Lengths.{framing_of_response};
 ghost use Rattle.hx_framing.specs.ResponseReading.{content_of, response_of};
-ghost use Rattle.hx_framing.specs.ResponseFound.{IsFound, IsFront};
+ghost use Rattle.hx_framing.specs.ResponseFound.{IsFound, IsFront, HasFinal};
 
 use crate::content::Content;
 use crate::fault::FrameFault;
 use crate::found::Found;
-use crate::lengths::{announced_of, framing_of_response, is_interim, without_lengths};
+use crate::lengths::{announced_of, framing_of_response, without_lengths};
 use crate::places::{MOST_HEAD_BYTES, head_within, rest_from};
 use crate::plan::Framing;
 use crate::responses::Response;
 use crate::status_front::StatusFront;
-use crate::status_head::{StatusHead, judge_head};
+use crate::status_head::{Judged, StatusHead, judge_head};
 use crate::taken::Taken;
 use hx_fields::Bytes;
 use std::alloc::{AllocError, Global};
@@ -60,7 +60,8 @@ fn front_of(
     head_length: Option<usize>,
 ) -> Result<StatusFront, AllocError>
     requires { head_length ≡ head_length_of (take most_head_bytes bytes.now) }
-    ensures { IfOk result (IsFront bytes.now) }
+    ensures front { IfOk result (IsFront bytes.now) }
+    ensures memory_last { OnErr result (HasFinal bytes.now) }
 {
     let mut at = 0;
     let mut next = head_length;
@@ -71,14 +72,12 @@ fn front_of(
         };
         let (head, _) = rest.split_at(n);
         match judge_head(alloc, head)? {
-            Ok(head) => {
-                if !is_interim(head.status) {
-                    return Ok(StatusFront::Final(head, at + n));
-                }
+            Judged::Interim => {
                 at += n;
                 next = head_within(rest_from(bytes, at), MOST_HEAD_BYTES);
             }
-            Err(fault) => return Ok(StatusFront::Faulty(fault)),
+            Judged::Final(head) => return Ok(StatusFront::Final(head, at + n)),
+            Judged::Faulty(fault) => return Ok(StatusFront::Faulty(fault)),
         }
     }
 }
@@ -111,7 +110,8 @@ fn with_framing(
 ) -> Result<Found<StatusHead, Response>, AllocError>
     requires front { IsFront bytes.now (front.Final head at) }
     requires framing { framing_of_response max_body to_head head ≡ Ok framing }
-    ensures { IfOk result (IsFound max_body to_head ended bytes.now) }
+    ensures found { IfOk result (IsFound max_body to_head ended bytes.now) }
+    ensures memory_last { OnErr result (HasFinal bytes.now) }
 {
     let mut content = Content::begun(alloc, max_body, framing);
     match content.advance(alloc, ended, rest_from(bytes, at), 0)? {
@@ -134,7 +134,8 @@ pub(crate) fn read_response(
     head_length: Option<usize>,
 ) -> Result<Found<StatusHead, Response>, AllocError>
     requires { head_length ≡ head_length_of (take most_head_bytes bytes.now) }
-    ensures { IfOk result (IsFound max_body to_head ended bytes.now) }
+    ensures found { IfOk result (IsFound max_body to_head ended bytes.now) }
+    ensures memory_last { OnErr result (HasFinal bytes.now) }
 {
     match front_of(alloc, bytes, head_length)? {
         StatusFront::Open(at) => Ok(without_head(ended, bytes, at)),

@@ -1,10 +1,13 @@
 //! Heads of responses (RFC 9112, sections 2, 4 and 5). The definitions are in `specs/StatusHead.antt`.
-ghost use Rattle.std.specs.Prelude.{◌≡◌, IfOk, IfSome, IfNone};
+ghost use Rattle.std.specs.Prelude.{◌≡◌, IfOk, IfSome, IfNone, OnErr};
 ghost use Rattle.httparse.specs.Grammar.{ResponseHead};
 ghost use Rattle.httparse.specs.Spans.{IsResponseAt, IsResponseWithin};
-ghost use Rattle.hx_framing.specs.StatusHead.{IsStatusHead, Judges, status_head_at, status_head_fault};
+ghost use Rattle.hx_framing.specs.declared.status_head.StatusHead.{StatusHead};
+ghost use Rattle.hx_framing.specs.declared.status_head.Judged.TheVariants as judged;
+ghost use Rattle.hx_framing.specs.StatusHead.{IsStatusHead, JudgesAs, status_head_at, status_head_fault};
 
 use crate::fault::FrameFault;
+use crate::lengths::is_interim;
 use crate::lines::fields_at;
 use crate::places::MOST_FIELD_LINES;
 use crate::version::response_has_other_version;
@@ -19,6 +22,15 @@ pub(crate) struct StatusHead {
     pub(crate) status: u16,
     pub(crate) minor: u8,
     pub(crate) fields: Fields,
+}
+
+/// How the bytes of a whole head are judged.
+#[derive(Drop)]
+pub(crate) enum Judged {
+    /// The head of an interim response. It is passed over, so it isn't copied.
+    Interim,
+    Final(StatusHead),
+    Faulty(FrameFault),
 }
 
 /// Where the parts of a head are, if just these bytes are one.
@@ -70,16 +82,20 @@ fn status_head_fault(bytes: &[u8]) -> FrameFault
     }
 }
 
-/// Judges the bytes of a whole head.
-pub(crate) fn judge_head(
-    alloc: Global,
-    bytes: &[u8],
-) -> Result<Result<StatusHead, FrameFault>, AllocError>
-    ensures { IfOk result (λ judged. Judges bytes.now judged) }
+/// Judges the bytes of a whole head. Only that of a final response is copied, so want of memory hides no fault of
+/// other bytes.
+pub(crate) fn judge_head(alloc: Global, bytes: &[u8]) -> Result<Judged, AllocError>
+    ensures judged { IfOk result (JudgesAs bytes.now) }
+    ensures memory_last { OnErr result ((head : StatusHead) × JudgesAs bytes.now (judged.Final head)) }
 {
     let mut spans = [EMPTY_HEADER_SPAN; MOST_FIELD_LINES];
     match find_head(bytes, &mut spans) {
-        Some(found) => Ok(Ok(copy_head(alloc, bytes, &spans, found)?)),
-        None => Ok(Err(status_head_fault(bytes))),
+        Some(found) => {
+            if is_interim(found.code) {
+                return Ok(Judged::Interim);
+            }
+            Ok(Judged::Final(copy_head(alloc, bytes, &spans, found)?))
+        }
+        None => Ok(Judged::Faulty(status_head_fault(bytes))),
     }
 }

@@ -2,6 +2,7 @@ pub mod Look
 pub mod RequestWatch
 pub mod ResponseWatch
 pub mod Happenings
+pub mod FaultTexts
 pub mod Activities
 pub mod Story
 pub mod Admitted

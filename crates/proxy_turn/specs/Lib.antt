@@ -1,4 +1,5 @@
 pub mod Counts
+pub mod FaultTexts
 pub mod Parts
 pub mod Received
 pub mod Served

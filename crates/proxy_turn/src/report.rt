@@ -5,6 +5,8 @@ ghost use Rattle.proxy_turn.specs.declared.report.TurnFault.TheVariants.{NoMemor
 
 use proxy_engine::EngineFault;
 use std::alloc::AllocError;
+use std::fmt;
+use std::fmt::Formatter;
 
 /// What a turn did.
 #[derive(Clone, Copy, Debug, PartialEq, Eq)]
@@ -47,5 +49,22 @@ impl From<AllocError> for TurnFault {
 
     fn from(_error: AllocError) -> TurnFault {
         TurnFault::NoMemory
+    }
+}
+
+impl fmt::Display for TurnFault {
+    ghost use Rattle.std.specs.Prelude.{Some};
+    ghost use Rattle.proxy_turn.specs.FaultTexts.{fault_text};
+
+    ghost output = { λ fault. Some (fault_text fault) };
+
+    fn fmt<W: fmt::Write>(&self, f: &mut Formatter<W>) -> fmt::Result {
+        f.write_str(match self {
+            TurnFault::Listener =>
+                "no connection can be accepted; look at the limit of open files of the process and of the system",
+            TurnFault::NoMemory =>
+                "no memory is left for the turn; nothing that was read is lost, and what is left undone is done in a later turn",
+            TurnFault::Spent => "no number of a link is left; start the proxy anew",
+        })
     }
 }

@@ -1,5 +1,4 @@
-use Rattle.std.proofs.Common.{◌≡◌, ap, ◌∙◌, arith, drop}
-use Rattle.hx_framing.specs.Places.{blank_from, blank_length}
+use Rattle.std.proofs.Common.{arith}
 use Rattle.hx_framing.proofs.HeadSearches.{blank_reached, searched_blank, lines_begin}
 use Rattle.hx_framing.proofs.places.search_head.Goals as goal
 

@@ -12,8 +12,8 @@ split_at-requires c = place_within c.args.bytes.now c.in-Some.at (sym c.requires
 pub with_plan-requires-clause-some : goal.with_plan-requires-clause-some
 with_plan-requires-clause-some c = head_some (take 32768 c.args.bytes.now) c.in-Some.at (sym c.requires ∙ c.in-Some.is)
 
-pub returns-in-Err : goal.returns-in-Err
-returns-in-Err c =
+pub returns-in-Err-clause-found : goal.returns-in-Err-clause-found
+returns-in-Err-clause-found c =
     found_refused _ _ c.args.bytes.now c.in-Some.at c.in-Err.fault (sym c.requires ∙ c.in-Some.is)
     (subst (λ (j : Result Head FrameFault). Judges (take c.in-Some.at c.args.bytes.now) j) c.in-Err.is
-    (subst (λ (u : List ℕ). Judges u c.in_ok-fault.field-0) c.split_at.ensures.front c.in_ok-fault.ensures))
+    (subst (λ (u : List ℕ). Judges u c.in_ok-fault.field-0) c.split_at.ensures.front c.in_ok-fault.ensures.judged))

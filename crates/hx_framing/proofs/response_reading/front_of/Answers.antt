@@ -1,8 +1,10 @@
-use Rattle.std.proofs.Common.{ℕ, ◌≡◌, ◌≤◌, List, Option, Some, Result, length, take, drop, length-drop, arith, sym, ap, subst, ◌∙◌}
-use Rattle.hx_framing.specs.declared.status_head.StatusHead.{StatusHead}
-use Rattle.hx_framing.specs.declared.fault.FrameFault.{FrameFault}
+use Rattle.std.proofs.Common.{ℕ, ◌≡◌, ◌+◌, List, Option, Some, length, take, drop, length-drop, arith, refl, sym, ap, subst, ◌∙◌}
+use Rattle.hx_framing.specs.declared.status_head.Judged.{Judged}
+use Rattle.hx_framing.specs.declared.status_head.Judged.TheVariants as judged
 use Rattle.hx_framing.specs.Places.{head_length}
-use Rattle.hx_framing.specs.StatusHead.{Judges}
+use Rattle.hx_framing.specs.StatusHead.{JudgesAs}
+use Rattle.hx_framing.specs.ResponseFound.{HasFinal}
+use Rattle.hx_framing.proofs.MemoryLemmas.{on_err}
 use Rattle.hx_framing.proofs.HeadSearches.{head_some}
 use Rattle.hx_framing.proofs.ResponseLemmas.{place_within}
 use Rattle.hx_framing.proofs.ResponseFinding.{interim_at, front_final, front_faulty}
@@ -17,27 +19,44 @@ split_at-requires c =
     let place = place_of c.args.bytes.now c.loop-next.at c.in-Some.n c.loop-next.next c.loop-next.invariant.2 c.in-Some.is in
     omega (arith, place_within (drop c.loop-next.at c.args.bytes.now) c.in-Some.n place, ap length c.rest_from-rest.ensures)
 
-pub returns-then-not-is_interim : goal.returns-then-not-is_interim
-returns-then-not-is_interim c =
-    let place = place_of c.args.bytes.now c.loop-next.at c.in-Some.n c.loop-next.next c.loop-next.invariant.2 c.in-Some.is in
-    let judged = subst (λ (j : Result StatusHead FrameFault). Judges (take c.in-Some.n (drop c.loop-next.at c.args.bytes.now)) j) c.in-Ok.is
-    (subst (λ (u : List ℕ). Judges u c.in_ok-head.field-0) (c.split_at.ensures.front ∙ ap (take c.in-Some.n) c.rest_from-rest.ensures) c.in_ok-head.ensures) in
-    front_final c.args.bytes.now c.loop-next.at c.in-Some.n c.in-Ok.head c.loop-next.invariant.0 (head_some (take 32768 (drop c.loop-next.at c.args.bytes.now)) c.in-Some.n place) place judged
-    (sym c.is_interim.ensures ∙ c.if-not-is_interim.true) c.loop-next.invariant.1
+-- how the head that stands there is judged, as the loop has it
+judges : (bytes rest front : List ℕ) (at n : ℕ) (j i : Judged) → rest ≡ drop at bytes → front ≡ take n rest → j ≡ i → JudgesAs front j
+    → JudgesAs (take n (drop at bytes)) i
+judges bytes rest front at n j i behind same is h =
+    subst (λ (j : Judged). JudgesAs (take n (drop at bytes)) j) is
+    (subst (λ (u : List ℕ). JudgesAs u j) (same ∙ ap (take n) behind) h)
 
 pub loop-next-preserved : goal.loop-next-preserved
 loop-next-preserved c =
     let place = place_of c.args.bytes.now c.loop-next.at c.in-Some.n c.loop-next.next c.loop-next.invariant.2 c.in-Some.is in
-    let judged = subst (λ (j : Result StatusHead FrameFault). Judges (take c.in-Some.n (drop c.loop-next.at c.args.bytes.now)) j) c.in-Ok.is
-    (subst (λ (u : List ℕ). Judges u c.in_ok-head.field-0) (c.split_at.ensures.front ∙ ap (take c.in-Some.n) c.rest_from-rest.ensures) c.in_ok-head.ensures) in (
+    let j = judges c.args.bytes.now _ _ c.loop-next.at c.in-Some.n _ judged.Interim c.rest_from-rest.ensures c.split_at.ensures.front c.in-Interim.is c.in_ok-judge_head.ensures.judged in (
       omega (arith, c.loop-next.invariant.0, place_within (drop c.loop-next.at c.args.bytes.now) c.in-Some.n place, length-drop c.loop-next.at c.args.bytes.now),
-      interim_at c.args.bytes.now c.loop-next.at c.in-Some.n c.in-Ok.head place judged (sym c.is_interim.ensures ∙ c.if-not-is_interim.false) c.loop-next.invariant.1,
+      interim_at c.args.bytes.now c.loop-next.at c.in-Some.n j.0 place j.1 j.2 c.loop-next.invariant.1,
       c.head_within-next.ensures.size ∙ ap (λ u. head_length (take 32768 u)) c.rest_from.ensures,
     )
 
-pub returns-in-Err : goal.returns-in-Err
-returns-in-Err c =
+pub returns-in-Final-clause-front : goal.returns-in-Final-clause-front
+returns-in-Final-clause-front c =
     let place = place_of c.args.bytes.now c.loop-next.at c.in-Some.n c.loop-next.next c.loop-next.invariant.2 c.in-Some.is in
-    let judged = subst (λ (j : Result StatusHead FrameFault). Judges (take c.in-Some.n (drop c.loop-next.at c.args.bytes.now)) j) c.in-Err.is
-    (subst (λ (u : List ℕ). Judges u c.in_ok-head.field-0) (c.split_at.ensures.front ∙ ap (take c.in-Some.n) c.rest_from-rest.ensures) c.in_ok-head.ensures) in
-    front_faulty c.args.bytes.now c.loop-next.at c.in-Some.n c.in-Err.fault c.loop-next.invariant.0 (head_some (take 32768 (drop c.loop-next.at c.args.bytes.now)) c.in-Some.n place) place judged c.loop-next.invariant.1
+    let j = judges c.args.bytes.now _ _ c.loop-next.at c.in-Some.n _ (judged.Final c.in-Final.head) c.rest_from-rest.ensures c.split_at.ensures.front c.in-Final.is c.in_ok-judge_head.ensures.judged in
+    front_final c.args.bytes.now c.loop-next.at c.in-Some.n c.in-Final.head c.loop-next.invariant.0 (head_some (take 32768 (drop c.loop-next.at c.args.bytes.now)) c.in-Some.n place) place j.0
+    j.1 c.loop-next.invariant.1
+
+pub returns-in-Faulty-clause-front : goal.returns-in-Faulty-clause-front
+returns-in-Faulty-clause-front c =
+    let place = place_of c.args.bytes.now c.loop-next.at c.in-Some.n c.loop-next.next c.loop-next.invariant.2 c.in-Some.is in
+    let j = judges c.args.bytes.now _ _ c.loop-next.at c.in-Some.n _ (judged.Faulty c.in-Faulty.fault) c.rest_from-rest.ensures c.split_at.ensures.front c.in-Faulty.is c.in_ok-judge_head.ensures.judged in
+    front_faulty c.args.bytes.now c.loop-next.at c.in-Some.n c.in-Faulty.fault c.loop-next.invariant.0 (head_some (take 32768 (drop c.loop-next.at c.args.bytes.now)) c.in-Some.n place) place j c.loop-next.invariant.1
+
+pub returns-in_err-judge_head-clause-memory_last : goal.returns-in_err-judge_head-clause-memory_last
+returns-in_err-judge_head-clause-memory_last c =
+    let place = place_of c.args.bytes.now c.loop-next.at c.in-Some.n c.loop-next.next c.loop-next.invariant.2 c.in-Some.is in
+    let has = c.in_err-judge_head.ensures.memory_last in
+    let j = judges c.args.bytes.now _ _ c.loop-next.at c.in-Some.n (judged.Final has.0) (judged.Final has.0) c.rest_from-rest.ensures c.split_at.ensures.front refl has.1 in
+    let final : HasFinal c.args.bytes.now = (
+      has.0,
+      c.loop-next.at + c.in-Some.n,
+      front_final c.args.bytes.now c.loop-next.at c.in-Some.n has.0 c.loop-next.invariant.0 (head_some (take 32768 (drop c.loop-next.at c.args.bytes.now)) c.in-Some.n place) place j.0
+          j.1 c.loop-next.invariant.1,
+    ) in
+    on_err _ final

@@ -1,18 +1,25 @@
 use Rattle.std.proofs.Common.{sym, subst, ◌∙◌}
 use Rattle.hx_framing.specs.declared.status_front.StatusFront.{StatusFront}
-use Rattle.hx_framing.specs.ResponseFound.{IsFront}
+use Rattle.hx_framing.specs.ResponseFound.{IsFront, HasFinal}
+use Rattle.hx_framing.proofs.MemoryLemmas.{on_err}
 use Rattle.hx_framing.proofs.ResponseFinding.{found_refused, found_unframed}
 use Rattle.hx_framing.proofs.response_reading.read_response.Goals as goal
 
-pub returns-in-Open : goal.returns-in-Open
-returns-in-Open c = c.without_head.ensures c.args.max_body c.args.to_head
+pub returns-in-Open-clause-found : goal.returns-in-Open-clause-found
+returns-in-Open-clause-found c = c.without_head.ensures c.args.max_body c.args.to_head
 
-pub returns-in-Faulty : goal.returns-in-Faulty
-returns-in-Faulty c =
-    found_refused _ _ c.args.ended _ _ (subst (λ (f : StatusFront). IsFront c.args.bytes.now f) c.in-Faulty.is c.in_ok-at.ensures)
+pub returns-in-Faulty-clause-found : goal.returns-in-Faulty-clause-found
+returns-in-Faulty-clause-found c =
+    found_refused _ _ c.args.ended _ _ (subst (λ (f : StatusFront). IsFront c.args.bytes.now f) c.in-Faulty.is c.in_ok-at.ensures.front)
 
-pub returns-in-Err : goal.returns-in-Err
-returns-in-Err c =
+pub returns-in-Err-clause-found : goal.returns-in-Err-clause-found
+returns-in-Err-clause-found c =
     found_unframed c.args.max_body c.args.to_head c.args.ended c.args.bytes.now c.in-Final.at c.in-Final.head c.in-Err.fault
-    (subst (λ (f : StatusFront). IsFront c.args.bytes.now f) c.in-Final.is c.in_ok-at.ensures)
+    (subst (λ (f : StatusFront). IsFront c.args.bytes.now f) c.in-Final.is c.in_ok-at.ensures.front)
     (sym c.in_ok-fault-in-Final.ensures ∙ c.in-Err.is)
+
+pub returns-in_err-fault-in-Final-clause-memory_last : goal.returns-in_err-fault-in-Final-clause-memory_last
+returns-in_err-fault-in-Final-clause-memory_last c =
+    let has : HasFinal c.args.bytes.now
+    = (c.in-Final.head, c.in-Final.at, subst (λ (f : StatusFront). IsFront c.args.bytes.now f) c.in-Final.is c.in_ok-at.ensures.front) in
+    on_err _ has

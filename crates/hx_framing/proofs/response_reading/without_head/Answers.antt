@@ -1,4 +1,4 @@
-use Rattle.std.proofs.Common.{arith, drop, length, length-drop}
+use Rattle.std.proofs.Common.{arith, length-drop}
 use Rattle.hx_framing.proofs.ResponseFinding.{found_open}
 use Rattle.hx_framing.proofs.response_reading.without_head.Goals as goal
 

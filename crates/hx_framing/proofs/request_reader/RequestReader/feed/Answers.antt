@@ -1,4 +1,4 @@
-use Rattle.std.proofs.Common.{ℕ, List, sym, ap, subst, ◌∙◌, OnOk}
+use Rattle.std.proofs.Common.{sym, ap, ◌∙◌}
 use Rattle.hx_framing.specs.RequestState.{State}
 use Rattle.hx_framing.proofs.RequestStreams.{stands_fed_by, stands_fed_faulty}
 use Rattle.hx_framing.proofs.request_reader.RequestReader.feed.Goals as goal

@@ -1,8 +1,8 @@
-use Rattle.std.proofs.Common.{sym, ap, ◌∙◌, subst, IfOk}
+use Rattle.std.proofs.Common.{sym, ap, ◌∙◌, subst, IfOk, OnErr}
 use Rattle.hx_framing.specs.declared.requests.Request.{Request}
 use Rattle.hx_framing.specs.declared.request_phase.RequestPhase.{RequestPhase}
 use Rattle.hx_framing.specs.Progress.{Progress, moved}
-use Rattle.hx_framing.specs.RequestStream.{Answers}
+use Rattle.hx_framing.specs.RequestStream.{Answers, NeedsMemory}
 use Rattle.hx_framing.specs.RequestState.{State, StandsFor}
 use Rattle.hx_framing.proofs.request_reader.RequestReader.next.Goals as goal
 
@@ -49,3 +49,25 @@ returns-in-InContent-clause-stands c =
       phase = f;
     }) (sym c.in-InContent.is ∙ c.replace.ensures.value) ∙ c.self.view_is in
     subst (λ (s : State). IfOk c.read_content.result (λ answer. (p : Progress Request) → StandsFor s p → StandsFor c.read_content.new.self (moved p answer))) same c.read_content.ensures.stands
+
+pub returns-in-BeforeHead-clause-memory_last : goal.returns-in-BeforeHead-clause-memory_last
+returns-in-BeforeHead-clause-memory_last c =
+    let same = ap (λ (f : RequestPhase). record {
+      max_body = c.self.inside.max_body;
+      unread = c.self.inside.unread.items;
+      spare = c.self.inside.unread.spare;
+      ended = c.self.inside.ended;
+      phase = f;
+    }) (c.replace.ensures.after ∙ sym c.in-BeforeHead.is ∙ c.replace.ensures.value) ∙ c.self.view_is in
+    subst (λ (s : State). OnErr c.read_head.result ((p : Progress Request) → StandsFor s p → NeedsMemory p)) same c.read_head.ensures.memory_last
+
+pub returns-in-InContent-clause-memory_last : goal.returns-in-InContent-clause-memory_last
+returns-in-InContent-clause-memory_last c =
+    let same = ap (λ (f : RequestPhase). record {
+      max_body = c.self.inside.max_body;
+      unread = c.self.inside.unread.items;
+      spare = c.self.inside.unread.spare;
+      ended = c.self.inside.ended;
+      phase = f;
+    }) (sym c.in-InContent.is ∙ c.replace.ensures.value) ∙ c.self.view_is in
+    subst (λ (s : State). OnErr c.read_content.result ((p : Progress Request) → StandsFor s p → NeedsMemory p)) same c.read_content.ensures.memory_last

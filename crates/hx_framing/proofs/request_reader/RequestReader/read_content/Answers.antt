@@ -1,15 +1,13 @@
 use Rattle.std.proofs.Common.{ℕ, List, drop, refl, sym, ap, ◌∙◌, subst}
 use Rattle.hx_framing.specs.declared.requests.Request.{Request}
-use Rattle.hx_framing.specs.declared.answer.Next.TheVariants.{Message}
 use Rattle.hx_framing.specs.declared.taken.Taken.TheVariants as taken
-use Rattle.hx_framing.specs.Contents.{Advances}
 use Rattle.hx_framing.specs.Queue.{Queue}
-use Rattle.hx_framing.specs.Reading.{Incomplete, Spelled, Faulty}
-use Rattle.hx_framing.specs.Progress.{moved}
-use Rattle.hx_framing.specs.RequestReading.{request_of, Reads}
-use Rattle.hx_framing.specs.RequestState.{State, StandsFor}
+use Rattle.hx_framing.specs.Reading.{Spelled}
+use Rattle.hx_framing.specs.RequestReading.{Reads}
+use Rattle.hx_framing.specs.RequestState.{State}
+use Rattle.hx_framing.proofs.RequestMemory.{content_needs}
 use Rattle.hx_framing.proofs.RequestStreams.{answers_by, stands_on, stands_given}
-use Rattle.hx_framing.proofs.RequestContents.{in_content, took, cut_reads, going_reads, bad_reads, whole_reads, stands_going}
+use Rattle.hx_framing.proofs.RequestContents.{took, cut_reads, going_reads, bad_reads, whole_reads, stands_going}
 use Rattle.hx_framing.proofs.request_reader.RequestReader.read_content.Goals as goal
 
 pub returns-in-Ok-Short-clause-answers : goal.returns-in-Ok-Short-clause-answers
@@ -59,3 +57,6 @@ returns-in-Ok-Whole-clause-stands c = λ p h.
     (subst (λ (u : List ℕ). Reads p.max_body p.ended p.told h.rest (Spelled c.into_request.result u)) (sym left)
     (subst (λ (m : Request). Reads p.max_body p.ended p.told h.rest (Spelled m (drop c.in-Ok-Whole.n c.args.self.now.unread))) (sym c.into_request.ensures)
     (whole_reads c.args.self.now p c.args.head _ c.advance.new.self c.in-Ok-Whole.whole c.in-Ok-Whole.n k h)))
+
+pub returns-in-Err-clause-memory_last : goal.returns-in-Err-clause-memory_last
+returns-in-Err-clause-memory_last c = λ p h. content_needs _ p c.args.head c.args.content refl h

@@ -1,10 +1,11 @@
-use Rattle.std.proofs.Common.{ℕ, Bool, drop, refl, sym, ap, ◌∙◌, subst}
+use Rattle.std.proofs.Common.{Bool, drop, refl, sym, ap, ◌∙◌, subst}
 use Rattle.hx_framing.specs.declared.responses.Response.{Response}
 use Rattle.hx_framing.specs.declared.taken.Taken.TheVariants as taken
 use Rattle.hx_framing.specs.Queue.{Queue}
 use Rattle.hx_framing.specs.Reading.{Spelled}
 use Rattle.hx_framing.specs.ResponseReading.{response_of, Reads}
 use Rattle.hx_framing.specs.ResponseState.{State}
+use Rattle.hx_framing.proofs.ResponseMemory.{content_needs}
 use Rattle.hx_framing.proofs.ResponseStreams.{answers_by, stands_given, stands_fault}
 use Rattle.hx_framing.proofs.ResponseContents.{took, cut_reads, going_reads, bad_reads, whole_reads, none_given, stands_later}
 use Rattle.hx_framing.proofs.response_reader.ResponseReader.read_content.Goals as goal
@@ -55,3 +56,6 @@ returns-in-Ok-Whole-clause-stands c = λ p h.
     (sym (c.response_of.ensures ∙ ap (λ (h : Bool). response_of h c.args.head c.in-Ok-Whole.whole) (ap (λ (s : State). s.to_head) c.self.view_is)))
     (whole_reads c.args.self.now p c.args.head _ c.advance.new.self c.in-Ok-Whole.whole c.in-Ok-Whole.n k h) in
     stands_given _ _ p c.response_of.result _ (record { max_body = ap (λ (s : State). s.max_body) c.self.view_is; to_head = ap (λ (s : State). s.to_head) c.self.view_is; ended = ap (λ (s : State). s.ended) c.self.view_is }) (none_given c.args.self.now p c.args.head c.args.content h) refl reads h
+
+pub returns-in-Err-clause-memory_last : goal.returns-in-Err-clause-memory_last
+returns-in-Err-clause-memory_last c = λ p h. content_needs _ p c.args.head c.args.content refl h

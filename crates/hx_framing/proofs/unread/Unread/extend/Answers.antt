@@ -1,4 +1,4 @@
-use Rattle.std.proofs.Common.{◌≡◌, ◌≤◌, ◌+◌, ◌++◌, ap, ◌∙◌, arith, rules, length, vec_len}
+use Rattle.std.proofs.Common.{◌≡◌, ◌≤◌, ◌++◌, ap, ◌∙◌, arith, rules, length, vec_len}
 use Rattle.hx_framing.proofs.UnreadLemmas.{searched_fed, front_fed}
 use Rattle.hx_framing.proofs.unread.Unread.extend.Goals as goal
 

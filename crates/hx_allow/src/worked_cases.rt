@@ -1,0 +1,356 @@
+//! What the definitions give on worked cases of values, addresses, lines and matching, computed from them: each function's
+//! contract is the cases, and its body is empty.
+ghost use Rattle.std.specs.Prelude.{◌≡◌, ◌∷◌, ◌++◌, [], Some, None, true, false, codes, pos, negsuc};
+ghost use Rattle.toml.specs.Data.{string, integer, boolean, array, table, no_items, no_members};
+ghost use Rattle.hx_allow.specs.Addresses.{is_address, is_number};
+ghost use Rattle.hx_allow.specs.Examples.{asks, bytes, first_line_denies, indexed_lines, line_without_cache, many, number, of_items, of_pairs, origin_8081, several_lines, text};
+ghost use Rattle.hx_allow.specs.Index.{numbers_of, verdict_among};
+ghost use Rattle.hx_allow.specs.Keys.{fault_number, key_text};
+ghost use Rattle.hx_allow.specs.LineTables.{are_line_methods, is_line_host, is_line_method, is_line_origin, is_line_path};
+ghost use Rattle.hx_allow.specs.Matching.{caches_of, longest_origin, matches_host, matches_method, matches_path, origin_of, verdict_of};
+ghost use Rattle.hx_allow.specs.PathTails.{may_match, tail_of};
+ghost use Rattle.hx_allow.specs.Tables.{is_name, number_at};
+ghost use Rattle.hx_allow.specs.Values.{is_known, items_at, number_between, text_at};
+ghost use Rattle.hx_allow.specs.declared.faults.ConfigFault.TheVariants.{NotToml, UnknownKey, BadName, BadNumber, BadHost, BadMethod, BadPath, BadOrigin, NoLines, OutOfMemory, BadCache};
+ghost use Rattle.hx_allow.specs.declared.faults.NumberKey.TheVariants.{Version, Capacity, MaxBody, MaxStored};
+ghost use Rattle.hx_allow.specs.declared.values.Scope.TheVariants.{Top, Line};
+ghost use Rattle.hx_allow.specs.declared.values.TableVersion.TheVariants.{One, Two};
+ghost use Rattle.hx_allow.specs.declared.verdicts.Verdict.TheVariants.{Allowed, DeniedBy, NoLine};
+
+/// The numbers of the faults.
+pub fn faults_have_these_numbers()
+    ensures not_toml { fault_number NotToml ≡ 1 }
+    ensures unknown_key { fault_number (UnknownKey []) ≡ 2 }
+    ensures bad_name { fault_number BadName ≡ 3 }
+    ensures bad_number { fault_number (BadNumber Version) ≡ 4 }
+    ensures bad_host { fault_number (BadHost 1) ≡ 5 }
+    ensures bad_method { fault_number (BadMethod 1) ≡ 6 }
+    ensures bad_path { fault_number (BadPath 1) ≡ 7 }
+    ensures bad_origin { fault_number (BadOrigin 1) ≡ 8 }
+    ensures no_lines { fault_number NoLines ≡ 9 }
+    ensures out_of_memory { fault_number OutOfMemory ≡ 10 }
+    ensures bad_cache { fault_number (BadCache 1) ≡ 11 }
+{}
+
+/// The keys at the top of a table, and others.
+pub fn keys_at_the_top()
+    ensures version { is_known Top (codes "version") ≡ true }
+    ensures name { is_known Top (codes "name") ≡ true }
+    ensures capacity { is_known Top (codes "capacity") ≡ true }
+    ensures max_body { is_known Top (codes "max_body") ≡ true }
+    ensures max_stored { is_known Top (codes "max_stored") ≡ true }
+    ensures line { is_known Top (codes "line") ≡ true }
+    ensures colour { is_known Top (codes "colour") ≡ false }
+    ensures host { is_known Top (codes "host") ≡ false }
+    ensures methods { is_known Top (codes "methods") ≡ false }
+    ensures path { is_known Top (codes "path") ≡ false }
+    ensures origin { is_known Top (codes "origin") ≡ false }
+    ensures cache { is_known Top (codes "cache") ≡ false }
+    ensures upper { is_known Top (codes "Version") ≡ false }
+    ensures shorter { is_known Top (codes "lin") ≡ false }
+    ensures longer { is_known Top (codes "lines") ≡ false }
+    ensures empty { is_known Top [] ≡ false }
+{}
+
+/// The keys of a line: `cache` is one from the second version on.
+pub fn keys_of_a_line()
+    ensures host { is_known (Line One) (codes "host") ≡ true }
+    ensures methods { is_known (Line One) (codes "methods") ≡ true }
+    ensures path { is_known (Line One) (codes "path") ≡ true }
+    ensures origin { is_known (Line One) (codes "origin") ≡ true }
+    ensures cache { is_known (Line One) (codes "cache") ≡ false }
+    ensures cache_of_two { is_known (Line Two) (codes "cache") ≡ true }
+    ensures host_of_two { is_known (Line Two) (codes "host") ≡ true }
+    ensures methods_of_two { is_known (Line Two) (codes "methods") ≡ true }
+    ensures path_of_two { is_known (Line Two) (codes "path") ≡ true }
+    ensures origin_of_two { is_known (Line Two) (codes "origin") ≡ true }
+    ensures name { is_known (Line Two) (codes "name") ≡ false }
+    ensures version { is_known (Line Two) (codes "version") ≡ false }
+    ensures line { is_known (Line Two) (codes "line") ≡ false }
+    ensures one { is_known (Line Two) (codes "method") ≡ false }
+{}
+
+/// The text of a key is a string; a number isn't one.
+pub fn texts_are_strings()
+    ensures stands { text_at (codes "name") (of_pairs (number (codes "capacity") 2 ∷ text (codes "name") (codes "edge") ∷ [])) ≡ Some (codes "edge") }
+    ensures missing { text_at (codes "name") (of_pairs (number (codes "capacity") 2 ∷ [])) ≡ None }
+    ensures a_number { text_at (codes "name") (of_pairs (number (codes "name") 2 ∷ [])) ≡ None }
+    ensures a_list { text_at (codes "name") (of_pairs ((codes "name", array (of_items (string (codes "edge") ∷ []))) ∷ [])) ≡ None }
+    ensures items { items_at (codes "line") (of_pairs ((codes "line", array no_items) ∷ [])) ≡ Some no_items }
+    ensures no_items { items_at (codes "line") (of_pairs ((codes "line", table no_members) ∷ [])) ≡ None }
+{}
+
+/// Numbers within bounds, and beside them.
+pub fn numbers_are_whole_and_within_bounds()
+    ensures least { number_between 1 65536 (Some (integer (pos 1))) ≡ Some 1 }
+    ensures greatest { number_between 1 65536 (Some (integer (pos 65536))) ≡ Some 65536 }
+    ensures below { number_between 1 65536 (Some (integer (pos 0))) ≡ None }
+    ensures above { number_between 1 65536 (Some (integer (pos 65537))) ≡ None }
+    ensures negative { number_between 0 65536 (Some (integer (negsuc 0))) ≡ None }
+    ensures in_quotes { number_between 1 65536 (Some (string (codes "2"))) ≡ None }
+    ensures a_word { number_between 0 1 (Some (boolean true)) ≡ None }
+    ensures missing { number_between 0 1 None ≡ None }
+{}
+
+/// The least and the greatest number of each key, and those beside them.
+pub fn bounds_of_the_numbers()
+    ensures version_0 { number_at Version (of_pairs (number (codes "version") 0 ∷ [])) ≡ None }
+    ensures version_1 { number_at Version (of_pairs (number (codes "version") 1 ∷ [])) ≡ Some 1 }
+    ensures version_2 { number_at Version (of_pairs (number (codes "version") 2 ∷ [])) ≡ Some 2 }
+    ensures version_3 { number_at Version (of_pairs (number (codes "version") 3 ∷ [])) ≡ None }
+    ensures capacity_0 { number_at Capacity (of_pairs (number (codes "capacity") 0 ∷ [])) ≡ None }
+    ensures capacity_1 { number_at Capacity (of_pairs (number (codes "capacity") 1 ∷ [])) ≡ Some 1 }
+    ensures capacity_65536 { number_at Capacity (of_pairs (number (codes "capacity") 65536 ∷ [])) ≡ Some 65536 }
+    ensures capacity_65537 { number_at Capacity (of_pairs (number (codes "capacity") 65537 ∷ [])) ≡ None }
+    ensures max_body_0 { number_at MaxBody (of_pairs (number (codes "max_body") 0 ∷ [])) ≡ Some 0 }
+    ensures max_body_16777216 { number_at MaxBody (of_pairs (number (codes "max_body") 16777216 ∷ [])) ≡ Some 16777216 }
+    ensures max_body_16777217 { number_at MaxBody (of_pairs (number (codes "max_body") 16777217 ∷ [])) ≡ None }
+    ensures max_stored_0 { number_at MaxStored (of_pairs (number (codes "max_stored") 0 ∷ [])) ≡ Some 0 }
+    ensures max_stored_16777216 { number_at MaxStored (of_pairs (number (codes "max_stored") 16777216 ∷ [])) ≡ Some 16777216 }
+    ensures max_stored_16777217 { number_at MaxStored (of_pairs (number (codes "max_stored") 16777217 ∷ [])) ≡ None }
+{}
+
+/// Names of proxies.
+#[tactic(auto, unfolding(crate::specs::Tables::is_name))]
+pub fn names_of_proxies()
+    ensures edge { is_name (codes "edge") ≡ true }
+    ensures one_letter { is_name (codes "a") ≡ true }
+    ensures last_letter { is_name (codes "z") ≡ true }
+    ensures all_kinds { is_name (codes "az-09") ≡ true }
+    ensures of_32 { is_name (bytes 32 97) ≡ true }
+    ensures of_33 { is_name (bytes 33 97) ≡ false }
+    ensures empty { is_name [] ≡ false }
+    ensures digit_first { is_name (codes "1a") ≡ false }
+    ensures hyphen_first { is_name (codes "-a") ≡ false }
+    ensures upper { is_name (codes "eDge") ≡ false }
+    ensures underscore { is_name (codes "a_b") ≡ false }
+    ensures dot { is_name (codes "a.b") ≡ false }
+{}
+
+/// Hosts of lines: `*`, or a host in lower case without a port.
+#[tactic(auto, unfolding(crate::specs::LineTables::is_line_host, hx_target::specs::Hosts::is_host))]
+pub fn hosts_of_lines()
+    ensures any { is_line_host (codes "*") ≡ true }
+    ensures name { is_line_host (codes "a-b.c_9") ≡ true }
+    ensures address { is_line_host (codes "[::1]") ≡ true }
+    ensures upper { is_line_host (codes "sHop") ≡ false }
+    ensures upper_address { is_line_host (codes "[::A]") ≡ false }
+    ensures port { is_line_host (codes "h:80") ≡ false }
+    ensures open { is_line_host (codes "[::1") ≡ false }
+    ensures pattern { is_line_host (codes "*.h") ≡ false }
+    ensures twice { is_line_host (codes "**") ≡ false }
+    ensures empty { is_line_host [] ≡ false }
+{}
+
+/// Methods of lines: `*`, or a token of at most 15 bytes (RFC 9110, section 9.1) other than the three that no line allows.
+#[tactic(auto, unfolding(crate::specs::LineTables::is_line_method))]
+pub fn methods_of_lines()
+    ensures any { is_line_method (codes "*") ≡ true }
+    ensures get { is_line_method (codes "GET") ≡ true }
+    ensures lower { is_line_method (codes "get") ≡ true }
+    ensures of_15 { is_line_method (codes "VERSION-CONTROL") ≡ true }
+    ensures of_16 { is_line_method (codes "VERSION-CONTROLS") ≡ false }
+    ensures connect { is_line_method (codes "CONNECT") ≡ false }
+    ensures trace { is_line_method (codes "TRACE") ≡ false }
+    ensures options { is_line_method (codes "OPTIONS") ≡ false }
+    ensures two { is_line_method (codes "GET, HEAD") ≡ false }
+    ensures empty { is_line_method [] ≡ false }
+{}
+
+/// A line has 1 to 32 methods, each of which is good.
+#[tactic(auto, unfolding(crate::specs::LineTables::is_line_method))]
+pub fn a_line_has_1_to_32_methods()
+    ensures none { are_line_methods no_items ≡ false }
+    ensures one { are_line_methods (many 1 (string (codes "GET"))) ≡ true }
+    ensures of_32 { are_line_methods (many 32 (string (codes "GET"))) ≡ true }
+    ensures of_33 { are_line_methods (many 33 (string (codes "GET"))) ≡ false }
+    ensures second_bad { are_line_methods (of_items (string (codes "GET") ∷ string (codes "TRACE") ∷ [])) ≡ false }
+    ensures first_bad { are_line_methods (of_items (integer (pos 1) ∷ string (codes "GET") ∷ [])) ≡ false }
+{}
+
+/// Paths of lines (RFC 3986, sections 2.1, 3.3 and 5.2.4).
+#[tactic(auto, unfolding(crate::specs::LineTables::is_line_path, hx_target::specs::Paths::has_dot_segment))]
+pub fn paths_of_lines()
+    ensures all { is_line_path (codes "/") ≡ true }
+    ensures one { is_line_path (codes "/a") ≡ true }
+    ensures closed { is_line_path (codes "/a/") ≡ false }
+    ensures two_slashes { is_line_path (codes "//") ≡ false }
+    ensures doubled { is_line_path (codes "//a") ≡ true }
+    ensures no_slash { is_line_path (codes "a") ≡ false }
+    ensures empty { is_line_path [] ≡ false }
+    ensures query { is_line_path (codes "/a?b") ≡ false }
+    ensures fragment { is_line_path (codes "/a#b") ≡ false }
+    ensures blank { is_line_path (codes "/a b") ≡ false }
+    ensures first_byte { is_line_path (47 ∷ 0x21 ∷ []) ≡ true }
+    ensures last_byte { is_line_path (47 ∷ 0x7E ∷ []) ≡ true }
+    ensures delete { is_line_path (47 ∷ 0x7F ∷ []) ≡ false }
+    ensures escape { is_line_path (codes "/%41%2f") ≡ true }
+    ensures short_escape { is_line_path (codes "/%4") ≡ false }
+    ensures no_escape { is_line_path (codes "/%zz") ≡ false }
+    ensures dots { is_line_path (codes "/x/../admin") ≡ false }
+    ensures escaped_dots { is_line_path (codes "/x/%2e%2e/admin") ≡ false }
+    ensures dot { is_line_path (codes "/a/.") ≡ false }
+    ensures three_dots { is_line_path (codes "/...") ≡ true }
+{}
+
+/// Numbers in addresses are decimal, without leading zeros.
+#[tactic(auto, unfolding(hx_target::specs::Hosts::short_number))]
+pub fn numbers_in_addresses()
+    ensures zero { is_number 0 255 (codes "0") ≡ true }
+    ensures greatest { is_number 0 255 (codes "255") ≡ true }
+    ensures above { is_number 0 255 (codes "256") ≡ false }
+    ensures below { is_number 1 65535 (codes "0") ≡ false }
+    ensures leading_zero { is_number 0 255 (codes "01") ≡ false }
+    ensures two_zeros { is_number 0 255 (codes "00") ≡ false }
+    ensures ten { is_number 0 255 (codes "10") ≡ true }
+    ensures hexadecimal { is_number 0 255 (codes "ff") ≡ false }
+    ensures sign { is_number 0 255 (codes "+1") ≡ false }
+    ensures empty { is_number 0 255 [] ≡ false }
+{}
+
+/// Addresses of origins.
+#[tactic(auto, unfolding(crate::specs::Addresses::is_address, hx_target::specs::Hosts::short_number))]
+pub fn addresses_of_origins()
+    ensures first_run { is_address (codes "127.0.0.1:8081") ≡ true }
+    ensures least { is_address (codes "0.0.0.0:1") ≡ true }
+    ensures greatest { is_address (codes "255.255.255.255:65535") ≡ true }
+    ensures port_0 { is_address (codes "1.2.3.4:0") ≡ false }
+    ensures port_65536 { is_address (codes "1.2.3.4:65536") ≡ false }
+    ensures port_with_zero { is_address (codes "1.2.3.4:080") ≡ false }
+    ensures no_port { is_address (codes "1.2.3.4") ≡ false }
+    ensures empty_port { is_address (codes "1.2.3.4:") ≡ false }
+    ensures blank { is_address (codes "1.2.3.4:80 ") ≡ false }
+    ensures first_256 { is_address (codes "256.2.3.4:80") ≡ false }
+    ensures second_256 { is_address (codes "1.256.3.4:80") ≡ false }
+    ensures third_256 { is_address (codes "1.2.256.4:80") ≡ false }
+    ensures fourth_256 { is_address (codes "1.2.3.256:80") ≡ false }
+    ensures three { is_address (codes "1.2.3:80") ≡ false }
+    ensures five { is_address (codes "1.2.3.4.5:80") ≡ false }
+    ensures name { is_address (codes "localhost:80") ≡ false }
+    ensures colons { is_address (codes "1:2:3:4:80") ≡ false }
+    ensures dots { is_address (codes "1.2.3.4.80") ≡ false }
+{}
+
+/// Origins of lines: `deny`, or an address.
+#[tactic(auto, unfolding(crate::specs::Addresses::is_address, hx_target::specs::Hosts::short_number))]
+pub fn origins_of_lines()
+    ensures deny { is_line_origin (codes "deny") ≡ true }
+    ensures address { is_line_origin (codes "127.0.0.1:8081") ≡ true }
+    ensures upper { is_line_origin (codes "Deny") ≡ false }
+    ensures allow { is_line_origin (codes "allow") ≡ false }
+    ensures empty { is_line_origin [] ≡ false }
+{}
+
+/// Hosts compare by their bytes, and a line without one matches each.
+pub fn which_hosts_match()
+    ensures any { matches_host None (codes "h") ≡ true }
+    ensures same { matches_host (Some (codes "x")) (codes "x") ≡ true }
+    ensures other { matches_host (Some (codes "x")) (codes "h") ≡ false }
+    ensures longer { matches_host (Some (codes "x")) (codes "xy") ≡ false }
+    ensures within { matches_host (Some (codes "x.y")) (codes "a.x.y") ≡ false }
+    ensures final_dot { matches_host (Some (codes "x")) (codes "x.") ≡ false }
+{}
+
+/// Methods compare with their case (RFC 9110, section 9.1); `*` is every method but three.
+pub fn which_methods_match()
+    ensures same { matches_method (codes "GET" ∷ []) (codes "GET") ≡ true }
+    ensures second { matches_method (codes "GET" ∷ codes "HEAD" ∷ []) (codes "HEAD") ≡ true }
+    ensures other { matches_method (codes "GET" ∷ []) (codes "HEAD") ≡ false }
+    ensures lower { matches_method (codes "GET" ∷ []) (codes "get") ≡ false }
+    ensures none { matches_method [] (codes "GET") ≡ false }
+    ensures any { matches_method (codes "*" ∷ []) (codes "BREW") ≡ true }
+    ensures any_of_two { matches_method (codes "GET" ∷ codes "*" ∷ []) (codes "POST") ≡ true }
+    ensures connect { matches_method (codes "*" ∷ []) (codes "CONNECT") ≡ false }
+    ensures trace { matches_method (codes "*" ∷ []) (codes "TRACE") ≡ false }
+    ensures options { matches_method (codes "*" ∷ []) (codes "OPTIONS") ≡ false }
+    ensures named_options { matches_method (codes "OPTIONS" ∷ []) (codes "OPTIONS") ≡ false }
+{}
+
+/// A path matches itself and what continues it with a slash; `/` matches all.
+pub fn which_paths_match()
+    ensures same { matches_path (codes "/admin") (codes "/admin") ≡ true }
+    ensures continued { matches_path (codes "/admin") (codes "/admin/x") ≡ true }
+    ensures closed { matches_path (codes "/admin") (codes "/admin/") ≡ true }
+    ensures longer { matches_path (codes "/admin") (codes "/admins") ≡ false }
+    ensures shorter { matches_path (codes "/admin") (codes "/admi") ≡ false }
+    ensures upper { matches_path (codes "/admin") (codes "/Admin") ≡ false }
+    ensures within { matches_path (codes "/admin") (codes "/x/admin") ≡ false }
+    ensures of_one_length { matches_path (codes "/admin") (codes "/other/x") ≡ false }
+    ensures root { matches_path (codes "/admin") (codes "/") ≡ false }
+    ensures all { matches_path (codes "/") (codes "/x") ≡ true }
+    ensures all_of_root { matches_path (codes "/") (codes "/") ≡ true }
+    ensures two_slashes { matches_path (codes "/admin") (codes "//admin") ≡ false }
+{}
+
+/// The first line decides, also against a later one that allows; an escape in the asked path hides nothing.
+#[tactic(auto, unfolding(crate::specs::Matching::verdict_of, crate::specs::Matching::matches_line))]
+pub fn the_first_line_denies()
+    ensures escaped { verdict_of first_line_denies (codes "GET") (asks (codes "h") (codes "/%61dmin")) ≡ DeniedBy 1 }
+    ensures head { verdict_of first_line_denies (codes "HEAD") (asks (codes "h") (codes "/%61dmin")) ≡ DeniedBy 1 }
+    ensures other_path { verdict_of first_line_denies (codes "GET") (asks (codes "h") (codes "/admins")) ≡ Allowed 2 }
+    ensures other_method { verdict_of first_line_denies (codes "POST") (asks (codes "h") (codes "/x")) ≡ NoLine }
+    ensures connect { verdict_of first_line_denies (codes "CONNECT") (asks (codes "h") (codes "/admin")) ≡ NoLine }
+    ensures no_lines { verdict_of [] (codes "GET") (asks (codes "h") (codes "/x")) ≡ NoLine }
+{}
+
+/// A line for every host and one for one of them.
+#[tactic(auto, unfolding(crate::specs::Matching::verdict_of, crate::specs::Matching::matches_line))]
+pub fn several_lines_decide()
+    ensures denied { verdict_of several_lines (codes "GET") (asks (codes "h") (codes "/admin/x")) ≡ DeniedBy 1 }
+    ensures allowed { verdict_of several_lines (codes "GET") (asks (codes "x") (codes "/admins")) ≡ Allowed 2 }
+    ensures no_line { verdict_of several_lines (codes "GET") (asks (codes "h") (codes "/b")) ≡ NoLine }
+    ensures other_port { verdict_of several_lines (codes "GET") (record (asks (codes "x") (codes "/b")) { key = record { host = codes "x"; port = 8080; path_query = codes "/b?q" } }) ≡ Allowed 2 }
+{}
+
+/// Lines of one host around one for every host: those that a host can match, and which of them decides.
+#[tactic(auto, unfolding(crate::specs::Matching::verdict_of, crate::specs::Matching::matches_line))]
+pub fn lines_of_a_host_decide()
+    ensures denied { verdict_of indexed_lines (codes "GET") (asks (codes "x") (codes "/p/q")) ≡ DeniedBy 1 }
+    ensures for_every_host { verdict_of indexed_lines (codes "GET") (asks (codes "x") (codes "/")) ≡ Allowed 2 }
+    ensures behind_it { verdict_of indexed_lines (codes "POST") (asks (codes "x") (codes "/")) ≡ Allowed 3 }
+    ensures other_host { verdict_of indexed_lines (codes "POST") (asks (codes "y") (codes "/")) ≡ NoLine }
+    ensures numbers { numbers_of indexed_lines (Some (codes "x")) ≡ 1 ∷ 2 ∷ 3 ∷ [] }
+    ensures numbers_of_others { numbers_of indexed_lines (Some (codes "y")) ≡ 2 ∷ [] }
+    ensures numbers_of_none { numbers_of indexed_lines None ≡ 2 ∷ [] }
+    ensures among { verdict_among indexed_lines (1 ∷ 2 ∷ 3 ∷ []) (codes "POST") (codes "/") ≡ Allowed 3 }
+    ensures among_others { verdict_among indexed_lines (2 ∷ []) (codes "POST") (codes "/") ≡ NoLine }
+    ensures among_none { verdict_among indexed_lines (0 ∷ 4 ∷ []) (codes "GET") (codes "/") ≡ NoLine }
+    ensures among_denied { verdict_among indexed_lines (1 ∷ 2 ∷ []) (codes "GET") (codes "/p/q") ≡ DeniedBy 1 }
+{}
+
+/// Which lines are cached, and which say nothing.
+#[tactic(auto, unfolding(crate::specs::Matching::caches_of))]
+pub fn which_lines_are_cached()
+    ensures off { caches_of line_without_cache 1 ≡ false }
+    ensures on { caches_of line_without_cache 2 ≡ true }
+    ensures behind_the_last { caches_of line_without_cache 3 ≡ false }
+    ensures none { caches_of line_without_cache 0 ≡ false }
+{}
+
+/// The origin of a line, and the longest of all.
+pub fn which_origin_a_line_has()
+    ensures denying { origin_of first_line_denies 1 ≡ None }
+    ensures allowing { origin_of first_line_denies 2 ≡ origin_8081 }
+    ensures behind_the_last { origin_of first_line_denies 3 ≡ None }
+    ensures none { origin_of first_line_denies 0 ≡ None }
+    ensures longest { longest_origin first_line_denies ≡ 14 }
+    ensures longest_of_none { longest_origin [] ≡ 0 }
+{}
+
+/// The last byte of a line's path has to stand where it stands there; `/` asks for none.
+pub fn tails_of_paths()
+    ensures tail { tail_of (codes "/admin") ≡ record { size = 6; last = 110 } }
+    ensures root { tail_of (codes "/") ≡ record { size = 0; last = 0 } }
+    ensures stands { may_match (tail_of (codes "/admin")) (codes "/login/x") ≡ true }
+    ensures other { may_match (tail_of (codes "/admin")) (codes "/admit") ≡ false }
+    ensures short { may_match (tail_of (codes "/admin")) (codes "/a") ≡ false }
+    ensures all { may_match (tail_of (codes "/")) (codes "/x") ≡ true }
+{}
+
+/// The keys of numbers, as a table spells them.
+pub fn keys_of_numbers()
+    ensures version { key_text Version ≡ codes "version" }
+    ensures capacity { key_text Capacity ≡ codes "capacity" }
+    ensures max_body { key_text MaxBody ≡ codes "max_body" }
+    ensures max_stored { key_text MaxStored ≡ codes "max_stored" }
+{}

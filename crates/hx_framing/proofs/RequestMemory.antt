@@ -1,0 +1,50 @@
+-- Behind the head of a request, and in its content, the answer may want memory.
+use Rattle.std.proofs.Common.{◌≡◌, ℕ, ◌&&◌, Bool, true, false, not, cond, List, drop, refl, sym, ap, subst, ◌∙◌, Option, Result, Ok, Err}
+use Rattle.hx_framing.specs.declared.fault.FrameFault.{FrameFault}
+use Rattle.hx_framing.specs.declared.plan.Plan.{Plan}
+use Rattle.hx_framing.specs.declared.request_head.Head.{Head}
+use Rattle.hx_framing.specs.declared.requests.Request.{Request}
+use Rattle.hx_framing.specs.declared.content.Content.{Content}
+use Rattle.hx_framing.specs.declared.request_phase.RequestPhase.TheVariants as phase
+use Rattle.hx_framing.specs.declared.answer.Next.{Next}
+use Rattle.hx_framing.specs.Lengths.{plan_of}
+use Rattle.hx_framing.specs.Contents.{body_at, body_from}
+use Rattle.hx_framing.specs.Reading.{Reading, Continue, with_body}
+use Rattle.hx_framing.specs.RequestReading.{request_of, with_plan, with_head, Reads, ReadsBy}
+use Rattle.hx_framing.specs.RequestFound.{HasHead}
+use Rattle.hx_framing.specs.RequestState.{State, StandsFor}
+use Rattle.hx_framing.specs.RequestStream.{NeedsMemory}
+use Rattle.hx_framing.specs.Progress.{Progress, needs_memory, next_of}
+use Rattle.hx_framing.proofs.MemoryLemmas.{IsBehindHead, plan_behind, body_behind, rest_behind, body_needs}
+use Rattle.hx_framing.proofs.RequestOnce.{answered_once_lem}
+use Rattle.hx_framing.proofs.RequestStreams.{answers_by, kept_reads, content_reads}
+
+wish_needs : (w : Bool) (r : Reading Request) → needs_memory (next_of r) ≡ true → needs_memory (next_of (cond w Continue r)) ≡ true
+wish_needs true r x = refl
+wish_needs false r x = x
+
+plan_needs : (max : ℕ) (e t : Bool) (head : Head) (bytes : List ℕ) (r : Result Plan FrameFault) → IsBehindHead r → needs_memory (next_of (with_plan max e t head bytes r)) ≡ true
+plan_needs max e t head bytes (Err f) x = ap not x
+plan_needs max e t head bytes (Ok plan) x =
+    wish_needs (plan.wants_continue && not t) _ (body_needs e (request_of head) (body_at max plan.framing false bytes) (body_behind max plan.framing false bytes))
+
+-- the answer of a stream is one
+needs_by : (p : Progress Request) (s : State) (r : Reading Request) → (stands : StandsFor s p) → Reads p.max_body p.ended p.told stands.rest r
+    → needs_memory (next_of r) ≡ true → NeedsMemory p
+needs_by p s r stands reads needs = λ answer x.
+    ap (λ (a : Next Request). needs_memory a) (answered_once_lem p answer (next_of r) x (answers_by p s r stands reads)) ∙ needs
+
+head_reads : (max : ℕ) (e t : Bool) (bytes : List ℕ) → (has : HasHead bytes) → Reads max e t bytes (with_head max e t (drop has.0 bytes) (Ok has.1))
+head_reads max e t bytes has = subst (λ (o : Option ℕ). ReadsBy max e t bytes o (with_head max e t (drop has.0 bytes) (Ok has.1))) (sym has.2) (Ok has.1, has.3, refl)
+
+pub head_needs : (s : State) (p : Progress Request) → s.phase ≡ phase.BeforeHead → HasHead s.unread → StandsFor s p → NeedsMemory p
+head_needs s p waiting has stands =
+    needs_by p s (with_head s.max_body s.ended false (drop has.0 s.unread) (Ok has.1)) stands
+    (kept_reads s p _ waiting stands (head_reads s.max_body s.ended false s.unread has))
+    (plan_needs s.max_body s.ended false has.1 (drop has.0 s.unread) (plan_of s.max_body has.1) (plan_behind s.max_body has.1))
+
+pub content_needs : (s : State) (p : Progress Request) (head : Head) (content : Content) → s.phase ≡ phase.InContent head content → StandsFor s p → NeedsMemory p
+content_needs s p head content going stands =
+    needs_by p s (with_body s.ended (request_of head) (body_from content false s.unread)) stands
+    (content_reads s p head content (body_from content false s.unread) going stands refl)
+    (body_needs s.ended (request_of head) (body_from content false s.unread) (rest_behind content false s.unread))

@@ -1,0 +1,53 @@
+-- Behind the head of a final response, and in its content, the answer may want memory.
+use Rattle.std.proofs.Common.{◌≡◌, ℕ, Bool, true, not, List, [], drop, refl, sym, ap, subst, ◌∙◌, Option, Result, Ok, Err}
+use Rattle.hx_framing.specs.declared.fault.FrameFault.{FrameFault}
+use Rattle.hx_framing.specs.declared.plan.Framing.{Framing}
+use Rattle.hx_framing.specs.declared.status_head.StatusHead.{StatusHead}
+use Rattle.hx_framing.specs.declared.responses.Response.{Response}
+use Rattle.hx_framing.specs.declared.content.Content.{Content}
+use Rattle.hx_framing.specs.declared.response_phase.ResponsePhase.TheVariants as phase
+use Rattle.hx_framing.specs.declared.answer.Next.{Next}
+use Rattle.hx_framing.specs.Lengths.{framing_of_response}
+use Rattle.hx_framing.specs.Contents.{body_at, body_from}
+use Rattle.hx_framing.specs.Reading.{Reading, with_body}
+use Rattle.hx_framing.specs.ResponseReading.{response_of, with_framing, with_head, Reads, FrontBy}
+use Rattle.hx_framing.specs.ResponseFound.{HasFinal}
+use Rattle.hx_framing.specs.ResponseState.{State, StandsFor}
+use Rattle.hx_framing.specs.ResponseStream.{NeedsMemory}
+use Rattle.hx_framing.specs.Progress.{Progress, needs_memory, next_of}
+use Rattle.hx_framing.proofs.MemoryLemmas.{IsBehindHead, framing_behind, body_behind, rest_behind, body_needs}
+use Rattle.hx_framing.proofs.ResponseOnce.{answered_once_lem}
+use Rattle.hx_framing.proofs.ResponseStreams.{answers_by, before, kept_reads, inside, content_reads}
+
+framing_needs : (max : ℕ) (h e : Bool) (head : StatusHead) (bytes : List ℕ) (r : Result Framing FrameFault) → IsBehindHead r → needs_memory (next_of (with_framing max h e head bytes r)) ≡ true
+framing_needs max h e head bytes (Err f) x = ap not x
+framing_needs max h e head bytes (Ok told) x = body_needs e (response_of h head) (body_at max told e bytes) (body_behind max told e bytes)
+
+-- the answer of a stream is one
+needs_by : (p : Progress Response) (s : State) (r : Reading Response) → p.given ≡ [] → StandsFor s p → Reads p.max_body p.to_head p.ended p.stream r
+    → needs_memory (next_of r) ≡ true → NeedsMemory p
+needs_by p s r none stands reads needs = λ answer x.
+    ap (λ (a : Next Response). needs_memory a) (answered_once_lem p answer (next_of r) x (answers_by p s r none stands reads)) ∙ needs
+
+final_reads : (max : ℕ) (h e : Bool) (bytes : List ℕ) → (has : HasFinal bytes)
+    → Reads max h e bytes (with_head max h e (drop has.2.1.2 has.2.1.1) (Ok has.0))
+final_reads max h e bytes has =
+    let x = has.2.1 in (
+      x.0,
+      x.1,
+      x.3,
+      subst (λ (o : Option ℕ). FrontBy max h e x.1 o (with_head max h e (drop x.2 x.1) (Ok has.0))) (sym x.4) (Ok has.0, x.5, x.6, refl),
+    )
+
+pub head_needs : (s : State) (p : Progress Response) → s.phase ≡ phase.BeforeHead → HasFinal s.unread → StandsFor s p → NeedsMemory p
+head_needs s p waiting has stands =
+    let rest = drop has.2.1.2 has.2.1.1 in
+    needs_by p s (with_head s.max_body s.to_head s.ended rest (Ok has.0)) (before s p waiting stands).none stands
+    (kept_reads s p _ waiting stands (final_reads s.max_body s.to_head s.ended s.unread has))
+    (framing_needs s.max_body s.to_head s.ended has.0 rest (framing_of_response s.max_body s.to_head has.0) (framing_behind s.max_body s.to_head has.0))
+
+pub content_needs : (s : State) (p : Progress Response) (head : StatusHead) (content : Content) → s.phase ≡ phase.InContent head content → StandsFor s p → NeedsMemory p
+content_needs s p head content going stands =
+    needs_by p s (with_body s.ended (response_of s.to_head head) (body_from content s.ended s.unread)) (inside s p head content going stands).none stands
+    (content_reads s p head content (body_from content s.ended s.unread) going stands refl)
+    (body_needs s.ended (response_of s.to_head head) (body_from content s.ended s.unread) (rest_behind content s.ended s.unread))

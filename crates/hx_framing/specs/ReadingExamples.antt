@@ -1,0 +1,84 @@
+-- Messages of the RFCs and of the project's own vectors, for worked readings: what whole streams read as where at most 1000 bytes
+-- of content are taken.
+use Rattle.std.specs.Prelude.{ℕ, true, false, List, [], ◌∷◌, ◌++◌, codes, Option, None}
+use Rattle.hx_fields.specs.declared.field_line.Field.{Field}
+use Rattle.hx_fields.specs.Examples.{line}
+use Rattle.hx_framing.specs.declared.requests.Request.{Request}
+use Rattle.hx_framing.specs.declared.responses.Response.{Response}
+use Rattle.hx_framing.specs.Reading.{Reading}
+use Rattle.hx_framing.specs.RequestReading as request
+use Rattle.hx_framing.specs.ResponseReading as response
+
+-- a request stream that goes on, one that ends, and one whose continue was given
+abbrev pub asks : List ℕ → Reading Request → Type 0
+asks bytes reading = request.Reads 1000 false false bytes reading
+
+abbrev pub asks_last : List ℕ → Reading Request → Type 0
+asks_last bytes reading = request.Reads 1000 true false bytes reading
+
+abbrev pub asks_told : List ℕ → Reading Request → Type 0
+asks_told bytes reading = request.Reads 1000 false true bytes reading
+
+-- a response stream that goes on, one that ends, and one that answers a HEAD
+abbrev pub answers : List ℕ → Reading Response → Type 0
+answers bytes reading = response.Reads 1000 false false bytes reading
+
+abbrev pub answers_last : List ℕ → Reading Response → Type 0
+answers_last bytes reading = response.Reads 1000 false true bytes reading
+
+abbrev pub answers_head : List ℕ → Reading Response → Type 0
+answers_head bytes reading = response.Reads 1000 true false bytes reading
+
+-- ---- RFC 9110, section 3.9
+
+abbrev pub hello_request : List ℕ
+hello_request =
+    codes "GET /hello.txt HTTP/1.1\r\nUser-Agent: curl/7.64.1\r\nHost: www.example.com\r\nAccept-Language: en, mi\r\n\r\n"
+
+abbrev pub hello_asked : Request
+hello_asked = record {
+  method = codes "GET";
+  target = codes "/hello.txt";
+  minor = 1;
+  fields =
+      line (codes "User-Agent") (codes "curl/7.64.1") ∷ line (codes "Host") (codes "www.example.com")
+      ∷ line (codes "Accept-Language") (codes "en, mi") ∷ [];
+  content = None;
+}
+
+abbrev pub hello_response : List ℕ
+hello_response =
+    codes "HTTP/1.1 200 OK\r\nDate: Mon, 27 Jul 2009 12:28:53 GMT\r\nServer: Apache\r\nLast-Modified: Wed, 22 Jul 2009 19:15:56 GMT\r\nETag: \"34aa387-d-1568eb00\"\r\nAccept-Ranges: bytes\r\nContent-Length: 51\r\nVary: Accept-Encoding\r\nContent-Type: text/plain\r\n\r\nHello World! My content includes a trailing CRLF.\r\n"
+
+abbrev pub hello_lines : List Field
+hello_lines =
+    line (codes "Date") (codes "Mon, 27 Jul 2009 12:28:53 GMT") ∷ line (codes "Server") (codes "Apache")
+    ∷ line (codes "Last-Modified") (codes "Wed, 22 Jul 2009 19:15:56 GMT") ∷ line (codes "ETag") (codes "\"34aa387-d-1568eb00\"")
+    ∷ line (codes "Accept-Ranges") (codes "bytes") ∷ line (codes "Vary") (codes "Accept-Encoding")
+    ∷ line (codes "Content-Type") (codes "text/plain") ∷ []
+
+abbrev pub hello_answered : Response
+hello_answered = record {
+  status = 200;
+  fields = hello_lines;
+  content = codes "Hello World! My content includes a trailing CRLF.\r\n";
+  announced = None;
+}
+
+-- ---- other messages
+
+-- a request for /a with these lines, of HTTP/1.1
+abbrev pub put : List ℕ → List ℕ
+put lines = codes "PUT /a HTTP/1.1\r\n" ++ lines ++ codes "\r\n"
+
+abbrev pub put_with : List Field → Option (List ℕ) → Request
+put_with fields content =
+    record { method = codes "PUT"; target = codes "/a"; minor = 1; fields = fields; content = content }
+
+-- a response with these lines
+abbrev pub ok : List ℕ → List ℕ
+ok lines = codes "HTTP/1.1 200 OK\r\n" ++ lines ++ codes "\r\n"
+
+abbrev pub response_with : ℕ → List Field → List ℕ → Option ℕ → Response
+response_with status fields content announced =
+    record { status = status; fields = fields; content = content; announced = announced }

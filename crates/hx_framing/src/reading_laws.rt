@@ -1,0 +1,142 @@
+//! What whole streams read as, on messages of the RFCs and on what those leave open, computed from the definitions.
+ghost use Rattle.std.specs.Prelude.{◌≡◌, ◌++◌, ◌∷◌, [], codes, replicate, Some, None};
+ghost use Rattle.hx_fields.specs.Examples.{line};
+ghost use Rattle.hx_framing.specs.declared.fault.FrameFault.TheVariants as fault;
+ghost use Rattle.hx_framing.specs.Reading.{Incomplete, Continue, Over, Spelled, Faulty};
+ghost use Rattle.hx_framing.specs.ReadingExamples.{asks, asks_last, asks_told, answers, answers_last, answers_head, hello_request, hello_asked, hello_response, hello_answered, put, put_with, ok, response_with};
+
+/// The request of RFC 9110, section 3.9, is read whole, and what follows it is left; without its last byte it waits.
+pub fn a_request_head_is_read()
+    ensures whole { asks hello_request (Spelled hello_asked []) }
+    ensures behind { asks (hello_request ++ codes "GET / HT") (Spelled hello_asked (codes "GET / HT")) }
+    ensures last { asks_last hello_request (Spelled hello_asked []) }
+    ensures open { asks (codes "GET /hello.txt HTTP/1.1\r\nHost: www.example.com\r\n\r") Incomplete }
+    ensures cut { asks_last (codes "GET /hello.txt HTTP/1.1\r\nHost: www.example.com\r\n\r") (Faulty fault.Truncated) }
+{}
+
+/// Empty lines in front are dropped, lines may end by LF alone, and white space round a value is not of it (RFC 9112,
+/// sections 2.2 and 5).
+pub fn heads_in_other_forms_are_read()
+    ensures line_feeds { asks (codes "\r\n\nGET / HTTP/1.0\nA:\t b \t\n\nx") (Spelled (record { method = codes "GET"; target = codes "/"; minor = 0; fields = line (codes "A") (codes "b") ∷ []; content = None }) (codes "x")) }
+    ensures values { asks (codes "GET * HTTP/1.1\r\na:b:c\r\nA: b c\r\n\r\n") (Spelled (record { method = codes "GET"; target = codes "*"; minor = 1; fields = line (codes "a") (codes "b:c") ∷ line (codes "A") (codes "b c") ∷ []; content = None }) []) }
+    ensures no_phrase { answers (codes "HTTP/1.0 204\r\n\r\nx") (Spelled (response_with 204 [] [] None) (codes "x")) }
+    ensures empty_phrase { answers (codes "\nHTTP/1.1 204 \nX:\n\n") (Spelled (response_with 204 (line (codes "X") [] ∷ []) [] None) []) }
+{}
+
+/// The response of RFC 9110, section 3.9, with its 51 bytes of content; one byte less, and it waits.
+pub fn a_response_is_read()
+    ensures whole { answers hello_response (Spelled hello_answered []) }
+    ensures behind { answers (hello_response ++ codes "x") (Spelled hello_answered (codes "x")) }
+    ensures short { answers (ok (codes "Content-Length: 3\r\n") ++ codes "hi") Incomplete }
+    ensures cut { answers_last (ok (codes "Content-Length: 3\r\n") ++ codes "hi") (Faulty fault.Truncated) }
+{}
+
+/// Content-Length tells how many bytes a request has; two lines have to agree, and without one there is no content (RFC
+/// 9112, section 6.3).
+pub fn lengths_of_contents_are_read()
+    ensures none { asks (put [] ++ codes "hello") (Spelled (put_with [] None) (codes "hello")) }
+    ensures zero { asks (put (codes "Content-Length: 0\r\n") ++ codes "hello") (Spelled (put_with [] (Some [])) (codes "hello")) }
+    ensures agree { asks (put (codes "Content-Length: 5\r\nContent-Length: 5\r\n") ++ codes "hello!") (Spelled (put_with [] (Some (codes "hello"))) (codes "!")) }
+    ensures listed { asks (put (codes "Content-Length: 5,05\r\n") ++ codes "hello!") (Spelled (put_with [] (Some (codes "hello"))) (codes "!")) }
+    ensures short { asks (put (codes "Content-Length: 5\r\n") ++ codes "hell") Incomplete }
+    ensures cut { asks_last (put (codes "Content-Length: 5\r\n") ++ codes "hell") (Faulty fault.Truncated) }
+    ensures differ { asks (put (codes "Content-Length: 5\r\nContent-Length: 6\r\n") ++ codes "hello") (Faulty fault.Length) }
+    ensures minus { asks (put (codes "Content-Length: -5\r\n")) (Faulty fault.Length) }
+    ensures most { asks (put (codes "Content-Length: 1000\r\n")) Incomplete }
+    ensures large { asks (put (codes "Content-Length: 1001\r\n")) (Faulty fault.TooLarge) }
+    ensures others_stay { asks (put (codes "A: 1\r\nContent-Length: 2\r\nB: 2\r\n") ++ codes "hi") (Spelled (put_with (line (codes "A") (codes "1") ∷ line (codes "B") (codes "2") ∷ []) (Some (codes "hi"))) []) }
+{}
+
+/// Transfer-Encoding and Content-Length in one message are refused, whatever they say (RFC 9112, section 6.3, lets them
+/// be).
+pub fn both_lengths_are_refused()
+    ensures request { asks (put (codes "Transfer-Encoding: chunked\r\nContent-Length: 5\r\n") ++ codes "0\r\n\r\n") (Faulty fault.BothLengths) }
+    ensures turned { asks (put (codes "Content-Length: 5\r\nTransfer-Encoding: chunked\r\n") ++ codes "0\r\n\r\n") (Faulty fault.BothLengths) }
+    ensures old { asks (codes "PUT /a HTTP/1.0\r\nTransfer-Encoding: chunked\r\nContent-Length: x\r\n\r\n") (Faulty fault.BothLengths) }
+    ensures response { answers (ok (codes "Transfer-Encoding: chunked\r\nContent-Length: 5\r\n") ++ codes "0\r\n\r\n") (Faulty fault.BothLengths) }
+{}
+
+/// chunked is the one coding that is read; a request whose last coding is another has no end (RFC 9112, section 6.3).
+pub fn codings_are_read()
+    ensures any_case { asks (put (codes "transfer-encoding: CHUNKED\r\n") ++ codes "0\r\n\r\n") (Spelled (put_with [] (Some [])) []) }
+    ensures two { asks (put (codes "Transfer-Encoding: gzip, chunked\r\n")) (Faulty fault.Coding) }
+    ensures endless { asks (put (codes "Transfer-Encoding: gzip\r\n")) (Faulty fault.Length) }
+    ensures twice { asks (put (codes "Transfer-Encoding: chunked\r\nTransfer-Encoding: chunked\r\n")) (Faulty fault.Length) }
+    ensures old { asks (codes "PUT /a HTTP/1.0\r\nTransfer-Encoding: chunked\r\n\r\n") (Faulty fault.Length) }
+    ensures response { answers (ok (codes "Transfer-Encoding: gzip\r\n")) (Faulty fault.Coding) }
+    ensures old_response { answers (codes "HTTP/1.0 200 OK\r\nTransfer-Encoding: chunked\r\n\r\n") (Faulty fault.Length) }
+{}
+
+/// Chunks with an extension and a trailer give their data, and what follows is left (RFC 9112, section 7.1).
+pub fn chunked_contents_are_read()
+    ensures request { asks (put (codes "Transfer-Encoding: chunked\r\n") ++ codes "4\r\nWiki\r\n5;x=1\r\npedia\r\n0\r\nExpires: 0\r\n\r\nGET") (Spelled (put_with [] (Some (codes "Wikipedia"))) (codes "GET")) }
+    ensures response { answers (ok (codes "Transfer-Encoding: chunked\r\n") ++ codes "4\r\nWiki\r\n5;x=1\r\npedia\r\n0\r\nExpires: 0\r\n\r\n") (Spelled (response_with 200 [] (codes "Wikipedia") None) []) }
+    ensures open { asks (put (codes "Transfer-Encoding: chunked\r\n") ++ codes "4\r\nWiki\r\n0\r\n\r") Incomplete }
+    ensures cut { asks_last (put (codes "Transfer-Encoding: chunked\r\n") ++ codes "4\r\nWiki\r\n0\r\n\r") (Faulty fault.Truncated) }
+    ensures cut_response { answers_last (ok (codes "Transfer-Encoding: chunked\r\n") ++ codes "4\r\nWiki\r\n") (Faulty fault.Truncated) }
+    ensures bad_end { asks (put (codes "Transfer-Encoding: chunked\r\n") ++ codes "4\r\nWikipedia") (Faulty fault.Chunk) }
+    ensures large { asks (put (codes "Transfer-Encoding: chunked\r\n") ++ codes "3e9\r\n") (Faulty fault.TooLarge) }
+    ensures most { asks (put (codes "Transfer-Encoding: chunked\r\n") ++ codes "3e8\r\n") Incomplete }
+    ensures long_line { asks (put (codes "Transfer-Encoding: chunked\r\n") ++ replicate 274 48) (Faulty fault.Chunk) }
+    ensures longest_line { asks (put (codes "Transfer-Encoding: chunked\r\n") ++ replicate 273 48) Incomplete }
+{}
+
+/// Interim responses are passed over, as that of RFC 8297, section 2; 101 is refused.
+pub fn interim_responses_are_passed()
+    ensures early_hints { answers (codes "HTTP/1.1 103 Early Hints\r\nLink: </style.css>; rel=preload; as=style\r\n\r\n" ++ ok (codes "Content-Length: 2\r\n") ++ codes "hi") (Spelled (response_with 200 [] (codes "hi") None) []) }
+    ensures two { answers (codes "HTTP/1.1 100 Continue\r\n\r\nHTTP/1.1 199 \r\nContent-Length: x\r\n\r\nHTTP/1.1 204 \r\n\r\n") (Spelled (response_with 204 [] [] None) []) }
+    ensures alone { answers (codes "HTTP/1.1 100 Continue\r\n\r\n") Incomplete }
+    ensures alone_at_the_end { answers_last (codes "HTTP/1.1 100 Continue\r\n\r\n") (Faulty fault.Truncated) }
+    ensures switch { answers (codes "HTTP/1.1 101 Switching Protocols\r\nUpgrade: websocket\r\n\r\n") (Faulty fault.Status) }
+{}
+
+/// A response to HEAD and one with 204 or 304 ends with its head, whatever its length fields say (RFC 9112, section
+/// 6.3).
+pub fn responses_without_content_are_read()
+    ensures no_content { answers (codes "HTTP/1.1 204 No Content\r\nContent-Length: 5\r\n\r\n" ++ codes "hello") (Spelled (response_with 204 [] [] None) (codes "hello")) }
+    ensures not_modified { answers (codes "HTTP/1.1 304 Not Modified\r\nETag: \"v\"\r\nContent-Length: x\r\n\r\n" ++ codes "hello") (Spelled (response_with 304 (line (codes "ETag") (codes "\"v\"") ∷ []) [] None) (codes "hello")) }
+    ensures to_head { answers_head (ok (codes "Content-Length: 5\r\n") ++ codes "hello") (Spelled (response_with 200 [] [] (Some 5)) (codes "hello")) }
+    ensures to_head_coded { answers_head (ok (codes "Transfer-Encoding: chunked\r\n") ++ codes "hello") (Spelled (response_with 200 [] [] None) (codes "hello")) }
+    ensures reset { answers (codes "HTTP/1.1 205 \r\nContent-Length: 2\r\n\r\n" ++ codes "hi!") (Spelled (response_with 205 [] (codes "hi") None) (codes "!")) }
+    ensures other_interim_neighbour { answers (codes "HTTP/1.1 303 \r\nContent-Length: 2\r\n\r\n" ++ codes "hi!") (Spelled (response_with 303 [] (codes "hi") None) (codes "!")) }
+{}
+
+/// A response without length fields runs until its stream ends (RFC 9112, section 6.3).
+pub fn contents_run_until_the_close()
+    ensures open { answers (ok [] ++ codes "hi") Incomplete }
+    ensures closed { answers_last (ok [] ++ codes "hi") (Spelled (response_with 200 [] (codes "hi") None) []) }
+    ensures empty { answers_last (ok []) (Spelled (response_with 200 [] [] None) []) }
+    ensures large { answers (ok [] ++ replicate 1001 120) (Faulty fault.TooLarge) }
+    ensures most { answers (ok [] ++ replicate 1000 120) Incomplete }
+{}
+
+/// A final status is from 200 to 599; its fault is told last.
+pub fn statuses_are_read()
+    ensures high { answers (codes "HTTP/1.1 600 \r\nContent-Length: 0\r\n\r\n") (Faulty fault.Status) }
+    ensures low { answers (codes "HTTP/1.1 099 \r\nContent-Length: 0\r\n\r\n") (Faulty fault.Status) }
+    ensures last { answers (codes "HTTP/1.1 599 \r\nContent-Length: 0\r\n\r\n") (Spelled (response_with 599 [] [] None) []) }
+    ensures first { answers (codes "HTTP/1.1 200 \r\nContent-Length: 0\r\n\r\n") (Spelled (response_with 200 [] [] None) []) }
+    ensures large_first { answers (codes "HTTP/1.1 600 \r\nContent-Length: 1001\r\n\r\n") (Faulty fault.TooLarge) }
+{}
+
+/// A client that expects a continue gets it before its content (RFC 9110, section 10.1.1); no other expectation is met.
+pub fn expectations_are_read()
+    ensures waits { asks (put (codes "Expect: 100-continue\r\nContent-Length: 2\r\n")) Continue }
+    ensures content_there { asks (put (codes "Expect: 100-Continue\r\nContent-Length: 2\r\n") ++ codes "hi") Continue }
+    ensures given { asks_told (put (codes "Expect: 100-continue\r\nContent-Length: 2\r\n") ++ codes "hi!") (Spelled (put_with (line (codes "Expect") (codes "100-continue") ∷ []) (Some (codes "hi"))) (codes "!")) }
+    ensures given_open { asks_told (put (codes "Expect: 100-continue\r\nContent-Length: 2\r\n") ++ codes "h") Incomplete }
+    ensures no_content { asks (put (codes "Expect: 100-continue\r\n")) (Spelled (put_with (line (codes "Expect") (codes "100-continue") ∷ []) None) []) }
+    ensures other { asks (put (codes "Expect: x\r\nContent-Length: 2\r\n")) (Faulty fault.Expect) }
+    ensures old { asks (codes "PUT /a HTTP/1.0\r\nExpect: x\r\nContent-Length: 2\r\n\r\n" ++ codes "hi") (Spelled (record { method = codes "PUT"; target = codes "/a"; minor = 0; fields = line (codes "Expect") (codes "x") ∷ []; content = Some (codes "hi") }) []) }
+{}
+
+/// A request stream may end before a message, behind empty lines alone too; a response stream may not.
+pub fn ends_of_streams_are_read()
+    ensures nothing { asks [] Incomplete }
+    ensures nothing_more { asks_last [] Over }
+    ensures empty_lines { asks_last (codes "\r\n\n\r\n") Over }
+    ensures lone_return { asks_last (codes "\r\n\r") (Faulty fault.Truncated) }
+    ensures begun { asks_last (codes "\r\nG") (Faulty fault.Truncated) }
+    ensures no_response { answers_last [] (Faulty fault.Truncated) }
+    ensures no_response_yet { answers (codes "\r\n") Incomplete }
+{}
