@@ -25,6 +25,7 @@ mod head_search;
 mod length_laws;
 mod lengths;
 mod lines;
+pub mod order_laws;
 mod places;
 mod plain;
 mod plan;
