@@ -44,6 +44,7 @@ mod responses;
 mod size_line;
 mod status_front;
 mod status_head;
+pub mod stream_laws;
 mod taken;
 mod text_laws;
 mod unread;
