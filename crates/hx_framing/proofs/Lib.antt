@@ -14,6 +14,7 @@ pub mod HeadDecisions
 pub mod Existence
 pub mod ReadingLemmas
 pub mod BoundLemmas
+pub mod FaultOrders
 pub mod LengthLemmas
 pub mod ChunkStreams
 pub mod ChunkSteps

@@ -36,3 +36,4 @@ pub mod Decoding
 pub mod Written
 pub mod WrittenResponse
 pub mod FaultTexts
+pub mod FaultOrder

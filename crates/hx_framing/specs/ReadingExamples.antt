@@ -1,11 +1,12 @@
 -- Messages of the RFCs and of the project's own vectors, for worked readings: what whole streams read as where at most 1000 bytes
 -- of content are taken.
-use Rattle.std.specs.Prelude.{ℕ, true, false, List, [], ◌∷◌, ◌++◌, codes, Option, None}
+use Rattle.std.specs.Prelude.{ℕ, Bool, true, false, List, [], ◌∷◌, ◌++◌, codes, Option, None}
 use Rattle.hx_fields.specs.declared.field_line.Field.{Field}
 use Rattle.hx_fields.specs.Examples.{line}
 use Rattle.hx_framing.specs.declared.requests.Request.{Request}
 use Rattle.hx_framing.specs.declared.responses.Response.{Response}
 use Rattle.hx_framing.specs.Reading.{Reading}
+use Rattle.hx_framing.specs.Progress.{Progress}
 use Rattle.hx_framing.specs.RequestReading as request
 use Rattle.hx_framing.specs.ResponseReading as response
 
@@ -82,3 +83,21 @@ ok lines = codes "HTTP/1.1 200 OK\r\n" ++ lines ++ codes "\r\n"
 abbrev pub response_with : ℕ → List Field → List ℕ → Option ℕ → Response
 response_with status fields content announced =
     record { status = status; fields = fields; content = content; announced = announced }
+
+-- ---- streams
+
+-- two requests and the beginning of a third
+abbrev pub in_a_row : List ℕ
+in_a_row =
+    put (codes "Content-Length: 2\r\n") ++ codes "hi" ++ put (codes "Transfer-Encoding: chunked\r\n")
+    ++ codes "3\r\nabc\r\n0\r\n\r\nPUT"
+
+-- how far its reader has come
+abbrev pub behind : Bool → List Request → Progress Request
+behind ended given =
+    record { max_body = 1000; to_head = false; stream = in_a_row; ended = ended; given = given; told = false }
+
+-- how far a reader of the response has come
+abbrev pub hello_behind : Bool → List Response → Progress Response
+hello_behind ended given =
+    record { max_body = 1000; to_head = false; stream = hello_response; ended = ended; given = given; told = false }

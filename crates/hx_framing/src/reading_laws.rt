@@ -135,7 +135,9 @@ pub fn ends_of_streams_are_read()
     ensures nothing { asks [] Incomplete }
     ensures nothing_more { asks_last [] Over }
     ensures empty_lines { asks_last (codes "\r\n\n\r\n") Over }
+    ensures line_feed { asks_last (codes "\n") Over }
     ensures lone_return { asks_last (codes "\r\n\r") (Faulty fault.Truncated) }
+    ensures lone_returns { asks_last (codes "\r\r") (Faulty fault.Truncated) }
     ensures begun { asks_last (codes "\r\nG") (Faulty fault.Truncated) }
     ensures no_response { answers_last [] (Faulty fault.Truncated) }
     ensures no_response_yet { answers (codes "\r\n") Incomplete }

@@ -12,8 +12,14 @@ returns-clause-nothing_more c = reads_no_request 1000 true false [] _ refl refl
 pub returns-clause-empty_lines : goal.returns-clause-empty_lines
 returns-clause-empty_lines c = reads_no_request 1000 true false (codes "\r\n\n\r\n") _ refl refl
 
+pub returns-clause-line_feed : goal.returns-clause-line_feed
+returns-clause-line_feed c = reads_no_request 1000 true false (codes "\n") _ refl refl
+
 pub returns-clause-lone_return : goal.returns-clause-lone_return
 returns-clause-lone_return c = reads_no_request 1000 true false (codes "\r\n\r") _ refl refl
+
+pub returns-clause-lone_returns : goal.returns-clause-lone_returns
+returns-clause-lone_returns c = reads_no_request 1000 true false (codes "\r\r") _ refl refl
 
 pub returns-clause-begun : goal.returns-clause-begun
 returns-clause-begun c = reads_no_request 1000 true false (codes "\r\nG") _ refl refl
