@@ -7,6 +7,7 @@
 #![tactic(auto)]
 
 mod closing;
+mod fault_texts;
 mod live_sockets;
 mod peer;
 mod peers;
