@@ -1,5 +1,6 @@
 -- What a stored response and the directives of a request have to be, that the one may answer the other in place of an
--- error, without the rules and their numbers (RFC 5861, section 4).
+-- error, without the rules and their numbers (RFC 5861, section 4, and what RFC 9111, sections 4.2.4, 5.2.2.2, 5.2.2.4, 5.2.2.8 and
+-- 5.2.2.10 forbid to send stale).
 --
 -- StatesLimit, AsksForLimit: the staleness that each allows    MayBeSentOnError: all that is asked
 -- IsLeastOnError: a rule that stands, and none before it

@@ -25,12 +25,12 @@ pub enum Detail {
 #[derive(Clone, Copy, Debug, PartialEq, Eq)]
 pub struct Status {
     pub how: How,
-    /// The status of the origin's answer in this step, where it isn't the one sent.
+    /// The status of the origin's answer in this step, where it isn't the one sent. A hit has none: it would be told all the same.
     pub fwd_status: Option<u16>,
     /// Seconds of freshness left, below 0 where it is stale.
     pub ttl: Option<i64>,
     pub stored: bool,
     pub collapsed: bool,
-    /// Named in place of the detail of the rule.
+    /// Named in place of the detail of the rule. A hit has none: it would be told all the same.
     pub detail: Option<Detail>,
 }

@@ -45,6 +45,7 @@ AllowsStoring answered =
 -- "A cache MUST NOT store a response to a request unless" (RFC 9111, section 3), for a shared cache, and what the request
 -- itself forbids (RFC 9111, section 5.2.1.5)
 pub record IsStorable (asked : Asked) (answered : Answered) : Type 0 where
+  -- own: understood are GET and HEAD; of these the store takes answers to GET alone (`IsForTheStore`)
   pub method_is_understood : (asked.method ≡ codes "GET") ⊎ (asked.method ≡ codes "HEAD")
   pub status_is_final : IsFinal answered
   pub status_is_understood : NeedsUnderstanding answered → is_understood answered.status ≡ true
@@ -119,7 +120,7 @@ IsNeverStored P = (asked : Asked) (answered : Answered) (facts : Facts) → P as
 abbrev pub NoStoreForbids : Type 0
 NoStoreForbids = IsNeverStored (λ asked answered. (says answered directive.NoStore ≡ true) × (says answered directive.MustUnderstand ≡ false))
 
--- it has no-store and must-understand, with a status that isn't understood
+-- it has no-store, with must-understand or without, and a status that isn't understood
 abbrev pub NoStoreForbidsUnlessUnderstood : Type 0
 NoStoreForbidsUnlessUnderstood =
     IsNeverStored (λ asked answered. (says answered directive.NoStore ≡ true) × (is_understood answered.status ≡ false))

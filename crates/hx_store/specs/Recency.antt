@@ -1,6 +1,6 @@
 -- What is held, by a count over what was done: no list of the program in it. Histories have their latest item first.
 --
--- Done: what one step did to the store      recent_of: stored and not removed, the latest stored or used first
+-- Done: what one step did to the store      recent_of: stored or used, not removed, the latest first
 -- Held: of these, those that were never crowded out        held_of: them, in that order
 -- bounded_of: what a list does that holds no more than so many      Listed, IsLater: recent_of in words
 use Rattle.std.specs.Prelude.{◌≡◌, ℕ, suc, ◌<◌, Bool, true, false, not, cond, ◌&&◌, ◌||◌, ◌==◌, nat_lt, Option, None, Some, List, [], ◌∷◌, ◌++◌, take}
@@ -29,7 +29,8 @@ to_front (Some s) xs = s ∷ filter (λ x. not (x == s)) xs
 abbrev pub recent_after : Done → List ℕ → List ℕ
 recent_after i xs = filter (λ x. not (is_in x i.removed)) (to_front i.stored (to_front i.used xs))
 
--- the serials that were stored and not removed, the latest stored or used first; nothing is evicted
+-- the serials that were stored or used and not removed since, the latest stored or used first; nothing is evicted. In a good history
+-- only what is held is used, so these were stored.
 abbrev pub recent_of : List Done → List ℕ
 recent_of [] = []
 recent_of (i ∷ past) = recent_after i (recent_of past)
@@ -79,7 +80,8 @@ Listed past s =
     (later : List Done) × (item : Done) × (earlier : List Done) × (later ++ item ∷ earlier ≡ past)
     × (touches item s ≡ true) × (is_in s item.removed ≡ false) × NoneRemoves later s
 
--- some item stores or uses a, and neither that item nor a later one stores or uses b
+-- some item stores or uses a, and neither that item nor a later one stores or uses b. An item that stored one and used another would
+-- order the two by no such item; in a good history none does both.
 abbrev pub IsLater : List Done → ℕ → ℕ → Type 0
 IsLater past a b =
     (later : List Done) × (item : Done) × (earlier : List Done) × (later ++ item ∷ earlier ≡ past)

@@ -1,7 +1,7 @@
 -- Hosts and ports, as a Host field or an authority spells them (RFC 9110, section 7.2; RFC 3986, sections 3.2.2
 -- and 3.2.3).
--- own: a host is a name of letters, digits, `-`, `.`, `_`, or an address in brackets, so that each host has one
--- spelling but for its case ("Hosts are plain names").
+-- own: a host is a name of letters, digits, `-`, `.`, `_`, or an address in brackets: a name has no escapes. An address and a final
+-- dot are compared as they are spelled, so `[::1]` and `[0::1]` are two hosts ("Hosts are plain names").
 use Rattle.std.specs.Prelude.{ℕ, ◌+◌, ◌-◌, ◌*◌, ◌==◌, nat_le, Bool, ◌&&◌, ◌||◌, if◌then◌else◌, List, [], ◌∷◌, length, take, drop, map, slice_index, Option, Some, None}
 use Rattle.std.specs.Option.{option_and_then}
 use Rattle.std.specs.List.{list_all}

@@ -52,8 +52,8 @@ agrees sent fields =
 abbrev pub answers304 : Stored → Conditions → Answered → Bool
 answers304 entry sent answered = same_conditions (conditions_of entry.fields) sent && agrees sent answered.fields
 
--- a line that a 304 can bring: the length is that of the stored content, and an age is counted anew
--- (RFC 9111, section 3.2)
+-- a line that a 304 can bring: the length is that of the stored content (RFC 9111, section 3.2)
+-- own: nor does it bring an Age, which is counted anew
 abbrev pub is_brought : Field → Bool
 is_brought line = not (is_named (codes "Content-Length") line || is_named (codes "Age") line)
 
