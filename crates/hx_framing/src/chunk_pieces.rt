@@ -14,11 +14,9 @@ use crate::chunk_phase::Phase;
 use crate::chunk_place::Place;
 use crate::decoded::Decoded;
 use crate::fault::FrameFault;
+use crate::limits::{MOST_SIZE_LINE_BYTES, MOST_TRAILER_BYTES};
 use crate::places::rest_from;
-use crate::size_line::{MOST_SIZE_LINE_BYTES, ends_in_cr, size_at};
-
-/// The most bytes of trailers, with the empty line behind them.
-const MOST_TRAILER_BYTES: usize = 32768;
+use crate::size_line::{ends_in_cr, size_at};
 
 /// What stands at the front of the bytes.
 #[derive(Clone, Copy)]

@@ -5,6 +5,7 @@ ghost use Rattle.hx_framing.specs.Lengths.{announced_or, is_chunked, ends_in_chu
 
 use crate::content_length::length_up_to;
 use crate::fault::FrameFault;
+use crate::limits::MOST_ANNOUNCED_BYTES;
 use crate::plan::{Framing, Plan};
 use crate::request_head::Head;
 use crate::status_head::StatusHead;
@@ -228,7 +229,7 @@ pub(crate) fn announced_of(to_head: bool, head: &StatusHead) -> Option<u64>
     if !to_head || head.fields.has(b"transfer-encoding") {
         return None;
     }
-    match length_up_to(u64::MAX, &head.fields) {
+    match length_up_to(MOST_ANNOUNCED_BYTES, &head.fields) {
         Ok(length) => Some(length),
         Err(_) => None,
     }

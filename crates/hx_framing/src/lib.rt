@@ -21,6 +21,7 @@ mod head_laws;
 mod head_search;
 mod length_laws;
 mod lengths;
+mod limits;
 mod lines;
 mod places;
 mod plain;

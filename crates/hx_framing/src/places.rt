@@ -7,12 +7,6 @@ ghost use Rattle.hx_framing.specs.Searching.{Reaches, IsSearched};
 use crate::head_search::{HeadSearch, Searched};
 use memchr::memchr;
 
-/// The most bytes of a head, with the empty lines in front of it.
-pub(crate) const MOST_HEAD_BYTES: usize = 32768;
-
-/// The most field lines of a head.
-pub(crate) const MOST_FIELD_LINES: usize = 100;
-
 /// The bytes from an index on.
 pub(crate) fn rest_from(bytes: &[u8], at: usize) -> &[u8]
     requires { at ≤ length bytes.now }

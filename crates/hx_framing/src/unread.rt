@@ -5,7 +5,8 @@
 ghost use Rattle.std.specs.Prelude.{◌≡◌, ◌≤◌, ◌++◌, [], IsOk, OnOk, OnErr, length, drop};
 
 use crate::head_search::{HeadSearch, Searched};
-use crate::places::{MOST_HEAD_BYTES, first, rest_from, search_head};
+use crate::limits::MOST_HEAD_BYTES;
+use crate::places::{first, rest_from, search_head};
 use std::alloc::{AllocError, Global};
 use std::marker::Model;
 
