@@ -6,11 +6,31 @@ ghost use Rattle.hx_framing.specs.Lengths.{announced_or, is_chunked, ends_in_chu
 use crate::content_length::length_up_to;
 use crate::fault::FrameFault;
 use crate::limits::MOST_ANNOUNCED_BYTES;
-use crate::plan::{Framing, Plan};
 use crate::request_head::Head;
 use crate::status_head::StatusHead;
 use hx_fields::{Bytes, Fields, is_same_name};
 use std::alloc::{AllocError, Global};
+
+/// How long a content is.
+#[derive(Clone, Copy)]
+pub(crate) enum Framing {
+    /// There is none.
+    Nothing,
+    /// So many bytes.
+    Announced(u64),
+    /// It comes in chunks (RFC 9112, section 7.1).
+    Chunked,
+    /// It runs until the connection closes.
+    UntilClose,
+}
+
+/// What a request head says of its content.
+#[derive(Clone, Copy)]
+pub(crate) struct Plan {
+    pub(crate) framing: Framing,
+    /// The client waits for a continue before it sends the content.
+    pub(crate) wants_continue: bool,
+}
 
 /// What Content-Length announces, or what holds without it.
 fn announced_or(max_body: u64, neither: Framing, fields: &Fields) -> Result<Framing, FrameFault>
