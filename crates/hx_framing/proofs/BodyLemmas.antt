@@ -4,13 +4,13 @@ use Rattle.std.proofs.lemmas.List.{append-nil, drop-append-le, take-append-le}
 use Rattle.std.proofs.lemmas.Bool.{ltb-true, ltb-false, lt-ltb, le-ltb}
 use Rattle.hx_framing.specs.declared.fault.FrameFault.{FrameFault}
 use Rattle.hx_framing.specs.declared.fault.FrameFault.TheVariants as fault
-use Rattle.hx_framing.specs.declared.decoded.Decoded.{Decoded}
-use Rattle.hx_framing.specs.declared.decoded.Decoded.TheVariants as decoded
+use Rattle.hx_framing.specs.declared.chunk_pieces.Decoded.{Decoded}
+use Rattle.hx_framing.specs.declared.chunk_pieces.Decoded.TheVariants as decoded
 use Rattle.hx_framing.specs.declared.content.Content.{Content}
 use Rattle.hx_framing.specs.declared.content.Content.TheVariants as content
-use Rattle.hx_framing.specs.declared.taken.Taken.TheVariants as taken
-use Rattle.hx_framing.specs.declared.plan.Framing.{Framing}
-use Rattle.hx_framing.specs.declared.plan.Framing.TheVariants as framing
+use Rattle.hx_framing.specs.declared.content.Taken.TheVariants as taken
+use Rattle.hx_framing.specs.declared.lengths.Framing.{Framing}
+use Rattle.hx_framing.specs.declared.lengths.Framing.TheVariants as framing
 use Rattle.hx_framing.specs.Body.{Body, Short, Bad, Whole, IsDecided, extended_body}
 use Rattle.hx_framing.specs.Chunking.{Chunking}
 use Rattle.hx_framing.specs.Chunks.{chunks_from, start}

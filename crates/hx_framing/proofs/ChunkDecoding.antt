@@ -3,9 +3,9 @@ use Rattle.std.proofs.Common.{◌≡◌, ℕ, ◌+◌, ◌≤◌, List, ◌++◌
 use Rattle.std.proofs.Math.Seq.{take-add}
 use Rattle.std.proofs.lemmas.List.{take-append-drop, drop-drop}
 use Rattle.hx_framing.specs.declared.fault.FrameFault.{FrameFault}
-use Rattle.hx_framing.specs.declared.chunk_place.Place.{Place}
+use Rattle.hx_framing.specs.declared.chunk_state.Place.{Place}
 use Rattle.hx_framing.specs.declared.chunk_pieces.Piece.TheVariants as piece
-use Rattle.hx_framing.specs.declared.decoded.Decoded.TheVariants as decoded
+use Rattle.hx_framing.specs.declared.chunk_pieces.Decoded.TheVariants as decoded
 use Rattle.hx_framing.specs.Body.{Whole}
 use Rattle.hx_framing.specs.Chunking.{Chunking, chunking_of}
 use Rattle.hx_framing.specs.Chunks.{chunks_from, state_after}

@@ -4,8 +4,8 @@ use Rattle.std.proofs.lemmas.Bool.{leb-true, leb-false, le-ltb, lt-ltb}
 use Rattle.hx_fields.specs.Lines.{has}
 use Rattle.hx_framing.specs.declared.fault.FrameFault.{FrameFault}
 use Rattle.hx_framing.specs.declared.fault.FrameFault.TheVariants as fault
-use Rattle.hx_framing.specs.declared.plan.Framing.{Framing}
-use Rattle.hx_framing.specs.declared.plan.Framing.TheVariants as framing
+use Rattle.hx_framing.specs.declared.lengths.Framing.{Framing}
+use Rattle.hx_framing.specs.declared.lengths.Framing.TheVariants as framing
 use Rattle.hx_framing.specs.declared.request_head.Head.{Head}
 use Rattle.hx_framing.specs.declared.status_head.StatusHead.{StatusHead}
 use Rattle.hx_framing.specs.ContentLength.{content_length, length_told, length_up_to}

@@ -3,8 +3,8 @@ use Rattle.std.proofs.Common.{◌≡◌, ℕ, ◌+◌, ◌<◌, ◌≤◌, ◌-�
 use Rattle.std.proofs.lemmas.Bool.{leb-true, leb-false}
 use Rattle.std.proofs.lemmas.List.{append-nil, drop-append-le, drop-drop, take-append-le, take_all}
 use Rattle.std.proofs.Math.Seq.{take-append-add}
-use Rattle.hx_framing.specs.declared.head_search.HeadSearch.{HeadSearch}
-use Rattle.hx_framing.specs.declared.head_search.Searched.TheVariants as searched
+use Rattle.hx_framing.specs.declared.places.HeadSearch.{HeadSearch}
+use Rattle.hx_framing.specs.declared.places.Searched.TheVariants as searched
 use Rattle.hx_framing.specs.Places.{blank_from, blank_length, empty_at, empty_line_from, head_length, most_head_bytes, IsOpenHead}
 use Rattle.hx_framing.specs.Searching.{Reaches, IsSearched}
 use Rattle.hx_framing.proofs.HeadEnds.{blank_stable, empty_stands}

@@ -2,10 +2,10 @@
 use Rattle.std.proofs.Common.{◌≡◌, ℕ, ◌+◌, ◌&&◌, ◌||◌, Bool, true, false, not, cond, List, [], ◌∷◌, length, ◌==◌, nat_lt, refl, ap, Option, Some, None, Result, Ok, Err, OnErr, ok_or}
 use Rattle.hx_framing.specs.declared.fault.FrameFault.{FrameFault}
 use Rattle.hx_framing.specs.declared.fault.FrameFault.TheVariants as fault
-use Rattle.hx_framing.specs.declared.chunk_phase.Phase.{Phase}
-use Rattle.hx_framing.specs.declared.chunk_phase.Phase.TheVariants as phase
-use Rattle.hx_framing.specs.declared.plan.Framing.{Framing}
-use Rattle.hx_framing.specs.declared.plan.Framing.TheVariants as framing
+use Rattle.hx_framing.specs.declared.chunk_state.Phase.{Phase}
+use Rattle.hx_framing.specs.declared.chunk_state.Phase.TheVariants as phase
+use Rattle.hx_framing.specs.declared.lengths.Framing.{Framing}
+use Rattle.hx_framing.specs.declared.lengths.Framing.TheVariants as framing
 use Rattle.hx_framing.specs.declared.request_head.Head.{Head}
 use Rattle.hx_framing.specs.declared.status_head.StatusHead.{StatusHead}
 use Rattle.hx_framing.specs.declared.content.Content.{Content}

@@ -5,8 +5,8 @@ use Rattle.hx_framing.specs.declared.requests.Request.{Request}
 use Rattle.hx_framing.specs.declared.fault.FrameFault.{FrameFault}
 use Rattle.hx_framing.specs.declared.fault.FrameFault.TheVariants as fault
 use Rattle.hx_framing.specs.declared.content.Content.{Content}
-use Rattle.hx_framing.specs.declared.taken.Taken.{Taken}
-use Rattle.hx_framing.specs.declared.taken.Taken.TheVariants as taken
+use Rattle.hx_framing.specs.declared.content.Taken.{Taken}
+use Rattle.hx_framing.specs.declared.content.Taken.TheVariants as taken
 use Rattle.hx_framing.specs.declared.request_phase.RequestPhase.TheVariants as phase
 use Rattle.hx_framing.specs.Body.{Body, Short, Bad, Whole}
 use Rattle.hx_framing.specs.Contents.{Advances}

@@ -4,13 +4,13 @@ use Rattle.std.proofs.lemmas.Bool.{le-ltb}
 use Rattle.std.proofs.lemmas.List.{drop-append-le, take-append-le}
 use Rattle.hx_framing.specs.declared.request_head.Head.{Head}
 use Rattle.hx_framing.specs.declared.requests.Request.{Request}
-use Rattle.hx_framing.specs.declared.plan.Plan.{Plan}
+use Rattle.hx_framing.specs.declared.lengths.Plan.{Plan}
 use Rattle.hx_framing.specs.declared.fault.FrameFault.{FrameFault}
 use Rattle.hx_framing.specs.declared.fault.FrameFault.TheVariants as fault
 use Rattle.hx_framing.specs.declared.content.Content.{Content}
-use Rattle.hx_framing.specs.declared.taken.Taken.{Taken}
-use Rattle.hx_framing.specs.declared.taken.Taken.TheVariants as taken
-use Rattle.hx_framing.specs.declared.found.Found.TheVariants as found
+use Rattle.hx_framing.specs.declared.content.Taken.{Taken}
+use Rattle.hx_framing.specs.declared.content.Taken.TheVariants as taken
+use Rattle.hx_framing.specs.declared.answer.Found.TheVariants as found
 use Rattle.hx_framing.specs.Places.{head_length, blank_length}
 use Rattle.hx_framing.specs.Head.{Judges}
 use Rattle.hx_framing.specs.Lengths.{plan_of}

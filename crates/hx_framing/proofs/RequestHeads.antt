@@ -3,7 +3,7 @@ use Rattle.std.proofs.Common.{◌≡◌, ℕ, Bool, true, false, List, drop, sym
 use Rattle.hx_framing.specs.declared.request_head.Head.{Head}
 use Rattle.hx_framing.specs.declared.requests.Request.{Request}
 use Rattle.hx_framing.specs.declared.content.Content.{Content}
-use Rattle.hx_framing.specs.declared.found.Found.{Found}
+use Rattle.hx_framing.specs.declared.answer.Found.{Found}
 use Rattle.hx_framing.specs.declared.request_phase.RequestPhase.TheVariants as phase
 use Rattle.hx_framing.specs.Progress.{Progress}
 use Rattle.hx_framing.specs.RequestFound.{Resumes, IsFound}

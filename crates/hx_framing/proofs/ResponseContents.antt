@@ -5,9 +5,9 @@ use Rattle.hx_framing.specs.declared.responses.Response.{Response}
 use Rattle.hx_framing.specs.declared.fault.FrameFault.{FrameFault}
 use Rattle.hx_framing.specs.declared.fault.FrameFault.TheVariants as fault
 use Rattle.hx_framing.specs.declared.content.Content.{Content}
-use Rattle.hx_framing.specs.declared.taken.Taken.{Taken}
-use Rattle.hx_framing.specs.declared.taken.Taken.TheVariants as taken
-use Rattle.hx_framing.specs.declared.found.Found.{Found}
+use Rattle.hx_framing.specs.declared.content.Taken.{Taken}
+use Rattle.hx_framing.specs.declared.content.Taken.TheVariants as taken
+use Rattle.hx_framing.specs.declared.answer.Found.{Found}
 use Rattle.hx_framing.specs.declared.response_phase.ResponsePhase.TheVariants as phase
 use Rattle.hx_framing.specs.Body.{Body, Short, Bad, Whole}
 use Rattle.hx_framing.specs.Contents.{body_from, Advances}

@@ -4,14 +4,14 @@ use Rattle.std.proofs.lemmas.Bool.{le-ltb}
 use Rattle.std.proofs.lemmas.List.{drop-append-le, take-append-le}
 use Rattle.hx_framing.specs.declared.status_head.StatusHead.{StatusHead}
 use Rattle.hx_framing.specs.declared.responses.Response.{Response}
-use Rattle.hx_framing.specs.declared.plan.Framing.{Framing}
+use Rattle.hx_framing.specs.declared.lengths.Framing.{Framing}
 use Rattle.hx_framing.specs.declared.fault.FrameFault.{FrameFault}
 use Rattle.hx_framing.specs.declared.fault.FrameFault.TheVariants as fault
 use Rattle.hx_framing.specs.declared.content.Content.{Content}
-use Rattle.hx_framing.specs.declared.taken.Taken.{Taken}
-use Rattle.hx_framing.specs.declared.taken.Taken.TheVariants as taken
-use Rattle.hx_framing.specs.declared.found.Found.TheVariants as found
-use Rattle.hx_framing.specs.declared.status_front.StatusFront.TheVariants as front
+use Rattle.hx_framing.specs.declared.content.Taken.{Taken}
+use Rattle.hx_framing.specs.declared.content.Taken.TheVariants as taken
+use Rattle.hx_framing.specs.declared.answer.Found.TheVariants as found
+use Rattle.hx_framing.specs.declared.response_reading.StatusFront.TheVariants as front
 use Rattle.hx_framing.specs.Places.{head_length}
 use Rattle.hx_framing.specs.StatusHead.{Judges}
 use Rattle.hx_framing.specs.Lengths.{framing_of_response, is_interim}

@@ -1,7 +1,7 @@
 -- Behind the head of a final response, and in its content, the answer may want memory.
 use Rattle.std.proofs.Common.{◌≡◌, ℕ, Bool, true, not, List, [], drop, refl, sym, ap, subst, ◌∙◌, Option, Result, Ok, Err}
 use Rattle.hx_framing.specs.declared.fault.FrameFault.{FrameFault}
-use Rattle.hx_framing.specs.declared.plan.Framing.{Framing}
+use Rattle.hx_framing.specs.declared.lengths.Framing.{Framing}
 use Rattle.hx_framing.specs.declared.status_head.StatusHead.{StatusHead}
 use Rattle.hx_framing.specs.declared.responses.Response.{Response}
 use Rattle.hx_framing.specs.declared.content.Content.{Content}

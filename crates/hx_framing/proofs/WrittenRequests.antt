@@ -12,9 +12,9 @@ use Rattle.hx_fields.specs.declared.field_line.Field.{Field}
 use Rattle.hx_fields.specs.Names.{flatten, is_nonempty, joined}
 use Rattle.hx_fields.specs.Lines.{is_named, has, values_of, without_named}
 use Rattle.hx_framing.specs.declared.fault.FrameFault.TheVariants as fault
-use Rattle.hx_framing.specs.declared.plan.Framing.{Framing}
-use Rattle.hx_framing.specs.declared.plan.Framing.TheVariants as framing
-use Rattle.hx_framing.specs.declared.plan.Plan.{Plan}
+use Rattle.hx_framing.specs.declared.lengths.Framing.{Framing}
+use Rattle.hx_framing.specs.declared.lengths.Framing.TheVariants as framing
+use Rattle.hx_framing.specs.declared.lengths.Plan.{Plan}
 use Rattle.hx_framing.specs.declared.requests.Request.{Request}
 use Rattle.hx_framing.specs.Head.{Judges}
 use Rattle.hx_framing.specs.ContentLength.{comma_pieces, is_digits, length_told, one_number}

@@ -1,7 +1,7 @@
 -- What a decoder of chunks does with the bytes that it is given.
 use Rattle.std.specs.Prelude.{◌≡◌, ◌≤◌, ◌<◌, ℕ, List, ◌++◌, Some, length, drop}
-use Rattle.hx_framing.specs.declared.decoded.Decoded.{Decoded}
-use Rattle.hx_framing.specs.declared.decoded.Decoded.TheVariants as decoded
+use Rattle.hx_framing.specs.declared.chunk_pieces.Decoded.{Decoded}
+use Rattle.hx_framing.specs.declared.chunk_pieces.Decoded.TheVariants as decoded
 use Rattle.hx_framing.specs.Body.{Short, Bad, Whole}
 use Rattle.hx_framing.specs.Chunking.{Chunking}
 use Rattle.hx_framing.specs.Chunks.{chunks_from, state_after}

@@ -3,9 +3,9 @@ use Rattle.std.specs.Prelude.{ℕ, List, codes, true, false, Result, Ok}
 use Rattle.hx_fields.specs.declared.field_line.Field.{Field}
 use Rattle.hx_fields.specs.Examples.{line}
 use Rattle.hx_framing.specs.declared.fault.FrameFault.{FrameFault}
-use Rattle.hx_framing.specs.declared.plan.Framing.{Framing}
-use Rattle.hx_framing.specs.declared.plan.Framing.TheVariants as framing
-use Rattle.hx_framing.specs.declared.plan.Plan.{Plan}
+use Rattle.hx_framing.specs.declared.lengths.Framing.{Framing}
+use Rattle.hx_framing.specs.declared.lengths.Framing.TheVariants as framing
+use Rattle.hx_framing.specs.declared.lengths.Plan.{Plan}
 use Rattle.hx_framing.specs.declared.request_head.Head.{Head}
 use Rattle.hx_framing.specs.declared.status_head.StatusHead.{StatusHead}
 use Rattle.hx_framing.specs.Lengths.{plan_of, framing_of_response}

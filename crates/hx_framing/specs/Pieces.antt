@@ -1,6 +1,6 @@
 -- What it means to take a piece of content in chunks: the bytes of the piece lead from a state to the next.
 use Rattle.std.specs.Prelude.{◌≡◌, ◌≤◌, ◌<◌, ℕ, true, List, ◌++◌, Some, length, take, drop, slice_index}
-use Rattle.hx_framing.specs.declared.chunk_place.Place.{Place}
+use Rattle.hx_framing.specs.declared.chunk_state.Place.{Place}
 use Rattle.hx_framing.specs.declared.chunk_pieces.Piece.{Piece}
 use Rattle.hx_framing.specs.declared.chunk_pieces.Piece.TheVariants as piece
 use Rattle.hx_framing.specs.Body.{Bad, Whole}

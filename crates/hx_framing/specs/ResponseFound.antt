@@ -3,10 +3,10 @@ use Rattle.std.specs.Prelude.{◌≡◌, ℕ, ◌+◌, ◌<◌, ◌≤◌, ◌++
 use Rattle.hx_framing.specs.declared.status_head.StatusHead.{StatusHead}
 use Rattle.hx_framing.specs.declared.responses.Response.{Response}
 use Rattle.hx_framing.specs.declared.content.Content.{Content}
-use Rattle.hx_framing.specs.declared.found.Found.{Found}
-use Rattle.hx_framing.specs.declared.found.Found.TheVariants as found
-use Rattle.hx_framing.specs.declared.status_front.StatusFront.{StatusFront}
-use Rattle.hx_framing.specs.declared.status_front.StatusFront.TheVariants as front
+use Rattle.hx_framing.specs.declared.answer.Found.{Found}
+use Rattle.hx_framing.specs.declared.answer.Found.TheVariants as found
+use Rattle.hx_framing.specs.declared.response_reading.StatusFront.{StatusFront}
+use Rattle.hx_framing.specs.declared.response_reading.StatusFront.TheVariants as front
 use Rattle.hx_framing.specs.Places.{head_length, most_head_bytes, IsOpenHead}
 use Rattle.hx_framing.specs.StatusHead.{Judges}
 use Rattle.hx_framing.specs.Lengths.{is_interim}

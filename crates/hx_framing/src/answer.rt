@@ -1,5 +1,6 @@
-//! What a reader answers.
+//! What a reader finds in its unread bytes, and what it answers.
 
+use crate::content::Content;
 use crate::fault::FrameFault;
 
 /// What is due on a stream of messages.
@@ -14,4 +15,18 @@ pub enum Next<M> {
     Refused(FrameFault),
     /// No further message comes.
     End,
+}
+
+/// What stands at the front of unread bytes: what is due, and how many bytes it takes. H is a head, M a message.
+#[derive(Drop)]
+pub(crate) enum Found<H, M> {
+    /// Nothing yet.
+    Incomplete(usize),
+    /// A continue, before the content.
+    Continue(H, Content, usize),
+    /// Nothing before the content goes on.
+    Going(H, Content, usize),
+    Message(M, usize),
+    Faulty(FrameFault),
+    Over,
 }

@@ -2,7 +2,7 @@
 //!
 //! `specs/Pieces.antt` says what it means to take one. Nothing here takes memory.
 ghost use Rattle.std.specs.Prelude.{◌≡◌, ◌≤◌, ◌<◌, ◌+◌, ◌-◌, ℕ, List, true, cond, nat_lt, length, take, vec_len, vec_capacity, IfSome, IfNone};
-ghost use Rattle.hx_framing.specs.declared.chunk_phase.Phase.TheVariants as phase;
+ghost use Rattle.hx_framing.specs.declared.chunk_state.Phase.TheVariants as phase;
 ghost use Rattle.hx_framing.specs.declared.chunk_pieces.Piece.TheVariants as piece;
 ghost use Rattle.hx_framing.specs.declared.fault.FrameFault.TheVariants as fault;
 ghost use Rattle.hx_framing.specs.ChunkGrammar.{has_no_lf};
@@ -10,15 +10,11 @@ ghost use Rattle.hx_framing.specs.Chunking.{NeedsData, chunking_of};
 ghost use Rattle.hx_framing.specs.Decoding.{Decodes};
 ghost use Rattle.hx_framing.specs.Pieces.{Takes, IsLineFeed, bytes_of};
 
-use crate::chunk_phase::Phase;
-use crate::chunk_place::Place;
-use crate::decoded::Decoded;
+use crate::chunk_state::{Phase, Place};
 use crate::fault::FrameFault;
+use crate::limits::{MOST_SIZE_LINE_BYTES, MOST_TRAILER_BYTES};
 use crate::places::rest_from;
-use crate::size_line::{MOST_SIZE_LINE_BYTES, ends_in_cr, size_at};
-
-/// The most bytes of trailers, with the empty line behind them.
-const MOST_TRAILER_BYTES: usize = 32768;
+use crate::size_line::{ends_in_cr, size_at};
 
 /// What stands at the front of the bytes.
 #[derive(Clone, Copy)]
@@ -29,6 +25,17 @@ pub(crate) enum Piece {
     Taken(usize, Place),
     /// The last piece, of so many bytes.
     Last(usize),
+    Faulty(FrameFault),
+}
+
+/// How far the bytes that were given went: how many of them were taken.
+#[derive(Clone, Copy)]
+pub(crate) enum Decoded {
+    /// More are needed. What wasn't taken has to stand at the front of what is given next.
+    More(usize),
+    /// They end the content.
+    Whole(usize),
+    /// They spell no content in chunks, whatever follows.
     Faulty(FrameFault),
 }
 

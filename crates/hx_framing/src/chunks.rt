@@ -5,10 +5,8 @@
 //! here; it stays with the caller.
 ghost use Rattle.std.specs.Prelude.{◌≡◌, ◌≤◌, IfOk, OnErr, true, length, take};
 
-use crate::chunk_phase::Phase;
-use crate::chunk_pieces::take_pieces;
-use crate::chunk_place::Place;
-use crate::decoded::Decoded;
+use crate::chunk_pieces::{Decoded, take_pieces};
+use crate::chunk_state::{Phase, Place};
 use hx_fields::Bytes;
 use std::alloc::{AllocError, Global};
 use std::marker::Model;

@@ -1,7 +1,26 @@
-//! What is still to come of a content.
+//! Contents of messages as they come (RFC 9112, section 6). The definitions are in `specs/Contents.antt`.
+ghost use Rattle.std.specs.Prelude.{◌≡◌, ◌≤◌, IfOk, OnErr, Bool, true, length, take};
+ghost use Rattle.hx_framing.specs.declared.content.Content.TheVariants as content;
+ghost use Rattle.hx_framing.specs.ChunkGrammar.{has_no_lf};
+ghost use Rattle.hx_framing.specs.Contents.{begun, Advances};
 
+use crate::chunk_pieces::Decoded;
 use crate::chunks::Chunks;
+use crate::fault::FrameFault;
+use crate::lengths::Framing;
 use crate::plain::Plain;
+use hx_fields::Bytes;
+use std::alloc::{AllocError, Global};
+
+/// A content, as far as the bytes go.
+#[derive(Drop)]
+pub(crate) enum Taken {
+    /// It goes on behind so many bytes.
+    Short(usize),
+    Bad(FrameFault),
+    /// It ends behind so many bytes.
+    Whole(Option<Bytes>, usize),
+}
 
 /// A content that was begun. Its bytes are taken as they come, and each once.
 pub(crate) enum Content {
@@ -22,5 +41,61 @@ impl Drop for Content {
             Content::Chunked(_) => {}
             Content::UntilClose(_) => {}
         }
+    }
+}
+
+impl Content {
+    /// A content of which nothing was taken.
+    pub(crate) fn begun(alloc: Global, max_body: u64, framing: Framing) -> Content
+        ensures { result ≡ begun max_body framing }
+    {
+        match framing {
+            Framing::Nothing => Content::Nothing,
+            Framing::Announced(n) => Content::Announced(Plain::start(alloc, n)),
+            Framing::Chunked => Content::Chunked(Chunks::start(alloc, max_body)),
+            Framing::UntilClose => Content::UntilClose(Plain::start(alloc, max_body)),
+        }
+    }
+
+    /// Goes on with the bytes that are there; `ended` says that no more come. No LF stands in the first `searched` of
+    /// them. An `Err` changes nothing.
+    pub(crate) fn advance(
+        &mut self,
+        alloc: Global,
+        ended: bool,
+        bytes: &[u8],
+        searched: usize,
+    ) -> Result<Taken, AllocError>
+        requires within { searched ≤ length bytes.now }
+        requires none { has_no_lf (take searched bytes.now) ≡ true }
+        ensures ok { IfOk result (λ taken. Advances ended bytes.now self.old taken self.new) }
+        ensures err { OnErr result (self.new ≡ self.old) }
+    {
+        match self {
+            Content::Nothing => Ok(Taken::Whole(None, 0)),
+            Content::Announced(plain) => plain.take_announced(alloc, bytes),
+            Content::Chunked(chunks) => decode_chunks(chunks, alloc, bytes, searched),
+            Content::UntilClose(plain) => plain.take_until_close(alloc, ended, bytes),
+        }
+    }
+}
+
+/// A content in chunks. What was decoded is taken.
+fn decode_chunks(
+    chunks: &mut Chunks,
+    alloc: Global,
+    bytes: &[u8],
+    searched: usize,
+) -> Result<Taken, AllocError>
+    requires within { searched ≤ length bytes.now }
+    requires none { has_no_lf (take searched bytes.now) ≡ true }
+    ensures ok { IfOk result (λ taken. (ended : Bool)
+        → Advances ended bytes.now (content.Chunked chunks.old) taken (content.Chunked chunks.new)) }
+    ensures err { OnErr result (chunks.new ≡ chunks.old) }
+{
+    match chunks.decode(bytes, searched)? {
+        Decoded::More(n) => Ok(Taken::Short(n)),
+        Decoded::Whole(n) => Ok(Taken::Whole(Some(chunks.take_content(alloc)), n)),
+        Decoded::Faulty(fault) => Ok(Taken::Bad(fault)),
     }
 }

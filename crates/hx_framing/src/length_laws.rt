@@ -2,7 +2,7 @@
 ghost use Rattle.std.specs.Prelude.{◌≡◌, ◌∷◌, [], codes, Some, None, Ok, Err, true, false};
 ghost use Rattle.hx_fields.specs.Examples.{line};
 ghost use Rattle.hx_framing.specs.declared.fault.FrameFault.TheVariants as fault;
-ghost use Rattle.hx_framing.specs.declared.plan.Framing.TheVariants as framing;
+ghost use Rattle.hx_framing.specs.declared.lengths.Framing.TheVariants as framing;
 ghost use Rattle.hx_framing.specs.Lengths.{announced_of, without_lengths};
 ghost use Rattle.hx_framing.specs.LengthExamples.{length_line, coding_line, expect_line, response_head, asks, answers, answers_head, plain, of_length, waiting};
 

@@ -5,11 +5,32 @@ ghost use Rattle.hx_framing.specs.Lengths.{announced_or, is_chunked, ends_in_chu
 
 use crate::content_length::length_up_to;
 use crate::fault::FrameFault;
-use crate::plan::{Framing, Plan};
+use crate::limits::MOST_ANNOUNCED_BYTES;
 use crate::request_head::Head;
 use crate::status_head::StatusHead;
 use hx_fields::{Bytes, Fields, is_same_name};
 use std::alloc::{AllocError, Global};
+
+/// How long a content is.
+#[derive(Clone, Copy)]
+pub(crate) enum Framing {
+    /// There is none.
+    Nothing,
+    /// So many bytes.
+    Announced(u64),
+    /// It comes in chunks (RFC 9112, section 7.1).
+    Chunked,
+    /// It runs until the connection closes.
+    UntilClose,
+}
+
+/// What a request head says of its content.
+#[derive(Clone, Copy)]
+pub(crate) struct Plan {
+    pub(crate) framing: Framing,
+    /// The client waits for a continue before it sends the content.
+    pub(crate) wants_continue: bool,
+}
 
 /// What Content-Length announces, or what holds without it.
 fn announced_or(max_body: u64, neither: Framing, fields: &Fields) -> Result<Framing, FrameFault>
@@ -228,7 +249,7 @@ pub(crate) fn announced_of(to_head: bool, head: &StatusHead) -> Option<u64>
     if !to_head || head.fields.has(b"transfer-encoding") {
         return None;
     }
-    match length_up_to(u64::MAX, &head.fields) {
+    match length_up_to(MOST_ANNOUNCED_BYTES, &head.fields) {
         Ok(length) => Some(length),
         Err(_) => None,
     }

@@ -3,32 +3,55 @@
 //! A reader is fed pieces and asked for what is due. What it answers depends on the bytes alone, never on
 //! how they were cut: `specs/RequestStream.antt` and `specs/ResponseStream.antt` say what a stream spells.
 //! Nothing here knows what a message means.
+//!
+//! To trust what is proved, read these definitions of `specs/`, with `httparse`'s grammar of heads and `hx_fields`:
+//!
+//! | File | It says | RFC |
+//! |---|---|---|
+//! | `RequestStream` | which requests a stream spells, and the one answer that is due behind them | 9112, 2 to 7 and 9.3 |
+//! | `ResponseStream` | the same of a response, and the end behind it | 9112, 4, 6 and 9.3 |
+//! | `Progress` | a stream so far, what was given of it, and which answers want of memory may hide | |
+//! | `Reading`, `Body` | what may stand at the front of bytes, and behind a head | 9112, 8 |
+//! | `RequestReading` | a head, its plan, its content: what stands at the front of requests | 9112, 2 and 6 |
+//! | `ResponseReading` | the same of a response, behind the interim ones | 9112, 4 and 6; 9110, 15.2 |
+//! | `Places` | where a head ends, and its limits in bytes and lines | 9112, 2.2 |
+//! | `Head` | which bytes are a request's head, what it gives, its fault | 9112, 2 to 5 |
+//! | `StatusHead` | the same of a response's head | 9112, 2, 4 and 5 |
+//! | `Version` | which start lines name another version | 9112, 2.3 |
+//! | `Lengths` | how long the content is by the fields, each fault, the continue | 9112, 6; 9110, 10.1.1 |
+//! | `ContentLength` | which length Content-Length lines tell | 9110, 8.6; 9112, 6.3 |
+//! | `Contents` | the content by its framing (`body_at`) | 9112, 6 |
+//! | `Chunks`, `Chunking` | content in chunks, a byte at a time, each fault at its byte | 9112, 7.1 |
+//! | `SizeLine` | which lines are sizes of chunks, and their limits | 9112, 7.1 and 7.1.1 |
+//! | `Fault`, `FaultTexts` | the faults' numbers and texts | |
+//! | `RequestState`, `ResponseState` | what `kept`, `weight` and `unfinished` count, the last by `IsOpen` of `Contents` and `IsOpenLine` of `Pieces` | |
+//! | `Text` | the bytes of messages that are sent | 9112, 3 to 7 |
+//!
+//! The laws' own words are in `ChunkGrammar` (chunks as trees), `HeadLines`, `Written`, `WrittenResponse`, `Examples` and
+//! `LengthExamples`. The rest serves the proofs alone and needs no trust: `RequestFound`, `ResponseFound`, `Decoding`,
+//! `PlainContent`, `Queue`, `Searching`, what else is in `Pieces`; and so does `StandsFor`, which may be any relation that
+//! holds of a new reader and that each call keeps.
 #![tactic(auto)]
 
 mod answer;
 pub mod bound_laws;
 pub mod chunk_fault_laws;
 pub mod chunk_laws;
-mod chunk_phase;
 mod chunk_pieces;
-mod chunk_place;
+mod chunk_state;
 mod chunks;
 mod content;
 mod content_length;
-mod content_reading;
-mod decoded;
 pub mod existence_laws;
 mod fault;
-mod found;
 mod head_laws;
-mod head_search;
 mod length_laws;
 mod lengths;
+mod limits;
 mod lines;
 pub mod order_laws;
 mod places;
 mod plain;
-mod plan;
 pub mod reading_laws;
 mod request_head;
 pub mod request_laws;
@@ -42,10 +65,8 @@ mod response_reader;
 mod response_reading;
 mod responses;
 mod size_line;
-mod status_front;
 mod status_head;
 pub mod stream_laws;
-mod taken;
 mod text_laws;
 mod unread;
 pub mod value_laws;

@@ -4,14 +4,24 @@ ghost use Rattle.std.specs.List.{position_or_len, before_first};
 ghost use Rattle.hx_framing.specs.Places.{blank_at, blank_from, empty_at, blank_length, empty_line_from, head_length};
 ghost use Rattle.hx_framing.specs.Searching.{Reaches, IsSearched};
 
-use crate::head_search::{HeadSearch, Searched};
 use memchr::memchr;
 
-/// The most bytes of a head, with the empty lines in front of it.
-pub(crate) const MOST_HEAD_BYTES: usize = 32768;
+/// A search goes on from here when more bytes come.
+#[derive(Clone, Copy)]
+pub(crate) struct HeadSearch {
+    /// The bytes in front of this index are looked at no more.
+    pub(crate) at: usize,
+    /// It is behind the empty lines in front of the head.
+    pub(crate) in_lines: bool,
+}
 
-/// The most field lines of a head.
-pub(crate) const MOST_FIELD_LINES: usize = 100;
+/// What a search finds.
+#[derive(Clone, Copy)]
+pub(crate) enum Searched {
+    /// The head takes so many bytes.
+    Ended(usize),
+    Open(HeadSearch),
+}
 
 /// The bytes from an index on.
 pub(crate) fn rest_from(bytes: &[u8], at: usize) -> &[u8]

@@ -1,8 +1,8 @@
 //! A content that comes as it is, in no coding.
 ghost use Rattle.std.specs.Prelude.{◌≡◌, ◌≤◌, Bool, IfOk, OnOk, OnErr, length};
 
+use crate::content::Taken;
 use crate::fault::FrameFault;
-use crate::taken::Taken;
 use hx_fields::Bytes;
 use std::alloc::{AllocError, Global};
 use std::marker::Model;

@@ -9,8 +9,8 @@ ghost use Rattle.hx_framing.specs.RequestReading.{request_of};
 
 use crate::fault::FrameFault;
 use crate::lengths::without_lengths;
+use crate::limits::MOST_FIELD_LINES;
 use crate::lines::{fields_at, part_at};
-use crate::places::MOST_FIELD_LINES;
 use crate::requests::Request;
 use crate::version::request_has_other_version;
 use http::Method;

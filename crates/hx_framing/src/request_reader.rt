@@ -5,15 +5,13 @@ ghost use Rattle.hx_framing.specs.declared.requests.Request.{Request};
 ghost use Rattle.hx_framing.specs.Progress.{Progress, start, fed, finished, moved, cost};
 ghost use Rattle.hx_framing.specs.RequestStream.{Answers, NeedsMemory};
 
-use crate::answer::Next;
-use crate::content::Content;
+use crate::answer::{Found, Next};
+use crate::content::{Content, Taken};
 use crate::fault::FrameFault;
-use crate::found::Found;
 use crate::request_head::Head;
 use crate::request_phase::RequestPhase;
 use crate::request_reading::read_request;
 use crate::requests::Request;
-use crate::taken::Taken;
 use crate::unread::Unread;
 use std::alloc::{AllocError, Global};
 use std::fmt::{self, Debug, Formatter};

@@ -6,15 +6,14 @@ ghost use Rattle.hx_framing.specs.Head.{Judges};
 ghost use Rattle.hx_framing.specs.Lengths.{plan_of};
 ghost use Rattle.hx_framing.specs.RequestFound.{IsFound, HasHead};
 
-use crate::content::Content;
+use crate::answer::Found;
+use crate::content::{Content, Taken};
 use crate::fault::FrameFault;
-use crate::found::Found;
-use crate::lengths::plan_of;
-use crate::places::{MOST_HEAD_BYTES, blank_length, rest_from};
-use crate::plan::Plan;
+use crate::lengths::{Plan, plan_of};
+use crate::limits::MOST_HEAD_BYTES;
+use crate::places::{blank_length, rest_from};
 use crate::request_head::{Head, judge_head};
 use crate::requests::Request;
-use crate::taken::Taken;
 use std::alloc::{AllocError, Global};
 
 /// Where no head ends within the limit.

@@ -5,15 +5,13 @@ ghost use Rattle.hx_framing.specs.declared.responses.Response.{Response};
 ghost use Rattle.hx_framing.specs.Progress.{Progress, start, fed, finished, moved, IsDue, cost};
 ghost use Rattle.hx_framing.specs.ResponseStream.{Answers, NeedsMemory};
 
-use crate::answer::Next;
-use crate::content::Content;
+use crate::answer::{Found, Next};
+use crate::content::{Content, Taken};
 use crate::fault::FrameFault;
-use crate::found::Found;
 use crate::response_phase::ResponsePhase;
 use crate::response_reading::{read_response, response_of};
 use crate::responses::Response;
 use crate::status_head::StatusHead;
-use crate::taken::Taken;
 use crate::unread::Unread;
 use std::alloc::{AllocError, Global};
 use std::fmt::{self, Debug, Formatter};

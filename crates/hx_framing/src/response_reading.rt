@@ -2,23 +2,31 @@
 //! `specs/ResponseFound.antt`.
 ghost use Rattle.std.specs.Prelude.{◌≡◌, ◌≤◌, IfOk, OnErr, Ok, ℕ, Bool, length, take};
 ghost use Rattle.hx_framing.specs.Places.{head_length as head_length_of, most_head_bytes};
-ghost use Rattle.hx_framing.specs.declared.status_front.StatusFront.TheVariants as front;
+ghost use Rattle.hx_framing.specs.declared.response_reading.StatusFront.TheVariants as front;
 ghost use Rattle.hx_framing.specs.Lengths.{framing_of_response};
 ghost use Rattle.hx_framing.specs.ResponseReading.{content_of, response_of};
 ghost use Rattle.hx_framing.specs.ResponseFound.{IsFound, IsFront, HasFinal};
 
-use crate::content::Content;
+use crate::answer::Found;
+use crate::content::{Content, Taken};
 use crate::fault::FrameFault;
-use crate::found::Found;
-use crate::lengths::{announced_of, framing_of_response, without_lengths};
-use crate::places::{MOST_HEAD_BYTES, head_within, rest_from};
-use crate::plan::Framing;
+use crate::lengths::{Framing, announced_of, framing_of_response, without_lengths};
+use crate::limits::MOST_HEAD_BYTES;
+use crate::places::{head_within, rest_from};
 use crate::responses::Response;
-use crate::status_front::StatusFront;
 use crate::status_head::{Judged, StatusHead, judge_head};
-use crate::taken::Taken;
 use hx_fields::Bytes;
 use std::alloc::{AllocError, Global};
+
+/// What stands behind the interim responses in front.
+#[derive(Drop)]
+pub(crate) enum StatusFront {
+    /// They take so many bytes, and no head ends behind them.
+    Open(usize),
+    Faulty(FrameFault),
+    /// The head of a final response, and where it ends.
+    Final(StatusHead, usize),
+}
 
 /// The bytes of a content; no content has none.
 fn content_of(alloc: Global, content: Option<Bytes>) -> Bytes

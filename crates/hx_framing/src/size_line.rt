@@ -6,15 +6,7 @@ ghost use Rattle.std.specs.Str.Parse.{digits_value};
 ghost use Rattle.hx_framing.specs.SizeLine.{starts_well, is_line_byte, is_extension, hex_length, is_size, ends_in_cr, but_last, capped, size_at};
 
 use crate::fault::FrameFault;
-
-/// The most digits of a size.
-const MOST_SIZE_DIGITS: usize = 15;
-
-/// The most bytes behind the digits of a size, without the CRLF.
-const MOST_EXTENSION_BYTES: usize = 256;
-
-/// The most bytes of a size line, with its CRLF.
-pub(crate) const MOST_SIZE_LINE_BYTES: usize = MOST_SIZE_DIGITS + MOST_EXTENSION_BYTES + 2;
+use crate::limits::{MOST_EXTENSION_BYTES, MOST_SIZE_DIGITS};
 
 fn is_line_byte(b: u8) -> bool
     ensures { result ≡ is_line_byte b }

@@ -8,8 +8,8 @@ ghost use Rattle.hx_framing.specs.StatusHead.{IsStatusHead, JudgesAs, status_hea
 
 use crate::fault::FrameFault;
 use crate::lengths::is_interim;
+use crate::limits::MOST_FIELD_LINES;
 use crate::lines::fields_at;
-use crate::places::MOST_FIELD_LINES;
 use crate::version::response_has_other_version;
 use httparse::Status;
 use httparse::spans::{EMPTY_HEADER_SPAN, HeaderSpan, ResponseSpans, parse_response};

@@ -4,8 +4,8 @@
 //! they were searched for the end of a head or of a line is remembered, so that none is searched again for each piece.
 ghost use Rattle.std.specs.Prelude.{◌≡◌, ◌≤◌, ◌++◌, [], IsOk, OnOk, OnErr, length, drop};
 
-use crate::head_search::{HeadSearch, Searched};
-use crate::places::{MOST_HEAD_BYTES, first, rest_from, search_head};
+use crate::limits::MOST_HEAD_BYTES;
+use crate::places::{HeadSearch, Searched, first, rest_from, search_head};
 use std::alloc::{AllocError, Global};
 use std::marker::Model;
 

@@ -1,6 +1,6 @@
 use Rattle.std.proofs.Common.{◌≡◌, ◌<◌, ◌++◌, ◌-◌, length, take, ℕ, List, sym, ap, ◌∙◌, subst, arith}
 use Rattle.std.proofs.lemmas.Bool.{eqb-false}
-use Rattle.hx_framing.specs.declared.chunk_phase.Phase.TheVariants as phase
+use Rattle.hx_framing.specs.declared.chunk_state.Phase.TheVariants as phase
 use Rattle.hx_framing.specs.declared.chunk_pieces.Piece.TheVariants as piece
 use Rattle.hx_framing.specs.Pieces.{Takes}
 use Rattle.hx_framing.proofs.ChunkPieces.{data_some, data_all}

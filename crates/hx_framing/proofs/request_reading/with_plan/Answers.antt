@@ -1,7 +1,7 @@
 use Rattle.std.proofs.Common.{◌+◌, sym, subst}
 use Rattle.hx_framing.specs.declared.requests.Request.{Request}
 use Rattle.hx_framing.specs.declared.content.Content.{Content}
-use Rattle.hx_framing.specs.declared.found.Found.TheVariants as found
+use Rattle.hx_framing.specs.declared.answer.Found.TheVariants as found
 use Rattle.hx_framing.specs.RequestFound.{IsFound, HasHead}
 use Rattle.hx_framing.proofs.MemoryLemmas.{on_err}
 use Rattle.hx_framing.proofs.RequestFinding.{Begins, place_within, took, found_continue, found_cut, found_going, found_bad, found_message}

@@ -1,5 +1,5 @@
 use Rattle.std.proofs.Common.{sym, subst, ◌∙◌}
-use Rattle.hx_framing.specs.declared.status_front.StatusFront.{StatusFront}
+use Rattle.hx_framing.specs.declared.response_reading.StatusFront.{StatusFront}
 use Rattle.hx_framing.specs.ResponseFound.{IsFront, HasFinal}
 use Rattle.hx_framing.proofs.MemoryLemmas.{on_err}
 use Rattle.hx_framing.proofs.ResponseFinding.{found_refused, found_unframed}

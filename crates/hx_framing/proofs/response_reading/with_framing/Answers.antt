@@ -1,7 +1,7 @@
 use Rattle.std.proofs.Common.{◌+◌, sym, subst}
 use Rattle.hx_framing.specs.declared.responses.Response.{Response}
-use Rattle.hx_framing.specs.declared.found.Found.TheVariants as found
-use Rattle.hx_framing.specs.declared.taken.Taken.TheVariants as taken
+use Rattle.hx_framing.specs.declared.answer.Found.TheVariants as found
+use Rattle.hx_framing.specs.declared.content.Taken.TheVariants as taken
 use Rattle.hx_framing.specs.ResponseFound.{IsFound, HasFinal}
 use Rattle.hx_framing.proofs.MemoryLemmas.{on_err}
 use Rattle.hx_framing.proofs.ResponseFinding.{took, found_cut, found_going, found_bad, found_message}

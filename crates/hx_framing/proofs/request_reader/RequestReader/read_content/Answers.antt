@@ -1,6 +1,6 @@
 use Rattle.std.proofs.Common.{ℕ, List, drop, refl, sym, ap, ◌∙◌, subst}
 use Rattle.hx_framing.specs.declared.requests.Request.{Request}
-use Rattle.hx_framing.specs.declared.taken.Taken.TheVariants as taken
+use Rattle.hx_framing.specs.declared.content.Taken.TheVariants as taken
 use Rattle.hx_framing.specs.Queue.{Queue}
 use Rattle.hx_framing.specs.Reading.{Spelled}
 use Rattle.hx_framing.specs.RequestReading.{Reads}

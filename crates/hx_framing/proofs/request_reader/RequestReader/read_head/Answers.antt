@@ -1,6 +1,6 @@
 use Rattle.std.proofs.Common.{ℕ, List, drop, refl, sym, ap, ◌∙◌, subst}
 use Rattle.hx_framing.specs.declared.requests.Request.{Request}
-use Rattle.hx_framing.specs.declared.found.Found.TheVariants as found
+use Rattle.hx_framing.specs.declared.answer.Found.TheVariants as found
 use Rattle.hx_framing.specs.Queue.{Queue}
 use Rattle.hx_framing.specs.Reading.{Incomplete, Continue, Over, Spelled, Faulty}
 use Rattle.hx_framing.specs.RequestReading.{Reads}

@@ -1,6 +1,6 @@
 use Rattle.std.proofs.Common.{Bool, drop, refl, sym, ap, ◌∙◌, subst}
 use Rattle.hx_framing.specs.declared.responses.Response.{Response}
-use Rattle.hx_framing.specs.declared.taken.Taken.TheVariants as taken
+use Rattle.hx_framing.specs.declared.content.Taken.TheVariants as taken
 use Rattle.hx_framing.specs.Queue.{Queue}
 use Rattle.hx_framing.specs.Reading.{Spelled}
 use Rattle.hx_framing.specs.ResponseReading.{response_of, Reads}

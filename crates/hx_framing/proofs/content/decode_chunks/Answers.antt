@@ -1,5 +1,5 @@
 use Rattle.hx_framing.proofs.BodyLemmas.{decoded_more, decoded_whole, decoded_bad}
-use Rattle.hx_framing.proofs.content_reading.decode_chunks.Goals as goal
+use Rattle.hx_framing.proofs.content.decode_chunks.Goals as goal
 
 pub returns-in-More-clause-ok : goal.returns-in-More-clause-ok
 returns-in-More-clause-ok c = λ ended. decoded_more _ _ _ _ _ ended c.in-More.is c.in_ok-n.ensures.decodes

@@ -1,6 +1,17 @@
-//! How far content in chunks has come, without its data.
+//! How far content in chunks has come, without its data (RFC 9112, section 7.1).
 
-use crate::chunk_phase::Phase;
+/// What comes next.
+#[derive(Clone, Copy)]
+pub(crate) enum Phase {
+    /// A size line.
+    Size,
+    /// Data of a chunk, at least one byte.
+    Data,
+    /// The CRLF behind the data.
+    DataEnd,
+    /// A trailer line, or the empty line behind the trailers.
+    Trailers,
+}
 
 /// What comes next, and what the limits leave.
 #[derive(Clone, Copy)]
