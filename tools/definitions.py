@@ -52,6 +52,15 @@ class Copy:
                     self.files[os.path.relpath(f"{at}/{name}", crate.folder)] = rt.rtlib.text_of(f"{at}/{name}")
         named = re.compile(r"src/((?:\w+/)*\w*(?:laws|cases))\.rt$")
         self.laws = [it[1] for it in map(named.match, self.files) if it]
+        self.values = {it for path, text in self.files.items() if path.startswith("src/") for it in self.values_in(text)}
+
+    def values_in(self, text):
+        """The modules of the types by which contracts see those of this source. A type of the program that holds one of these is seen
+        by the crate's own module, never by a copy, so the set that changes nothing leaves them alone where nothing below them changes."""
+        for body in re.findall(r"^impl\b[^\n]* Model for .*?^\}", text, re.M | re.S):
+            seen = {it for value in re.findall(r"ghost Value = \{(.*?)\};", body, re.S) for it in re.findall(r"\w+", value)}
+            imports = re.findall(rf"ghost use Rattle\.{self.crate.name}\.(specs\.\w+)\.\{{(.*?)\}};", body, re.S)
+            yield from (module for module, names in imports if seen & set(re.findall(r"\w+", names)))
 
     def module(self, path):
         """`specs.Rules` of specs/Rules.antt, and None of what no other file imports."""
@@ -189,7 +198,7 @@ def try_some(rt, crate, mutants, kept):
 def try_by(is_computed, rt, crate, mutants, kept):
     """Tries these mutants in one copy, by the laws that are computed or by the others."""
     copy = Copy(rt, crate, is_computed)
-    same = {it: text for it, text in copy.files.items() if it.startswith("specs/") and copy.module(it)}
+    same = {it: text for it, text in copy.files.items() if it.startswith("specs/") and copy.module(it) and copy.module(it) not in copy.values}
     sets = {0: copy.texts_of(0, same), **{at + 1: copy.texts_of(at + 1, it.texts) for at, it in enumerate(mutants)}}
     if not any(laws for number, (_texts, laws) in sets.items() if number):
         return [Tried(it, []) for it in mutants]

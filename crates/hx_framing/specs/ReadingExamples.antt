@@ -1,6 +1,6 @@
 -- Messages of the RFCs and of the project's own vectors, for worked readings: what whole streams read as where at most 1000 bytes
 -- of content are taken.
-use Rattle.std.specs.Prelude.{ℕ, Bool, true, false, List, [], ◌∷◌, ◌++◌, codes, Option, None}
+use Rattle.std.specs.Prelude.{ℕ, Bool, true, false, List, [], ◌∷◌, ◌++◌, codes, Option, Some, None}
 use Rattle.hx_fields.specs.declared.field_line.Field.{Field}
 use Rattle.hx_fields.specs.Examples.{line}
 use Rattle.hx_framing.specs.declared.requests.Request.{Request}
@@ -101,3 +101,11 @@ behind ended given =
 abbrev pub hello_behind : Bool → List Response → Progress Response
 hello_behind ended given =
     record { max_body = 1000; to_head = false; stream = hello_response; ended = ended; given = given; told = false }
+
+abbrev pub hi : Request
+hi = put_with [] (Some (codes "hi"))
+
+-- a stream of requests, whether it has ended, what was given of it, and whether the next continue was
+abbrev pub waiting : Bool → List ℕ → Bool → List Request → Bool → Progress Request
+waiting to_head stream ended given told =
+    record { max_body = 1000; to_head = to_head; stream = stream; ended = ended; given = given; told = told }

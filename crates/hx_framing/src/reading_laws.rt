@@ -122,6 +122,7 @@ pub fn statuses_are_read()
 /// A client that expects a continue gets it before its content (RFC 9110, section 10.1.1); no other expectation is met.
 pub fn expectations_are_read()
     ensures waits { asks (put (codes "Expect: 100-continue\r\nContent-Length: 2\r\n")) Continue }
+    ensures one_byte { asks (put (codes "Expect: 100-continue\r\nContent-Length: 1\r\n")) Continue }
     ensures content_there { asks (put (codes "Expect: 100-Continue\r\nContent-Length: 2\r\n") ++ codes "hi") Continue }
     ensures given { asks_told (put (codes "Expect: 100-continue\r\nContent-Length: 2\r\n") ++ codes "hi!") (Spelled (put_with (line (codes "Expect") (codes "100-continue") ∷ []) (Some (codes "hi"))) (codes "!")) }
     ensures given_open { asks_told (put (codes "Expect: 100-continue\r\nContent-Length: 2\r\n") ++ codes "h") Incomplete }

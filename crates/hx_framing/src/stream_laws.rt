@@ -1,8 +1,11 @@
 //! What a reader answers of whole streams, one message after another, computed from the definitions.
-ghost use Rattle.std.specs.Prelude.{◌∷◌, [], true, false, codes, Some};
+ghost use Rattle.std.specs.Prelude.{◌≡◌, ◌∷◌, [], true, false, codes, Some};
 ghost use Rattle.hx_framing.specs.declared.answer.Next.TheVariants as next;
 ghost use Rattle.hx_framing.specs.declared.fault.FrameFault.TheVariants as fault;
-ghost use Rattle.hx_framing.specs.ReadingExamples.{behind, hello_answered, hello_behind, in_a_row, put_with};
+ghost use Rattle.hx_framing.specs.declared.requests.Request.{Request};
+ghost use Rattle.hx_framing.specs.Progress.{fed, finished, moved, next_of, start};
+ghost use Rattle.hx_framing.specs.Reading.{Continue, Faulty, Incomplete, Over, Spelled};
+ghost use Rattle.hx_framing.specs.ReadingExamples.{behind, hello_answered, hello_behind, hi, in_a_row, put_with, waiting};
 ghost use Rattle.hx_framing.specs.RequestStream as request;
 ghost use Rattle.hx_framing.specs.ResponseStream as response;
 
@@ -24,4 +27,27 @@ pub fn a_response_is_given()
     ensures first { response.Answers (hello_behind false []) (next.Message hello_answered) }
     ensures end { response.Answers (hello_behind false (hello_answered ∷ [])) next.End }
     ensures closed { response.Answers (hello_behind true (hello_answered ∷ [])) next.End }
+{}
+
+/// A stream grows by its pieces, ends once, and remembers what was given of it and whether the next message's continue was.
+pub fn streams_go_on()
+    ensures pieces { fed (fed (start 1000 true) (codes "GET")) (codes " /") ≡ waiting true (codes "GET /") false [] false }
+    ensures end { finished (waiting false (codes "GET /") false [] false)
+        ≡ waiting false (codes "GET /") true [] false }
+    ensures told { moved (waiting false [] false [] false) next.NeedsContinue ≡ waiting false [] false [] true }
+    ensures message { moved (waiting false [] false (hi ∷ []) true) (next.Message (put_with [] (Some [])))
+        ≡ waiting false [] false (hi ∷ put_with [] (Some []) ∷ []) false }
+    ensures nothing { moved (waiting false [] false (hi ∷ []) true) next.More ≡ waiting false [] false (hi ∷ []) true }
+    ensures refused { moved (waiting false [] false (hi ∷ []) true) (next.Refused fault.Chunk)
+        ≡ waiting false [] false (hi ∷ []) true }
+    ensures over { moved (waiting false [] true (hi ∷ []) true) next.End ≡ waiting false [] true (hi ∷ []) true }
+{}
+
+/// What is answered of what stands at the front of a stream.
+pub fn readings_are_answered()
+    ensures incomplete { next_of {M = Request} Incomplete ≡ next.More }
+    ensures told { next_of {M = Request} Continue ≡ next.NeedsContinue }
+    ensures over { next_of {M = Request} Over ≡ next.End }
+    ensures spelled { next_of (Spelled hi (codes "x")) ≡ next.Message hi }
+    ensures faulty { next_of {M = Request} (Faulty fault.Length) ≡ next.Refused fault.Length }
 {}

@@ -9,6 +9,9 @@ use Rattle.hx_framing.proofs.reading_laws.expectations_are_read.Goals as goal
 abbrev waits_head : RequestHead
 waits_head = asked (codes "PUT") (codes "/a") 1 (field (codes "Expect") (codes " 100-continue") ∷ field (codes "Content-Length") (codes " 2") ∷ [])
 
+abbrev one_byte_head : RequestHead
+one_byte_head = asked (codes "PUT") (codes "/a") 1 (field (codes "Expect") (codes " 100-continue") ∷ field (codes "Content-Length") (codes " 1") ∷ [])
+
 abbrev content_there_head : RequestHead
 content_there_head = asked (codes "PUT") (codes "/a") 1 (field (codes "Expect") (codes " 100-Continue") ∷ field (codes "Content-Length") (codes " 2") ∷ [])
 
@@ -24,6 +27,10 @@ old_head = asked (codes "PUT") (codes "/a") 0 (field (codes "Expect") (codes " x
 pub returns-clause-waits : goal.returns-clause-waits
 unfolding httparse_on_literals
 returns-clause-waits c = reads_request 1000 false false (put (codes "Expect: 100-continue\r\nContent-Length: 2\r\n")) waits_head 60 _ refl refl refl refl
+
+pub returns-clause-one_byte : goal.returns-clause-one_byte
+unfolding httparse_on_literals
+returns-clause-one_byte c = reads_request 1000 false false (put (codes "Expect: 100-continue\r\nContent-Length: 1\r\n")) one_byte_head 60 _ refl refl refl refl
 
 pub returns-clause-content_there : goal.returns-clause-content_there
 unfolding httparse_on_literals
