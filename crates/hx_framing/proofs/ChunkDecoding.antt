@@ -3,7 +3,7 @@ use Rattle.std.proofs.Common.{◌≡◌, ℕ, ◌+◌, ◌≤◌, List, ◌++◌
 use Rattle.std.proofs.Math.Seq.{take-add}
 use Rattle.std.proofs.lemmas.List.{take-append-drop, drop-drop}
 use Rattle.hx_framing.specs.declared.fault.FrameFault.{FrameFault}
-use Rattle.hx_framing.specs.declared.chunk_state.Place.{Place}
+use Rattle.hx_framing.specs.declared.chunk_state.ChunkState.{ChunkState}
 use Rattle.hx_framing.specs.declared.chunk_pieces.Piece.TheVariants as piece
 use Rattle.hx_framing.specs.declared.chunk_pieces.Decoded.TheVariants as decoded
 use Rattle.hx_framing.specs.Body.{Whole}
@@ -30,7 +30,7 @@ leads_on bytes taken n s t u leads on =
     ∙ on
 
 -- no piece more
-pub decodes_more : (old : Chunking) (place : Place) (was content bytes : List ℕ) (taken : ℕ)
+pub decodes_more : (old : Chunking) (place : ChunkState) (was content bytes : List ℕ) (taken : ℕ)
     → taken ≤ length bytes → state_after (take taken bytes) old ≡ Some (chunking_of place was) → Takes place was (drop taken bytes) content piece.Short
     → Decodes old bytes (chunking_of place content) (decoded.More taken)
 decodes_more old place was content bytes taken inside leads takes =
@@ -45,7 +45,7 @@ decodes_more old place was content bytes taken inside leads takes =
     )
 
 -- the last piece
-pub decodes_whole : (old : Chunking) (place : Place) (was content bytes : List ℕ) (taken n : ℕ)
+pub decodes_whole : (old : Chunking) (place : ChunkState) (was content bytes : List ℕ) (taken n : ℕ)
     → taken ≤ length bytes → state_after (take taken bytes) old ≡ Some (chunking_of place was) → Takes place was (drop taken bytes) content (piece.Last n)
     → Decodes old bytes (chunking_of place content) (decoded.Whole (taken + n))
 decodes_whole old place was content bytes taken n inside leads takes =
@@ -56,7 +56,7 @@ decodes_whole old place was content bytes taken n inside leads takes =
     )
 
 -- a fault
-pub decodes_fault : (old : Chunking) (place new : Place) (was content bytes : List ℕ) (taken : ℕ) (f : FrameFault)
+pub decodes_fault : (old : Chunking) (place new : ChunkState) (was content bytes : List ℕ) (taken : ℕ) (f : FrameFault)
     → state_after (take taken bytes) old ≡ Some (chunking_of place was) → Takes place was (drop taken bytes) content (piece.Faulty f)
     → Decodes old bytes (chunking_of new content) (decoded.Faulty f)
 decodes_fault old place new was content bytes taken f leads takes = λ more. led bytes more taken old (chunking_of place was) leads ∙ takes more

@@ -6,7 +6,7 @@ use Rattle.hx_framing.specs.declared.fault.FrameFault.{FrameFault}
 use Rattle.hx_framing.specs.declared.fault.FrameFault.TheVariants as fault
 use Rattle.hx_framing.specs.declared.chunk_state.Phase.{Phase}
 use Rattle.hx_framing.specs.declared.chunk_state.Phase.TheVariants as phase
-use Rattle.hx_framing.specs.declared.chunk_state.Place.{Place}
+use Rattle.hx_framing.specs.declared.chunk_state.ChunkState.{ChunkState}
 use Rattle.hx_framing.specs.declared.chunk_pieces.Piece.TheVariants as piece
 use Rattle.hx_framing.specs.Chunking.{Chunking, chunking_of}
 use Rattle.hx_framing.specs.Chunks.{most_trailer_bytes, Go, Stop, Fail, follow, chunks_from, going, state_after, with_line, sized, size_step, trailer_end, trailer_step}
@@ -17,12 +17,12 @@ use Rattle.hx_framing.proofs.ChunkSteps.{size_text, size_short, in_phase, data_p
 use Rattle.hx_framing.proofs.ChunkStreams.{chunks_behind, state_behind}
 
 -- a place whose phase is known
-known_phase : (place : Place) (content : List ℕ) (p : Phase) → place.phase ≡ p
+known_phase : (place : ChunkState) (content : List ℕ) (p : Phase) → place.phase ≡ p
     → chunking_of place content ≡ in_phase p place.need place.left place.used content []
 known_phase place content p e = ap (λ p. in_phase p place.need place.left place.used content []) e
 
 -- a part of a line, in a known phase
-part : (place : Place) (content bytes : List ℕ) (p : Phase) → place.phase ≡ p
+part : (place : ChunkState) (content bytes : List ℕ) (p : Phase) → place.phase ≡ p
     → state_after bytes (in_phase p place.need place.left place.used content []) ≡ Some (in_phase p place.need place.left place.used content bytes)
     → state_after bytes (chunking_of place content) ≡ Some (record (chunking_of place content) { line = bytes })
 part place content bytes p is leads =
@@ -58,7 +58,7 @@ one_more bytes more n s t b inside here leads =
 -- ---- size lines
 
 -- the line without its LF
-size_line_read : (place : Place) (content bytes : List ℕ) (at : ℕ) → place.phase ≡ phase.Size → IsLineFeed bytes most_size_line_bytes at
+size_line_read : (place : ChunkState) (content bytes : List ℕ) (at : ℕ) → place.phase ≡ phase.Size → IsLineFeed bytes most_size_line_bytes at
     → state_after (take at bytes) (chunking_of place content) ≡ Some (in_phase phase.Size place.need place.left place.used content (take at bytes))
 size_line_read place content bytes at is_size feed =
     let long = take_length at bytes (omega (arith, feed.inside)) in
@@ -66,7 +66,7 @@ size_line_read place content bytes at is_size feed =
     ∙ size_text (in_phase phase.Size place.need place.left place.used content []) [] (take at bytes) feed.first (omega (arith, feed.below))
 
 -- the line with its LF
-size_line_taken : (place : Place) (content bytes : List ℕ) (at n : ℕ)
+size_line_taken : (place : ChunkState) (content bytes : List ℕ) (at n : ℕ)
     → place.phase ≡ phase.Size → IsLineFeed bytes most_size_line_bytes at → size_at (take at bytes) place.left ≡ Ok n
     → state_after (take (at + 1) bytes) (chunking_of place content)
     ≡ going (sized (in_phase phase.Size place.need place.left place.used content (take at bytes)) (Ok n)) (state_after [])
@@ -77,7 +77,7 @@ size_line_taken place content bytes at n is_size feed said =
     ∙ ap (λ r. going (sized s r) (state_after [])) said
 
 -- a line that spells no size
-pub size_bad : (place : Place) (content bytes : List ℕ) (at : ℕ) (f : FrameFault)
+pub size_bad : (place : ChunkState) (content bytes : List ℕ) (at : ℕ) (f : FrameFault)
     → place.phase ≡ phase.Size → IsLineFeed bytes most_size_line_bytes at → size_at (take at bytes) place.left ≡ Err f
     → Takes place content bytes content (piece.Faulty f)
 size_bad place content bytes at f is_size feed said = λ more.
@@ -87,7 +87,7 @@ size_bad place content bytes at f is_size feed said = λ more.
     ∙ ap (λ r. follow (sized s r) (chunks_from rest) rest) said
 
 -- the size of the last chunk
-pub size_last : (place : Place) (content bytes : List ℕ) (at : ℕ)
+pub size_last : (place : ChunkState) (content bytes : List ℕ) (at : ℕ)
     → place.phase ≡ phase.Size → IsLineFeed bytes most_size_line_bytes at → size_at (take at bytes) place.left ≡ Ok 0
     → Takes place content bytes content (piece.Taken (at + 1) (record place { phase = phase.Trailers }))
 size_last place content bytes at is_size feed said =
@@ -95,7 +95,7 @@ size_last place content bytes at is_size feed said =
     (omega (arith, feed.inside), omega arith, no_data, size_line_taken place content bytes at 0 is_size feed said)
 
 -- the size of a chunk with data
-pub size_some : (place : Place) (content bytes : List ℕ) (at n : ℕ)
+pub size_some : (place : ChunkState) (content bytes : List ℕ) (at n : ℕ)
     → place.phase ≡ phase.Size → IsLineFeed bytes most_size_line_bytes at → size_at (take at bytes) place.left ≡ Ok n → (n ≡ 0 → ⊥)
     → Takes place content bytes content (piece.Taken (at + 1) (record place { phase = phase.Data; need = n; left = place.left - n }))
 size_some place content bytes at n is_size feed said some =
@@ -127,7 +127,7 @@ size_past s line b long = by_test (b == 10)
     by_test false = ap (λ t. cond t (Go (with_line s phase.Size (line ++ b ∷ []))) (Fail fault.Chunk)) (le-ltb (length line) most_size_line_bytes (omega arith))
 
 -- a line with no LF within the limit
-pub size_open : (place : Place) (content bytes : List ℕ) → place.phase ≡ phase.Size → has_no_lf (take most_size_line_bytes bytes) ≡ true
+pub size_open : (place : ChunkState) (content bytes : List ℕ) → place.phase ≡ phase.Size → has_no_lf (take most_size_line_bytes bytes) ≡ true
     → Takes place content bytes content (cond (nat_lt most_size_line_bytes (length bytes)) (piece.Faulty fault.Chunk) piece.Short)
 size_open place content bytes is_size none = by_test (nat_lt most_size_line_bytes (length bytes)) refl
   where
@@ -152,7 +152,7 @@ size_open place content bytes is_size none = by_test (nat_lt most_size_line_byte
 -- ---- data
 
 -- some of the data of a chunk
-pub data_some : (place : Place) (content bytes : List ℕ) (n : ℕ)
+pub data_some : (place : ChunkState) (content bytes : List ℕ) (n : ℕ)
     → place.phase ≡ phase.Data → 0 < n → n ≤ length bytes → n < place.need
     → Takes place content bytes (content ++ take n bytes) (piece.Taken n (record place { phase = phase.Data; need = place.need - n }))
 data_some place content bytes n is_data some inside few =
@@ -166,7 +166,7 @@ data_some place content bytes n is_data some inside few =
     )
 
 -- all of it
-pub data_all : (place : Place) (content bytes : List ℕ) (n : ℕ)
+pub data_all : (place : ChunkState) (content bytes : List ℕ) (n : ℕ)
     → place.phase ≡ phase.Data → 0 < n → n ≤ length bytes → n ≡ place.need
     → Takes place content bytes (content ++ take n bytes) (piece.Taken n (record place { phase = phase.DataEnd; need = place.need - n }))
 data_all place content bytes n is_data some inside same =
@@ -186,7 +186,7 @@ data_all place content bytes n is_data some inside same =
 -- ---- trailers
 
 -- the line without its LF
-trailer_read : (place : Place) (content bytes : List ℕ) (limit at : ℕ)
+trailer_read : (place : ChunkState) (content bytes : List ℕ) (limit at : ℕ)
     → place.phase ≡ phase.Trailers → limit ≡ most_trailer_bytes - place.used → IsLineFeed bytes limit at
     → state_after (take at bytes) (chunking_of place content) ≡ Some (in_phase phase.Trailers place.need place.left place.used content (take at bytes))
 trailer_read place content bytes limit at is_trailers is_limit feed =
@@ -195,7 +195,7 @@ trailer_read place content bytes limit at is_trailers is_limit feed =
     ∙ trailer_text place.need place.left place.used content [] (take at bytes) feed.first (omega (arith, feed.below))
 
 -- its LF
-trailer_feed : (place : Place) (content bytes : List ℕ) (limit at : ℕ)
+trailer_feed : (place : ChunkState) (content bytes : List ℕ) (limit at : ℕ)
     → limit ≡ most_trailer_bytes - place.used → IsLineFeed bytes limit at
     → (closed last : Bool) → ends_in_cr (take at bytes) ≡ closed → (length (take at bytes) == 1) ≡ last
     → trailer_step (in_phase phase.Trailers place.need place.left place.used content (take at bytes)) 10
@@ -211,7 +211,7 @@ trailer_feed place content bytes limit at is_limit feed closed last is_closed is
     ∙ ap (λ n. cond closed (cond last (Stop content) (Go (next n))) (Fail fault.Chunk)) long
 
 -- a line that doesn't end in CR
-pub trailer_bad : (place : Place) (content bytes : List ℕ) (limit at : ℕ)
+pub trailer_bad : (place : ChunkState) (content bytes : List ℕ) (limit at : ℕ)
     → place.phase ≡ phase.Trailers → limit ≡ most_trailer_bytes - place.used → IsLineFeed bytes limit at → ends_in_cr (take at bytes) ≡ false
     → Takes place content bytes content (piece.Faulty fault.Chunk)
 trailer_bad place content bytes limit at is_trailers is_limit feed other = λ more.
@@ -221,7 +221,7 @@ trailer_bad place content bytes limit at is_trailers is_limit feed other = λ mo
     ∙ ap (λ t. follow t (chunks_from rest) rest) (trailer_feed place content bytes limit at is_limit feed false (length (take at bytes) == 1) other refl)
 
 -- a trailer line
-pub trailer_some : (place : Place) (content bytes : List ℕ) (limit at : ℕ)
+pub trailer_some : (place : ChunkState) (content bytes : List ℕ) (limit at : ℕ)
     → place.phase ≡ phase.Trailers → limit ≡ most_trailer_bytes - place.used → IsLineFeed bytes limit at → ends_in_cr (take at bytes) ≡ true → (length (take at bytes) ≡ 1 → ⊥)
     → Takes place content bytes content (piece.Taken (at + 1) (record place { used = place.used + at + 1 }))
 trailer_some place content bytes limit at is_trailers is_limit feed closed other =
@@ -244,7 +244,7 @@ trailer_past need left used content line b over =
     ap (λ t. cond t (cond (b == 10) (trailer_end s) (Go (with_line s phase.Trailers (line ++ b ∷ [])))) (Fail fault.Chunk)) (le-ltb (used + length line) most_trailer_bytes over)
 
 -- a line with no LF within the limit
-pub trailer_open : (place : Place) (content bytes : List ℕ) (limit : ℕ)
+pub trailer_open : (place : ChunkState) (content bytes : List ℕ) (limit : ℕ)
     → place.phase ≡ phase.Trailers → limit ≡ most_trailer_bytes - place.used → has_no_lf (take limit bytes) ≡ true
     → Takes place content bytes content (cond (nat_lt limit (length bytes)) (piece.Faulty fault.Chunk) piece.Short)
 trailer_open place content bytes limit is_trailers is_limit none = by_test (nat_lt limit (length bytes)) refl

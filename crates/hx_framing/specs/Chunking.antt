@@ -2,7 +2,7 @@
 use Rattle.std.specs.Prelude.{◌≡◌, ◌<◌, ℕ, List, []}
 use Rattle.hx_framing.specs.declared.chunk_state.Phase.{Phase}
 use Rattle.hx_framing.specs.declared.chunk_state.Phase.TheVariants as phase
-use Rattle.hx_framing.specs.declared.chunk_state.Place.{Place}
+use Rattle.hx_framing.specs.declared.chunk_state.ChunkState.{ChunkState}
 
 -- need: bytes of data still to come of this chunk; left: bytes of content that later chunks may have;
 -- used: bytes of the whole trailer lines; content: the data so far; line: the bytes of the line so far, or the CR behind data
@@ -19,7 +19,7 @@ abbrev pub NeedsData : Phase → ℕ → Type 0
 NeedsData at need = at ≡ phase.Data → 0 < need
 
 -- with no line begun
-abbrev pub chunking_of : Place → List ℕ → Chunking
+abbrev pub chunking_of : ChunkState → List ℕ → Chunking
 chunking_of place content = record {
   phase = place.phase;
   need = place.need;

@@ -1,6 +1,6 @@
 -- What it means to take a piece of content in chunks: the bytes of the piece lead from a state to the next.
 use Rattle.std.specs.Prelude.{◌≡◌, ◌≤◌, ◌<◌, ℕ, true, List, ◌++◌, Some, length, take, drop, slice_index}
-use Rattle.hx_framing.specs.declared.chunk_state.Place.{Place}
+use Rattle.hx_framing.specs.declared.chunk_state.ChunkState.{ChunkState}
 use Rattle.hx_framing.specs.declared.chunk_pieces.Piece.{Piece}
 use Rattle.hx_framing.specs.declared.chunk_pieces.Piece.TheVariants as piece
 use Rattle.hx_framing.specs.Body.{Bad, Whole}
@@ -22,7 +22,7 @@ pub record IsOpenLine (s : Chunking) (bytes : List ℕ) : Type 0 where
   pub bounded : length bytes ≤ most_trailer_bytes
 
 -- at a place, with the content old; new is the content behind the piece
-abbrev pub Takes : Place → List ℕ → List ℕ → List ℕ → Piece → Type 0
+abbrev pub Takes : ChunkState → List ℕ → List ℕ → List ℕ → Piece → Type 0
 Takes place old bytes new piece.Short =
     (new ≡ old) × IsOpenLine (chunking_of place old) bytes
 Takes place old bytes new (piece.Taken n next) =

@@ -10,7 +10,7 @@ ghost use Rattle.hx_framing.specs.Chunking.{NeedsData, chunking_of};
 ghost use Rattle.hx_framing.specs.Decoding.{Decodes};
 ghost use Rattle.hx_framing.specs.Pieces.{Takes, IsLineFeed, bytes_of};
 
-use crate::chunk_state::{Phase, Place};
+use crate::chunk_state::{ChunkState, Phase};
 use crate::fault::FrameFault;
 use crate::limits::{MOST_SIZE_LINE_BYTES, MOST_TRAILER_BYTES};
 use crate::places::rest_from;
@@ -22,7 +22,7 @@ pub(crate) enum Piece {
     /// Nothing, or a part of a piece.
     Short,
     /// A piece of so many bytes, and the place behind it.
-    Taken(usize, Place),
+    Taken(usize, ChunkState),
     /// The last piece, of so many bytes.
     Last(usize),
     Faulty(FrameFault),
@@ -68,7 +68,7 @@ fn open_line(bytes: &[u8], limit: usize) -> Piece
     }
 }
 
-fn size_piece(place: Place, bytes: &[u8], searched: usize) -> Piece
+fn size_piece(place: ChunkState, bytes: &[u8], searched: usize) -> Piece
     requires phase { place.phase ≡ phase.Size }
     requires within { searched ≤ length bytes.now }
     requires none { has_no_lf (take searched bytes.now) ≡ true }
@@ -82,14 +82,14 @@ fn size_piece(place: Place, bytes: &[u8], searched: usize) -> Piece
         Err(fault) => Piece::Faulty(fault),
         Ok(0) => Piece::Taken(
             at + 1,
-            Place {
+            ChunkState {
                 phase: Phase::Trailers,
                 ..place
             },
         ),
         Ok(size) => Piece::Taken(
             at + 1,
-            Place {
+            ChunkState {
                 phase: Phase::Data,
                 need: size,
                 left: place.left - size,
@@ -99,7 +99,7 @@ fn size_piece(place: Place, bytes: &[u8], searched: usize) -> Piece
     }
 }
 
-fn data_piece(place: Place, content: &mut Vec<u8>, bytes: &[u8]) -> Piece
+fn data_piece(place: ChunkState, content: &mut Vec<u8>, bytes: &[u8]) -> Piece
     requires phase { place.phase ≡ phase.Data }
     requires need { 0 < place.need }
     requires room { vec_len content.now + length bytes.now ≤ vec_capacity content.now }
@@ -122,7 +122,7 @@ fn data_piece(place: Place, content: &mut Vec<u8>, bytes: &[u8]) -> Piece
     };
     Piece::Taken(
         taken as usize,
-        Place {
+        ChunkState {
             phase,
             need,
             ..place
@@ -131,7 +131,7 @@ fn data_piece(place: Place, content: &mut Vec<u8>, bytes: &[u8]) -> Piece
 }
 
 /// The CRLF behind data.
-fn end_piece(place: Place, bytes: &[u8]) -> Piece
+fn end_piece(place: ChunkState, bytes: &[u8]) -> Piece
     requires { place.phase ≡ phase.DataEnd }
     ensures { (content : List ℕ) → Takes place content bytes.now content result }
 {
@@ -139,7 +139,7 @@ fn end_piece(place: Place, bytes: &[u8]) -> Piece
         [] | [b'\r'] => Piece::Short,
         [b'\r', b'\n', ..] => Piece::Taken(
             2,
-            Place {
+            ChunkState {
                 phase: Phase::Size,
                 ..place
             },
@@ -149,7 +149,7 @@ fn end_piece(place: Place, bytes: &[u8]) -> Piece
 }
 
 /// A trailer line, or the empty line behind the trailers.
-fn trailer_piece(place: Place, bytes: &[u8], searched: usize) -> Piece
+fn trailer_piece(place: ChunkState, bytes: &[u8], searched: usize) -> Piece
     requires phase { place.phase ≡ phase.Trailers }
     requires within { searched ≤ length bytes.now }
     requires none { has_no_lf (take searched bytes.now) ≡ true }
@@ -167,7 +167,7 @@ fn trailer_piece(place: Place, bytes: &[u8], searched: usize) -> Piece
     } else {
         Piece::Taken(
             at + 1,
-            Place {
+            ChunkState {
                 used: place.used + at + 1,
                 ..place
             },
@@ -176,7 +176,7 @@ fn trailer_piece(place: Place, bytes: &[u8], searched: usize) -> Piece
 }
 
 /// The piece at the front of the bytes, for whose data there is room. No LF stands in the first `searched` of them.
-fn next_piece(place: Place, content: &mut Vec<u8>, bytes: &[u8], searched: usize) -> Piece
+fn next_piece(place: ChunkState, content: &mut Vec<u8>, bytes: &[u8], searched: usize) -> Piece
     requires need { NeedsData place.phase place.need }
     requires within { searched ≤ length bytes.now }
     requires none { has_no_lf (take searched bytes.now) ≡ true }
@@ -195,7 +195,7 @@ fn next_piece(place: Place, content: &mut Vec<u8>, bytes: &[u8], searched: usize
 /// Takes the whole pieces at the front of the bytes, for whose data there is room. No LF stands in the first
 /// `searched` of them.
 pub(crate) fn take_pieces(
-    place: &mut Place,
+    place: &mut ChunkState,
     content: &mut Vec<u8>,
     bytes: &[u8],
     searched: usize,

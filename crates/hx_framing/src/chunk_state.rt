@@ -15,7 +15,7 @@ pub(crate) enum Phase {
 
 /// What comes next, and what the limits leave.
 #[derive(Clone, Copy)]
-pub(crate) struct Place {
+pub(crate) struct ChunkState {
     pub(crate) phase: Phase,
     /// Bytes of data that are still to come of this chunk.
     pub(crate) need: u64,

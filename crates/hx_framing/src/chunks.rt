@@ -6,7 +6,7 @@
 ghost use Rattle.std.specs.Prelude.{◌≡◌, ◌≤◌, IfOk, OnErr, true, length, take};
 
 use crate::chunk_pieces::{Decoded, take_pieces};
-use crate::chunk_state::{Phase, Place};
+use crate::chunk_state::{ChunkState, Phase};
 use hx_fields::Bytes;
 use std::alloc::{AllocError, Global};
 use std::marker::Model;
@@ -15,7 +15,7 @@ use std::mem;
 /// How far the content has come.
 #[derive(Drop)]
 pub(crate) struct Chunks {
-    place: Place,
+    place: ChunkState,
     content: Vec<u8>,
 }
 
@@ -39,7 +39,7 @@ impl Chunks {
         ensures { result ≡ start max_body }
     {
         Chunks {
-            place: Place {
+            place: ChunkState {
                 phase: Phase::Size,
                 need: 0,
                 left: max_body,

@@ -1,12 +1,12 @@
 //! Size lines of chunks (RFC 9112, section 7.1). The definitions are in `specs/SizeLine.antt`.
 ghost use Rattle.std.specs.Prelude.{◌≡◌, ◌≤◌, length};
 ghost use Rattle.std.specs.List.{list_all};
-ghost use Rattle.std.specs.Char.{digit_value};
 ghost use Rattle.std.specs.Str.Parse.{digits_value};
 ghost use Rattle.hx_framing.specs.SizeLine.{starts_well, is_line_byte, is_extension, hex_length, is_size, ends_in_cr, but_last, capped, size_at};
 
 use crate::fault::FrameFault;
 use crate::limits::{MOST_EXTENSION_BYTES, MOST_SIZE_DIGITS};
+use hx_fields::digit_value;
 
 fn is_line_byte(b: u8) -> bool
     ensures { result ≡ is_line_byte b }
@@ -58,19 +58,6 @@ fn is_size(text: &[u8]) -> bool
     digits > 0 && digits <= MOST_SIZE_DIGITS && is_extension(extension)
 }
 
-/// The value of a digit, or 36.
-fn digit_of(b: u8) -> u8
-    ensures value { result ≡ digit_value b }
-    ensures small { result ≤ 36 }
-{
-    match b {
-        b'0'..=b'9' => b - b'0',
-        b'A'..=b'Z' => b - b'A' + 10,
-        b'a'..=b'z' => b - b'a' + 10,
-        _ => 36,
-    }
-}
-
 /// The number that hexadecimal digits spell, where it is at most `most`.
 fn capped_hex(digits: &[u8], most: u64) -> Option<u64>
     ensures { result ≡ capped most (digits_value 16 digits.now) }
@@ -80,7 +67,7 @@ fn capped_hex(digits: &[u8], most: u64) -> Option<u64>
     for b in digits {
         // A number that is too large already doesn't grow.
         if n <= limit {
-            n = n * 16 + digit_of(*b) as u128;
+            n = n * 16 + digit_value(*b) as u128;
         }
     }
     if n <= limit { Some(n as u64) } else { None }

@@ -97,7 +97,8 @@ impl KeyIndex {
             return Ok(());
         }
         let key = key.copy(alloc)?;
-        self.serials.insert(key, KeyMarks::one(alloc, serial, mark))?;
+        self.serials
+            .insert(key, KeyMarks::one(alloc, serial, mark))?;
         Ok(())
     }
 

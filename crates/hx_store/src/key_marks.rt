@@ -84,11 +84,7 @@ impl KeyMarks {
 
     /// The serials whose marks don't keep the request from matching. The request is read only where a mark may. Fails for
     /// want of memory alone.
-    pub(crate) fn list_marked(
-        &self,
-        alloc: Global,
-        request: &Fields,
-    ) -> Result<Serials, AllocError>
+    pub(crate) fn list_marked(&self, alloc: Global, request: &Fields) -> Result<Serials, AllocError>
         ensures { IfOk result (λ list. list ≡ may_be_of (marks_of request.now) self.now) }
     {
         match self.only {
@@ -98,12 +94,7 @@ impl KeyMarks {
     }
 
     /// Puts a serial in with its mark. Want of memory changes nothing.
-    pub(crate) fn insert(
-        &mut self,
-        alloc: Global,
-        serial: u64,
-        mark: u64,
-    ) -> Result<(), AllocError>
+    pub(crate) fn insert(&mut self, alloc: Global, serial: u64, mark: u64) -> Result<(), AllocError>
         ensures ok { OnOk result (self.new ≡ insert_entry nat_cmp self.old serial mark) }
         ensures err { OnErr result (self.new ≡ self.old) }
     {

@@ -8,9 +8,9 @@ loop-b-preserved c =
     let more = digits_value_more 16 c.args.digits.now c.loop-b.b-index c.loop-b-test.true in
     elim c.if-n-limit.branch [
       | then-n-limit w ↦ record {
-        fits = omega (arith, w.digit_of.ensures.small);
-        small = λ h. omega (arith, more, w.digit_of.ensures.value, w.n-is);
-        large = λ h. omega (arith, more, w.digit_of.ensures.value, w.n-is);
+        fits = omega (arith, w.digit_value.ensures.small);
+        small = λ h. omega (arith, more, w.digit_value.ensures.value, w.n-is);
+        large = λ h. omega (arith, more, w.digit_value.ensures.value, w.n-is);
       }
       | else-n-limit w ↦ record {
         fits = omega arith;
