@@ -3,7 +3,7 @@ use Rattle.std.proofs.Common.{◌≡◌, ℕ, ◌+◌, ◌≤◌, ◌&&◌, ◌=
 use Rattle.std.specs.List.{All, before_first}
 use Rattle.std.specs.Char.{is_ascii_digit}
 use Rattle.std.proofs.Math.Seq.{drop-append_seam, take-append_seam}
-use Rattle.std.proofs.lemmas.Bool.{not-true, ne_eqb}
+use Rattle.std.proofs.lemmas.Bool.{not-true, ne_eqb, or_from, or_parts}
 use Rattle.std.proofs.lemmas.List.Elements.{All-append, All-cons, All-nil, All-head}
 use Rattle.std.proofs.lemmas.List.Sums.{list_all-from_AllPass, AllPass-from_list_all}
 use Rattle.httparse.specs.Grammar.{LineEnd, crlf, lf, print_end, print_blank, print_version, Field, IsField, print_section, RequestHead, ResponseHead, print_reason, reason_phrase, AllPass, IsToken, is_token_byte, is_uri_byte, is_value_byte}
@@ -11,6 +11,7 @@ use Rattle.httparse.specs.Pieces.{is_newline}
 use Rattle.httparse.proofs.GrammarLemmas.{print_request-append, print_response-append}
 use Rattle.httparse.proofs.PieceLemmas.{token_is_no_newline}
 use Rattle.hx_fields.specs.declared.field_line.Field.{Field as Line}
+use Rattle.hx_fields.specs.Lines.{has, is_named, without_named}
 use Rattle.hx_framing.specs.declared.request_head.Head.{Head}
 use Rattle.hx_framing.specs.declared.status_head.StatusHead.{StatusHead}
 use Rattle.hx_framing.specs.declared.requests.Request.{Request}
@@ -26,7 +27,8 @@ use Rattle.hx_framing.specs.StatusHead as status
 use Rattle.hx_framing.specs.StatusHead.{IsStatusHead, status_head_of}
 use Rattle.hx_framing.specs.Body.{Body, Short, Bad, Whole}
 use Rattle.hx_framing.specs.Contents.{body_at}
-use Rattle.hx_framing.specs.Lengths.{plan_of, framing_of_response, without_lengths}
+use Rattle.hx_framing.specs.ContentLength.{content_length}
+use Rattle.hx_framing.specs.Lengths.{transfer_encoding, plan_of, framing_of_response, without_lengths}
 use Rattle.hx_framing.specs.Reading.{Continue, Over, Spelled, Faulty, cut_off, with_body}
 use Rattle.hx_framing.specs.RequestReading.{Reads, ReadsBy, request_of, with_plan}
 use Rattle.hx_framing.specs.ResponseReading as response
@@ -276,3 +278,84 @@ response_lines_given max h e bytes given rest (sizes, front, passes, reads) =
     by_place (Some n) place (Err f, judged, final, is) = absurd cc
     by_place (Some n) place (Ok head, judged, final, is) =
         (n, place, (head.fields, response_gives (take n front) head judged, framing_makes max h e head (drop n front) given rest (framing_of_response max h head) is))
+
+-- ---- what a message that is read is made of
+
+pub record IsMadeRequest (given : Request) : Type 0 where
+  pub text : List ℕ
+  pub head : Head
+  pub judged : Judges text (Ok head)
+  pub minor : given.minor ≡ head.minor
+  pub fields : given.fields ≡ without_lengths head.fields
+
+plan_minor : (max : ℕ) (e t : Bool) (head : Head) (bytes : List ℕ) (m : Request) (rest : List ℕ) (f : Result Plan FrameFault)
+    → Spelled m rest ≡ with_plan max e t head bytes f → m.minor ≡ head.minor
+plan_minor max e t head bytes m rest (Err f) is = absurd cc
+plan_minor max e t head bytes m rest (Ok plan) is = by_wish (plan.wants_continue && not t) is
+  where
+    by_wish : (w : Bool) → Spelled m rest ≡ cond w Continue (with_body e (request_of head) (body_at max plan.framing false bytes)) → m.minor ≡ head.minor
+    by_wish true is = absurd cc
+    by_wish false is =
+        let made = body_makes e (request_of head) (body_at max plan.framing false bytes) m rest is in ap (λ (r : Request). r.minor) made.1
+
+request_made : (max : ℕ) (e t : Bool) (bytes : List ℕ) (given : Request) (rest : List ℕ) → Reads max e t bytes (Spelled given rest) → IsMadeRequest given
+request_made max e t bytes given rest reads = by_place (head_length (take most_head_bytes bytes)) reads
+  where
+    by_place : (o : Option ℕ) → ReadsBy max e t bytes o (Spelled given rest) → IsMadeRequest given
+    by_place None is = absurd (no_request e (nat_lt most_head_bytes (length bytes)) (blank_length bytes == length bytes) given rest is)
+    by_place (Some n) (Err f, judged, is) = absurd cc
+    by_place (Some n) (Ok head, judged, is) = record {
+      text = take n bytes;
+      head = head;
+      judged = judged;
+      minor = plan_minor max e t head (drop n bytes) given rest (plan_of max head) is;
+      fields = plan_makes max e t head (drop n bytes) given rest (plan_of max head) is;
+    }
+
+pub request_minor : (max : ℕ) (e t : Bool) (bytes : List ℕ) (given : Request) (rest : List ℕ) → Reads max e t bytes (Spelled given rest) → given.minor ≤ 1
+request_minor max e t bytes given rest reads =
+    let made = request_made max e t bytes given rest reads in
+    omega (arith, made.minor, (request_first made.text made.head made.judged).minor)
+
+-- no line of a name is left where they are taken out
+none_named : (fields : List Line) (name : List ℕ) → has (without_named fields name) name ≡ false
+none_named [] name = refl
+none_named (f ∷ fields) name = by_test (is_named name f) refl (none_named fields name)
+  where
+    by_test : (t : Bool) → is_named name f ≡ t → has (without_named fields name) name ≡ false
+        → has (cond (not t) (f ∷ without_named fields name) (without_named fields name)) name ≡ false
+    by_test true p later = later
+    by_test false p later = or_from (is_named name f) (has (without_named fields name) name) p later
+
+-- nor does one come back with others taken out
+none_back : (fields : List Line) (name other : List ℕ) → has fields name ≡ false → has (without_named fields other) name ≡ false
+none_back [] name other none = refl
+none_back (f ∷ fields) name other none =
+    let parts = or_parts (is_named name f) (has fields name) none in
+    by_test (is_named other f) (none_back fields name other parts.1) parts.0
+  where
+    by_test : (t : Bool) → has (without_named fields other) name ≡ false → is_named name f ≡ false
+        → has (cond (not t) (f ∷ without_named fields other) (without_named fields other)) name ≡ false
+    by_test true later p = later
+    by_test false later p = or_from (is_named name f) (has (without_named fields other) name) p later
+
+pub no_lengths : (fields : List Line) → (has (without_lengths fields) content_length ≡ false) × (has (without_lengths fields) transfer_encoding ≡ false)
+no_lengths fields = (
+  none_back (without_named fields content_length) content_length transfer_encoding (none_named fields content_length),
+  none_named (without_named fields content_length) transfer_encoding,
+)
+
+abbrev HasNoLengths : List Line → Type 0
+HasNoLengths fields = (has fields content_length ≡ false) × (has fields transfer_encoding ≡ false)
+
+pub request_without_lengths : (max : ℕ) (e t : Bool) (bytes : List ℕ) (given : Request) (rest : List ℕ) → Reads max e t bytes (Spelled given rest)
+    → HasNoLengths given.fields
+request_without_lengths max e t bytes given rest reads =
+    let made = request_made max e t bytes given rest reads in
+    subst (λ (fs : List Line). HasNoLengths fs) (sym made.fields) (no_lengths made.head.fields)
+
+pub response_without_lengths : (max : ℕ) (h e : Bool) (bytes : List ℕ) (given : Response) (rest : List ℕ) → response.Reads max h e bytes (Spelled given rest)
+    → HasNoLengths given.fields
+response_without_lengths max h e bytes given rest reads =
+    let lines = (response_lines_given max h e bytes given rest reads).3 in
+    subst (λ (fs : List Line). HasNoLengths fs) (sym lines.2.2) (no_lengths lines.2.0)

@@ -1,6 +1,7 @@
 //! Laws on what a head gives: its fields, names and values, are its lines. They hold of the definitions, so each body is empty.
-ghost use Rattle.std.specs.Prelude.{◌≡◌, ◌++◌, ◌∷◌, ℕ, Bool, List, Some, None, Ok, length, take, true, false, codes};
+ghost use Rattle.std.specs.Prelude.{◌≡◌, ◌≤◌, ℕ, Bool, List, Some, Ok, take, false, codes};
 ghost use Rattle.hx_fields.specs.declared.field_line.Field.{Field};
+ghost use Rattle.hx_fields.specs.Lines.{has};
 ghost use Rattle.hx_framing.specs.declared.request_head.Head.{Head};
 ghost use Rattle.hx_framing.specs.declared.status_head.StatusHead.{StatusHead};
 ghost use Rattle.hx_framing.specs.declared.requests.Request.{Request};
@@ -44,6 +45,18 @@ pub fn readers_give_the_lines_of_heads()
         → (sizes : List ℕ) × (front : List ℕ) × response.Passes bytes sizes front
         × ((n : ℕ) × (head_length (take most_head_bytes front) ≡ Some n)
         × ((fields : List Field) × GivesFields (take n front) fields × (given.fields ≡ without_lengths fields))) }
+{}
+
+/// A request that is read is of HTTP/1.0 or HTTP/1.1, and no line of a message speaks of its content's length.
+pub fn what_is_read_is_plain()
+    ensures minor { (max_body : ℕ) → (ended : Bool) → (told : Bool) → (bytes : List ℕ) → (given : Request) → (rest : List ℕ)
+        → request.Reads max_body ended told bytes (Spelled given rest) → given.minor ≤ 1 }
+    ensures request { (max_body : ℕ) → (ended : Bool) → (told : Bool) → (bytes : List ℕ) → (given : Request) → (rest : List ℕ)
+        → request.Reads max_body ended told bytes (Spelled given rest)
+        → (has given.fields (codes "content-length") ≡ false) × (has given.fields (codes "transfer-encoding") ≡ false) }
+    ensures response { (max_body : ℕ) → (to_head : Bool) → (ended : Bool) → (bytes : List ℕ) → (given : Response) → (rest : List ℕ)
+        → response.Reads max_body to_head ended bytes (Spelled given rest)
+        → (has given.fields (codes "content-length") ≡ false) × (has given.fields (codes "transfer-encoding") ≡ false) }
 {}
 
 /// A line spells one field at most, and the lines of a head give one list of fields.
