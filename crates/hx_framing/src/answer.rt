@@ -17,6 +17,16 @@ pub enum Next<M> {
     End,
 }
 
+/// The bytes of a stream that no message has taken, and what they are read by.
+#[derive(Clone, Copy)]
+pub(crate) struct Rest<'a> {
+    /// Bytes of content that a message may have.
+    pub(crate) max_body: u64,
+    /// No more bytes come.
+    pub(crate) ended: bool,
+    pub(crate) bytes: &'a [u8],
+}
+
 /// What stands at the front of unread bytes: what is due, and how many bytes it takes. H is a head, M a message.
 #[derive(Drop)]
 pub(crate) enum Found<H, M> {

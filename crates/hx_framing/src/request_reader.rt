@@ -5,7 +5,7 @@ ghost use Rattle.hx_framing.specs.declared.requests.Request.{Request};
 ghost use Rattle.hx_framing.specs.Progress.{Progress, start, fed, finished, moved, cost};
 ghost use Rattle.hx_framing.specs.RequestStream.{Answers, NeedsMemory};
 
-use crate::answer::{Found, Next};
+use crate::answer::{Found, Next, Rest};
 use crate::content::{Content, Taken};
 use crate::fault::FrameFault;
 use crate::request_head::Head;
@@ -162,8 +162,12 @@ impl RequestReader {
         ensures err { OnErr result (self.new ≡ self.old) }
     {
         let head_length = self.unread.head_length();
-        let bytes = self.unread.as_slice();
-        match read_request(alloc, self.max_body, self.ended, bytes, head_length)? {
+        let rest = Rest {
+            max_body: self.max_body,
+            ended: self.ended,
+            bytes: self.unread.as_slice(),
+        };
+        match read_request(alloc, &rest, head_length)? {
             Found::Incomplete(_) => Ok(Next::More),
             Found::Over => Ok(Next::End),
             Found::Faulty(fault) => {

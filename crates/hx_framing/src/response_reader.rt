@@ -5,7 +5,7 @@ ghost use Rattle.hx_framing.specs.declared.responses.Response.{Response};
 ghost use Rattle.hx_framing.specs.Progress.{Progress, start, fed, finished, moved, IsDue, cost};
 ghost use Rattle.hx_framing.specs.ResponseStream.{Answers, NeedsMemory};
 
-use crate::answer::{Found, Next};
+use crate::answer::{Found, Next, Rest};
 use crate::content::{Content, Taken};
 use crate::fault::FrameFault;
 use crate::response_phase::ResponsePhase;
@@ -175,15 +175,12 @@ impl ResponseReader {
         ensures err { OnErr result (self.new ≡ self.old) }
     {
         let head_length = self.unread.head_length();
-        let bytes = self.unread.as_slice();
-        match read_response(
-            alloc,
-            self.max_body,
-            self.to_head,
-            self.ended,
-            bytes,
-            head_length,
-        )? {
+        let rest = Rest {
+            max_body: self.max_body,
+            ended: self.ended,
+            bytes: self.unread.as_slice(),
+        };
+        match read_response(alloc, &rest, self.to_head, head_length)? {
             Found::Incomplete(n) => {
                 self.unread.take_front(n);
                 Ok(Next::More)

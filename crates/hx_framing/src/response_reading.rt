@@ -1,13 +1,13 @@
 //! What stands at the front of a response stream. The definitions are in `specs/ResponseReading.antt` and
 //! `specs/ResponseFound.antt`.
-ghost use Rattle.std.specs.Prelude.{◌≡◌, ◌≤◌, IfOk, OnErr, Ok, ℕ, Bool, length, take};
+ghost use Rattle.std.specs.Prelude.{◌≡◌, ◌≤◌, IfOk, OnErr, Ok, Bool, length, take};
 ghost use Rattle.hx_framing.specs.Places.{head_length as head_length_of, most_head_bytes};
 ghost use Rattle.hx_framing.specs.declared.response_reading.StatusFront.TheVariants as front;
 ghost use Rattle.hx_framing.specs.Lengths.{framing_of_response};
 ghost use Rattle.hx_framing.specs.ResponseReading.{content_of, response_of};
 ghost use Rattle.hx_framing.specs.ResponseFound.{IsFound, IsFront, HasFinal};
 
-use crate::answer::Found;
+use crate::answer::{Found, Rest};
 use crate::content::{Content, Taken};
 use crate::fault::FrameFault;
 use crate::lengths::{Framing, announced_of, framing_of_response, without_lengths};
@@ -91,14 +91,14 @@ fn front_of(
 }
 
 /// Where no head ends within the limit behind the interim responses, which take `at` bytes.
-fn without_head(ended: bool, bytes: &[u8], at: usize) -> Found<StatusHead, Response>
-    requires within { at ≤ length bytes.now }
-    requires open { IsFront bytes.now (front.Open at) }
-    ensures { (max_body : ℕ) (to_head : Bool) → IsFound max_body to_head ended bytes.now result }
+fn without_head(rest: &Rest<'_>, at: usize) -> Found<StatusHead, Response>
+    requires within { at ≤ length rest.now.bytes.now }
+    requires open { IsFront rest.now.bytes.now (front.Open at) }
+    ensures { (to_head : Bool) → IsFound rest.now.max_body to_head rest.now.ended rest.now.bytes.now result }
 {
-    if bytes.len() - at > MOST_HEAD_BYTES {
+    if rest.bytes.len() - at > MOST_HEAD_BYTES {
         Found::Faulty(FrameFault::Head)
-    } else if ended {
+    } else if rest.ended {
         Found::Faulty(FrameFault::Truncated)
     } else {
         Found::Incomplete(at)
@@ -108,22 +108,20 @@ fn without_head(ended: bool, bytes: &[u8], at: usize) -> Found<StatusHead, Respo
 /// Behind a final head, which ends at `at`.
 fn with_framing(
     alloc: Global,
-    max_body: u64,
+    rest: &Rest<'_>,
     to_head: bool,
-    ended: bool,
-    bytes: &[u8],
     at: usize,
     head: StatusHead,
     framing: Framing,
 ) -> Result<Found<StatusHead, Response>, AllocError>
-    requires front { IsFront bytes.now (front.Final head at) }
-    requires framing { framing_of_response max_body to_head head ≡ Ok framing }
-    ensures found { IfOk result (IsFound max_body to_head ended bytes.now) }
-    ensures memory_last { OnErr result (HasFinal bytes.now) }
+    requires front { IsFront rest.now.bytes.now (front.Final head at) }
+    requires framing { framing_of_response rest.now.max_body to_head head ≡ Ok framing }
+    ensures found { IfOk result (IsFound rest.now.max_body to_head rest.now.ended rest.now.bytes.now) }
+    ensures memory_last { OnErr result (HasFinal rest.now.bytes.now) }
 {
-    let mut content = Content::begun(alloc, max_body, framing);
-    match content.advance(alloc, ended, rest_from(bytes, at), 0)? {
-        Taken::Short(_) if ended => Ok(Found::Faulty(FrameFault::Truncated)),
+    let mut content = Content::begun(alloc, rest.max_body, framing);
+    match content.advance(alloc, rest.ended, rest_from(rest.bytes, at), 0)? {
+        Taken::Short(_) if rest.ended => Ok(Found::Faulty(FrameFault::Truncated)),
         Taken::Short(n) => Ok(Found::Going(head, content, at + n)),
         Taken::Bad(fault) => Ok(Found::Faulty(fault)),
         Taken::Whole(content, n) => {
@@ -135,25 +133,21 @@ fn with_framing(
 /// What stands at the front of the unread bytes. The first head takes `head_length` of them.
 pub(crate) fn read_response(
     alloc: Global,
-    max_body: u64,
+    rest: &Rest<'_>,
     to_head: bool,
-    ended: bool,
-    bytes: &[u8],
     head_length: Option<usize>,
 ) -> Result<Found<StatusHead, Response>, AllocError>
-    requires { head_length ≡ head_length_of (take most_head_bytes bytes.now) }
-    ensures found { IfOk result (IsFound max_body to_head ended bytes.now) }
-    ensures memory_last { OnErr result (HasFinal bytes.now) }
+    requires { head_length ≡ head_length_of (take most_head_bytes rest.now.bytes.now) }
+    ensures found { IfOk result (IsFound rest.now.max_body to_head rest.now.ended rest.now.bytes.now) }
+    ensures memory_last { OnErr result (HasFinal rest.now.bytes.now) }
 {
-    match front_of(alloc, bytes, head_length)? {
-        StatusFront::Open(at) => Ok(without_head(ended, bytes, at)),
+    match front_of(alloc, rest.bytes, head_length)? {
+        StatusFront::Open(at) => Ok(without_head(rest, at)),
         StatusFront::Faulty(fault) => Ok(Found::Faulty(fault)),
         StatusFront::Final(head, at) => {
-            match framing_of_response(alloc, max_body, to_head, &head)? {
+            match framing_of_response(alloc, rest.max_body, to_head, &head)? {
                 Err(fault) => Ok(Found::Faulty(fault)),
-                Ok(framing) => {
-                    with_framing(alloc, max_body, to_head, ended, bytes, at, head, framing)
-                }
+                Ok(framing) => with_framing(alloc, rest, to_head, at, head, framing),
             }
         }
     }
