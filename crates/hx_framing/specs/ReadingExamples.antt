@@ -1,4 +1,4 @@
--- Messages of the RFCs and of the project's own vectors, for worked readings: what whole streams read as where at most 1000 bytes
+-- Messages of the RFCs and others, for worked readings: what whole streams read as where at most 1000 bytes
 -- of content are taken.
 use Rattle.std.specs.Prelude.{ℕ, Bool, true, false, List, [], ◌∷◌, ◌++◌, codes, Option, Some, None}
 use Rattle.hx_fields.specs.declared.field_line.Field.{Field}

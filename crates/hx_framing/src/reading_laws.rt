@@ -83,7 +83,7 @@ pub fn chunked_contents_are_read()
 
 /// Interim responses are passed over, as that of RFC 8297, section 2; 101 is refused.
 pub fn interim_responses_are_passed()
-    ensures early_hints { answers (codes "HTTP/1.1 103 Early Hints\r\nLink: </style.css>; rel=preload; as=style\r\n\r\n" ++ ok (codes "Content-Length: 2\r\n") ++ codes "hi") (Spelled (response_with 200 [] (codes "hi") None) []) }
+    ensures early_hints { answers (codes "HTTP/1.1 103 Early Hints\r\nLink: </style.css>; rel=preload; as=style\r\nLink: </script.js>; rel=preload; as=script\r\n\r\n" ++ ok (codes "Content-Length: 2\r\n") ++ codes "hi") (Spelled (response_with 200 [] (codes "hi") None) []) }
     ensures two { answers (codes "HTTP/1.1 100 Continue\r\n\r\nHTTP/1.1 199 \r\nContent-Length: x\r\n\r\nHTTP/1.1 204 \r\n\r\n") (Spelled (response_with 204 [] [] None) []) }
     ensures alone { answers (codes "HTTP/1.1 100 Continue\r\n\r\n") Incomplete }
     ensures alone_at_the_end { answers_last (codes "HTTP/1.1 100 Continue\r\n\r\n") (Faulty fault.Truncated) }

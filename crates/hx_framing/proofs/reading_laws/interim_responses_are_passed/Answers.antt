@@ -10,7 +10,7 @@ abbrev early_hints_head : ResponseHead
 early_hints_head = answered 1 (codes "200") (Some (codes "OK")) (field (codes "Content-Length") (codes " 2") ∷ [])
 
 abbrev early_hints_interim : ResponseHead
-early_hints_interim = answered 1 (codes "103") (Some (codes "Early Hints")) (field (codes "Link") (codes " </style.css>; rel=preload; as=style") ∷ [])
+early_hints_interim = answered 1 (codes "103") (Some (codes "Early Hints")) (field (codes "Link") (codes " </style.css>; rel=preload; as=style") ∷ field (codes "Link") (codes " </script.js>; rel=preload; as=script") ∷ [])
 
 abbrev two_head : ResponseHead
 two_head = answered 1 (codes "204") (Some []) []
@@ -26,8 +26,8 @@ switch_head = answered 1 (codes "101") (Some (codes "Switching Protocols")) (fie
 
 pub returns-clause-early_hints : goal.returns-clause-early_hints
 unfolding httparse_on_literals
-returns-clause-early_hints c = passes_interim 1000 false false (codes "HTTP/1.1 103 Early Hints\r\nLink: </style.css>; rel=preload; as=style\r\n\r\n" ++ ok (codes "Content-Length: 2\r\n") ++ codes "hi") early_hints_interim 71 _ refl refl refl refl
-    (reads_response 1000 false false (drop 71 (codes "HTTP/1.1 103 Early Hints\r\nLink: </style.css>; rel=preload; as=style\r\n\r\n" ++ ok (codes "Content-Length: 2\r\n") ++ codes "hi")) early_hints_head 38 _ refl refl refl refl refl)
+returns-clause-early_hints c = passes_interim 1000 false false (codes "HTTP/1.1 103 Early Hints\r\nLink: </style.css>; rel=preload; as=style\r\nLink: </script.js>; rel=preload; as=script\r\n\r\n" ++ ok (codes "Content-Length: 2\r\n") ++ codes "hi") early_hints_interim 115 _ refl refl refl refl
+    (reads_response 1000 false false (drop 115 (codes "HTTP/1.1 103 Early Hints\r\nLink: </style.css>; rel=preload; as=style\r\nLink: </script.js>; rel=preload; as=script\r\n\r\n" ++ ok (codes "Content-Length: 2\r\n") ++ codes "hi")) early_hints_head 38 _ refl refl refl refl refl)
 
 pub returns-clause-two : goal.returns-clause-two
 unfolding httparse_on_literals
