@@ -315,6 +315,7 @@ pub fn lines_of_a_host_decide()
     ensures among { verdict_among indexed_lines (1 ∷ 2 ∷ 3 ∷ []) (codes "POST") (codes "/") ≡ Allowed 3 }
     ensures among_others { verdict_among indexed_lines (2 ∷ []) (codes "POST") (codes "/") ≡ NoLine }
     ensures among_none { verdict_among indexed_lines (0 ∷ 4 ∷ []) (codes "GET") (codes "/") ≡ NoLine }
+    ensures behind_a_missing_one { verdict_among indexed_lines (4 ∷ 2 ∷ []) (codes "GET") (codes "/") ≡ Allowed 2 }
     ensures among_denied { verdict_among indexed_lines (1 ∷ 2 ∷ []) (codes "GET") (codes "/p/q") ≡ DeniedBy 1 }
 {}
 
