@@ -10,13 +10,14 @@ use Rattle.std.proofs.lemmas.Slice.Eq.{bytes_eq-Decides}
 use Rattle.std.proofs.lemmas.Map.Text.{is_eq-slice_cmp}
 use Rattle.toml.specs.Data.{Data, Members, no_members, member, get_member, is_before, is_sorted, members_are_sorted}
 use Rattle.hx_allow.specs.LineTables.{line_fault}
-use Rattle.hx_allow.specs.Tables.{table_fault, judge_table}
+use Rattle.hx_allow.specs.Tables.{table_fault, judge_table, IsTable, ReadsAs}
 use Rattle.hx_allow.specs.Unknown.{Stands, ComesBefore, IsLeastUnknown}
 use Rattle.hx_allow.specs.Values.{is_known, first_unknown}
 use Rattle.hx_allow.specs.declared.faults.ConfigFault.TheVariants.{UnknownKey}
 use Rattle.hx_allow.specs.declared.values.Scope.{Scope}
 use Rattle.hx_allow.specs.declared.values.Scope.TheVariants.{Top, Line}
 use Rattle.hx_allow.specs.declared.values.TableVersion.{TableVersion}
+use Rattle.hx_allow.proofs.SortedTexts.{read_is_sorted}
 
 less : (o : Ordering) → is_lt o ≡ true → o ≡ Less
 less Less e = refl
@@ -135,3 +136,6 @@ told_at_top t key sorted least = rw (least_is_first Top t key sorted least) refl
 pub told_in_line : (version : TableVersion) (n : ℕ) (ms : Members) (key : List ℕ) → members_are_sorted ms ≡ true → IsLeastUnknown (Line version) ms key → line_fault version n ms ≡ Some (UnknownKey key)
 unfolding line_fault
 told_in_line version n ms key sorted least = rw (least_is_first (Line version) ms key sorted least) refl
+
+pub told_of_text : (text : List ℕ) (t : Members) (key : List ℕ) → IsTable text t → IsLeastUnknown Top t key → ReadsAs text (Err (UnknownKey key))
+told_of_text text t key is least = inl (t, is, sym (told_at_top t key (read_is_sorted text t is.2) least))

@@ -10,3 +10,5 @@ pub mod PathTails
 pub mod LeastUnknown
 pub mod Deciding
 pub mod TomlTables
+pub mod SortedNodes
+pub mod SortedTexts

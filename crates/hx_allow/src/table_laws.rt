@@ -7,7 +7,7 @@ ghost use Rattle.hx_allow.specs.Deciding.{deciding, lines_for_host};
 ghost use Rattle.hx_allow.specs.Lines.{Line as PlainLine, Table};
 ghost use Rattle.hx_allow.specs.LineTables.{line_fault};
 ghost use Rattle.hx_allow.specs.Matching.{matches_line, verdict_of};
-ghost use Rattle.hx_allow.specs.Tables.{judge_table, ReadsAs};
+ghost use Rattle.hx_allow.specs.Tables.{IsTable, judge_table, ReadsAs};
 ghost use Rattle.hx_allow.specs.Unknown.{Stands, IsLeastUnknown};
 ghost use Rattle.hx_allow.specs.Values.{is_known, first_unknown};
 ghost use Rattle.hx_allow.specs.declared.faults.ConfigFault.{ConfigFault as Fault};
@@ -16,12 +16,15 @@ ghost use Rattle.hx_allow.specs.declared.values.Scope.TheVariants.{Top, Line};
 ghost use Rattle.hx_allow.specs.declared.values.TableVersion.{TableVersion};
 
 /// Of several keys that aren't known the least is told, at the top before any other fault of the table, and in a line before
-/// any other of the line; where none is told each key is known. The keys of a TOML table ascend by their bytes.
+/// any other of the line; where none is told each key is known. It is so for every text: the keys of each table that it
+/// writes ascend by their bytes.
 pub fn the_least_unknown_key_is_told()
     ensures found { (scope : Scope) (ms : Members) (key : List ℕ) → members_are_sorted ms ≡ true → first_unknown scope ms ≡ Some key → IsLeastUnknown scope ms key }
     ensures none { (scope : Scope) (ms : Members) (key : List ℕ) → first_unknown scope ms ≡ None → Stands key ms → is_known scope key ≡ true }
     ensures top { (t : Members) (key : List ℕ) → members_are_sorted t ≡ true → IsLeastUnknown Top t key → judge_table t ≡ Err (Fault.UnknownKey key) }
     ensures line { (version : TableVersion) (n : ℕ) (ms : Members) (key : List ℕ) → members_are_sorted ms ≡ true → IsLeastUnknown (Line version) ms key → line_fault version n ms ≡ Some (Fault.UnknownKey key) }
+    ensures sorted { (text : List ℕ) (t : Members) → parse_document text ≡ Some t → members_are_sorted t ≡ true }
+    ensures read { (text : List ℕ) (t : Members) (key : List ℕ) → IsTable text t → IsLeastUnknown Top t key → ReadsAs text (Err (Fault.UnknownKey key)) }
 {}
 
 /// What is taken as a table is UTF-8 text of at most 1,048,576 bytes that is TOML; such a text is judged by what it says, and any

@@ -3,7 +3,7 @@
 ghost use Rattle.std.specs.Prelude.{◌≡◌, ◌∷◌, ◌++◌, [], Some, None, true, false, codes, pos, negsuc};
 ghost use Rattle.toml.specs.Data.{string, integer, boolean, array, table, no_items, no_members};
 ghost use Rattle.hx_allow.specs.Addresses.{is_address, is_number};
-ghost use Rattle.hx_allow.specs.Examples.{asks, bytes, first_line_denies, indexed_lines, line_without_cache, many, number, of_items, of_pairs, origin_8081, several_lines, text};
+ghost use Rattle.hx_allow.specs.Examples.{asks, bytes, first_line_denies, indexed_lines, line_without_cache, many, number, of_items, of_pairs, origin_8081, reads, several_lines, text};
 ghost use Rattle.hx_allow.specs.Index.{numbers_of, verdict_among};
 ghost use Rattle.hx_allow.specs.Keys.{fault_number, key_text};
 ghost use Rattle.hx_allow.specs.LineTables.{are_line_methods, is_line_host, is_line_method, is_line_origin, is_line_path};
@@ -315,6 +315,7 @@ pub fn lines_of_a_host_decide()
     ensures among { verdict_among indexed_lines (1 ∷ 2 ∷ 3 ∷ []) (codes "POST") (codes "/") ≡ Allowed 3 }
     ensures among_others { verdict_among indexed_lines (2 ∷ []) (codes "POST") (codes "/") ≡ NoLine }
     ensures among_none { verdict_among indexed_lines (0 ∷ 4 ∷ []) (codes "GET") (codes "/") ≡ NoLine }
+    ensures behind_a_missing_one { verdict_among indexed_lines (4 ∷ 2 ∷ []) (codes "GET") (codes "/") ≡ Allowed 2 }
     ensures among_denied { verdict_among indexed_lines (1 ∷ 2 ∷ []) (codes "GET") (codes "/p/q") ≡ DeniedBy 1 }
 {}
 
@@ -324,7 +325,7 @@ pub fn which_lines_are_cached()
     ensures off { caches_of line_without_cache 1 ≡ false }
     ensures on { caches_of line_without_cache 2 ≡ true }
     ensures behind_the_last { caches_of line_without_cache 3 ≡ false }
-    ensures none { caches_of line_without_cache 0 ≡ false }
+    ensures none { caches_of first_line_denies 0 ≡ false }
 {}
 
 /// The origin of a line, and the longest of all.
@@ -332,8 +333,9 @@ pub fn which_origin_a_line_has()
     ensures denying { origin_of first_line_denies 1 ≡ None }
     ensures allowing { origin_of first_line_denies 2 ≡ origin_8081 }
     ensures behind_the_last { origin_of first_line_denies 3 ≡ None }
-    ensures none { origin_of first_line_denies 0 ≡ None }
+    ensures none { origin_of line_without_cache 0 ≡ None }
     ensures longest { longest_origin first_line_denies ≡ 14 }
+    ensures longest_of_the_first { longest_origin (reads None (codes "GET") (codes "/") origin_8081 ∷ reads None (codes "GET") (codes "/") None ∷ []) ≡ 14 }
     ensures longest_of_none { longest_origin [] ≡ 0 }
 {}
 

@@ -1,4 +1,5 @@
-use Rattle.hx_allow.proofs.LeastUnknown.{first_is_least, none_told, told_at_top, told_in_line}
+use Rattle.hx_allow.proofs.LeastUnknown.{first_is_least, none_told, told_at_top, told_in_line, told_of_text}
+use Rattle.hx_allow.proofs.SortedTexts.{read_is_sorted}
 use Rattle.hx_allow.proofs.table_laws.the_least_unknown_key_is_told.Goals as goal
 
 pub returns-clause-found : goal.returns-clause-found
@@ -12,3 +13,9 @@ returns-clause-top c = told_at_top
 
 pub returns-clause-line : goal.returns-clause-line
 returns-clause-line c = told_in_line
+
+pub returns-clause-sorted : goal.returns-clause-sorted
+returns-clause-sorted c = read_is_sorted
+
+pub returns-clause-read : goal.returns-clause-read
+returns-clause-read c = told_of_text
