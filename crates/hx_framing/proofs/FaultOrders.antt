@@ -2,9 +2,9 @@
 use Rattle.std.proofs.Common.{◌≡◌, ℕ, ◌≤◌, ◌&&◌, ◌||◌, ◌==◌, Bool, true, false, not, cond, refl, sym, ap, ◌∙◌, subst, arith, Result, Ok, Err}
 use Rattle.hx_framing.specs.declared.fault.FrameFault.{FrameFault}
 use Rattle.hx_framing.specs.declared.fault.FrameFault.TheVariants as fault
-use Rattle.hx_framing.specs.declared.plan.Framing.{Framing}
-use Rattle.hx_framing.specs.declared.plan.Framing.TheVariants as framing
-use Rattle.hx_framing.specs.declared.plan.Plan.{Plan}
+use Rattle.hx_framing.specs.declared.lengths.Framing.{Framing}
+use Rattle.hx_framing.specs.declared.lengths.Framing.TheVariants as framing
+use Rattle.hx_framing.specs.declared.lengths.Plan.{Plan}
 use Rattle.hx_framing.specs.declared.request_head.Head.{Head}
 use Rattle.hx_framing.specs.declared.status_head.StatusHead.{StatusHead}
 use Rattle.hx_framing.specs.Fault.{number_of}

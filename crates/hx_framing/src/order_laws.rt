@@ -2,8 +2,8 @@
 ghost use Rattle.std.specs.Prelude.{◌≡◌, ℕ, Bool, false, Ok, Err};
 ghost use Rattle.hx_framing.specs.declared.fault.FrameFault.{FrameFault};
 ghost use Rattle.hx_framing.specs.declared.fault.FrameFault.TheVariants as fault;
-ghost use Rattle.hx_framing.specs.declared.plan.Framing.{Framing};
-ghost use Rattle.hx_framing.specs.declared.plan.Plan.{Plan};
+ghost use Rattle.hx_framing.specs.declared.lengths.Framing.{Framing};
+ghost use Rattle.hx_framing.specs.declared.lengths.Plan.{Plan};
 ghost use Rattle.hx_framing.specs.declared.request_head.Head.{Head};
 ghost use Rattle.hx_framing.specs.declared.status_head.StatusHead.{StatusHead};
 ghost use Rattle.hx_framing.specs.Fault.{number_of};
