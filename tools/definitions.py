@@ -6,7 +6,8 @@ compiler starts once for some dozen mutants, and only the laws are proved, each 
 set number 0 changes nothing: if a law of it isn't proved, the others tell nothing.
 
 A law that is computed, as worked cases are, takes a second or two, and one whose proof rests on the crate's lemmas takes these
-with it. So the computed ones come first, and the others are asked only of mutants that none of these refuses.
+with it. So the computed ones come first, then those that rest on few files of lemmas, and the others are asked only of mutants
+that none of these refuses.
 """
 import glob
 import os
@@ -19,6 +20,9 @@ from concurrent.futures import ThreadPoolExecutor
 BEGIN, END = "<!-- tools/mutants --definitions writes from here -->", "<!-- to here, of definitions -->"
 # So many mutants are tried by one start of the compiler.
 AT_ONCE = 40
+# The laws are asked in these steps: those on no file of lemmas, on at most so many, and on any number.
+COMPUTED, ON_FEW, ON_MANY = STEPS = range(3)
+FEW = 1
 
 
 class Mutant:
@@ -41,10 +45,10 @@ def mutants_of(rt, crate):
 
 
 class Copy:
-    """The sources of a crate, and the sets of files that mutants of it have in one copy, with the laws that are computed or the others."""
+    """The sources of a crate, and the sets of files that mutants of it have in one copy, with the laws of one step."""
 
-    def __init__(self, rt, crate, is_computed):
-        self.crate, self.files, self.is_computed = crate, {}, is_computed
+    def __init__(self, rt, crate, step):
+        self.crate, self.files, self.step = crate, {}, step
         for at, _folders, names in os.walk(crate.folder):
             part = os.path.relpath(at, crate.folder).split("/")[0]
             if part in ("src", "specs", "proofs"):
@@ -97,8 +101,16 @@ class Copy:
             text = text.replace(f"Rattle.{name}.proofs.{law.replace('/', '.')}.", f"Rattle.{name}.proofs.{law.replace('/', '.')}{mark}.")
         return text
 
+    def step_of(self, texts, own):
+        """The step in which a law is asked whose proof is these texts, in a folder of that name."""
+        found, new = set(), {it for text in texts for it in self.named(text)}
+        while new := {it for it in new if it.startswith("proofs.") and it != own} - found:
+            found |= new
+            new = {it for path, text in self.files.items() if self.module(path) in new for it in self.named(text)}
+        return COMPUTED if not found else ON_FEW if len(found) <= FEW else ON_MANY
+
     def functions_on(self, law, modules):
-        """The functions of a file of laws, computed or the others, whose statement or proof rests on these modules."""
+        """The functions of a file of laws that are asked in this step and whose statement or proof rests on these modules."""
         text, found = self.files[f"src/{law}.rt"], []
         imports = re.findall(rf"ghost use Rattle\.{self.crate.name}\.(specs\.\w+)\.\{{(.*?)\}};", text, re.S)
         changed = {it.split(" as ")[-1].strip() for module, names in imports if module in modules for it in names.split(",")}
@@ -106,15 +118,14 @@ class Copy:
             proofs = [it for path, it in self.files.items() if path.startswith(f"proofs/{law}/{name}/")]
             is_named = changed & set(re.findall(r"\w+", statement)) or any(self.names_one_of(it, modules) for it in [above, *proofs])
             own = f"proofs.{law.partition('/')[0]}"
-            is_computed = not any(it.startswith("proofs.") and it != own for text in [above, *proofs] for it in self.named(text))
-            found += [name] * bool(is_named and is_computed == self.is_computed)
+            found += [name] * bool(is_named and self.step_of([above, *proofs], own) == self.step)
         return found
 
     def texts_of(self, number, texts):
         """The files of the set with that number, in which these texts replace the crate's, and the laws that rest on them."""
         mark, files = f"_m{number}", {}
         modules = self.resting_on({self.module(it) for it in texts} - {None})
-        if self.is_computed:
+        if self.step == COMPUTED:
             modules = {it for it in modules if it.startswith("specs.")}
         with_proofs = lambda law: [it for it in self.files if it == f"src/{law}.rt" or it.startswith(f"proofs/{law}/")]
         functions = {law: self.functions_on(law, modules) for law in self.laws}
@@ -188,16 +199,17 @@ def judged(mutant, number, laws, said):
 
 
 def try_some(rt, crate, mutants, kept):
-    """Tries these mutants by the laws that are computed, and those that survive by the others."""
-    tried = try_by(True, rt, crate, mutants, kept)
-    alive = [it.mutant for it in tried if not it.refused_by and not it.fault]
-    others = {it.mutant: it for it in try_by(False, rt, crate, alive, kept)}
-    return [others.get(it.mutant, it) for it in tried]
+    """Tries these mutants by the laws of one step after another: of those that survive one, the next."""
+    tried = {it: Tried(it, []) for it in mutants}
+    for step in STEPS:
+        alive = [it for it in mutants if not tried[it].refused_by and not tried[it].fault]
+        tried.update({it.mutant: it for it in try_by(step, rt, crate, alive, kept)})
+    return [*tried.values()]
 
 
-def try_by(is_computed, rt, crate, mutants, kept):
-    """Tries these mutants in one copy, by the laws that are computed or by the others."""
-    copy = Copy(rt, crate, is_computed)
+def try_by(step, rt, crate, mutants, kept):
+    """Tries these mutants in one copy, by the laws of this step."""
+    copy = Copy(rt, crate, step)
     same = {it: text for it, text in copy.files.items() if it.startswith("specs/") and copy.module(it) and copy.module(it) not in copy.values}
     sets = {0: copy.texts_of(0, same), **{at + 1: copy.texts_of(at + 1, it.texts) for at, it in enumerate(mutants)}}
     if not any(laws for number, (_texts, laws) in sets.items() if number):
@@ -218,12 +230,14 @@ def try_crate(rt, crate, names, at_once):
     """Tries the mutants of the crate's definitions that have these names, or all, and prints a line for each."""
     mutants, tried, began = [it for it in mutants_of(rt, crate) if not names or it.name in names], [], time.monotonic()
     good = [it for it in mutants if not it.fault]
+    say = lambda found: [print(f"{crate.name}/{it.mutant.name}: {it.word()}", flush=True) for it in found]
     tried += [Tried(it, [], it.fault) for it in mutants if it.fault]
+    say(tried)
     with tempfile.TemporaryDirectory(prefix="definitions-kept-") as kept:
         for at in range(0, len(good), at_once):
-            tried += try_some(rt, crate, good[at : at + at_once], kept)
-    for it in tried:
-        print(f"{crate.name}/{it.mutant.name}: {it.word()}", flush=True)
+            some = try_some(rt, crate, good[at : at + at_once], kept)
+            say(some)
+            tried += some
     if mutants:
         print(f"{crate.name}: {counted(tried)}, in {time.monotonic() - began:.0f} s", flush=True)
     return tried
