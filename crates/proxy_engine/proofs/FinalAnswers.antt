@@ -69,7 +69,7 @@ asked s now (Serves i next.End) event due is = absurd is
 
 -- ---- so was each that a life tells of
 
-AreRead : List Item → Type 0
+abbrev AreRead : List Item → Type 0
 AreRead = AllByRecursion (λ item. IsReadEvent item.event)
 
 pub answers_are_read : AnswersAreRead
@@ -78,7 +78,7 @@ answers_are_read table begin last (Took happening ∷ steps) trace (before, past
     subst AreRead (sym adds) (answers_are_read table begin before steps past tells)
 answers_are_read table begin last (Worked now act told ∷ steps) trace (before, past, tells, leads, inl (item, is, one)) =
     subst AreRead (sym is) (asked before now act item.event leads.0 one.event_is, answers_are_read table begin before steps past tells)
-answers_are_read table begin last (Worked now act told ∷ steps) trace (before, past, tells, leads, inr (same, more)) =
+answers_are_read table begin last (Worked now act told ∷ steps) trace (before, past, tells, leads, inr (same, none, own)) =
     subst AreRead (sym same) (answers_are_read table begin before steps past tells)
 
 -- ---- what is read has a final status

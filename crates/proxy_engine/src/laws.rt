@@ -67,7 +67,7 @@ pub fn lives_are_runs()
 /// status, from 200 to 599.
 pub fn answers_are_final()
     ensures read { AnswersAreRead }
-    ensures final { AnswersAreFinal }
+    ensures status { AnswersAreFinal }
 {
     what_is_read_is_final();
 }
