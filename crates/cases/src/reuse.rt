@@ -12,15 +12,12 @@ use crate::parts::{Part, word};
 use crate::requests::asked_of;
 use hx_age::Times;
 use hx_directives::Directives;
-use hx_fields::{Bytes, Fields};
+use hx_fields::{Bytes, END_OF_TIME, Fields};
 use hx_hop::{Asked, dated};
 use hx_reuse::{Decision, ErrorRule, decide, may_serve_on_error};
 use hx_store::{Entry, ListShelf, Shelf};
 use hx_vary::{Nominated, Nomination};
 use std::alloc::{AllocError, Global};
-
-/// The first second of the year 10000, which no date names.
-pub const END_OF_TIME: u64 = 253_402_300_800;
 
 /// The most responses of a case.
 const MOST_STORED: usize = 9;

@@ -6,11 +6,8 @@ ghost use Rattle.hx_directives.specs.Occurrences.{occurrences_of};
 ghost use Rattle.hx_age.specs.Lifetime.{explicit_of, stated_seconds, until_expires, lifetime_of};
 
 use crate::dates::single_date;
-use hx_directives::{Directive, Directives, Seconds};
+use hx_directives::{Directive, Directives, MOST_SECONDS, Seconds};
 use hx_fields::Fields;
-
-/// In seconds; every larger number counts as this one (RFC 9111, section 1.2.2).
-const MOST_SECONDS: u64 = 2_147_483_648;
 
 /// A freshness lifetime.
 #[derive(Clone, Copy, Debug, PartialEq, Eq)]

@@ -8,6 +8,7 @@ mod answers;
 mod arguments;
 mod cache_control;
 mod laws;
+mod limits;
 mod names;
 mod numbers;
 mod occurrences;
@@ -21,6 +22,7 @@ pub use laws::{
     quoting_is_undone, repeated_and_bad_seconds, seconds_are_capped, seconds_have_a_cap,
     the_first_valid_seconds_count,
 };
+pub use limits::MOST_SECONDS;
 pub use names::Directive;
 pub use numbers::capped_seconds;
 pub use occurrences::Occurrence;

@@ -1,25 +1,36 @@
 //! Seconds, read from digits.
 
 ghost use Rattle.std.specs.Prelude.{◌≡◌, option_map};
+ghost use Rattle.std.specs.List.{list_all};
+ghost use Rattle.std.specs.Char.{is_ascii_digit};
+ghost use Rattle.std.specs.Str.Parse.{digits_value};
 ghost use Rattle.hx_directives.specs.Seconds.{capped, seconds_of};
 
-/// In seconds; every larger number counts as this one (RFC 9111, section 1.2.2).
-const MOST_SECONDS: u64 = 2_147_483_648;
+use crate::limits::MOST_SECONDS;
+use hx_fields::number_up_to;
+
+fn are_digits(text: &[u8]) -> bool
+    ensures { result ≡ list_all is_ascii_digit text.now }
+{
+    text.iter().all(|b| b.is_ascii_digit())
+}
+
+/// The seconds that digits spell, at most 2147483648.
+fn capped_number(digits: &[u8]) -> u64
+    ensures { result ≡ capped (digits_value 10 digits.now) }
+{
+    match number_up_to(MOST_SECONDS, 10, digits) {
+        Some(seconds) => seconds,
+        None => MOST_SECONDS,
+    }
+}
 
 /// The seconds that one digit or more spell, at most 2147483648. None of any other text.
 pub fn capped_seconds(text: &[u8]) -> Option<u32>
     ensures { result ≡ option_map capped (seconds_of text.now) }
 {
-    if text.is_empty() {
+    if text.is_empty() || !are_digits(text) {
         return None;
     }
-    let mut value: u64 = 0;
-    for b in text {
-        if !b.is_ascii_digit() {
-            return None;
-        }
-        // Capped at each digit: so the sum never leaves its type, however long the text is.
-        value = (value * 10 + u64::from(*b - b'0')).min(MOST_SECONDS);
-    }
-    Some(value as u32)
+    Some(capped_number(text) as u32)
 }

@@ -10,17 +10,19 @@ mod digits;
 mod field_line;
 mod field_lines;
 mod laws;
+mod limits;
 mod member_list;
 mod tokens;
 
 pub use crate::byte_string::Bytes;
 pub use crate::cutting::{cut_at, is_same_name, next_member, trim_blanks};
-pub use crate::digits::digit_value;
+pub use crate::digits::{digit_value, number_up_to};
 pub use crate::field_line::Field;
 pub use crate::field_lines::Fields;
 pub use crate::laws::{
     a_text_is_cut_at_the_first_of_a_byte, members_are_cut_outside_quotes,
     one_line_has_the_only_value, values_are_joined,
 };
+pub use crate::limits::END_OF_TIME;
 pub use crate::member_list::Members;
 pub use crate::tokens::is_token;

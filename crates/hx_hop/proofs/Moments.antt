@@ -9,6 +9,7 @@ use Rattle.httpdate.proofs.CalendarLemmas.{days_of_months_all, days_of_years_clo
 use Rattle.httpdate.proofs.FormatLemmas.{parse_complete}
 use Rattle.httpdate.proofs.Theorems.{date_text_is}
 use Rattle.httpdate.proofs.ValidLemmas.{is_valid_complete}
+use Rattle.hx_fields.specs.declared.limits.TheConstants.{END_OF_TIME}
 use Rattle.hx_hop.specs.Moments.{split_off, year_and_day, month_and_day, civil_of, date_text_of}
 
 -- a part and a day in it, of a sum of days
@@ -82,7 +83,7 @@ day_within : (year month day : ℕ) → day < days_in_month year (suc month) →
 day_within year month day h = let next : month + 1 ≡ suc month = omega arith in rw next (omega arith)
 
 -- the numbers are a date of the calendar, of these seconds
-pub civil_of_is : (now : ℕ) → now < 253402300800 → IsValid (civil_of now) × (parts_secs (civil_of now) ≡ now)
+pub civil_of_is : (now : ℕ) → now < END_OF_TIME → IsValid (civil_of now) × (parts_secs (civil_of now) ≡ now)
 civil_of_is now early =
     let years = year_splits (now / 86400) (omega arith) in
     let months = month_splits (1970 + (year_and_day (now / 86400)).0) (year_and_day (now / 86400)).1 years.inside in
@@ -97,13 +98,13 @@ civil_of_is now early =
     )
 
 -- so it is the date of which the port tells the text
-pub date_text_of_is : (date : HttpDate) (now : ℕ) → unix_secs date ≡ now → now < 253402300800 → date_text date ≡ date_text_of now
+pub date_text_of_is : (date : HttpDate) (now : ℕ) → unix_secs date ≡ now → now < END_OF_TIME → date_text date ≡ date_text_of now
 date_text_of_is date now e early =
     let civil = civil_of_is now early in
     date_text_is date (civil_of now) (is_valid_complete _ civil.0) (e ∙ sym civil.1)
 
 -- and it is read back
-pub parse_secs-date_text_of : (now : ℕ) → now < 253402300800 → parse_secs (date_text_of now) ≡ Some now
+pub parse_secs-date_text_of : (now : ℕ) → now < END_OF_TIME → parse_secs (date_text_of now) ≡ Some now
 parse_secs-date_text_of now early =
     let civil = civil_of_is now early in
     rw (parse_complete (date_text_of now) (civil_of now) civil.0 (inl refl), is_valid_complete _ civil.0, civil.1) refl

@@ -1,6 +1,7 @@
 -- What stripping, dating and forwarding leave, in the standard's words (RFC 9110, sections 6.6.1, 7.2, 7.6.1 and 7.6.3).
 use Rattle.std.specs.Prelude.{◌≡◌, ◌⊎◌, ℕ, ◌<◌, ◌==◌, true, false, ◌||◌, decimal, List, [], ◌∷◌, ◌++◌, codes, Option, Some}
 use Rattle.httpdate.specs.Date.{parse_secs}
+use Rattle.hx_fields.specs.declared.limits.TheConstants.{END_OF_TIME}
 use Rattle.hx_fields.specs.declared.field_line.Field.{Field}
 use Rattle.hx_fields.specs.Lines.{count_of, has, values_of}
 use Rattle.hx_framing.specs.declared.requests.Request.{Request}
@@ -30,15 +31,15 @@ StripsAtOnce = (fields : List Field) → stripped (stripped fields) ≡ stripped
 
 -- the text of a moment is the date of that moment
 abbrev pub TellsTheMoment : Type 0
-TellsTheMoment = (now : ℕ) → now < 253402300800 → parse_secs (date_text_of now) ≡ Some now
+TellsTheMoment = (now : ℕ) → now < END_OF_TIME → parse_secs (date_text_of now) ≡ Some now
 
 -- what was dated has one valid Date
 abbrev pub HasOneDate : Type 0
-HasOneDate = (fields : List Field) (now : ℕ) → now < 253402300800 → has_one_date (dated_of fields now) ≡ true
+HasOneDate = (fields : List Field) (now : ℕ) → now < END_OF_TIME → has_one_date (dated_of fields now) ≡ true
 
 -- so it isn't dated again
 abbrev pub DatesOnce : Type 0
-DatesOnce = (fields : List Field) (now later : ℕ) → now < 253402300800 → dated_of (dated_of fields now) later ≡ dated_of fields now
+DatesOnce = (fields : List Field) (now later : ℕ) → now < END_OF_TIME → dated_of (dated_of fields now) later ≡ dated_of fields now
 
 -- whatever a request had, one Host line goes forward
 abbrev pub SendsOneHost : Type 0

@@ -6,6 +6,7 @@ use Rattle.std.proofs.lemmas.Bool.{leb-true, or_from}
 use Rattle.std.proofs.lemmas.List.Elements.{All-nil, All-cons, All-append, All-filter}
 use Rattle.std.proofs.lemmas.List.Folds.{list_any-append}
 use Rattle.httparse.specs.Grammar.{is_token_byte}
+use Rattle.hx_fields.specs.declared.limits.TheConstants.{END_OF_TIME}
 use Rattle.hx_fields.specs.declared.field_line.Field.{Field}
 use Rattle.hx_fields.specs.Lines.{has, is_named, without_named}
 use Rattle.hx_framing.specs.declared.responses.Response.{Response}
@@ -85,7 +86,7 @@ module _ (fields : List Field) (now : ℕ) where
   date : Field
   date = line (codes "Date") (date_text_of now)
 
-  pub dated_fit : now < 253402300800 → All IsWritableField fields → All IsWritableField (dated_of fields now)
+  pub dated_fit : now < END_OF_TIME → All IsWritableField fields → All IsWritableField (dated_of fields now)
   dated_fit early all = by_test (has_one_date fields)
     where
       by_test : (t : Bool) → All IsWritableField (cond t fields (without_named fields (codes "Date") ++ line (codes "Date") (date_text_of now) ∷ []))

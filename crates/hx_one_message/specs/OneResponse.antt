@@ -1,6 +1,7 @@
 -- An answer that was read goes on as one response (RFC 9112, sections 6.3 and 11.1): whatever an origin sends, what a client gets for
 -- it is one response, which ends where the proxy ends it.
 use Rattle.std.specs.Prelude.{◌≡◌, ℕ, ◌<◌, ◌≤◌, ◌^◌, ◌==◌, ◌||◌, ◌++◌, if◌then◌else◌, Bool, false, List, [], length, codes, All, None, Some}
+use Rattle.hx_fields.specs.declared.limits.TheConstants.{END_OF_TIME}
 use Rattle.hx_fields.specs.declared.field_line.Field.{Field}
 use Rattle.hx_fields.specs.Lines.{has}
 use Rattle.hx_framing.specs.declared.responses.Response.{Response}
@@ -39,7 +40,7 @@ pub record FitsAReader (most : ℕ) (sent : SentResponse) : Type 0 where
 abbrev pub SendsOneResponse : Type 0
 SendsOneResponse =
     (max_body most now : ℕ) (to_head ended close : Bool) (bytes rest : List ℕ) (r : Response) (added : List Field)
-    → Reads max_body to_head ended bytes (Spelled r rest) → now < 253402300800 → AreAdded added
+    → Reads max_body to_head ended bytes (Spelled r rest) → now < END_OF_TIME → AreAdded added
     → let sent = sent_on to_head r now added close in
     most < 2 ^ 64 → FitsAReader most sent
     → (over : Bool) (behind : List ℕ) → Reads most to_head over (sent_text sent ++ behind) (Spelled (response_back to_head sent) behind)

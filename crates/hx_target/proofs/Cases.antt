@@ -7,9 +7,10 @@ use Rattle.std.specs.List.{list_all, list_any, prefix_len, suffix_len}
 use Rattle.std.specs.Option.{option_and_then}
 use Rattle.std.proofs.lemmas.Grind.{reverse_onto}
 use Rattle.hx_target.proofs.TablePaths.{and_parts}
-use Rattle.std.specs.Char.{to_ascii_lowercase, is_ascii_digit}
+use Rattle.std.specs.Char.{to_ascii_lowercase, is_ascii_digit, digit_value}
+use Rattle.std.specs.Str.Parse.{digits_value, digits_value_after}
 use Rattle.http_uri.specs.ByteClasses.{index_of, index_after_last, rsplit_once_back}
-use Rattle.hx_target.specs.Hosts.{lowercase, is_name_byte, is_address_byte, is_name, is_address, is_host, host_part, after_host, is_port_part, has_valid_host, digits_on, short_number, if_port, port_of, port_part}
+use Rattle.hx_target.specs.Hosts.{lowercase, is_name_byte, is_address_byte, is_name, is_address, is_host, host_part, after_host, is_port_part, has_valid_host, short_number, if_port, port_of, port_part}
 
 -- bytes that are no letters, and the classes of bytes
 low_bracket : (b : ℕ) → (to_ascii_lowercase b == 91) ≡ (b == 91)
@@ -124,20 +125,20 @@ low_valid value =
     ∙ (ap (λ t. t && is_port_part (lowercase (after_host value))) (low_is_host (host_part value))
     ∙ ap (λ t. is_host (host_part value) && t) (low_is_port_part (after_host value))))
 
-low_digits : (n : ℕ) (text : List ℕ) → list_all is_ascii_digit text ≡ true → digits_on n (lowercase text) ≡ digits_on n text
+low_digits : (n : ℕ) (text : List ℕ) → list_all is_ascii_digit text ≡ true → digits_value_after 10 n (lowercase text) ≡ digits_value_after 10 n text
 low_digits n [] h = refl
 low_digits n (c ∷ cs) h =
     let both = and_parts (is_ascii_digit c) (list_all is_ascii_digit cs) h in
-    ap (λ d. digits_on (n * 10 + (d - 48)) (lowercase cs)) (low_digit_value c both.0) ∙ low_digits (n * 10 + (c - 48)) cs both.1
+    ap (λ d. digits_value_after 10 (n * 10 + digit_value d) (lowercase cs)) (low_digit_value c both.0) ∙ low_digits (n * 10 + digit_value c) cs both.1
 
 low_short_number : (text : List ℕ) → short_number (lowercase text) ≡ short_number text
 unfolding short_number
 low_short_number text =
-    ap (λ n. cond (nat_le 1 n && nat_le n 5 && list_all is_ascii_digit (lowercase text)) (Some (digits_on 0 (lowercase text))) None) (length-map text to_ascii_lowercase)
-    ∙ (ap (λ t. cond (nat_le 1 (length text) && nat_le (length text) 5 && t) (Some (digits_on 0 (lowercase text))) None) (low_all is_ascii_digit low_digit text)
+    ap (λ n. cond (nat_le 1 n && nat_le n 5 && list_all is_ascii_digit (lowercase text)) (Some (digits_value 10 (lowercase text))) None) (length-map text to_ascii_lowercase)
+    ∙ (ap (λ t. cond (nat_le 1 (length text) && nat_le (length text) 5 && t) (Some (digits_value 10 (lowercase text))) None) (low_all is_ascii_digit low_digit text)
     ∙ by_digits (list_all is_ascii_digit text) refl (nat_le 1 (length text) && nat_le (length text) 5))
   where
-    by_digits : (t : Bool) → list_all is_ascii_digit text ≡ t → (u : Bool) → cond (u && t) (Some (digits_on 0 (lowercase text))) None ≡ cond (u && t) (Some (digits_on 0 text)) None
+    by_digits : (t : Bool) → list_all is_ascii_digit text ≡ t → (u : Bool) → cond (u && t) (Some (digits_value 10 (lowercase text))) None ≡ cond (u && t) (Some (digits_value 10 text)) None
     by_digits true e true = ap Some (low_digits 0 text e)
     by_digits true e false = refl
     by_digits false e true = refl

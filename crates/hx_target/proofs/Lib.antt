@@ -6,3 +6,4 @@ pub mod Cases
 pub mod JudgedCases
 pub mod Judgements
 pub mod Unchanged
+pub mod Digits

@@ -6,6 +6,7 @@ use Rattle.std.specs.Prelude.{ℕ, ◌+◌, ◌-◌, ◌*◌, ◌==◌, nat_le, 
 use Rattle.std.specs.Option.{option_and_then}
 use Rattle.std.specs.List.{list_all}
 use Rattle.std.specs.Char.{is_ascii_alphanumeric, is_ascii_digit, is_ascii_hexdigit, to_ascii_lowercase}
+use Rattle.std.specs.Str.Parse.{digits_value}
 use Rattle.http_uri.specs.ByteClasses.{colon, left_bracket, right_bracket, split_once_front, split_once_through}
 
 -- a byte of a host that is a name
@@ -47,15 +48,10 @@ is_port_part text = (length text == 0) || (slice_index text 0 == colon)
 abbrev pub has_valid_host : List ℕ → Bool
 has_valid_host value = is_host (host_part value) && is_port_part (after_host value)
 
--- the number that these digits spell behind n
-abbrev pub digits_on : ℕ → List ℕ → ℕ
-digits_on n [] = n
-digits_on n (c ∷ cs) = digits_on (n * 10 + (c - 48)) cs
-
 -- the number that one to five digits spell
 unfoldable pub short_number : List ℕ → Option ℕ
 short_number text =
-    if nat_le 1 (length text) && nat_le (length text) 5 && list_all is_ascii_digit text then Some (digits_on 0 text) else None
+    if nat_le 1 (length text) && nat_le (length text) 5 && list_all is_ascii_digit text then Some (digits_value 10 text) else None
 
 -- a number from 1 to 65535
 abbrev pub if_port : ℕ → Option ℕ

@@ -5,10 +5,11 @@ ghost use Rattle.std.specs.Prelude.{◌≡◌, ◌≤◌, ◌<◌, ◌^◌, ◌+
 ghost use Rattle.std.specs.Char.{is_ascii_digit};
 ghost use Rattle.std.specs.Option.{option_copied};
 ghost use Rattle.std.specs.List.{list_all};
+ghost use Rattle.std.specs.Str.Parse.{digits_value};
 ghost use Rattle.http_uri.specs.ByteClasses.{index_of, index_after_last};
-ghost use Rattle.hx_target.specs.Hosts.{is_name_byte, is_address_byte, is_name, is_address, is_host, host_part, after_host, has_valid_host, digits_on, short_number, port_of, port_part, lowercase};
+ghost use Rattle.hx_target.specs.Hosts.{is_name_byte, is_address_byte, is_name, is_address, is_host, host_part, after_host, has_valid_host, short_number, port_of, port_part, lowercase};
 
-use hx_fields::Bytes;
+use hx_fields::{Bytes, number_up_to};
 use std::alloc::{AllocError, Global};
 
 fn is_name_byte(b: u8) -> bool
@@ -127,16 +128,13 @@ pub fn has_valid_host(value: &[u8]) -> bool
 }
 
 /// The number that at most five digits spell.
+#[tactic(auto, using(crate::proofs::Digits::few_digits))]
 fn value_of(digits: &[u8]) -> u32
     requires few { length digits.now ≤ 5 }
     requires all { list_all is_ascii_digit digits.now ≡ true }
-    ensures { result ≡ digits_on 0 digits.now }
+    ensures { result ≡ digits_value 10 digits.now }
 {
-    let mut value = 0u32;
-    for digit in digits {
-        value = value * 10 + u32::from(*digit - b'0');
-    }
-    value
+    number_up_to(99_999, 10, digits).unwrap_or(0) as u32
 }
 
 /// The number that one to five digits spell.

@@ -5,6 +5,7 @@ use Rattle.std.proofs.lemmas.Bool.Decides.{eqb_tells}
 use Rattle.std.proofs.lemmas.List.{get_or-set_same, get_or-set_other, get_or-map, length_push}
 use Rattle.std.proofs.Math.ListN.{get_or-append, length-map, length-set}
 use Rattle.std.proofs.Math.Seq.{get_or-append_seam}
+use Rattle.hx_fields.specs.declared.limits.TheConstants.{END_OF_TIME}
 use Rattle.proxy_core.specs.Moments.{too_late}
 use Rattle.proxy_core.specs.Outcomes.{find_exchange, or_fault, not_forwarded, not_ready, fault_of, fault_by}
 use Rattle.proxy_core.specs.Leading.{is_forwarded, is_released, waits_for}
@@ -596,11 +597,11 @@ pub wired_accepted : {E : Type 0} (r : Result (Unit {0}) E) (cs cs1 : List (Opti
 wired_accepted (Ok u) cs cs1 os xs more same w = subst (λ (ds : List Activity). Wired ds os xs) (sym more) (wired_more (activities_of cs) os xs w)
 wired_accepted (Err e) cs cs1 os xs more same w = subst (λ (ds : List (Option Connection)). Wired (activities_of ds) os xs) (sym same) w
 
-early_by : (now : ℕ) → now < 253402300800 → too_late now ≡ None
-early_by now l = ap (λ (b : Bool). cond b None (Some MomentTooLate)) (lt-ltb now 253402300800 l)
+early_by : (now : ℕ) → now < END_OF_TIME → too_late now ≡ None
+early_by now l = ap (λ (b : Bool). cond b None (Some MomentTooLate)) (lt-ltb now END_OF_TIME l)
 
 -- an arrival at a free id, in time, is refused for want of memory alone
-pub arrival_refused : (xs : List Exchange) (now id : ℕ) (asked : Asked) (fault : CoreFault) → is_some (find_exchange id xs) ≡ false → now < 253402300800
+pub arrival_refused : (xs : List Exchange) (now id : ℕ) (asked : Asked) (fault : CoreFault) → is_some (find_exchange id xs) ≡ false → now < END_OF_TIME
     → (fault_by xs (Arrive now id asked) ≡ Some fault) ⊎ ((fault_by xs (Arrive now id asked) ≡ None) × (fault ≡ OutOfMemory)) → fault ≡ OutOfMemory
 arrival_refused xs now id asked fault free early (inl stands) = refused_by (find_exchange id xs) free stands
   where
@@ -613,7 +614,7 @@ not_out : (s : Stage) → is_forwarded s ≡ true → not_forwarded s ≡ None
 not_out s h = ap (λ (b : Bool). cond b None (Some NotForwarded)) h
 
 -- what stands on a link of an open exchange is refused for want of memory alone
-module _ (xs : List Exchange) (now id : ℕ) (fault : CoreFault) (out_now : forwarded_at id xs ≡ Some true) (early : now < 253402300800) where
+module _ (xs : List Exchange) (now id : ℕ) (fault : CoreFault) (out_now : forwarded_at id xs ≡ Some true) (early : now < END_OF_TIME) where
   pub answer_refused : (r : Response) → (fault_by xs (Answer now id r) ≡ Some fault) ⊎ ((fault_by xs (Answer now id r) ≡ None) × (fault ≡ OutOfMemory)) → fault ≡ OutOfMemory
   answer_refused r (inl stands) = refused_by (find_exchange id xs) out_now stands
     where
@@ -639,7 +640,7 @@ module _ (xs : List Exchange) (now id : ℕ) (fault : CoreFault) (out_now : forw
   failure_refused kind (inr memory) = memory.1
 
 -- and a wake of one that may be woken
-pub wake_refused : (xs : List Exchange) (now id : ℕ) (fault : CoreFault) → IsReady id xs → now < 253402300800 → (fault_by xs (Wake now id) ≡ Some fault) ⊎ ((fault_by xs (Wake now id) ≡ None) × (fault ≡ OutOfMemory)) → fault ≡ OutOfMemory
+pub wake_refused : (xs : List Exchange) (now id : ℕ) (fault : CoreFault) → IsReady id xs → now < END_OF_TIME → (fault_by xs (Wake now id) ≡ Some fault) ⊎ ((fault_by xs (Wake now id) ≡ None) × (fault ≡ OutOfMemory)) → fault ≡ OutOfMemory
 wake_refused xs now id fault r early (inl stands) =
     let none : fault_by xs (Wake now id) ≡ None =
     ap (λ (w : Option Exchange). fault_of w (Wake now id)) r.is_open

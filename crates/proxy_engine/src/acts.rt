@@ -1,6 +1,7 @@
 //! The first act that is due: an exchange is abandoned, else one is finished, else a request that waited is woken, else a
 //! connection is served.
 ghost use Rattle.std.specs.Prelude.{◌≡◌, ◌<◌, ◌≤◌, None, Some, IfOk, IfErr, OnErr};
+ghost use Rattle.hx_fields.specs.declared.limits.TheConstants.{END_OF_TIME};
 ghost use Rattle.proxy_engine.specs.Story.{Story, no_connection, no_link};
 ghost use Rattle.proxy_engine.specs.Due.{IsFirst, Lost, Stood, next_ready};
 ghost use Rattle.proxy_engine.specs.State.{Stands, NoneLost, load_at, Did, Failed, Lessens};
@@ -13,7 +14,7 @@ use std::alloc::Global;
 impl<S: Shelf> Engine<S> {
     /// Serves the first connection on which something is due, where nothing else is.
     fn serve_first(&mut self, alloc: Global, now: u64) -> Result<Work, EngineFault>
-        requires early { now < 253402300800 }
+        requires early { now < END_OF_TIME }
         ensures ok { IfOk result (λ work. (s : Story) → IsFirst Lost no_connection s.connections None → IsFirst Stood no_link s.links None
             → next_ready s.core ≡ None → Stands self.old s → Did s now work self.new) }
         ensures less { IfOk result (λ work. Lessens self.old work self.new) }
@@ -34,7 +35,7 @@ impl<S: Shelf> Engine<S> {
 
     /// Wakes the first request to arrive of those that waited and may be woken, where no client with an exchange is gone.
     fn wake_first(&mut self, alloc: Global, now: u64) -> Result<Work, EngineFault>
-        requires early { now < 253402300800 }
+        requires early { now < END_OF_TIME }
         requires here { NoneLost self.old.connections }
         ensures ok { IfOk result (λ work. (s : Story) → IsFirst Lost no_connection s.connections None → IsFirst Stood no_link s.links None
             → Stands self.old s → Did s now work self.new) }
@@ -55,7 +56,7 @@ impl<S: Shelf> Engine<S> {
 
     /// Finishes the first exchange whose link has an answer or a failure, where no client with an exchange is gone.
     fn finish_first(&mut self, alloc: Global, now: u64) -> Result<Work, EngineFault>
-        requires early { now < 253402300800 }
+        requires early { now < END_OF_TIME }
         requires here { NoneLost self.old.connections }
         ensures ok { IfOk result (λ work. (s : Story) → IsFirst Lost no_connection s.connections None
             → Stands self.old s → Did s now work self.new) }
@@ -78,7 +79,7 @@ impl<S: Shelf> Engine<S> {
     /// Does the first act that is due, and at most one step of the core. `now` is in Unix seconds, up to the end of
     /// the year 9999. After an `Err` the engine stands for the stories that it stood for.
     pub fn work(&mut self, alloc: Global, now: u64) -> Result<Work, EngineFault>
-        requires { now < 253402300800 }
+        requires { now < END_OF_TIME }
         ensures ok { IfOk result (λ work. (s : Story) → Stands self.old s → Did s now work self.new) }
         ensures less { IfOk result (λ work. Lessens self.old work self.new) }
         ensures fault { IfErr result (λ fault. (s : Story) → Stands self.old s → Failed s fault) }

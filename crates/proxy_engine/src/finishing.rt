@@ -1,5 +1,6 @@
 //! An exchange ends: its origin has answered or failed, or its client is gone.
 ghost use Rattle.std.specs.Prelude.{◌≡◌, ℕ, ◌+◌, ◌<◌, ◌≤◌, ◌^◌, nat_le, List, [], None, length, vec_len, vec_capacity, true, false, Some, is_some, IfOk, IfErr, OnOk, OnErr, slice_index_or};
+ghost use Rattle.hx_fields.specs.declared.limits.TheConstants.{END_OF_TIME};
 ghost use Rattle.hx_framing.specs.declared.responses.Response.{Response as Told};
 ghost use Rattle.hx_framing.specs.declared.answer.Next.{Next as Answer};
 ghost use Rattle.proxy_core.specs.declared.event.Event.TheVariants.{Fail};
@@ -60,7 +61,7 @@ fn fail<S: Shelf>(
     kind: FailKind,
 ) -> Result<Outcome, AllocError>
     requires open { forwarded_at id core.old.exchanges ≡ Some true }
-    requires early { now < 253402300800 }
+    requires early { now < END_OF_TIME }
     ensures ok { IfOk result (λ outcome. Steps core.old (Fail now id kind) outcome core.new) }
     ensures err { OnErr result (core.new ≡ core.old) }
 {
@@ -80,7 +81,7 @@ fn end<S: Shelf>(
 ) -> Result<Outcome, AllocError>
     requires due { is_some (finish_at (Some link.now)) ≡ true }
     requires open { forwarded_at id core.old.exchanges ≡ Some true }
-    requires early { now < 253402300800 }
+    requires early { now < END_OF_TIME }
     ensures ok { IfOk result (λ outcome. (f : Finish) × (finish_at (Some link.now) ≡ Some f) × IsFinishedBy core.old now id f outcome core.new) }
     ensures err { OnErr result (core.new ≡ core.old) }
 {
@@ -188,7 +189,7 @@ impl<S: Shelf> Engine<S> {
         requires due { is_some (finish_at (slice_index_or self.old.links j None)) ≡ true }
         requires here { NoneLost self.old.connections }
         requires left { (f : Finish) → finish_at (slice_index_or self.old.links j None) ≡ Some f → gives f ≡ true → self.old.first + length self.old.links < 2 ^ 64 }
-        requires early { now < 253402300800 }
+        requires early { now < END_OF_TIME }
         ensures ok { IfOk result (λ effects. (s : Story) → (f : Finish) → finish_at (slice_index_or self.old.links j None) ≡ Some f
             → Stands self.old s → Done s now (Finishes j f) effects.items self.new) }
         ensures less { OnOk result (load_at self.new < load_at self.old) }
@@ -218,7 +219,7 @@ impl<S: Shelf> Engine<S> {
     ) -> Result<Vec<Effect>, EngineFault>
         requires due { is_some (finish_at (slice_index_or self.old.links j None)) ≡ true }
         requires here { NoneLost self.old.connections }
-        requires early { now < 253402300800 }
+        requires early { now < END_OF_TIME }
         ensures ok { IfOk result (λ effects. (s : Story) → (f : Finish) → finish_at (slice_index_or self.old.links j None) ≡ Some f
             → Stands self.old s → Done s now (Finishes j f) effects.items self.new) }
         ensures less { OnOk result (load_at self.new < load_at self.old) }

@@ -1,5 +1,6 @@
 //! What a client's stream asks for is done.
 ghost use Rattle.std.specs.Prelude.{◌≡◌, ℕ, ◌+◌, ◌<◌, ◌≤◌, ◌^◌, List, length, sum_by, true, false, Option, None, Some, is_some, IfOk, IfErr, OnOk, OnErr, Ok, Err, slice_index_or};
+ghost use Rattle.hx_fields.specs.declared.limits.TheConstants.{END_OF_TIME};
 ghost use Rattle.hx_framing.specs.declared.requests.Request.{Request};
 ghost use Rattle.hx_framing.specs.declared.answer.Next.{Next};
 ghost use Rattle.hx_framing.specs.declared.answer.Next.TheVariants as next;
@@ -54,7 +55,7 @@ fn send_continue(
 
 /// The proxy's own answer, which closes the connection.
 fn own_answer(alloc: Global, now: u64, why: Cause, head: bool) -> Result<Bytes, AllocError>
-    requires { now < 253402300800 }
+    requires { now < END_OF_TIME }
     ensures { IfOk result (λ text. text ≡ refused_text (date_text_of now) why true head) }
 {
     refused(alloc, now, why, true, head)
@@ -70,7 +71,7 @@ fn refuse(
     head: bool,
 ) -> Result<Vec<Effect>, AllocError>
     requires free { is_free (slice_index_or connections.old.items i None) ≡ true }
-    requires early { now < 253402300800 }
+    requires early { now < END_OF_TIME }
     ensures ok { IfOk result (λ effects. (s : Story) → (links : List (Option Link)) → (core : CoreState) → (first : ℕ) → (a : Next Request) → IsWish a (Wish.Refuse why head)
         → Stands (state connections.old.items links core first) s → Done s now (Serves i a) effects.items (state connections.new.items links core first)) }
     ensures less { OnOk result (sum_by connection_load connections.new.items < sum_by connection_load connections.old.items) }
@@ -112,7 +113,7 @@ impl<S: Shelf> Engine<S> {
     ) -> Result<Vec<Effect>, AllocError>
         requires due { is_some (wish_at (slice_index_or self.old.connections i None)) ≡ true }
         requires left { self.old.first + length self.old.links < 2 ^ 64 }
-        requires early { now < 253402300800 }
+        requires early { now < END_OF_TIME }
         ensures ok { IfOk result (λ effects. (s : Story) → (r : Request) → IsAdmitted r (Ok asked.now) → wish_at (slice_index_or self.old.connections i None) ≡ Some (next.Message r)
             → Stands self.old s → Done s now (Serves i (next.Message r)) effects.items self.new) }
         ensures less { OnOk result ((r : Request) → wish_at (slice_index_or self.old.connections i None) ≡ Some (next.Message r)
@@ -143,7 +144,7 @@ impl<S: Shelf> Engine<S> {
         asked: &Asked,
     ) -> Result<Vec<Effect>, EngineFault>
         requires due { is_some (wish_at (slice_index_or self.old.connections i None)) ≡ true }
-        requires early { now < 253402300800 }
+        requires early { now < END_OF_TIME }
         ensures ok { IfOk result (λ effects. (s : Story) → (r : Request) → IsAdmitted r (Ok asked.now) → wish_at (slice_index_or self.old.connections i None) ≡ Some (next.Message r)
             → Stands self.old s → Done s now (Serves i (next.Message r)) effects.items self.new) }
         ensures less { OnOk result ((r : Request) → wish_at (slice_index_or self.old.connections i None) ≡ Some (next.Message r)
@@ -170,7 +171,7 @@ impl<S: Shelf> Engine<S> {
         i: u64,
     ) -> Result<Vec<Effect>, EngineFault>
         requires due { is_some (wish_at (slice_index_or self.old.connections i None)) ≡ true }
-        requires early { now < 253402300800 }
+        requires early { now < END_OF_TIME }
         ensures ok { IfOk result (λ effects. (s : Story) → (a : Next Request) → wish_at (slice_index_or self.old.connections i None) ≡ Some a
             → Stands self.old s → Done s now (Serves i a) effects.items self.new) }
         ensures less { OnOk result (load_at self.new < load_at self.old) }

@@ -1,5 +1,6 @@
 //! A request that waited for the answer to another is judged anew.
 ghost use Rattle.std.specs.Prelude.{◌≡◌, ℕ, ◌+◌, ◌<◌, ◌^◌, length, Some, IfOk, IfErr, OnOk, OnErr};
+ghost use Rattle.hx_fields.specs.declared.limits.TheConstants.{END_OF_TIME};
 ghost use Rattle.proxy_core.specs.Waiting.{IsReady};
 ghost use Rattle.proxy_engine.specs.Story.{Story};
 ghost use Rattle.proxy_engine.specs.Due.{Wakes, IsDueFirst};
@@ -21,7 +22,7 @@ impl<S: Shelf> Engine<S> {
         requires ready { IsReady (i + 1) self.old.core.exchanges }
         requires here { NoneLost self.old.connections }
         requires left { self.old.first + length self.old.links < 2 ^ 64 }
-        requires early { now < 253402300800 }
+        requires early { now < END_OF_TIME }
         ensures ok { IfOk result (λ effects. (s : Story) → Stands self.old s → Done s now (Wakes i) effects.items self.new) }
         ensures less { OnOk result (load_at self.new < load_at self.old) }
         ensures err { OnErr result (self.new ≡ self.old) }
@@ -50,7 +51,7 @@ impl<S: Shelf> Engine<S> {
     ) -> Result<Vec<Effect>, EngineFault>
         requires ready { IsReady id self.old.core.exchanges }
         requires here { NoneLost self.old.connections }
-        requires early { now < 253402300800 }
+        requires early { now < END_OF_TIME }
         ensures ok { IfOk result (λ effects. (s : Story) → (i : ℕ) → id ≡ i + 1 → Stands self.old s → Done s now (Wakes i) effects.items self.new) }
         ensures less { OnOk result (load_at self.new < load_at self.old) }
         ensures spent { result ≡ Err EngineFault.OutOfMemory → self.old.first + length self.old.links < 2 ^ 64 }

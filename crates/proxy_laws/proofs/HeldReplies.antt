@@ -3,6 +3,7 @@ use Rattle.std.proofs.Common.{◌≡◌, ◌<◌, ℕ, Bool, true, false, cond, 
 use Rattle.std.specs.Prelude.{Option, Some, None, option_map, nat_lt}
 use Rattle.std.specs.List.{AllByRecursion}
 use Rattle.std.proofs.lemmas.Bool.{ltb-true}
+use Rattle.hx_fields.specs.declared.limits.TheConstants.{END_OF_TIME}
 use Rattle.hx_allow.specs.Lines.{Table}
 use Rattle.hx_store.specs.Stored.{Stored}
 use Rattle.hx_store.specs.Recency.{is_the}
@@ -25,11 +26,11 @@ use Rattle.proxy_laws.specs.StoredReplies.{HoldsSendable, IsSendable}
 use Rattle.proxy_laws.proofs.StoredReplies.{freshens_sendable, stores_sendable}
 
 -- a moment that isn't too late
-in_time : (now : ℕ) → too_late now ≡ None → now < 253402300800
-in_time now h = by_test (nat_lt now 253402300800) refl h
+in_time : (now : ℕ) → too_late now ≡ None → now < END_OF_TIME
+in_time now h = by_test (nat_lt now END_OF_TIME) refl h
   where
-    by_test : (t : Bool) → nat_lt now 253402300800 ≡ t → cond t None (Some MomentTooLate) ≡ None → now < 253402300800
-    by_test true is k = ltb-true now 253402300800 is
+    by_test : (t : Bool) → nat_lt now END_OF_TIME ≡ t → cond t None (Some MomentTooLate) ≡ None → now < END_OF_TIME
+    by_test true is k = ltb-true now END_OF_TIME is
     by_test false is k = absurd cc
 
 first_none : (a b : Option CoreFault) → or_fault a b ≡ None → a ≡ None

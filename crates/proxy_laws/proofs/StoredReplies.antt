@@ -6,6 +6,7 @@ use Rattle.std.proofs.lemmas.Bool.{or_from}
 use Rattle.std.proofs.lemmas.List.Elements.{All-nil, All-cons, All-append, All-filter}
 use Rattle.std.proofs.lemmas.List.Folds.{list_any-append}
 use Rattle.httparse.specs.Grammar.{IsToken, is_token_byte}
+use Rattle.hx_fields.specs.declared.limits.TheConstants.{END_OF_TIME}
 use Rattle.hx_fields.specs.declared.field_line.Field.{Field}
 use Rattle.hx_fields.specs.Lines.{has, is_named}
 use Rattle.hx_framing.specs.declared.responses.Response.{Response}
@@ -33,7 +34,7 @@ widened : (h : Bool) (status : ℕ) → is_without_content false status ≡ true
 widened true status none = refl
 widened false status none = none
 
-module _ (h : Bool) (r : Response) (now : ℕ) (is : IsCleanAnswer h r) (early : now < 253402300800) where
+module _ (h : Bool) (r : Response) (now : ℕ) (is : IsCleanAnswer h r) (early : now < END_OF_TIME) where
   answer_fits : All IsWritableField (dated_of (stripped r.fields) now)
   answer_fits = dated_fit (stripped r.fields) now early (All-filter (λ f. not (is_hop_line r.fields f)) IsWritableField r.fields is.fields)
 

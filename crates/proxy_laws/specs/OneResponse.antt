@@ -2,6 +2,7 @@
 -- proxy's own.
 use Rattle.std.specs.Prelude.{ℕ, ◌<◌, ◌^◌, ◌++◌, Bool, List, [], ◌∷◌, length, codes, Some}
 use Rattle.httparse.specs.Grammar.{IsToken}
+use Rattle.hx_fields.specs.declared.limits.TheConstants.{END_OF_TIME}
 use Rattle.hx_framing.specs.declared.responses.Response.{Response}
 use Rattle.hx_framing.specs.Reading.{Spelled}
 use Rattle.hx_framing.specs.ResponseReading.{Reads}
@@ -37,7 +38,7 @@ told_by_the_proxy now cause close head = record {
 abbrev pub PassesOneResponse : Type 0
 PassesOneResponse =
     (max_body most now : ℕ) (ended stored : Bool) (bytes rest name : List ℕ) (x : Exchange) (r : Response)
-    → Reads max_body (is_head x.asked) ended bytes (Spelled r rest) → now < 253402300800 → IsToken name → most < 2 ^ 64
+    → Reads max_body (is_head x.asked) ended bytes (Spelled r rest) → now < END_OF_TIME → IsToken name → most < 2 ^ 64
     → FitsAReader most (passed_on name x r now stored)
     → (over : Bool) (behind : List ℕ)
     → Reads most (is_head x.asked) over (passed_text name x r now stored ++ behind) (Spelled (response_back (is_head x.asked) (passed_on name x r now stored)) behind)
@@ -46,6 +47,6 @@ PassesOneResponse =
 abbrev pub RefusesAsOneResponse : Type 0
 RefusesAsOneResponse =
     (most now : ℕ) (cause : Cause) (close head : Bool)
-    → now < 253402300800 → most < 2 ^ 64 → length (text_of cause) < 2 ^ 64 → FitsAReader most (told_by_the_proxy now cause close head)
+    → now < END_OF_TIME → most < 2 ^ 64 → length (text_of cause) < 2 ^ 64 → FitsAReader most (told_by_the_proxy now cause close head)
     → (over : Bool) (behind : List ℕ)
     → Reads most head over (refused_text (date_text_of now) cause close head ++ behind) (Spelled (response_back head (told_by_the_proxy now cause close head)) behind)

@@ -4,6 +4,7 @@
 -- HoldsSendable: so is whatever is held     SendsWholeAsOne, SendsA304AsOne: so it is sent
 use Rattle.std.specs.List.{AllByRecursion}
 use Rattle.std.specs.Prelude.{◌≡◌, ℕ, ◌<◌, ◌≤◌, ◌^◌, ◌++◌, Bool, true, false, List, [], ◌∷◌, length, codes, decimal, All, None, Some}
+use Rattle.hx_fields.specs.declared.limits.TheConstants.{END_OF_TIME}
 use Rattle.hx_fields.specs.declared.field_line.Field.{Field}
 use Rattle.httparse.specs.Grammar.{IsToken}
 use Rattle.hx_fields.specs.Lines.{has}
@@ -66,11 +67,11 @@ sent_as_304 name e now told asked = record {
 
 abbrev pub StoresSendable : Type 0
 StoresSendable = (max_body serial now : ℕ) (to_head ended : Bool) (bytes rest : List ℕ) (x : Exchange) (r : Response)
-    → Reads max_body to_head ended bytes (Spelled r rest) → now < 253402300800 → IsSendable (made serial x r now)
+    → Reads max_body to_head ended bytes (Spelled r rest) → now < END_OF_TIME → IsSendable (made serial x r now)
 
 abbrev pub FreshensSendable : Type 0
 FreshensSendable = (max_body now : ℕ) (to_head ended : Bool) (bytes rest : List ℕ) (e : Stored) (r : Response) (asked : Asked) (times : Times)
-    → IsSendable e → Reads max_body to_head ended bytes (Spelled r rest) → now < 253402300800 → IsSendable (freshened_of e (answered_of r now) asked times)
+    → IsSendable e → Reads max_body to_head ended bytes (Spelled r rest) → now < END_OF_TIME → IsSendable (freshened_of e (answered_of r now) asked times)
 
 -- at each moment of a good history whose answers were read (law `answers_are_final` of proxy_engine says that they are), so is the
 -- response of each serial, held or not

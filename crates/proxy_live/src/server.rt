@@ -1,5 +1,6 @@
 //! A server: a wait, what failed or was silent since the last turn, and a turn, again and again.
 ghost use Rattle.std.specs.Prelude.{◌≡◌, ◌<◌, [], Some, IfOk};
+ghost use Rattle.hx_fields.specs.declared.limits.TheConstants.{END_OF_TIME};
 ghost use Rattle.proxy_engine.specs.State.{Stands, begun};
 ghost use Rattle.proxy_turn.specs.Served.{HasLived, IsServing, GoesOn};
 
@@ -7,6 +8,7 @@ use crate::live_sockets::LiveSockets;
 use crate::recorder::{RecordFault, Recorder};
 use crate::recording::Recording;
 use hx_allow::Config;
+use hx_fields::END_OF_TIME;
 use hx_status::FailKind;
 use hx_store::Shelf;
 use proxy_engine::Engine;
@@ -19,7 +21,7 @@ use std::net::Net;
 use std::time::Clock;
 
 /// The last moment.
-const LATEST: u64 = 253_402_300_799;
+const LATEST: u64 = END_OF_TIME - 1;
 
 /// The most acts of a turn. After as many, more may be due.
 const MOST_WORKS: u64 = 1000;
@@ -65,7 +67,7 @@ impl<'a, S: Shelf + Drop, R: Net, W: Write + Drop> Model for Server<'a, S, R, W>
 
 /// The moment of a clock, in Unix seconds; 0 before 1970.
 fn moment<C: Clock>(clock: &C) -> Result<u64, ServeFault>
-    ensures { IfOk result (λ now. now < 253402300800) }
+    ensures { IfOk result (λ now. now < END_OF_TIME) }
 {
     match clock.since_1970() {
         Ok(now) => Ok(now.as_secs().min(LATEST)),
@@ -153,7 +155,7 @@ impl<'a, S: Shelf + Drop, R: Net, W: Write + Drop> Server<'a, S, R, W> {
 
     /// Serves a turn at a second of the clock that never goes back, and a moment.
     fn serve_at(&mut self, second: u64, now: u64) -> Result<(), ServeFault>
-        requires { now < 253402300800 }
+        requires { now < END_OF_TIME }
         ensures { GoesOn self.old self.new }
     {
         engines_live_on();
@@ -175,7 +177,7 @@ impl<'a, S: Shelf + Drop, R: Net, W: Write + Drop> Server<'a, S, R, W> {
 
     /// Hands in what happened since the last turn, and then takes one at a moment.
     fn turn_at(&mut self, now: u64) -> Result<Report, TurnFault>
-        requires { now < 253402300800 }
+        requires { now < END_OF_TIME }
         ensures { GoesOn self.old self.new }
     {
         engines_live_on();

@@ -6,6 +6,7 @@ use Rattle.std.specs.Fmt.{decimal}
 use Rattle.std.specs.Str.{bytes_eq}
 use Rattle.std.proofs.lemmas.Bool.{ltb-true, lt-ltb}
 use Rattle.std.proofs.lemmas.Slice.Eq.{bytes_eq-Decides}
+use Rattle.hx_fields.specs.declared.limits.TheConstants.{END_OF_TIME}
 use Rattle.hx_fields.specs.Names.{cut_at}
 use Rattle.proxy_script.specs.Numbers.{number_of}
 use Rattle.proxy_script.specs.Lines.{word_text, words, failures, IsOfALink, word_in, rest_text, line_text, FitsLine, if_moment, both, failure_of, two_numbers, number_and_failure, header_with, word_of, header_by, header_of, is_config, same, if_placed, placed}
@@ -117,7 +118,7 @@ with_again : (h : Header) → FitsLine h → header_with (word_in h) (rest_text 
 with_again (Config n) fits = rw (number_again n fits) refl
 with_again (At n) fits =
     let small : n < 2 ^ 64 = omega (arith, fits) in
-    ap (λ o. option_map At (option_and_then if_moment o)) (number_again n small) ∙ rw (lt-ltb n 253402300800 fits) refl
+    ap (λ o. option_map At (option_and_then if_moment o)) (number_again n small) ∙ rw (lt-ltb n END_OF_TIME fits) refl
 with_again (Accept n) fits = rw (number_again n fits) refl
 with_again (Client n len) fits = ap (option_map (λ p. Client p.0 p.1)) (two_again n len fits.0 fits.1)
 with_again (Link n len) fits = ap (option_map (λ p. Link p.0 p.1)) (two_again n len fits.0 fits.1)
@@ -163,11 +164,11 @@ moment_found (Some n) bs h is e = of_moment (if_moment n) refl e
     of_moment None has k = cc
     of_moment (Some m) has k =
         let this : At m ≡ h = cc in
-        let parts = moment_by (nat_lt n 253402300800) n m has in
+        let parts = moment_by (nat_lt n END_OF_TIME) n m has in
         let found = number_found bs n is in
-        let small : n < 253402300800 = ltb-true n 253402300800 parts.0 in
+        let small : n < END_OF_TIME = ltb-true n END_OF_TIME parts.0 in
         let text : line_text (At m) ≡ codes "at" ++ 32 ∷ bs = ap (λ k. codes "at" ++ 32 ∷ decimal k) (sym parts.1) ∙ ap (λ ds. codes "at" ++ 32 ∷ ds) (sym found.0) in
-        (subst (λ g. line_text g ≡ codes "at" ++ 32 ∷ bs) this text, subst FitsLine this (subst (λ k. k < 253402300800) parts.1 small))
+        (subst (λ g. line_text g ≡ codes "at" ++ 32 ∷ bs) this text, subst FitsLine this (subst (λ k. k < END_OF_TIME) parts.1 small))
 
 two_found_by : (o q : Option ℕ) (a b : List ℕ) (n len : ℕ) → number_of a ≡ o → number_of b ≡ q → both o q ≡ Some (n, len) → (a ≡ decimal n) × (b ≡ decimal len) × (n < 2 ^ 64) × (len < 2 ^ 64)
 two_found_by None q a b n len is also e = cc

@@ -1,14 +1,16 @@
 -- What is spelled as a number is read as it, and what is read is spelled so.
 use Rattle.std.proofs.Common.{◌≡◌, ℕ, ◌+◌, ◌-◌, ◌*◌, ◌^◌, ◌<◌, ◌≤◌, List, [], ◌∷◌, ◌++◌, length, get_or, refl, ap, sym, ◌∙◌, Bool, true, false, cond, ◌&&◌, not, ◌==◌, nat_lt, nat_le, Option, None, Some, rules, arith, inl, inr}
 use Rattle.std.specs.Option.{option_map}
-use Rattle.std.proofs.lemmas.Bool.{and_parts, and_from, ltb-true, ltb-false, lt-ltb, le-ltb, eqb-true, eq-eqb, leb-true, ne_eqb, and_left, and_right, cases_lt}
-use Rattle.std.proofs.lemmas.Str.Parse.{IsNumeralModel, numerals_by_fold, tells_all_ascii_digits}
+use Rattle.std.proofs.lemmas.Bool.{and_parts, and_from, ltb-true, ltb-false, lt-ltb, le-ltb, eqb-true, eq-eqb, leb-true, le-leb, ne_eqb, and_left, and_right, cases_lt}
+use Rattle.std.proofs.lemmas.Str.Parse.{IsNumeralModel, numerals_by_value, tells_all_ascii_digits}
+use Rattle.std.specs.List.{list_all}
+use Rattle.std.specs.Str.Parse.{digits_value}
 use Rattle.std.specs.Str.{all_ascii_digits}
 use Rattle.std.specs.Char.{is_ascii_digit}
 use Rattle.std.specs.Fmt.{decimal}
 use Rattle.std.proofs.lemmas.Fmt.{decimal-digits_value, digits_decimal, digits_value-decimal, decimal_nonempty, first_decimal, decimal_digit}
 use Rattle.hx_fields.specs.Names.{cut_at}
-use Rattle.proxy_script.specs.Numbers.{number_then, number_on, number_of}
+use Rattle.proxy_script.specs.Numbers.{value_of, number_of}
 
 -- the parts of equal pairs
 pub same_pair : {A B : Type 0} {x y : A} {u v : B} → ◌≡◌ {A = Option (A × B)} (Some (x, u)) (Some (y, v)) → (x ≡ y) × (u ≡ v)
@@ -56,38 +58,26 @@ lacks-append c (z ∷ x) y a b =
 
 -- numbers
 
-abbrev pub value_on : ℕ → List ℕ → ℕ
-value_on n [] = n
-value_on n (c ∷ cs) = value_on (n * 10 + (c - 48)) cs
+pub digits_model : IsNumeralModel (λ ds. all_ascii_digits ds ≡ true) (digits_value 10)
+digits_model = numerals_by_value _ tells_all_ascii_digits
 
-pub digits_model : IsNumeralModel (λ ds. all_ascii_digits ds ≡ true) (value_on 0)
-digits_model = numerals_by_fold _ tells_all_ascii_digits value_on (search rules)
-
-at_least : (n : ℕ) (ds : List ℕ) → n ≤ value_on n ds
-at_least n [] = omega arith
-at_least n (c ∷ cs) = let more = at_least (n * 10 + (c - 48)) cs in omega (arith, more)
-
-step_by : (b : Bool) (k m : ℕ) (cs : List ℕ) → number_then (λ j. number_on j cs) (cond b (Some k) None) ≡ Some m → (b ≡ true) × (number_on k cs ≡ Some m)
-step_by true k m cs e = (refl, e)
-step_by false k m cs e = cc
+small_by : (t u : Bool) (k m : ℕ) → cond t (cond u (Some k) None) None ≡ Some m → (t ≡ true) × (u ≡ true) × (m ≡ k)
+small_by true true k m e = (refl, refl, cc)
+small_by true false k m e = cc
+small_by false u k m e = cc
 
 -- what a number says of its digits
-pub number_on_found : (n : ℕ) (ds : List ℕ) (m : ℕ) → n < 2 ^ 64 → number_on n ds ≡ Some m → (all_ascii_digits ds ≡ true) × (m ≡ value_on n ds) × (m < 2 ^ 64)
-number_on_found n [] m small e = let same : n ≡ m = cc in (refl, sym same, omega arith)
-number_on_found n (c ∷ cs) m small e =
-    let parts = step_by (is_ascii_digit c && nat_lt (n * 10 + (c - 48)) (2 ^ 64)) (n * 10 + (c - 48)) m cs e in
-    let tests = and_parts (is_ascii_digit c) (nat_lt (n * 10 + (c - 48)) (2 ^ 64)) parts.0 in
-    let more = number_on_found (n * 10 + (c - 48)) cs m (ltb-true _ _ tests.1) parts.1 in
-    (and_from (is_ascii_digit c) (all_ascii_digits cs) tests.0 more.0, more.1, more.2)
+pub value_found : (ds : List ℕ) (m : ℕ) → value_of ds ≡ Some m → (all_ascii_digits ds ≡ true) × (m ≡ digits_value 10 ds) × (m < 2 ^ 64)
+value_found ds m e =
+    let parts = small_by (list_all is_ascii_digit ds) (nat_le (digits_value 10 ds) (2 ^ 64 - 1)) (digits_value 10 ds) m e in
+    let small = leb-true (digits_value 10 ds) (2 ^ 64 - 1) parts.1 in
+    (parts.0, parts.2, omega (arith, small, parts.2))
 
 -- digits of a number below 2 ^ 64
-pub number_on_again : (n : ℕ) (ds : List ℕ) → all_ascii_digits ds ≡ true → value_on n ds < 2 ^ 64 → number_on n ds ≡ Some (value_on n ds)
-number_on_again n [] digits small = refl
-number_on_again n (c ∷ cs) digits small =
-    let parts = and_parts (is_ascii_digit c) (all_ascii_digits cs) digits in
-    let least = at_least (n * 10 + (c - 48)) cs in
-    let test = and_from (is_ascii_digit c) (nat_lt (n * 10 + (c - 48)) (2 ^ 64)) parts.0 (lt-ltb (n * 10 + (c - 48)) (2 ^ 64) (omega (arith, least, small))) in
-    rw test (number_on_again (n * 10 + (c - 48)) cs parts.1 small)
+pub value_again : (ds : List ℕ) → all_ascii_digits ds ≡ true → digits_value 10 ds < 2 ^ 64 → value_of ds ≡ Some (digits_value 10 ds)
+value_again ds digits small =
+    ap (λ t. cond t (cond (nat_le (digits_value 10 ds) (2 ^ 64 - 1)) (Some (digits_value 10 ds)) None) None) digits
+    ∙ ap (λ t. cond t (Some (digits_value 10 ds)) None) (le-leb (digits_value 10 ds) (2 ^ 64 - 1) (omega (arith, small)))
 
 led_by : (t u : Bool) (o : Option ℕ) (m : ℕ) → cond (t && u) None o ≡ Some m → (o ≡ Some m) × ((t ≡ true) → u ≡ false)
 led_by true true o m e = cc
@@ -98,9 +88,9 @@ pub number_found : (bs : List ℕ) (m : ℕ) → number_of bs ≡ Some m → (bs
 unfolding number_of
 number_found [] m e = cc
 number_found (c ∷ cs) m e =
-    let parts = led_by (c == 48) (nat_lt 0 (length cs)) (number_on 0 (c ∷ cs)) m e in
-    let is = number_on_found 0 (c ∷ cs) m (omega arith) parts.0 in
-    let small : value_on 0 (c ∷ cs) < 2 ^ 64 = omega (arith, is.1, is.2) in
+    let parts = led_by (c == 48) (nat_lt 0 (length cs)) (value_of (c ∷ cs)) m e in
+    let is = value_found (c ∷ cs) m parts.0 in
+    let small : digits_value 10 (c ∷ cs) < 2 ^ 64 = omega (arith, is.1, is.2) in
     (sym (ap decimal is.1 ∙ decimal-digits_value digits_model (c ∷ cs) is.0 (omega arith) (λ zero_first. let one = ltb-false 0 (length cs) (parts.1 (eq-eqb c 48 zero_first)) in omega (arith, one)) small), is.2)
 
 not_led : (c k n : ℕ) → (0 < n → 48 < c) → (n ≡ 0 → k ≡ 0) → (c == 48 && nat_lt 0 k) ≡ false
@@ -110,12 +100,12 @@ not_led c k n first alone =
       | inr none ↦ and_right (c == 48) (nat_lt 0 k) (le-ltb 0 k (let zero = alone (omega arith) in omega (arith, zero)))
     ]
 
-number_again_by : (ds : List ℕ) (n : ℕ) → all_ascii_digits ds ≡ true → value_on 0 ds ≡ n → n < 2 ^ 64 → 0 < length ds → (0 < n → 48 < get_or ds 0 0) → (n ≡ 0 → length ds ≡ 1) → number_of ds ≡ Some n
+number_again_by : (ds : List ℕ) (n : ℕ) → all_ascii_digits ds ≡ true → digits_value 10 ds ≡ n → n < 2 ^ 64 → 0 < length ds → (0 < n → 48 < get_or ds 0 0) → (n ≡ 0 → length ds ≡ 1) → number_of ds ≡ Some n
 unfolding number_of
 number_again_by [] n digits is small some first alone = absurd (omega arith)
 number_again_by (c ∷ cs) n digits is small some first alone =
     rw (not_led c (length cs) n first (λ e. let one = alone e in omega (arith, one)))
-    (number_on_again 0 (c ∷ cs) digits (omega (arith, is, small)) ∙ ap (λ k. Some k) is)
+    (value_again (c ∷ cs) digits (omega (arith, is, small)) ∙ ap (λ k. Some k) is)
 
 pub number_again : (n : ℕ) → n < 2 ^ 64 → number_of (decimal n) ≡ Some n
 number_again n small =

@@ -1,6 +1,7 @@
 -- The lines of a script: how each is spelled, and what a text says as a line.
 use Rattle.std.specs.Prelude.{ℕ, ◌^◌, ◌<◌, List, [], ◌∷◌, ◌++◌, Bool, true, false, not, find, nat_lt, Option, None, Some, if◌then◌else◌, codes, decimal, bytes_eq}
 use Rattle.std.specs.Option.{option_map, option_and_then}
+use Rattle.hx_fields.specs.declared.limits.TheConstants.{END_OF_TIME}
 use Rattle.hx_fields.specs.Names.{cut_at}
 use Rattle.proxy_script.specs.Numbers.{number_of}
 use Rattle.proxy_script.specs.declared.words.Word.{Word}
@@ -66,7 +67,7 @@ line_text header = word_text (word_in header) ++ 32 ∷ rest_text header
 -- numbers that have a spelling, moments, and the failures of links
 abbrev pub FitsLine : Header → Type 0
 FitsLine (Config len) = len < 2 ^ 64
-FitsLine (At m) = m < 253402300800
+FitsLine (At m) = m < END_OF_TIME
 FitsLine (Accept n) = n < 2 ^ 64
 FitsLine (Client n len) = (n < 2 ^ 64) × (len < 2 ^ 64)
 FitsLine (Link l len) = (l < 2 ^ 64) × (len < 2 ^ 64)
@@ -76,7 +77,7 @@ FitsLine (Shut l) = l < 2 ^ 64
 FitsLine (Fail l kind) = (l < 2 ^ 64) × IsOfALink kind
 
 abbrev pub if_moment : ℕ → Option ℕ
-if_moment m = if nat_lt m 253402300800 then Some m else None
+if_moment m = if nat_lt m END_OF_TIME then Some m else None
 
 abbrev pub moment_of : List ℕ → Option ℕ
 moment_of text = option_and_then if_moment (number_of text)

@@ -1,26 +1,25 @@
 //! Decimal numbers.
 ghost use Rattle.std.specs.Prelude.{◌≡◌};
-ghost use Rattle.proxy_script.specs.Numbers.{digit_after, number_on, number_of};
+ghost use Rattle.std.specs.List.{list_all};
+ghost use Rattle.std.specs.Char.{is_ascii_digit};
+ghost use Rattle.proxy_script.specs.Numbers.{value_of, number_of};
 
-/// The number with one more digit.
-fn with_digit(value: u64, digit: u8) -> Option<u64>
-    ensures { result ≡ digit_after value digit }
+use hx_fields::number_up_to;
+
+fn are_digits(bytes: &[u8]) -> bool
+    ensures { result ≡ list_all is_ascii_digit bytes.now }
 {
-    if digit < b'0' || b'9' < digit {
-        return None;
-    }
-    let tens = value.checked_mul(10)?;
-    tens.checked_add(u64::from(digit - b'0'))
+    bytes.iter().all(|b| b.is_ascii_digit())
 }
 
 fn value_of(bytes: &[u8]) -> Option<u64>
-    ensures { result ≡ number_on 0 bytes.now }
+    ensures { result ≡ value_of bytes.now }
 {
-    let mut value = 0u64;
-    for b in bytes {
-        value = with_digit(value, *b)?;
+    if are_digits(bytes) {
+        number_up_to(u64::MAX, 10, bytes)
+    } else {
+        None
     }
-    Some(value)
 }
 
 /// A decimal number below 2^64 without leading zeros.

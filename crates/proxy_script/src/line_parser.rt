@@ -4,11 +4,8 @@ ghost use Rattle.proxy_script.specs.Lines.{moment_of, two_numbers, number_and_fa
 
 use crate::digits::number_of;
 use crate::words::{Word, failure_of, word_of};
-use hx_fields::cut_at;
+use hx_fields::{END_OF_TIME, cut_at};
 use hx_status::FailKind;
-
-/// The first moment that isn't one.
-const END_OF_MOMENTS: u64 = 253_402_300_800;
 
 /// The line of an item, with the length of the block that follows where one does.
 #[derive(Clone, Copy)]
@@ -28,7 +25,7 @@ fn moment_of(text: &[u8]) -> Option<u64>
     ensures { result ≡ moment_of text.now }
 {
     match number_of(text) {
-        Some(moment) if moment < END_OF_MOMENTS => Some(moment),
+        Some(moment) if moment < END_OF_TIME => Some(moment),
         _ => None,
     }
 }

@@ -1,6 +1,7 @@
 -- What stands at the front of a script's bytes: an item, or none; and how the table is read.
 use Rattle.std.proofs.Common.{◌≡◌, ◌≢◌, ℕ, ◌<◌, ◌==◌, List, [], ◌∷◌, length, refl, ap, sym, ◌∙◌, subst, Bool, true, false, Result, Ok, Err, arith}
 use Rattle.std.proofs.lemmas.List.{length-append}
+use Rattle.hx_fields.specs.declared.limits.TheConstants.{END_OF_TIME}
 use Rattle.hx_allow.specs.Lines.{Table}
 use Rattle.hx_allow.specs.Tables.{ReadsAs}
 use Rattle.hx_allow.specs.declared.faults.ConfigFault.{ConfigFault}
@@ -66,6 +67,6 @@ pub other_by : (bytes rest : List ℕ) (h : Item) → Found h rest ≡ item_at t
 other_by bytes rest h found other = let placed = item_found true bytes rest h (sym found) in let same : true ≡ false = sym placed.2 ∙ other in cc
 
 -- the moment stays below the end of moments
-pub moment_fits : (now : ℕ) (h : Item) → now < 253402300800 → Fits h → moment_after now h < 253402300800
+pub moment_fits : (now : ℕ) (h : Item) → now < END_OF_TIME → Fits h → moment_after now h < END_OF_TIME
 moment_fits now (item.Moment m) before fits = fits
 moment_fits now h before fits = before

@@ -1,5 +1,6 @@
 //! One step of a replay: what an item tells the engine, and what is then done and written.
 ghost use Rattle.std.specs.Prelude.{◌≡◌, ◌<◌, ◌++◌, IfOk, IfErr, OnOk, Some, option_map};
+ghost use Rattle.hx_fields.specs.declared.limits.TheConstants.{END_OF_TIME};
 ghost use Rattle.proxy_engine.specs.Happenings.{said};
 ghost use Rattle.proxy_engine.specs.Story.{Story};
 ghost use Rattle.proxy_engine.specs.State.{Stands};
@@ -53,7 +54,7 @@ fn settle<S: Shelf>(
     engine: &mut Engine<S>,
     now: u64,
 ) -> Result<Vec<Effect>, EngineFault>
-    requires { now < 253402300800 }
+    requires { now < END_OF_TIME }
     ensures ok { IfOk result (λ effects. (s : Story) → Stands engine.old s → Settled s now effects.items engine.new) }
     ensures fault { IfErr result (λ fault. (s : Story) → Stands engine.old s → Breaks s now fault) }
 {
@@ -78,7 +79,7 @@ fn tell<S: Shelf, W: Write>(
     happening: Happening<'_>,
     writer: &mut W,
 ) -> Result<(), ReplayFault>
-    requires { now < 253402300800 }
+    requires { now < END_OF_TIME }
     ensures ok { OnOk result ((s : Story) → Stands engine.old s → Told s now (Some (said happening.entry)) engine.new (W.contents writer.old) (W.contents writer.new)) }
     ensures fault { IfErr result (λ fault. (s : Story) → Stands engine.old s → Untold s now (Some (said happening.entry)) fault (W.contents writer.old) (W.contents writer.new)) }
 {
@@ -108,7 +109,7 @@ pub(crate) fn play_item<S: Shelf, W: Write>(
     item: Item<'_>,
     writer: &mut W,
 ) -> Result<(), ReplayFault>
-    requires { now < 253402300800 }
+    requires { now < END_OF_TIME }
     ensures ok { OnOk result ((s : Story) → Stands engine.old s → Told s now (happening_of (item_said item.entry)) engine.new (W.contents writer.old) (W.contents writer.new)) }
     ensures fault { IfErr result (λ fault. (s : Story) → Stands engine.old s → Untold s now (happening_of (item_said item.entry)) fault (W.contents writer.old) (W.contents writer.new)) }
 {

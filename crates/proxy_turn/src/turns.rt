@@ -1,6 +1,7 @@
 //! A turn, in three parts: a connection is accepted, each end from which bytes may come is read once, and what is then due
 //! is done.
 ghost use Rattle.std.specs.Prelude.{◌<◌, ◌≤◌, ◌≡◌, ◌^◌, length, IfOk, IfErr};
+ghost use Rattle.hx_fields.specs.declared.limits.TheConstants.{END_OF_TIME};
 ghost use Rattle.proxy_engine.specs.Story.{Story};
 ghost use Rattle.proxy_engine.specs.State.{Stands};
 ghost use Rattle.proxy_engine.specs.Orderly.{IsOrderly};
@@ -121,7 +122,7 @@ fn work_all<S: Shelf, K: Sockets>(
     alloc: Global,
     now: u64,
 ) -> Result<(u64, u64), TurnFault>
-    requires { now < 253402300800 }
+    requires { now < END_OF_TIME }
     ensures { (s : Story) → Stands engine.old s → IsOrderly s → WorksAll now s engine.new (calls (K.accepts sockets.old) (K.reads sockets.old) (K.failures sockets.old)) (calls (K.accepts sockets.new) (K.reads sockets.new) (K.failures sockets.new)) result }
 {
     effects_name_open_ends();
@@ -160,7 +161,7 @@ pub fn turn<S: Shelf, K: Sockets>(
     alloc: Global,
     now: u64,
 ) -> Result<Report, TurnFault>
-    requires { now < 253402300800 }
+    requires { now < END_OF_TIME }
     ensures { (s : Story) → Stands engine.old s → IsOrderly s → Turns now s engine.new (calls (K.accepts sockets.old) (K.reads sockets.old) (K.failures sockets.old)) (calls (K.accepts sockets.new) (K.reads sockets.new) (K.failures sockets.new)) result }
 {
     effects_name_open_ends();

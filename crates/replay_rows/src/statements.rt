@@ -3,11 +3,9 @@
 use crate::case_lines::{Entry, number_of};
 use crate::effects::Effect;
 use crate::form::FormFault;
+use hx_fields::END_OF_TIME;
 use hx_status::FailKind;
 use proxy_script::{Happening, Item};
-
-/// The first moment that isn't one.
-const END_OF_MOMENTS: u64 = 253_402_300_800;
 
 /// What a line of a case says.
 #[derive(Clone, Copy)]
@@ -40,7 +38,7 @@ fn happens(happening: Happening<'_>) -> Statement<'_> {
 
 fn moment<'a>(entry: &'a Entry<'_>, text: &str) -> Result<Statement<'a>, FormFault> {
     let moment = number_of(text)?;
-    if moment >= END_OF_MOMENTS {
+    if moment >= END_OF_TIME {
         return Err(FormFault::Number);
     }
     bare(entry, Statement::Plays(Item::At(moment)))

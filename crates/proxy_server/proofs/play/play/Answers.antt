@@ -1,4 +1,5 @@
 use Rattle.std.proofs.Common.{◌+◌, ◌<◌, false, true, sym, subst, arith}
+use Rattle.hx_fields.specs.declared.limits.TheConstants.{END_OF_TIME}
 use Rattle.proxy_script.specs.Script.{said, Table}
 use Rattle.proxy_script.proofs.ItemLaws.{item_found}
 use Rattle.proxy_server.specs.Played.{happening_of}
@@ -18,7 +19,7 @@ items-init g c = record {
 pub play_item-requires : goal.play_item-requires
 play_item-requires g c =
     let stands = item_found false c.items.rest.now c.in-Found.more.now (said c.in-Found.item) (sym c.in-Found.ensures) in
-    subst (λ m. m < 253402300800) (sym c.moment_after-now.ensures) (moment_fits c.items.now (said c.in-Found.item) c.items.invariant.moments stands.1)
+    subst (λ m. m < END_OF_TIME) (sym c.moment_after-now.ensures) (moment_fits c.items.now (said c.in-Found.item) c.items.invariant.moments stands.1)
 
 pub returns-in-Err-play_item : goal.returns-in-Err-play_item
 returns-in-Err-play_item g c =
@@ -42,7 +43,7 @@ items-preserved g c =
           (subst (λ m. Told before.last.story m (happening_of (said c.in-Found.item)) c.play_item.new.engine (g.W.Write.contents c.items.writer) (g.W.Write.contents c.play_item.new.writer)) c.moment_after-now.ensures
           (c.in-Ok-play_item.ensures.ok before.last.story before.stands)));
       lines = omega (arith, c.items.invariant.lines, item_shorter false c.items.rest.now c.in-Found.more.now (said c.in-Found.item) stands);
-      moments = subst (λ m. m < 253402300800) (sym c.moment_after-now.ensures) (moment_fits c.items.now (said c.in-Found.item) c.items.invariant.moments stands.1);
+      moments = subst (λ m. m < END_OF_TIME) (sym c.moment_after-now.ensures) (moment_fits c.items.now (said c.in-Found.item) c.items.invariant.moments stands.1);
     }
 
 pub returns-in-Wrong : goal.returns-in-Wrong
