@@ -10,6 +10,7 @@ mod fault_texts;
 mod faults;
 mod host_index;
 mod laws;
+mod limits;
 mod line_tables;
 mod lines;
 mod matching;
@@ -30,6 +31,7 @@ pub use laws::{
     one_verdict_for_each_table_path, table_versions, the_first_line_at_fault_is_told,
     the_first_line_that_matches_decides, version_one_reads_as_before,
 };
+pub use limits::MOST_TABLE_BYTES;
 pub use table_cases::{
     a_table_has_1_to_256_lines, cache_of_a_line, faults_of_a_line_in_order,
     faults_of_a_table_in_order, faults_of_texts, lines_in_their_order, missing_keys_of_a_line,

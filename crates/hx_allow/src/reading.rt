@@ -4,20 +4,18 @@ ghost use Rattle.toml.specs.Errors.{IsMemory};
 ghost use Rattle.toml.specs.View.{table_view};
 ghost use Rattle.hx_allow.specs.Tables.{ReadsAs, judge_table, table_fault, wants_memory};
 
+use crate::limits::MOST_TABLE_BYTES;
 use crate::tables::judge_table;
 use crate::{Config, ConfigFault};
 use std::alloc::Global;
 use toml::Table;
-
-/// The most bytes of a table.
-const MAX_BYTES: usize = 1_048_576;
 
 /// Reads a table.
 pub fn read(alloc: Global, bytes: &[u8]) -> Result<Config, ConfigFault>
     ensures table { ¬ (result ≡ Err ConfigFault.OutOfMemory) → ReadsAs bytes.now result }
     ensures memory_last { result ≡ Err ConfigFault.OutOfMemory → length bytes.now ≤ 1048576 }
 {
-    if bytes.len() > MAX_BYTES {
+    if bytes.len() > MOST_TABLE_BYTES {
         return Err(ConfigFault::NotToml);
     }
     judge_parsed(alloc, toml::table_from_slice(alloc, bytes))

@@ -10,6 +10,7 @@ ghost use Rattle.hx_allow.specs.Tables.{is_name_byte, is_name, number_at, versio
 
 use crate::faults::FoundFault;
 use crate::host_index::HostIndex;
+use crate::limits::MOST_LINES;
 use crate::line_tables::{lines_fault, lines_of};
 use crate::lines::longest_origin;
 use crate::values::{
@@ -20,9 +21,6 @@ use hx_fields::Bytes;
 use std::alloc::{AllocError, Global};
 use toml::value::Array;
 use toml::{Table, Value};
-
-/// The most lines of a table.
-const MAX_LINES: usize = 256;
 
 fn is_name_byte(b: u8) -> bool
     ensures { result ≡ is_name_byte b }
@@ -79,7 +77,7 @@ fn are_lines(values: &[Value]) -> bool
     ensures lines { result ≡ are_lines (items_view values.now) }
     ensures few { result ≡ true → length values.now ≤ 256 }
 {
-    if !counts_within(MAX_LINES, values) {
+    if !counts_within(MOST_LINES, values) {
         return false;
     }
     for value in values {

@@ -11,6 +11,7 @@ mod hosts;
 mod key_order;
 mod keys;
 mod laws;
+mod limits;
 mod paths;
 mod reading;
 mod sharing;

@@ -12,14 +12,12 @@ ghost use Rattle.hx_target.specs.Hosts.{has_valid_host};
 ghost use Rattle.hx_target.specs.Judgement.{is_bad_byte, is_malformed, is_http, has_other_scheme, host_value, naming, has_userinfo, path_query_of, question_of, first_fault, judged_of, Judged};
 
 use crate::hosts::{has_valid_host, host_part, index_after_last, port_part};
+use crate::limits::MOST_TARGET_BYTES;
 use crate::sharing::{compared_path, copy_of, host_line, lower_host};
 use crate::{Key, Target, TargetFault, has_bad_escape, names_a_dot_segment};
 use http_uri::{PathAndQuery, Uri, UriError};
 use hx_fields::{Bytes, Fields};
 use std::alloc::{AllocError, Global};
-
-/// The most bytes of a target.
-const MAX_TARGET: usize = 8_192;
 
 fn has_bad_byte(target: &[u8]) -> bool
     ensures { result ≡ list_any is_bad_byte target.now }
@@ -166,7 +164,7 @@ fn judge_parts(
     if names_a_dot_segment(path) {
         return Err(TargetFault::DotSegment);
     }
-    if target.len() > MAX_TARGET {
+    if target.len() > MOST_TARGET_BYTES {
         return Err(TargetFault::TooLong);
     }
     Ok(Target {

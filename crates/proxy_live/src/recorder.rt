@@ -1,11 +1,8 @@
 //! A record of what happens, as a script: the operator's table, and then each happening at its moment.
 
-use proxy_script::{Happening, Item, item_text};
+use proxy_script::{Happening, Item, MOST_SCRIPT_BYTES, item_text};
 use std::alloc::{AllocError, Global};
 use std::io::Write;
-
-/// The most bytes of a script.
-const LIMIT: usize = 16_777_216;
 
 /// Why nothing more can be recorded.
 #[derive(Clone, Copy, Debug, PartialEq, Eq)]
@@ -83,7 +80,7 @@ impl<W: Write + Drop> Recorder<W> {
             return Ok(());
         }
         let text = text_of(self.alloc, self.moment, now, happening)?;
-        if self.len > LIMIT || text.len() > LIMIT - self.len {
+        if self.len > MOST_SCRIPT_BYTES || text.len() > MOST_SCRIPT_BYTES - self.len {
             self.over = true;
             return Ok(());
         }

@@ -13,7 +13,7 @@ use hx_status::FailKind;
 use hx_store::Shelf;
 use proxy_engine::Engine;
 use proxy_log::Lines;
-use proxy_turn::{End, Report, TurnFault, engines_live_on, loss, turn};
+use proxy_turn::{End, MOST_WORKS, Report, TurnFault, engines_live_on, loss, turn};
 use std::alloc::Global;
 use std::io::{ErrorKind, Write};
 use std::marker::Model;
@@ -22,9 +22,6 @@ use std::time::Clock;
 
 /// The last moment.
 const LATEST: u64 = END_OF_TIME - 1;
-
-/// The most acts of a turn. After as many, more may be due.
-const MOST_WORKS: u64 = 1000;
 
 /// Why a server ends.
 #[derive(Clone, Copy, Debug, PartialEq, Eq)]

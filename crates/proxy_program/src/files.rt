@@ -1,12 +1,13 @@
 //! The operator's table, from its file.
 
 use crate::fault::{Fault, fault_of};
+use hx_allow::MOST_TABLE_BYTES;
 use std::io::Read;
 use std::rt::Files;
 use std::{fs, io};
 
 /// The most bytes of a table, and one more: what is longer is no table, however long it is.
-const MOST: u64 = 1_048_577;
+const MOST: u64 = MOST_TABLE_BYTES as u64 + 1;
 
 fn read_some<R: Files + AllocGlobal>(rt: &R, path: &str) -> io::Result<Vec<u8>> {
     let mut text = Vec::new(rt.alloc());

@@ -5,11 +5,9 @@ ghost use Rattle.std.specs.Prelude.{◌≡◌, ℕ, List, take, IfOk, OnOk, OnEr
 ghost use Rattle.std.specs.Io.KnownBytes.{Consumes, Appends};
 ghost use Rattle.proxy_server.specs.Bytes.{WasRead, limit};
 
+use proxy_script::MOST_SCRIPT_BYTES;
 use std::alloc::{AllocError, Global};
 use std::io::{ErrorKind, Read, Write};
-
-/// The most bytes of a script.
-const LIMIT: usize = 16_777_216;
 
 /// How many bytes are asked for at a time.
 const PIECE: usize = 4096;
@@ -27,9 +25,9 @@ pub(crate) fn read_script<R: Read>(
     for _turn in 0..u64::MAX {
         match reader.read(&mut buffer) {
             Ok(0) => return Ok((bytes, true)),
-            Ok(n) if n <= LIMIT - bytes.len() => bytes.extend_from_slice(&buffer[..n])?,
+            Ok(n) if n <= MOST_SCRIPT_BYTES - bytes.len() => bytes.extend_from_slice(&buffer[..n])?,
             Ok(_) => {
-                bytes.extend_from_slice(&buffer[..LIMIT - bytes.len()])?;
+                bytes.extend_from_slice(&buffer[..MOST_SCRIPT_BYTES - bytes.len()])?;
                 return Ok((bytes, false));
             }
             Err(e) if e.kind() == ErrorKind::Interrupted => {}

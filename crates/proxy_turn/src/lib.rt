@@ -7,12 +7,14 @@
 mod effects;
 mod happenings;
 mod laws;
+mod limits;
 mod report;
 mod sockets;
 mod turns;
 
 pub use crate::happenings::{arrival, ending, loss};
 pub use crate::laws::{engines_live_on, turns_are_lived};
+pub use crate::limits::MOST_WORKS;
 pub use crate::report::{Report, TurnFault};
 pub use crate::sockets::{Received, SocketFailed, Sockets};
 pub use crate::turns::turn;

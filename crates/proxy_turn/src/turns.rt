@@ -11,6 +11,7 @@ ghost use Rattle.proxy_turn.specs.Parts.{Asks, IsThere, ReadsOne, ReadsNone, Rea
 
 use crate::effects::{carry_out, take};
 use crate::happenings::{arrival, ending, loss};
+use crate::limits::{MOST_EFFECTS, MOST_OPEN, MOST_WORKS, PIECE};
 use crate::report::{Report, TurnFault};
 use crate::sockets::{Received, Sockets};
 use hx_status::FailKind;
@@ -20,18 +21,6 @@ use proxy_engine::{
     what_ends_stays_ended,
 };
 use std::alloc::Global;
-
-/// The most connections that are open at a time.
-const MOST_OPEN: usize = 256;
-
-/// The most bytes of one read.
-const PIECE: usize = 4096;
-
-/// The most acts of a turn.
-const MOST_WORKS: u64 = 1000;
-
-/// The most effects of an act.
-const MOST_EFFECTS: usize = 3;
 
 /// Asks for a connection, where fewer than 256 are open and a number is left; answers how many came.
 fn accept<S: Shelf, K: Sockets>(

@@ -1,0 +1,7 @@
+//! The limits of tables. The definitions have the same in `specs/Tables.antt`.
+
+/// Bytes of a table. A longer text is refused as `NotToml`.
+pub const MOST_TABLE_BYTES: usize = 1_048_576;
+
+/// Lines of a table. A table with more is refused as `NoLines`.
+pub(crate) const MOST_LINES: usize = 256;
