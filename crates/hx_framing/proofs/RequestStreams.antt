@@ -12,7 +12,7 @@ use Rattle.hx_framing.specs.declared.fault.FrameFault.{FrameFault}
 use Rattle.hx_framing.specs.declared.answer.Next.{Next}
 use Rattle.hx_framing.specs.Reading.{Reading, Incomplete, Continue, Over, Spelled, Faulty, with_body, IsSettled, extended}
 use Rattle.hx_framing.specs.RequestReading.{request_of, Reads}
-use Rattle.hx_framing.specs.RequestFound.{Resumes}
+use Rattle.hx_framing.specs.RequestHeadProgress.{Resumes}
 use Rattle.hx_framing.specs.RequestStream.{SpellsRequest, StreamSpells, Answers}
 use Rattle.hx_framing.specs.Progress.{Progress, next_of, fed, finished, IsDue}
 use Rattle.hx_framing.specs.RequestState.{State, StandsFor, Keeps}

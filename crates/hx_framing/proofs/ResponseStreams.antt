@@ -13,7 +13,7 @@ use Rattle.hx_framing.specs.Body.{Body}
 use Rattle.hx_framing.specs.Contents.{body_from}
 use Rattle.hx_framing.specs.Reading.{Reading, Incomplete, Continue, Over, Spelled, Faulty, with_body, IsSettled, extended}
 use Rattle.hx_framing.specs.ResponseReading.{response_of, Passes, Reads}
-use Rattle.hx_framing.specs.ResponseFound.{Resumes}
+use Rattle.hx_framing.specs.ResponseHeadProgress.{Resumes}
 use Rattle.hx_framing.specs.ResponseStream.{IsGiven, AnswersBy, Answers}
 use Rattle.hx_framing.specs.Progress.{Progress, next_of, fed, finished, IsDue}
 use Rattle.hx_framing.specs.ResponseState.{State, StandsFor, KeepsBy}

@@ -11,7 +11,7 @@ pub mod Queue
 pub mod HeadLines
 pub mod GivenFields
 pub mod RequestReading
-pub mod RequestFound
+pub mod RequestHeadProgress
 pub mod RequestStream
 pub mod RequestState
 pub mod StatusHead
@@ -21,7 +21,7 @@ pub mod LengthExamples
 pub mod ReadingExamples
 pub mod ResponseReading
 pub mod ResponseStream
-pub mod ResponseFound
+pub mod ResponseHeadProgress
 pub mod ResponseState
 pub mod Text
 pub mod Examples
@@ -31,7 +31,7 @@ pub mod Chunking
 pub mod Chunks
 pub mod ChunkGrammar
 pub mod ChunkFaults
-pub mod Pieces
+pub mod ChunkTokens
 pub mod Decoding
 pub mod Written
 pub mod WrittenResponse

@@ -7,7 +7,7 @@ use Rattle.hx_framing.specs.Places.{IsOpenHead, most_head_bytes}
 use Rattle.hx_framing.specs.Contents.{IsOpen}
 use Rattle.hx_framing.specs.Reading.{Faulty}
 use Rattle.hx_framing.specs.RequestReading.{Reads}
-use Rattle.hx_framing.specs.RequestFound.{Resumes}
+use Rattle.hx_framing.specs.RequestHeadProgress.{Resumes}
 use Rattle.hx_framing.specs.RequestStream.{StreamSpells}
 use Rattle.hx_framing.specs.Progress.{Progress}
 

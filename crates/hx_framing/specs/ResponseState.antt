@@ -7,7 +7,7 @@ use Rattle.hx_framing.specs.Places.{IsOpenHead, most_head_bytes}
 use Rattle.hx_framing.specs.Contents.{IsOpen}
 use Rattle.hx_framing.specs.Reading.{Faulty}
 use Rattle.hx_framing.specs.ResponseReading.{Passes, Reads}
-use Rattle.hx_framing.specs.ResponseFound.{Resumes}
+use Rattle.hx_framing.specs.ResponseHeadProgress.{Resumes}
 use Rattle.hx_framing.specs.ResponseStream.{IsGiven}
 use Rattle.hx_framing.specs.Progress.{Progress}
 

@@ -29,14 +29,14 @@ pub(crate) struct Rest<'a> {
 
 /// What stands at the front of unread bytes: what is due, and how many bytes it takes. H is a head, M a message.
 #[derive(Drop)]
-pub(crate) enum Found<H, M> {
+pub(crate) enum HeadProgress<H, M> {
     /// Nothing yet.
     Incomplete(usize),
     /// A continue, before the content.
-    Continue(H, Content, usize),
+    NeedsContinue(H, Content, usize),
     /// Nothing before the content goes on.
-    Going(H, Content, usize),
+    InContent(H, Content, usize),
     Message(M, usize),
     Faulty(FrameFault),
-    Over,
+    Ended,
 }

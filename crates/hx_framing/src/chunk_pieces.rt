@@ -1,14 +1,14 @@
-//! The pieces of content in chunks: a size line, a run of data, the CRLF behind data, a trailer line.
+//! The tokens of content in chunks: a size line, a run of data, the CRLF behind data, a trailer line.
 //!
 //! `specs/Pieces.antt` says what it means to take one. Nothing here takes memory.
 ghost use Rattle.std.specs.Prelude.{◌≡◌, ◌≤◌, ◌<◌, ◌+◌, ◌-◌, ℕ, List, true, cond, nat_lt, length, take, vec_len, vec_capacity, IfSome, IfNone};
 ghost use Rattle.hx_framing.specs.declared.chunk_state.Phase.TheVariants as phase;
-ghost use Rattle.hx_framing.specs.declared.chunk_pieces.Piece.TheVariants as piece;
+ghost use Rattle.hx_framing.specs.declared.chunk_pieces.ChunkToken.TheVariants as token;
 ghost use Rattle.hx_framing.specs.declared.fault.FrameFault.TheVariants as fault;
 ghost use Rattle.hx_framing.specs.ChunkGrammar.{has_no_lf};
 ghost use Rattle.hx_framing.specs.Chunking.{NeedsData, chunking_of};
 ghost use Rattle.hx_framing.specs.Decoding.{Decodes};
-ghost use Rattle.hx_framing.specs.Pieces.{Takes, IsLineFeed, bytes_of};
+ghost use Rattle.hx_framing.specs.ChunkTokens.{Takes, IsLineFeed, bytes_of};
 
 use crate::chunk_state::{ChunkState, Phase};
 use crate::fault::FrameFault;
@@ -18,21 +18,21 @@ use crate::size_line::{ends_in_cr, size_at};
 
 /// What stands at the front of the bytes.
 #[derive(Clone, Copy)]
-pub(crate) enum Piece {
-    /// Nothing, or a part of a piece.
-    Short,
-    /// A piece of so many bytes, and the place behind it.
-    Taken(usize, ChunkState),
-    /// The last piece, of so many bytes.
+pub(crate) enum ChunkToken {
+    /// Nothing, or a part of a token.
+    Incomplete,
+    /// A token of so many bytes, and the place behind it.
+    Whole(usize, ChunkState),
+    /// The last token, of so many bytes.
     Last(usize),
     Faulty(FrameFault),
 }
 
 /// How far the bytes that were given went: how many of them were taken.
 #[derive(Clone, Copy)]
-pub(crate) enum Decoded {
+pub(crate) enum ChunkProgress {
     /// More are needed. What wasn't taken has to stand at the front of what is given next.
-    More(usize),
+    Incomplete(usize),
     /// They end the content.
     Whole(usize),
     /// They spell no content in chunks, whatever follows.
@@ -58,17 +58,17 @@ fn line_feed_within(bytes: &[u8], from: usize, limit: usize) -> Option<usize>
 }
 
 /// A line with no LF within the limit.
-fn open_line(bytes: &[u8], limit: usize) -> Piece
-    ensures { result ≡ cond (nat_lt limit (length bytes.now)) (piece.Faulty fault.Chunk) piece.Short }
+fn open_line(bytes: &[u8], limit: usize) -> ChunkToken
+    ensures { result ≡ cond (nat_lt limit (length bytes.now)) (token.Faulty fault.Chunk) token.Incomplete }
 {
     if limit < bytes.len() {
-        Piece::Faulty(FrameFault::Chunk)
+        ChunkToken::Faulty(FrameFault::Chunk)
     } else {
-        Piece::Short
+        ChunkToken::Incomplete
     }
 }
 
-fn size_piece(place: ChunkState, bytes: &[u8], searched: usize) -> Piece
+fn size_token(place: ChunkState, bytes: &[u8], searched: usize) -> ChunkToken
     requires phase { place.phase ≡ phase.Size }
     requires within { searched ≤ length bytes.now }
     requires none { has_no_lf (take searched bytes.now) ≡ true }
@@ -79,15 +79,15 @@ fn size_piece(place: ChunkState, bytes: &[u8], searched: usize) -> Piece
     };
     let (line, _) = bytes.split_at(at);
     match size_at(line, place.left) {
-        Err(fault) => Piece::Faulty(fault),
-        Ok(0) => Piece::Taken(
+        Err(fault) => ChunkToken::Faulty(fault),
+        Ok(0) => ChunkToken::Whole(
             at + 1,
             ChunkState {
                 phase: Phase::Trailers,
                 ..place
             },
         ),
-        Ok(size) => Piece::Taken(
+        Ok(size) => ChunkToken::Whole(
             at + 1,
             ChunkState {
                 phase: Phase::Data,
@@ -99,7 +99,7 @@ fn size_piece(place: ChunkState, bytes: &[u8], searched: usize) -> Piece
     }
 }
 
-fn data_piece(place: ChunkState, content: &mut Vec<u8>, bytes: &[u8]) -> Piece
+fn data_token(place: ChunkState, content: &mut Vec<u8>, bytes: &[u8]) -> ChunkToken
     requires phase { place.phase ≡ phase.Data }
     requires need { 0 < place.need }
     requires room { vec_len content.now + length bytes.now ≤ vec_capacity content.now }
@@ -107,7 +107,7 @@ fn data_piece(place: ChunkState, content: &mut Vec<u8>, bytes: &[u8]) -> Piece
     ensures room { vec_len content.new + (length bytes.now - bytes_of result) ≤ vec_capacity content.new }
 {
     if bytes.is_empty() {
-        return Piece::Short;
+        return ChunkToken::Incomplete;
     }
     let taken = place.need.min(bytes.len() as u64);
     let (run, _) = bytes.split_at(taken as usize);
@@ -120,7 +120,7 @@ fn data_piece(place: ChunkState, content: &mut Vec<u8>, bytes: &[u8]) -> Piece
     } else {
         Phase::DataEnd
     };
-    Piece::Taken(
+    ChunkToken::Whole(
         taken as usize,
         ChunkState {
             phase,
@@ -131,25 +131,25 @@ fn data_piece(place: ChunkState, content: &mut Vec<u8>, bytes: &[u8]) -> Piece
 }
 
 /// The CRLF behind data.
-fn end_piece(place: ChunkState, bytes: &[u8]) -> Piece
+fn data_end_token(place: ChunkState, bytes: &[u8]) -> ChunkToken
     requires { place.phase ≡ phase.DataEnd }
     ensures { (content : List ℕ) → Takes place content bytes.now content result }
 {
     match bytes {
-        [] | [b'\r'] => Piece::Short,
-        [b'\r', b'\n', ..] => Piece::Taken(
+        [] | [b'\r'] => ChunkToken::Incomplete,
+        [b'\r', b'\n', ..] => ChunkToken::Whole(
             2,
             ChunkState {
                 phase: Phase::Size,
                 ..place
             },
         ),
-        _ => Piece::Faulty(FrameFault::Chunk),
+        _ => ChunkToken::Faulty(FrameFault::Chunk),
     }
 }
 
 /// A trailer line, or the empty line behind the trailers.
-fn trailer_piece(place: ChunkState, bytes: &[u8], searched: usize) -> Piece
+fn trailer_token(place: ChunkState, bytes: &[u8], searched: usize) -> ChunkToken
     requires phase { place.phase ≡ phase.Trailers }
     requires within { searched ≤ length bytes.now }
     requires none { has_no_lf (take searched bytes.now) ≡ true }
@@ -161,11 +161,11 @@ fn trailer_piece(place: ChunkState, bytes: &[u8], searched: usize) -> Piece
     };
     let (line, _) = bytes.split_at(at);
     if !ends_in_cr(line) {
-        Piece::Faulty(FrameFault::Chunk)
+        ChunkToken::Faulty(FrameFault::Chunk)
     } else if line.len() == 1 {
-        Piece::Last(at + 1)
+        ChunkToken::Last(at + 1)
     } else {
-        Piece::Taken(
+        ChunkToken::Whole(
             at + 1,
             ChunkState {
                 used: place.used + at + 1,
@@ -175,8 +175,8 @@ fn trailer_piece(place: ChunkState, bytes: &[u8], searched: usize) -> Piece
     }
 }
 
-/// The piece at the front of the bytes, for whose data there is room. No LF stands in the first `searched` of them.
-fn next_piece(place: ChunkState, content: &mut Vec<u8>, bytes: &[u8], searched: usize) -> Piece
+/// The token at the front of the bytes, for whose data there is room. No LF stands in the first `searched` of them.
+fn next_token(place: ChunkState, content: &mut Vec<u8>, bytes: &[u8], searched: usize) -> ChunkToken
     requires need { NeedsData place.phase place.need }
     requires within { searched ≤ length bytes.now }
     requires none { has_no_lf (take searched bytes.now) ≡ true }
@@ -185,21 +185,21 @@ fn next_piece(place: ChunkState, content: &mut Vec<u8>, bytes: &[u8], searched: 
     ensures room { vec_len content.new + (length bytes.now - bytes_of result) ≤ vec_capacity content.new }
 {
     match place.phase {
-        Phase::Size => size_piece(place, bytes, searched),
-        Phase::Data => data_piece(place, content, bytes),
-        Phase::DataEnd => end_piece(place, bytes),
-        Phase::Trailers => trailer_piece(place, bytes, searched),
+        Phase::Size => size_token(place, bytes, searched),
+        Phase::Data => data_token(place, content, bytes),
+        Phase::DataEnd => data_end_token(place, bytes),
+        Phase::Trailers => trailer_token(place, bytes, searched),
     }
 }
 
-/// Takes the whole pieces at the front of the bytes, for whose data there is room. No LF stands in the first
+/// Takes the whole tokens at the front of the bytes, for whose data there is room. No LF stands in the first
 /// `searched` of them.
-pub(crate) fn take_pieces(
+pub(crate) fn take_tokens(
     place: &mut ChunkState,
     content: &mut Vec<u8>,
     bytes: &[u8],
     searched: usize,
-) -> Decoded
+) -> ChunkProgress
     requires need { NeedsData place.now.phase place.now.need }
     requires within { searched ≤ length bytes.now }
     requires none { has_no_lf (take searched bytes.now) ≡ true }
@@ -210,15 +210,15 @@ pub(crate) fn take_pieces(
     let mut taken = 0;
     let mut searched = searched;
     loop {
-        match next_piece(*place, content, rest_from(bytes, taken), searched) {
-            Piece::Short => return Decoded::More(taken),
-            Piece::Taken(n, next) => {
+        match next_token(*place, content, rest_from(bytes, taken), searched) {
+            ChunkToken::Incomplete => return ChunkProgress::Incomplete(taken),
+            ChunkToken::Whole(n, next) => {
                 taken += n;
                 searched = 0;
                 *place = next;
             }
-            Piece::Last(n) => return Decoded::Whole(taken + n),
-            Piece::Faulty(fault) => return Decoded::Faulty(fault),
+            ChunkToken::Last(n) => return ChunkProgress::Whole(taken + n),
+            ChunkToken::Faulty(fault) => return ChunkProgress::Faulty(fault),
         }
     }
 }

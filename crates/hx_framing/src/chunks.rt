@@ -1,11 +1,11 @@
 //! A decoder of content in chunks (RFC 9112, section 7.1), which goes on where it stood.
 //!
 //! What bytes spell is said in `specs/ChunkGrammar.antt`, and where a fault is judged in `specs/Chunks.antt`.
-//! Whole pieces are taken: a size line, a run of data, a CRLF, a trailer line. A part of a line or of a CRLF isn't kept
+//! Whole tokens are taken: a size line, a run of data, a CRLF, a trailer line. A part of a line or of a CRLF isn't kept
 //! here; it stays with the caller.
 ghost use Rattle.std.specs.Prelude.{◌≡◌, ◌≤◌, IfOk, OnErr, true, length, take};
 
-use crate::chunk_pieces::{Decoded, take_pieces};
+use crate::chunk_pieces::{ChunkProgress, take_tokens};
 use crate::chunk_state::{ChunkState, Phase};
 use hx_fields::Bytes;
 use std::alloc::{AllocError, Global};
@@ -49,16 +49,20 @@ impl Chunks {
         }
     }
 
-    /// Takes the whole pieces at the front of the bytes. No LF stands in the first `searched` of them. An `Err`
+    /// Takes the whole tokens at the front of the bytes. No LF stands in the first `searched` of them. An `Err`
     /// changes nothing.
-    pub(crate) fn decode(&mut self, bytes: &[u8], searched: usize) -> Result<Decoded, AllocError>
+    pub(crate) fn decode(
+        &mut self,
+        bytes: &[u8],
+        searched: usize,
+    ) -> Result<ChunkProgress, AllocError>
         requires within { searched ≤ length bytes.now }
         requires none { has_no_lf (take searched bytes.now) ≡ true }
         ensures decodes { IfOk result (Decodes self.old bytes.now self.new) }
         ensures err { OnErr result (self.new ≡ self.old) }
     {
         self.content.reserve(bytes.len())?;
-        Ok(take_pieces(&mut self.place, &mut self.content, bytes, searched))
+        Ok(take_tokens(&mut self.place, &mut self.content, bytes, searched))
     }
 
     /// The data so far. No memory is taken.

@@ -4,7 +4,7 @@ ghost use Rattle.hx_framing.specs.declared.content.Content.TheVariants as conten
 ghost use Rattle.hx_framing.specs.ChunkGrammar.{has_no_lf};
 ghost use Rattle.hx_framing.specs.Contents.{begun, Advances};
 
-use crate::chunk_pieces::Decoded;
+use crate::chunk_pieces::ChunkProgress;
 use crate::chunks::Chunks;
 use crate::fault::FrameFault;
 use crate::lengths::Framing;
@@ -14,10 +14,10 @@ use std::alloc::{AllocError, Global};
 
 /// A content, as far as the bytes go.
 #[derive(Drop)]
-pub(crate) enum Taken {
+pub(crate) enum ContentProgress {
     /// It goes on behind so many bytes.
-    Short(usize),
-    Bad(FrameFault),
+    Incomplete(usize),
+    Faulty(FrameFault),
     /// It ends behind so many bytes.
     Whole(Option<Bytes>, usize),
 }
@@ -65,14 +65,14 @@ impl Content {
         ended: bool,
         bytes: &[u8],
         searched: usize,
-    ) -> Result<Taken, AllocError>
+    ) -> Result<ContentProgress, AllocError>
         requires within { searched ≤ length bytes.now }
         requires none { has_no_lf (take searched bytes.now) ≡ true }
-        ensures ok { IfOk result (λ taken. Advances ended bytes.now self.old taken self.new) }
+        ensures ok { IfOk result (λ progress. Advances ended bytes.now self.old progress self.new) }
         ensures err { OnErr result (self.new ≡ self.old) }
     {
         match self {
-            Content::Nothing => Ok(Taken::Whole(None, 0)),
+            Content::Nothing => Ok(ContentProgress::Whole(None, 0)),
             Content::Announced(plain) => plain.take_announced(alloc, bytes),
             Content::Chunked(chunks) => decode_chunks(chunks, alloc, bytes, searched),
             Content::UntilClose(plain) => plain.take_until_close(alloc, ended, bytes),
@@ -86,16 +86,16 @@ fn decode_chunks(
     alloc: Global,
     bytes: &[u8],
     searched: usize,
-) -> Result<Taken, AllocError>
+) -> Result<ContentProgress, AllocError>
     requires within { searched ≤ length bytes.now }
     requires none { has_no_lf (take searched bytes.now) ≡ true }
-    ensures ok { IfOk result (λ taken. (ended : Bool)
-        → Advances ended bytes.now (content.Chunked chunks.old) taken (content.Chunked chunks.new)) }
+    ensures ok { IfOk result (λ progress. (ended : Bool)
+        → Advances ended bytes.now (content.Chunked chunks.old) progress (content.Chunked chunks.new)) }
     ensures err { OnErr result (chunks.new ≡ chunks.old) }
 {
     match chunks.decode(bytes, searched)? {
-        Decoded::More(n) => Ok(Taken::Short(n)),
-        Decoded::Whole(n) => Ok(Taken::Whole(Some(chunks.take_content(alloc)), n)),
-        Decoded::Faulty(fault) => Ok(Taken::Bad(fault)),
+        ChunkProgress::Incomplete(n) => Ok(ContentProgress::Incomplete(n)),
+        ChunkProgress::Whole(n) => Ok(ContentProgress::Whole(Some(chunks.take_content(alloc)), n)),
+        ChunkProgress::Faulty(fault) => Ok(ContentProgress::Faulty(fault)),
     }
 }

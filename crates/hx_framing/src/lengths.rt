@@ -1,7 +1,7 @@
 //! How long the content behind a head is, by its fields (RFC 9112, section 6). The definitions are
 //! in `specs/Lengths.antt`.
 ghost use Rattle.std.specs.Prelude.{◌≡◌, IfOk};
-ghost use Rattle.hx_framing.specs.Lengths.{announced_or, is_chunked, ends_in_chunks, is_only_chunked, framing_of_only_coding, framing_of_codings, has_both, uncoded, framing_of_request, expectation, has_content, plan_of, is_interim, is_without_content, framing_of_final, with_status, framing_of_response, announced_of, without_lengths};
+ghost use Rattle.hx_framing.specs.Lengths.{announced_or, is_chunked, ends_in_chunks, is_only_chunked, framing_of_only_coding, framing_of_codings, has_both, uncoded, framing_of_request, expectation, has_content, request_body_of, is_interim, is_without_content, framing_of_final, with_status, framing_of_response, announced_of, without_lengths};
 
 use crate::content_length::length_up_to;
 use crate::fault::FrameFault;
@@ -26,7 +26,7 @@ pub(crate) enum Framing {
 
 /// What a request head says of its content.
 #[derive(Clone, Copy)]
-pub(crate) struct Plan {
+pub(crate) struct RequestBody {
     pub(crate) framing: Framing,
     /// The client waits for a continue before it sends the content.
     pub(crate) wants_continue: bool,
@@ -157,25 +157,25 @@ fn has_content(framing: Framing) -> bool
 }
 
 /// How the content of a request is judged by its head.
-pub(crate) fn plan_of(
+pub(crate) fn request_body_of(
     alloc: Global,
     max_body: u64,
     head: &Head,
-) -> Result<Result<Plan, FrameFault>, AllocError>
-    ensures { IfOk result (λ r. r ≡ plan_of max_body head.now) }
+) -> Result<Result<RequestBody, FrameFault>, AllocError>
+    ensures { IfOk result (λ r. r ≡ request_body_of max_body head.now) }
 {
     let framing = match framing_of_request(alloc, max_body, head)? {
         Ok(framing) => framing,
         Err(fault) => return Ok(Err(fault)),
     };
     match expectation(alloc, head)? {
-        None => Ok(Ok(Plan {
+        None => Ok(Ok(RequestBody {
             framing,
             wants_continue: false,
         })),
         Some(value) => {
             if is_same_name(value.as_slice(), b"100-continue") {
-                Ok(Ok(Plan {
+                Ok(Ok(RequestBody {
                     framing,
                     wants_continue: has_content(framing),
                 }))

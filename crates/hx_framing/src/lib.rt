@@ -24,12 +24,12 @@
 //! | `Chunks`, `Chunking` | content in chunks, a byte at a time, each fault at its byte | 9112, 7.1 |
 //! | `SizeLine` | which lines are sizes of chunks, and their limits | 9112, 7.1 and 7.1.1 |
 //! | `Fault`, `FaultTexts` | the faults' numbers and texts | |
-//! | `RequestState`, `ResponseState` | what `kept`, `weight` and `unfinished` count, the last by `IsOpen` of `Contents` and `IsOpenLine` of `Pieces` | |
+//! | `RequestState`, `ResponseState` | what `kept`, `weight` and `unfinished` count, the last by `IsOpen` of `Contents` and `IsOpenLine` of `ChunkTokens` | |
 //! | `Text` | the bytes of messages that are sent | 9112, 3 to 7 |
 //!
 //! The laws' own words are in `ChunkGrammar` (chunks as trees), `HeadLines`, `Written`, `WrittenResponse`, `Examples` and
-//! `LengthExamples`. The rest serves the proofs alone and needs no trust: `RequestFound`, `ResponseFound`, `Decoding`,
-//! `PlainContent`, `Queue`, `Searching`, what else is in `Pieces`; and so does `StandsFor`, which may be any relation that
+//! `LengthExamples`. The rest serves the proofs alone and needs no trust: `RequestHeadProgress`, `ResponseHeadProgress`, `Decoding`,
+//! `PlainContent`, `Queue`, `Searching`, what else is in `ChunkTokens`; and so does `StandsFor`, which may be any relation that
 //! holds of a new reader and that each call keeps.
 #![tactic(auto)]
 

@@ -3,12 +3,12 @@ ghost use Rattle.std.specs.Prelude.{◌≡◌, ℕ, Bool, false, Ok, Err};
 ghost use Rattle.hx_framing.specs.declared.fault.FrameFault.{FrameFault};
 ghost use Rattle.hx_framing.specs.declared.fault.FrameFault.TheVariants as fault;
 ghost use Rattle.hx_framing.specs.declared.lengths.Framing.{Framing};
-ghost use Rattle.hx_framing.specs.declared.lengths.Plan.{Plan};
+ghost use Rattle.hx_framing.specs.declared.lengths.RequestBody.{RequestBody};
 ghost use Rattle.hx_framing.specs.declared.request_head.Head.{Head};
 ghost use Rattle.hx_framing.specs.declared.status_head.StatusHead.{StatusHead};
 ghost use Rattle.hx_framing.specs.Fault.{number_of};
 ghost use Rattle.hx_framing.specs.FaultOrder.{stands_in_request, stands_in_response, IsLeast};
-ghost use Rattle.hx_framing.specs.Lengths.{plan_of, framing_of_response};
+ghost use Rattle.hx_framing.specs.Lengths.{request_body_of, framing_of_response};
 
 /// The numbers of the faults.
 pub fn faults_have_numbers()
@@ -26,9 +26,9 @@ pub fn faults_have_numbers()
 
 /// Of the faults that stand at the end of a request's head the one of the least number is told, and none where none stands.
 pub fn the_least_fault_of_a_request_is_told()
-    ensures fault { (max_body : ℕ) → (head : Head) → (fault : FrameFault) → plan_of max_body head ≡ Err fault
+    ensures fault { (max_body : ℕ) → (head : Head) → (fault : FrameFault) → request_body_of max_body head ≡ Err fault
         → IsLeast (stands_in_request max_body head) fault }
-    ensures none { (max_body : ℕ) → (head : Head) → (plan : Plan) → plan_of max_body head ≡ Ok plan → (fault : FrameFault)
+    ensures none { (max_body : ℕ) → (head : Head) → (body : RequestBody) → request_body_of max_body head ≡ Ok body → (fault : FrameFault)
         → stands_in_request max_body head fault ≡ false }
 {}
 

@@ -1,7 +1,7 @@
 //! Where the head of a message ends. The definitions are in `specs/Places.antt` and `specs/Searching.antt`.
 ghost use Rattle.std.specs.Prelude.{◌≡◌, ◌==◌, ◌≤◌, ◌<◌, ◌+◌, ◌++◌, ℕ, List, length, drop, take, slice_index, IfSome};
 ghost use Rattle.std.specs.List.{position_or_len, before_first};
-ghost use Rattle.hx_framing.specs.Places.{blank_at, blank_from, empty_at, blank_length, empty_line_from, head_length};
+ghost use Rattle.hx_framing.specs.Places.{empty_line_at, empty_lines_from, head_end_at, empty_lines_length, head_end_from, head_length};
 ghost use Rattle.hx_framing.specs.Searching.{Reaches, IsSearched};
 
 use memchr::memchr;
@@ -38,8 +38,8 @@ fn byte_at(bytes: &[u8], i: usize) -> u8
     if i < bytes.len() { bytes[i] } else { 0 }
 }
 
-fn blank_at(bytes: &[u8]) -> usize
-    ensures size { result ≡ blank_at bytes.now }
+fn empty_line_at(bytes: &[u8]) -> usize
+    ensures size { result ≡ empty_line_at bytes.now }
     ensures within { result ≤ length bytes.now }
 {
     if byte_at(bytes, 0) == b'\n' {
@@ -51,8 +51,8 @@ fn blank_at(bytes: &[u8]) -> usize
     }
 }
 
-fn empty_at(bytes: &[u8]) -> usize
-    ensures size { result ≡ empty_at bytes.now }
+fn head_end_at(bytes: &[u8]) -> usize
+    ensures size { result ≡ head_end_at bytes.now }
     ensures within { result ≤ length bytes.now }
 {
     if byte_at(bytes, 0) != b'\n' {
@@ -67,37 +67,37 @@ fn empty_at(bytes: &[u8]) -> usize
 }
 
 /// Where the empty lines end, from an index on.
-fn blank_from(bytes: &[u8], from: usize) -> usize
+fn empty_lines_from(bytes: &[u8], from: usize) -> usize
     requires { from ≤ length bytes.now }
-    ensures size { result ≡ blank_from from (drop from bytes.now) }
+    ensures size { result ≡ empty_lines_from from (drop from bytes.now) }
     ensures within { result ≤ length bytes.now }
 {
     let mut at = from;
-    while blank_at(rest_from(bytes, at)) > 0 {
-        at += blank_at(rest_from(bytes, at));
+    while empty_line_at(rest_from(bytes, at)) > 0 {
+        at += empty_line_at(rest_from(bytes, at));
     }
     at
 }
 
 /// How many bytes the empty lines in front take.
-pub(crate) fn blank_length(bytes: &[u8]) -> usize
-    ensures size { result ≡ blank_length bytes.now }
+pub(crate) fn empty_lines_length(bytes: &[u8]) -> usize
+    ensures size { result ≡ empty_lines_length bytes.now }
     ensures within { result ≤ length bytes.now }
 {
-    blank_from(bytes, 0)
+    empty_lines_from(bytes, 0)
 }
 
 /// Where the first empty line from an index on ends. The search goes from one LF to the next.
-fn empty_line_from(bytes: &[u8], from: usize) -> Option<usize>
+fn head_end_from(bytes: &[u8], from: usize) -> Option<usize>
     requires { from ≤ length bytes.now }
-    ensures place { result ≡ empty_line_from from (drop from bytes.now) }
+    ensures place { result ≡ head_end_from from (drop from bytes.now) }
     ensures within { IfSome result (λ end. end ≤ length bytes.now) }
     ensures some { IfSome result (λ end. 0 < end) }
 {
     let mut at = from;
     while let Some(skipped) = memchr(b'\n', rest_from(bytes, at)) {
         at += skipped;
-        let empty = empty_at(rest_from(bytes, at));
+        let empty = head_end_at(rest_from(bytes, at));
         if empty > 0 {
             return Some(at + empty);
         }
@@ -110,10 +110,10 @@ fn empty_line_from(bytes: &[u8], from: usize) -> Option<usize>
 fn search_lines(bytes: &[u8], from: usize) -> Searched
     requires room { from + 2 ≤ length bytes.now }
     requires lines { (more : List ℕ) → head_length (bytes.now ++ more)
-        ≡ empty_line_from from (drop from (bytes.now ++ more)) }
+        ≡ head_end_from from (drop from (bytes.now ++ more)) }
     ensures { IsSearched bytes.now result }
 {
-    match empty_line_from(bytes, from) {
+    match head_end_from(bytes, from) {
         Some(end) => Searched::Ended(end),
         // An empty line takes three bytes at most with the line end in front of it.
         None => Searched::Open(HeadSearch {
@@ -131,14 +131,14 @@ pub(crate) fn search_head(bytes: &[u8], search: HeadSearch) -> Searched
     if search.in_lines {
         return search_lines(bytes, search.at);
     }
-    let blank = blank_from(bytes, search.at);
-    if bytes.len() - blank < 2 {
+    let first_line = empty_lines_from(bytes, search.at);
+    if bytes.len() - first_line < 2 {
         return Searched::Open(HeadSearch {
-            at: blank,
+            at: first_line,
             in_lines: false,
         });
     }
-    search_lines(bytes, blank)
+    search_lines(bytes, first_line)
 }
 
 /// How many bytes a head takes.
@@ -147,7 +147,7 @@ fn head_length(bytes: &[u8]) -> Option<usize>
     ensures within { IfSome result (λ end. end ≤ length bytes.now) }
     ensures some { IfSome result (λ end. 0 < end) }
 {
-    empty_line_from(bytes, blank_length(bytes))
+    head_end_from(bytes, empty_lines_length(bytes))
 }
 
 /// The first bytes, at most so many.

@@ -1,7 +1,7 @@
 //! A content that comes as it is, in no coding.
 ghost use Rattle.std.specs.Prelude.{◌≡◌, ◌≤◌, Bool, IfOk, OnOk, OnErr, length};
 
-use crate::content::Taken;
+use crate::content::ContentProgress;
 use crate::fault::FrameFault;
 use hx_fields::Bytes;
 use std::alloc::{AllocError, Global};
@@ -66,18 +66,18 @@ impl Plain {
         &mut self,
         alloc: Global,
         bytes: &[u8],
-    ) -> Result<Taken, AllocError>
-        ensures ok { IfOk result (λ taken. (ended : Bool)
-            → Advances ended bytes.now (content.Announced self.old) taken (content.Announced self.new)) }
+    ) -> Result<ContentProgress, AllocError>
+        ensures ok { IfOk result (λ progress. (ended : Bool)
+            → Advances ended bytes.now (content.Announced self.old) progress (content.Announced self.new)) }
         ensures err { OnErr result (self.new ≡ self.old) }
     {
         let n = self.left.min(bytes.len() as u64) as usize;
         let (run, _) = bytes.split_at(n);
         self.extend(run)?;
         if self.left > 0 {
-            Ok(Taken::Short(n))
+            Ok(ContentProgress::Incomplete(n))
         } else {
-            Ok(Taken::Whole(Some(self.take_content(alloc)), n))
+            Ok(ContentProgress::Whole(Some(self.take_content(alloc)), n))
         }
     }
 
@@ -87,19 +87,19 @@ impl Plain {
         alloc: Global,
         ended: bool,
         bytes: &[u8],
-    ) -> Result<Taken, AllocError>
+    ) -> Result<ContentProgress, AllocError>
         ensures ok { IfOk result (λ taken.
             Advances ended bytes.now (content.UntilClose self.old) taken (content.UntilClose self.new)) }
         ensures err { OnErr result (self.new ≡ self.old) }
     {
         if bytes.len() as u64 > self.left {
-            return Ok(Taken::Bad(FrameFault::TooLarge));
+            return Ok(ContentProgress::Faulty(FrameFault::TooLarge));
         }
         self.extend(bytes)?;
         if ended {
-            Ok(Taken::Whole(Some(self.take_content(alloc)), bytes.len()))
+            Ok(ContentProgress::Whole(Some(self.take_content(alloc)), bytes.len()))
         } else {
-            Ok(Taken::Short(bytes.len()))
+            Ok(ContentProgress::Incomplete(bytes.len()))
         }
     }
 }

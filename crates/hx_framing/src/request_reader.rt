@@ -5,8 +5,8 @@ ghost use Rattle.hx_framing.specs.declared.requests.Request.{Request};
 ghost use Rattle.hx_framing.specs.Progress.{Progress, start, fed, finished, moved, cost};
 ghost use Rattle.hx_framing.specs.RequestStream.{Answers, NeedsMemory};
 
-use crate::answer::{Found, Next, Rest};
-use crate::content::{Content, Taken};
+use crate::answer::{HeadProgress, Next, Rest};
+use crate::content::{Content, ContentProgress};
 use crate::fault::FrameFault;
 use crate::request_head::Head;
 use crate::request_phase::RequestPhase;
@@ -168,22 +168,22 @@ impl RequestReader {
             bytes: self.unread.as_slice(),
         };
         match read_request(alloc, &rest, head_length)? {
-            Found::Incomplete(_) => Ok(Next::More),
-            Found::Over => Ok(Next::End),
-            Found::Faulty(fault) => {
+            HeadProgress::Incomplete(_) => Ok(Next::More),
+            HeadProgress::Ended => Ok(Next::End),
+            HeadProgress::Faulty(fault) => {
                 self.phase = RequestPhase::Faulty(fault);
                 Ok(Next::Refused(fault))
             }
-            Found::Message(request, n) => {
+            HeadProgress::Message(request, n) => {
                 self.unread.take_front(n);
                 Ok(Next::Message(request))
             }
-            Found::Continue(head, content, n) => {
+            HeadProgress::NeedsContinue(head, content, n) => {
                 self.unread.take_front(n);
                 self.phase = RequestPhase::InContent(head, content);
                 Ok(Next::NeedsContinue)
             }
-            Found::Going(head, content, n) => {
+            HeadProgress::InContent(head, content, n) => {
                 self.unread.take_front(n);
                 self.unread.note_open_line();
                 self.phase = RequestPhase::InContent(head, content);
@@ -217,21 +217,21 @@ impl RequestReader {
                 self.phase = RequestPhase::InContent(head, content);
                 Err(error)
             }
-            Ok(Taken::Short(_)) if self.ended => {
+            Ok(ContentProgress::Incomplete(_)) if self.ended => {
                 self.phase = RequestPhase::Faulty(FrameFault::Truncated);
                 Ok(Next::Refused(FrameFault::Truncated))
             }
-            Ok(Taken::Short(n)) => {
+            Ok(ContentProgress::Incomplete(n)) => {
                 self.unread.take_front(n);
                 self.unread.note_open_line();
                 self.phase = RequestPhase::InContent(head, content);
                 Ok(Next::More)
             }
-            Ok(Taken::Bad(fault)) => {
+            Ok(ContentProgress::Faulty(fault)) => {
                 self.phase = RequestPhase::Faulty(fault);
                 Ok(Next::Refused(fault))
             }
-            Ok(Taken::Whole(whole, n)) => {
+            Ok(ContentProgress::Whole(whole, n)) => {
                 drop(content);
                 self.unread.take_front(n);
                 self.phase = RequestPhase::BeforeHead;

@@ -5,8 +5,8 @@ ghost use Rattle.hx_framing.specs.declared.responses.Response.{Response};
 ghost use Rattle.hx_framing.specs.Progress.{Progress, start, fed, finished, moved, IsDue, cost};
 ghost use Rattle.hx_framing.specs.ResponseStream.{Answers, NeedsMemory};
 
-use crate::answer::{Found, Next, Rest};
-use crate::content::{Content, Taken};
+use crate::answer::{HeadProgress, Next, Rest};
+use crate::content::{Content, ContentProgress};
 use crate::fault::FrameFault;
 use crate::response_phase::ResponsePhase;
 use crate::response_reading::{read_response, response_of};
@@ -181,27 +181,27 @@ impl ResponseReader {
             bytes: self.unread.as_slice(),
         };
         match read_response(alloc, &rest, self.to_head, head_length)? {
-            Found::Incomplete(n) => {
+            HeadProgress::Incomplete(n) => {
                 self.unread.take_front(n);
                 Ok(Next::More)
             }
-            Found::Going(head, content, n) => {
+            HeadProgress::InContent(head, content, n) => {
                 self.unread.take_front(n);
                 self.unread.note_open_line();
                 self.phase = ResponsePhase::InContent(head, content);
                 Ok(Next::More)
             }
-            Found::Message(response, n) => {
+            HeadProgress::Message(response, n) => {
                 self.unread.take_front(n);
                 self.phase = ResponsePhase::Given;
                 Ok(Next::Message(response))
             }
-            Found::Faulty(fault) => {
+            HeadProgress::Faulty(fault) => {
                 self.phase = ResponsePhase::Faulty(fault);
                 Ok(Next::Refused(fault))
             }
-            Found::Continue(_, _, _) => unreachable!(),
-            Found::Over => unreachable!(),
+            HeadProgress::NeedsContinue(_, _, _) => unreachable!(),
+            HeadProgress::Ended => unreachable!(),
         }
     }
 
@@ -236,21 +236,21 @@ impl ResponseReader {
                 self.phase = ResponsePhase::InContent(head, content);
                 Err(error)
             }
-            Ok(Taken::Short(_)) if self.ended => {
+            Ok(ContentProgress::Incomplete(_)) if self.ended => {
                 self.phase = ResponsePhase::Faulty(FrameFault::Truncated);
                 Ok(Next::Refused(FrameFault::Truncated))
             }
-            Ok(Taken::Short(n)) => {
+            Ok(ContentProgress::Incomplete(n)) => {
                 self.unread.take_front(n);
                 self.unread.note_open_line();
                 self.phase = ResponsePhase::InContent(head, content);
                 Ok(Next::More)
             }
-            Ok(Taken::Bad(fault)) => {
+            Ok(ContentProgress::Faulty(fault)) => {
                 self.phase = ResponsePhase::Faulty(fault);
                 Ok(Next::Refused(fault))
             }
-            Ok(Taken::Whole(whole, n)) => {
+            Ok(ContentProgress::Whole(whole, n)) => {
                 drop(content);
                 self.unread.take_front(n);
                 self.phase = ResponsePhase::Given;

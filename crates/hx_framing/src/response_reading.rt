@@ -1,14 +1,14 @@
 //! What stands at the front of a response stream. The definitions are in `specs/ResponseReading.antt` and
-//! `specs/ResponseFound.antt`.
+//! `specs/ResponseHeadProgress.antt`.
 ghost use Rattle.std.specs.Prelude.{◌≡◌, ◌≤◌, IfOk, OnErr, Ok, Bool, length, take};
 ghost use Rattle.hx_framing.specs.Places.{head_length as head_length_of, most_head_bytes};
-ghost use Rattle.hx_framing.specs.declared.response_reading.StatusFront.TheVariants as front;
+ghost use Rattle.hx_framing.specs.declared.response_reading.FinalHead.TheVariants as final_head;
 ghost use Rattle.hx_framing.specs.Lengths.{framing_of_response};
 ghost use Rattle.hx_framing.specs.ResponseReading.{content_of, response_of};
-ghost use Rattle.hx_framing.specs.ResponseFound.{IsFound, IsFront, HasFinal};
+ghost use Rattle.hx_framing.specs.ResponseHeadProgress.{IsHeadProgress, IsFinalHead, HasFinalHead};
 
-use crate::answer::{Found, Rest};
-use crate::content::{Content, Taken};
+use crate::answer::{HeadProgress, Rest};
+use crate::content::{Content, ContentProgress};
 use crate::fault::FrameFault;
 use crate::lengths::{Framing, announced_of, framing_of_response, without_lengths};
 use crate::limits::MOST_HEAD_BYTES;
@@ -20,12 +20,12 @@ use std::alloc::{AllocError, Global};
 
 /// What stands behind the interim responses in front.
 #[derive(Drop)]
-pub(crate) enum StatusFront {
+pub(crate) enum FinalHead {
     /// They take so many bytes, and no head ends behind them.
-    Open(usize),
+    Incomplete(usize),
     Faulty(FrameFault),
     /// The head of a final response, and where it ends.
-    Final(StatusHead, usize),
+    Complete(StatusHead, usize),
 }
 
 /// The bytes of a content; no content has none.
@@ -62,21 +62,21 @@ pub(crate) fn response_of(
 }
 
 /// What stands behind the interim responses in front. The first head takes `head_length` bytes.
-fn front_of(
+fn skip_interim(
     alloc: Global,
     bytes: &[u8],
     head_length: Option<usize>,
-) -> Result<StatusFront, AllocError>
+) -> Result<FinalHead, AllocError>
     requires { head_length ≡ head_length_of (take most_head_bytes bytes.now) }
-    ensures front { IfOk result (IsFront bytes.now) }
-    ensures memory_last { OnErr result (HasFinal bytes.now) }
+    ensures final_head { IfOk result (IsFinalHead bytes.now) }
+    ensures memory_last { OnErr result (HasFinalHead bytes.now) }
 {
     let mut at = 0;
     let mut next = head_length;
     loop {
         let rest = rest_from(bytes, at);
         let Some(n) = next else {
-            return Ok(StatusFront::Open(at));
+            return Ok(FinalHead::Incomplete(at));
         };
         let (head, _) = rest.split_at(n);
         match judge_head(alloc, head)? {
@@ -84,24 +84,24 @@ fn front_of(
                 at += n;
                 next = head_within(rest_from(bytes, at), MOST_HEAD_BYTES);
             }
-            Judged::Final(head) => return Ok(StatusFront::Final(head, at + n)),
-            Judged::Faulty(fault) => return Ok(StatusFront::Faulty(fault)),
+            Judged::Final(head) => return Ok(FinalHead::Complete(head, at + n)),
+            Judged::Faulty(fault) => return Ok(FinalHead::Faulty(fault)),
         }
     }
 }
 
 /// Where no head ends within the limit behind the interim responses, which take `at` bytes.
-fn without_head(rest: &Rest<'_>, at: usize) -> Found<StatusHead, Response>
+fn without_head(rest: &Rest<'_>, at: usize) -> HeadProgress<StatusHead, Response>
     requires within { at ≤ length rest.now.bytes.now }
-    requires open { IsFront rest.now.bytes.now (front.Open at) }
-    ensures { (to_head : Bool) → IsFound rest.now.max_body to_head rest.now.ended rest.now.bytes.now result }
+    requires open { IsFinalHead rest.now.bytes.now (final_head.Incomplete at) }
+    ensures { (to_head : Bool) → IsHeadProgress rest.now.max_body to_head rest.now.ended rest.now.bytes.now result }
 {
     if rest.bytes.len() - at > MOST_HEAD_BYTES {
-        Found::Faulty(FrameFault::Head)
+        HeadProgress::Faulty(FrameFault::Head)
     } else if rest.ended {
-        Found::Faulty(FrameFault::Truncated)
+        HeadProgress::Faulty(FrameFault::Truncated)
     } else {
-        Found::Incomplete(at)
+        HeadProgress::Incomplete(at)
     }
 }
 
@@ -113,19 +113,21 @@ fn with_framing(
     at: usize,
     head: StatusHead,
     framing: Framing,
-) -> Result<Found<StatusHead, Response>, AllocError>
-    requires front { IsFront rest.now.bytes.now (front.Final head at) }
+) -> Result<HeadProgress<StatusHead, Response>, AllocError>
+    requires final_head { IsFinalHead rest.now.bytes.now (final_head.Complete head at) }
     requires framing { framing_of_response rest.now.max_body to_head head ≡ Ok framing }
-    ensures found { IfOk result (IsFound rest.now.max_body to_head rest.now.ended rest.now.bytes.now) }
-    ensures memory_last { OnErr result (HasFinal rest.now.bytes.now) }
+    ensures progress { IfOk result (IsHeadProgress rest.now.max_body to_head rest.now.ended rest.now.bytes.now) }
+    ensures memory_last { OnErr result (HasFinalHead rest.now.bytes.now) }
 {
     let mut content = Content::begun(alloc, rest.max_body, framing);
     match content.advance(alloc, rest.ended, rest_from(rest.bytes, at), 0)? {
-        Taken::Short(_) if rest.ended => Ok(Found::Faulty(FrameFault::Truncated)),
-        Taken::Short(n) => Ok(Found::Going(head, content, at + n)),
-        Taken::Bad(fault) => Ok(Found::Faulty(fault)),
-        Taken::Whole(content, n) => {
-            Ok(Found::Message(response_of(alloc, to_head, head, content), at + n))
+        ContentProgress::Incomplete(_) if rest.ended => Ok(HeadProgress::Faulty(
+            FrameFault::Truncated,
+        )),
+        ContentProgress::Incomplete(n) => Ok(HeadProgress::InContent(head, content, at + n)),
+        ContentProgress::Faulty(fault) => Ok(HeadProgress::Faulty(fault)),
+        ContentProgress::Whole(content, n) => {
+            Ok(HeadProgress::Message(response_of(alloc, to_head, head, content), at + n))
         }
     }
 }
@@ -136,17 +138,17 @@ pub(crate) fn read_response(
     rest: &Rest<'_>,
     to_head: bool,
     head_length: Option<usize>,
-) -> Result<Found<StatusHead, Response>, AllocError>
+) -> Result<HeadProgress<StatusHead, Response>, AllocError>
     requires { head_length ≡ head_length_of (take most_head_bytes rest.now.bytes.now) }
-    ensures found { IfOk result (IsFound rest.now.max_body to_head rest.now.ended rest.now.bytes.now) }
-    ensures memory_last { OnErr result (HasFinal rest.now.bytes.now) }
+    ensures progress { IfOk result (IsHeadProgress rest.now.max_body to_head rest.now.ended rest.now.bytes.now) }
+    ensures memory_last { OnErr result (HasFinalHead rest.now.bytes.now) }
 {
-    match front_of(alloc, rest.bytes, head_length)? {
-        StatusFront::Open(at) => Ok(without_head(rest, at)),
-        StatusFront::Faulty(fault) => Ok(Found::Faulty(fault)),
-        StatusFront::Final(head, at) => {
+    match skip_interim(alloc, rest.bytes, head_length)? {
+        FinalHead::Incomplete(at) => Ok(without_head(rest, at)),
+        FinalHead::Faulty(fault) => Ok(HeadProgress::Faulty(fault)),
+        FinalHead::Complete(head, at) => {
             match framing_of_response(alloc, rest.max_body, to_head, &head)? {
-                Err(fault) => Ok(Found::Faulty(fault)),
+                Err(fault) => Ok(HeadProgress::Faulty(fault)),
                 Ok(framing) => with_framing(alloc, rest, to_head, at, head, framing),
             }
         }

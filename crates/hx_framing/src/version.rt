@@ -2,13 +2,13 @@
 ghost use Rattle.std.specs.Prelude.{◌≡◌};
 ghost use Rattle.hx_framing.specs.Version.{start_line, without_return, is_other_version, ends_with_other_version, begins_with_other_version};
 
-use crate::places::{before_byte, blank_length, first, rest_from};
+use crate::places::{before_byte, empty_lines_length, first, rest_from};
 
 /// The start line of a head, without its LF.
 fn start_line(bytes: &[u8]) -> &[u8]
     ensures { result.now ≡ start_line bytes.now }
 {
-    before_byte(rest_from(bytes, blank_length(bytes)), b'\n')
+    before_byte(rest_from(bytes, empty_lines_length(bytes)), b'\n')
 }
 
 fn without_return(line: &[u8]) -> &[u8]

@@ -1,7 +1,7 @@
 use Rattle.std.proofs.Common.{false}
 use Rattle.hx_framing.specs.Reading.{Incomplete}
 use Rattle.hx_framing.proofs.HeadSearches.{open_head}
-use Rattle.hx_framing.proofs.RequestFinding.{reads_without, waits_for_head}
+use Rattle.hx_framing.proofs.RequestProgressLemmas.{reads_without, waits_for_head}
 use Rattle.hx_framing.proofs.request_reading.without_head.Goals as goal
 
 pub returns-else-rest-2 : goal.returns-else-rest-2

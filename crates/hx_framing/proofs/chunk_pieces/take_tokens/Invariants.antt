@@ -2,7 +2,7 @@ use Rattle.std.proofs.Common.{◌≡◌, ◌≤◌, ◌+◌, ◌-◌, Some, true
 use Rattle.hx_framing.specs.ChunkGrammar.{has_no_lf}
 use Rattle.hx_framing.specs.Chunking.{NeedsData, chunking_of}
 use Rattle.hx_framing.specs.Chunks.{state_after}
-use Rattle.hx_framing.proofs.chunk_pieces.take_pieces.Given as goal
+use Rattle.hx_framing.proofs.chunk_pieces.take_tokens.Given as goal
 
 abbrev pub invariant-loop-n : goal.invariant-loop-n
 invariant-loop-n l = record {

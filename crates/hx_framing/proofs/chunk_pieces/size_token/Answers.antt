@@ -1,13 +1,13 @@
 use Rattle.std.proofs.Common.{sym, ap, ◌∙◌, subst, Ok}
-use Rattle.hx_framing.specs.declared.chunk_pieces.Piece.{Piece}
-use Rattle.hx_framing.specs.Pieces.{Takes}
+use Rattle.hx_framing.specs.declared.chunk_pieces.ChunkToken.{ChunkToken}
+use Rattle.hx_framing.specs.ChunkTokens.{Takes}
 use Rattle.hx_framing.specs.SizeLine.{size_at}
-use Rattle.hx_framing.proofs.ChunkPieces.{size_open, size_bad, size_last, size_some}
-use Rattle.hx_framing.proofs.chunk_pieces.size_piece.Goals as goal
+use Rattle.hx_framing.proofs.ChunkTokens.{size_open, size_bad, size_last, size_some}
+use Rattle.hx_framing.proofs.chunk_pieces.size_token.Goals as goal
 
 pub returns-in_default : goal.returns-in_default
 returns-in_default c = λ content.
-    subst (λ (r : Piece). Takes c.args.place content c.args.bytes.now content r) (sym c.open_line.ensures)
+    subst (λ (r : ChunkToken). Takes c.args.place content c.args.bytes.now content r) (sym c.open_line.ensures)
     (size_open c.args.place content c.args.bytes.now c.requires.phase c.in_default.ensures.none)
 
 pub returns-in-Err : goal.returns-in-Err

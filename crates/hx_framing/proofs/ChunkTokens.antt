@@ -1,4 +1,4 @@
--- A piece of content in chunks and the bytes that it is made of.
+-- A token of content in chunks and the bytes that it is made of.
 use Rattle.std.proofs.Common.{◌≡◌, ℕ, ◌+◌, ◌-◌, ◌<◌, ◌≤◌, ◌&&◌, Bool, true, false, cond, List, [], ◌∷◌, ◌++◌, length, drop, take, get_or, ◌==◌, nat_lt, refl, sym, ap, ◌∙◌, arith, Some, Ok, Err, ok_or, append_assoc}
 use Rattle.std.proofs.lemmas.List.{take_more, take_all, take-append-drop, length-take}
 use Rattle.std.proofs.lemmas.Bool.{lt-ltb, le-ltb, ltb-true, ltb-false, ne_eqb}
@@ -7,11 +7,11 @@ use Rattle.hx_framing.specs.declared.fault.FrameFault.TheVariants as fault
 use Rattle.hx_framing.specs.declared.chunk_state.Phase.{Phase}
 use Rattle.hx_framing.specs.declared.chunk_state.Phase.TheVariants as phase
 use Rattle.hx_framing.specs.declared.chunk_state.ChunkState.{ChunkState}
-use Rattle.hx_framing.specs.declared.chunk_pieces.Piece.TheVariants as piece
+use Rattle.hx_framing.specs.declared.chunk_pieces.ChunkToken.TheVariants as token
 use Rattle.hx_framing.specs.Chunking.{Chunking, chunking_of}
 use Rattle.hx_framing.specs.Chunks.{most_trailer_bytes, Go, Stop, Fail, follow, chunks_from, going, state_after, with_line, sized, size_step, trailer_end, trailer_step}
 use Rattle.hx_framing.specs.ChunkGrammar.{has_no_lf}
-use Rattle.hx_framing.specs.Pieces.{Takes, IsLineFeed}
+use Rattle.hx_framing.specs.ChunkTokens.{Takes, IsLineFeed}
 use Rattle.hx_framing.specs.SizeLine.{most_size_line_bytes, size_at, size_of, is_size, ends_in_cr, but_last, capped}
 use Rattle.hx_framing.proofs.ChunkSteps.{size_text, size_short, in_phase, data_part, data_run, trailer_text}
 use Rattle.hx_framing.proofs.ChunkStreams.{chunks_behind, state_behind}
@@ -79,7 +79,7 @@ size_line_taken place content bytes at n is_size feed said =
 -- a line that spells no size
 pub size_bad : (place : ChunkState) (content bytes : List ℕ) (at : ℕ) (f : FrameFault)
     → place.phase ≡ phase.Size → IsLineFeed bytes most_size_line_bytes at → size_at (take at bytes) place.left ≡ Err f
-    → Takes place content bytes content (piece.Faulty f)
+    → Takes place content bytes content (token.Faulty f)
 size_bad place content bytes at f is_size feed said = λ more.
     let s = in_phase phase.Size place.need place.left place.used content (take at bytes) in
     let rest = drop (at + 1) bytes ++ more in
@@ -89,7 +89,7 @@ size_bad place content bytes at f is_size feed said = λ more.
 -- the size of the last chunk
 pub size_last : (place : ChunkState) (content bytes : List ℕ) (at : ℕ)
     → place.phase ≡ phase.Size → IsLineFeed bytes most_size_line_bytes at → size_at (take at bytes) place.left ≡ Ok 0
-    → Takes place content bytes content (piece.Taken (at + 1) (record place { phase = phase.Trailers }))
+    → Takes place content bytes content (token.Whole (at + 1) (record place { phase = phase.Trailers }))
 size_last place content bytes at is_size feed said =
     let no_data : phase.Trailers ≡ phase.Data → 0 < place.need = (λ e. cc) in
     (omega (arith, feed.inside), omega arith, no_data, size_line_taken place content bytes at 0 is_size feed said)
@@ -97,7 +97,7 @@ size_last place content bytes at is_size feed said =
 -- the size of a chunk with data
 pub size_some : (place : ChunkState) (content bytes : List ℕ) (at n : ℕ)
     → place.phase ≡ phase.Size → IsLineFeed bytes most_size_line_bytes at → size_at (take at bytes) place.left ≡ Ok n → (n ≡ 0 → ⊥)
-    → Takes place content bytes content (piece.Taken (at + 1) (record place { phase = phase.Data; need = n; left = place.left - n }))
+    → Takes place content bytes content (token.Whole (at + 1) (record place { phase = phase.Data; need = n; left = place.left - n }))
 size_some place content bytes at n is_size feed said some =
     let last = in_phase phase.Trailers place.need place.left place.used content [] in
     let next = in_phase phase.Data n (place.left - n) place.used content [] in (
@@ -128,13 +128,13 @@ size_past s line b long = by_test (b == 10)
 
 -- a line with no LF within the limit
 pub size_open : (place : ChunkState) (content bytes : List ℕ) → place.phase ≡ phase.Size → has_no_lf (take most_size_line_bytes bytes) ≡ true
-    → Takes place content bytes content (cond (nat_lt most_size_line_bytes (length bytes)) (piece.Faulty fault.Chunk) piece.Short)
+    → Takes place content bytes content (cond (nat_lt most_size_line_bytes (length bytes)) (token.Faulty fault.Chunk) token.Incomplete)
 size_open place content bytes is_size none = by_test (nat_lt most_size_line_bytes (length bytes)) refl
   where
     s : Chunking
     s = in_phase phase.Size place.need place.left place.used content []
 
-    by_test : (t : Bool) → nat_lt most_size_line_bytes (length bytes) ≡ t → Takes place content bytes content (cond t (piece.Faulty fault.Chunk) piece.Short)
+    by_test : (t : Bool) → nat_lt most_size_line_bytes (length bytes) ≡ t → Takes place content bytes content (cond t (token.Faulty fault.Chunk) token.Incomplete)
     by_test true p = λ more.
         let line = take most_size_line_bytes bytes in
         let b = get_or bytes most_size_line_bytes 0 in
@@ -154,7 +154,7 @@ size_open place content bytes is_size none = by_test (nat_lt most_size_line_byte
 -- some of the data of a chunk
 pub data_some : (place : ChunkState) (content bytes : List ℕ) (n : ℕ)
     → place.phase ≡ phase.Data → 0 < n → n ≤ length bytes → n < place.need
-    → Takes place content bytes (content ++ take n bytes) (piece.Taken n (record place { phase = phase.Data; need = place.need - n }))
+    → Takes place content bytes (content ++ take n bytes) (token.Whole n (record place { phase = phase.Data; need = place.need - n }))
 data_some place content bytes n is_data some inside few =
     let long = take_length n bytes inside in (
       inside,
@@ -168,7 +168,7 @@ data_some place content bytes n is_data some inside few =
 -- all of it
 pub data_all : (place : ChunkState) (content bytes : List ℕ) (n : ℕ)
     → place.phase ≡ phase.Data → 0 < n → n ≤ length bytes → n ≡ place.need
-    → Takes place content bytes (content ++ take n bytes) (piece.Taken n (record place { phase = phase.DataEnd; need = place.need - n }))
+    → Takes place content bytes (content ++ take n bytes) (token.Whole n (record place { phase = phase.DataEnd; need = place.need - n }))
 data_all place content bytes n is_data some inside same =
     let long = take_length n bytes inside in
     let needed : place.need ≡ length (take n bytes) = sym same ∙ sym long in
@@ -213,7 +213,7 @@ trailer_feed place content bytes limit at is_limit feed closed last is_closed is
 -- a line that doesn't end in CR
 pub trailer_bad : (place : ChunkState) (content bytes : List ℕ) (limit at : ℕ)
     → place.phase ≡ phase.Trailers → limit ≡ most_trailer_bytes - place.used → IsLineFeed bytes limit at → ends_in_cr (take at bytes) ≡ false
-    → Takes place content bytes content (piece.Faulty fault.Chunk)
+    → Takes place content bytes content (token.Faulty fault.Chunk)
 trailer_bad place content bytes limit at is_trailers is_limit feed other = λ more.
     let s = in_phase phase.Trailers place.need place.left place.used content (take at bytes) in
     let rest = drop (at + 1) bytes ++ more in
@@ -223,7 +223,7 @@ trailer_bad place content bytes limit at is_trailers is_limit feed other = λ mo
 -- a trailer line
 pub trailer_some : (place : ChunkState) (content bytes : List ℕ) (limit at : ℕ)
     → place.phase ≡ phase.Trailers → limit ≡ most_trailer_bytes - place.used → IsLineFeed bytes limit at → ends_in_cr (take at bytes) ≡ true → (length (take at bytes) ≡ 1 → ⊥)
-    → Takes place content bytes content (piece.Taken (at + 1) (record place { used = place.used + at + 1 }))
+    → Takes place content bytes content (token.Whole (at + 1) (record place { used = place.used + at + 1 }))
 trailer_some place content bytes limit at is_trailers is_limit feed closed other =
     let s = in_phase phase.Trailers place.need place.left place.used content (take at bytes) in
     let no_data : place.phase ≡ phase.Data → 0 < place.need = (λ is_data. let e : phase.Trailers ≡ phase.Data = sym is_trailers ∙ is_data in cc) in (
@@ -246,13 +246,13 @@ trailer_past need left used content line b over =
 -- a line with no LF within the limit
 pub trailer_open : (place : ChunkState) (content bytes : List ℕ) (limit : ℕ)
     → place.phase ≡ phase.Trailers → limit ≡ most_trailer_bytes - place.used → has_no_lf (take limit bytes) ≡ true
-    → Takes place content bytes content (cond (nat_lt limit (length bytes)) (piece.Faulty fault.Chunk) piece.Short)
+    → Takes place content bytes content (cond (nat_lt limit (length bytes)) (token.Faulty fault.Chunk) token.Incomplete)
 trailer_open place content bytes limit is_trailers is_limit none = by_test (nat_lt limit (length bytes)) refl
   where
     s : List ℕ → Chunking
     s line = in_phase phase.Trailers place.need place.left place.used content line
 
-    by_test : (t : Bool) → nat_lt limit (length bytes) ≡ t → Takes place content bytes content (cond t (piece.Faulty fault.Chunk) piece.Short)
+    by_test : (t : Bool) → nat_lt limit (length bytes) ≡ t → Takes place content bytes content (cond t (token.Faulty fault.Chunk) token.Incomplete)
     by_test true p = λ more.
         let line = take limit bytes in
         let b = get_or bytes limit 0 in

@@ -1,7 +1,7 @@
 use Rattle.std.proofs.Common.{◌≡◌, ℕ, ◌-◌, ◌≤◌, List, length, take, drop}
 use Rattle.hx_framing.specs.Places.{head_length, most_head_bytes}
 use Rattle.hx_framing.specs.ResponseReading.{Passes}
-use Rattle.hx_framing.proofs.response_reading.front_of.Given as goal
+use Rattle.hx_framing.proofs.response_reading.skip_interim.Given as goal
 
 -- interim responses take the first bytes; next tells how many the head behind them takes
 abbrev pub invariant-loop-next : goal.invariant-loop-next

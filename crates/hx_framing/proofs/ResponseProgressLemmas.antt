@@ -8,10 +8,10 @@ use Rattle.hx_framing.specs.declared.lengths.Framing.{Framing}
 use Rattle.hx_framing.specs.declared.fault.FrameFault.{FrameFault}
 use Rattle.hx_framing.specs.declared.fault.FrameFault.TheVariants as fault
 use Rattle.hx_framing.specs.declared.content.Content.{Content}
-use Rattle.hx_framing.specs.declared.content.Taken.{Taken}
-use Rattle.hx_framing.specs.declared.content.Taken.TheVariants as taken
-use Rattle.hx_framing.specs.declared.answer.Found.TheVariants as found
-use Rattle.hx_framing.specs.declared.response_reading.StatusFront.TheVariants as front
+use Rattle.hx_framing.specs.declared.content.ContentProgress.{ContentProgress}
+use Rattle.hx_framing.specs.declared.content.ContentProgress.TheVariants as content_progress
+use Rattle.hx_framing.specs.declared.answer.HeadProgress.TheVariants as head_progress
+use Rattle.hx_framing.specs.declared.response_reading.FinalHead.TheVariants as final_head
 use Rattle.hx_framing.specs.Places.{head_length}
 use Rattle.hx_framing.specs.StatusHead.{Judges}
 use Rattle.hx_framing.specs.Lengths.{framing_of_response, is_interim}
@@ -19,7 +19,7 @@ use Rattle.hx_framing.specs.Body.{Body, Short, Bad, Whole}
 use Rattle.hx_framing.specs.Contents.{body_at, body_from, begun, Advances, IsOpen}
 use Rattle.hx_framing.specs.Reading.{Reading, Incomplete, Spelled, Faulty, cut_off, with_body}
 use Rattle.hx_framing.specs.ResponseReading.{response_of, with_framing, FrontBy, Passes, Reads}
-use Rattle.hx_framing.specs.ResponseFound.{Resumes, IsFront, IsFound}
+use Rattle.hx_framing.specs.ResponseHeadProgress.{Resumes, IsFinalHead, IsHeadProgress}
 use Rattle.hx_framing.proofs.HeadEnds.{front_stable}
 use Rattle.hx_framing.proofs.HeadSearches.{open_head}
 use Rattle.hx_framing.proofs.BodyLemmas.{begun_is}
@@ -35,24 +35,24 @@ interim_at bytes at n head place judged interim x = (
       (passes_push bytes x.0 (drop at bytes) n x.1 (record { place = place; head = head; judged = judged; interim = interim })),
 )
 
-pub front_final : (bytes : List ℕ) (at n : ℕ) (head : StatusHead) → at ≤ length bytes → 0 < n → head_length (take 32768 (drop at bytes)) ≡ Some n
+pub final_head_complete : (bytes : List ℕ) (at n : ℕ) (head : StatusHead) → at ≤ length bytes → 0 < n → head_length (take 32768 (drop at bytes)) ≡ Some n
     → Judges (take n (drop at bytes)) (Ok head) → is_interim head.status ≡ false → (sizes : List ℕ) × Passes bytes sizes (drop at bytes)
-    → IsFront bytes (front.Final head (at + n))
-front_final bytes at n head within some place judged final x = (
+    → IsFinalHead bytes (final_head.Complete head (at + n))
+final_head_complete bytes at n head within some place judged final x = (
   (omega arith, omega (arith, within, place_within (drop at bytes) n place, length-drop at bytes)),
   (x.0, drop at bytes, n, x.1, place, judged, final, drop-drop n at bytes),
 )
 
-pub front_faulty : (bytes : List ℕ) (at n : ℕ) (f : FrameFault) → at ≤ length bytes → 0 < n → head_length (take 32768 (drop at bytes)) ≡ Some n
-    → Judges (take n (drop at bytes)) (Err f) → (sizes : List ℕ) × Passes bytes sizes (drop at bytes) → IsFront bytes (front.Faulty f)
-front_faulty bytes at n f within some place judged x = (
+pub final_head_faulty : (bytes : List ℕ) (at n : ℕ) (f : FrameFault) → at ≤ length bytes → 0 < n → head_length (take 32768 (drop at bytes)) ≡ Some n
+    → Judges (take n (drop at bytes)) (Err f) → (sizes : List ℕ) × Passes bytes sizes (drop at bytes) → IsFinalHead bytes (final_head.Faulty f)
+final_head_faulty bytes at n f within some place judged x = (
   omega (arith, within, some, place_within (drop at bytes) n place, length-drop at bytes),
   (x.0, drop at bytes, n, x.1, place, judged),
 )
 
 -- ---- behind a final head
 
-reads_final : (max : ℕ) (h e : Bool) (bytes : List ℕ) (at : ℕ) (head : StatusHead) (told : Framing) → IsFront bytes (front.Final head at)
+reads_final : (max : ℕ) (h e : Bool) (bytes : List ℕ) (at : ℕ) (head : StatusHead) (told : Framing) → IsFinalHead bytes (final_head.Complete head at)
     → framing_of_response max h head ≡ Ok told → Reads max h e bytes (with_body e (response_of h head) (body_at max told e (drop at bytes)))
 reads_final max h e bytes at head told x is = (
   x.1.0,
@@ -66,7 +66,7 @@ reads_final max h e bytes at head told x is = (
   ),
 )
 
-final_append : (bytes w : List ℕ) (at : ℕ) (head : StatusHead) → IsFront bytes (front.Final head at) → IsFront (bytes ++ w) (front.Final head at)
+final_append : (bytes w : List ℕ) (at : ℕ) (head : StatusHead) → IsFinalHead bytes (final_head.Complete head at) → IsFinalHead (bytes ++ w) (final_head.Complete head at)
 final_append bytes w at head x =
     let n = x.1.2 in
     let rest = x.1.1 in
@@ -85,7 +85,7 @@ final_append bytes w at head x =
     )
 
 resumes_from : (max : ℕ) (h : Bool) (bytes : List ℕ) (at : ℕ) (head : StatusHead) (told : Framing) (content : Content) (unread : List ℕ)
-    → IsFront bytes (front.Final head at) → framing_of_response max h head ≡ Ok told
+    → IsFinalHead bytes (final_head.Complete head at) → framing_of_response max h head ≡ Ok told
     → ((more : List ℕ) (e : Bool) → body_at max told e (drop at bytes ++ more) ≡ body_from content e (unread ++ more))
     → Resumes max h head content bytes unread
 resumes_from max h bytes at head told content unread x is on = λ more ended.
@@ -94,17 +94,17 @@ resumes_from max h bytes at head told content unread x is on = λ more ended.
     (reads_final max h ended (bytes ++ more) at head told (final_append bytes more at head x) is)
 
 -- what was taken of the content behind the head
-abbrev pub Took : ℕ → Bool → Framing → List ℕ → ℕ → Taken → Content → Type 0
+abbrev pub Took : ℕ → Bool → Framing → List ℕ → ℕ → ContentProgress → Content → Type 0
 Took max e told bytes at t content = Advances e (drop at bytes) (begun max told) t content
 
-pub took : (max : ℕ) (e : Bool) (told : Framing) (bytes : List ℕ) (at : ℕ) (rest : List ℕ) (old : Content) (t s : Taken) (content : Content)
+pub took : (max : ℕ) (e : Bool) (told : Framing) (bytes : List ℕ) (at : ℕ) (rest : List ℕ) (old : Content) (t s : ContentProgress) (content : Content)
     → rest ≡ drop at bytes → old ≡ begun max told → t ≡ s → Advances e rest old t content → Took max e told bytes at s content
 took max e told bytes at rest old t s content same is kind h =
-    subst (λ (t : Taken). Advances e (drop at bytes) (begun max told) t content) kind
+    subst (λ (t : ContentProgress). Advances e (drop at bytes) (begun max told) t content) kind
     (subst (λ (u : List ℕ). Advances e u (begun max told) t content) same
     (subst (λ (o : Content). Advances e rest o t content) is h))
 
-reads_taken : (max : ℕ) (h e : Bool) (bytes : List ℕ) (at : ℕ) (head : StatusHead) (told : Framing) (body : Body) → IsFront bytes (front.Final head at)
+reads_taken : (max : ℕ) (h e : Bool) (bytes : List ℕ) (at : ℕ) (head : StatusHead) (told : Framing) (body : Body) → IsFinalHead bytes (final_head.Complete head at)
     → framing_of_response max h head ≡ Ok told → body_from (begun max told) e (drop at bytes) ≡ body → Reads max h e bytes (with_body e (response_of h head) body)
 reads_taken max h e bytes at head told body x is gives =
     subst (λ (body : Body). Reads max h e bytes (with_body e (response_of h head) body)) (begun_is max told e (drop at bytes) ∙ gives)
@@ -117,16 +117,16 @@ some_bytes bytes at k some within = omega (arith, some, within)
 behind : (bytes : List ℕ) (at n : ℕ) → at ≤ length bytes → n ≤ length (drop at bytes) → at + n ≤ length bytes
 behind bytes at n low high = omega (arith, low, high, length-drop at bytes)
 
-pub found_cut : (max : ℕ) (h e : Bool) (bytes : List ℕ) (at : ℕ) (head : StatusHead) (told : Framing) (content : Content) (n : ℕ) → IsFront bytes (front.Final head at)
-    → framing_of_response max h head ≡ Ok told → e ≡ true → Took max e told bytes at (taken.Short n) content → IsFound max h e bytes (found.Faulty fault.Truncated)
-found_cut max h e bytes at head told content n x is ends k = (
+pub progress_cut : (max : ℕ) (h e : Bool) (bytes : List ℕ) (at : ℕ) (head : StatusHead) (told : Framing) (content : Content) (n : ℕ) → IsFinalHead bytes (final_head.Complete head at)
+    → framing_of_response max h head ≡ Ok told → e ≡ true → Took max e told bytes at (content_progress.Incomplete n) content → IsHeadProgress max h e bytes (head_progress.Faulty fault.Truncated)
+progress_cut max h e bytes at head told content n x is ends k = (
   some_bytes bytes at _ x.0.0 x.0.1,
   subst (λ (r : Reading Response). Reads max h e bytes r) (ap (λ (e : Bool). cut_off {M = Response} e) ends) (reads_taken max h e bytes at head told Short x is k.1),
 )
 
-pub found_going : (max : ℕ) (h e : Bool) (bytes : List ℕ) (at : ℕ) (head : StatusHead) (told : Framing) (content : Content) (n : ℕ) → IsFront bytes (front.Final head at)
-    → framing_of_response max h head ≡ Ok told → e ≡ false → Took max e told bytes at (taken.Short n) content → IsFound max h e bytes (found.Going head content (at + n))
-found_going max h e bytes at head told content n x is open_still k =
+pub progress_going : (max : ℕ) (h e : Bool) (bytes : List ℕ) (at : ℕ) (head : StatusHead) (told : Framing) (content : Content) (n : ℕ) → IsFinalHead bytes (final_head.Complete head at)
+    → framing_of_response max h head ≡ Ok told → e ≡ false → Took max e told bytes at (content_progress.Incomplete n) content → IsHeadProgress max h e bytes (head_progress.InContent head content (at + n))
+progress_going max h e bytes at head told content n x is open_still k =
     let same : drop n (drop at bytes) ≡ drop (at + n) bytes = drop-drop n at bytes in (
       (omega (arith, x.0.0), behind bytes at n x.0.1 k.0),
       subst (λ (r : Reading Response). Reads max h e bytes r) (ap (λ (e : Bool). cut_off {M = Response} e) open_still) (reads_taken max h e bytes at head told Short x is k.1),
@@ -135,14 +135,14 @@ found_going max h e bytes at head told content n x is open_still k =
       subst (λ (u : List ℕ). IsOpen content u) same k.3,
     )
 
-pub found_bad : (max : ℕ) (h e : Bool) (bytes : List ℕ) (at : ℕ) (head : StatusHead) (told : Framing) (content : Content) (f : FrameFault) → IsFront bytes (front.Final head at)
-    → framing_of_response max h head ≡ Ok told → Took max e told bytes at (taken.Bad f) content → IsFound max h e bytes (found.Faulty f)
-found_bad max h e bytes at head told content f x is k = (some_bytes bytes at _ x.0.0 x.0.1, reads_taken max h e bytes at head told (Bad f) x is k)
+pub progress_bad : (max : ℕ) (h e : Bool) (bytes : List ℕ) (at : ℕ) (head : StatusHead) (told : Framing) (content : Content) (f : FrameFault) → IsFinalHead bytes (final_head.Complete head at)
+    → framing_of_response max h head ≡ Ok told → Took max e told bytes at (content_progress.Faulty f) content → IsHeadProgress max h e bytes (head_progress.Faulty f)
+progress_bad max h e bytes at head told content f x is k = (some_bytes bytes at _ x.0.0 x.0.1, reads_taken max h e bytes at head told (Bad f) x is k)
 
-pub found_message : (max : ℕ) (h e : Bool) (bytes : List ℕ) (at : ℕ) (head : StatusHead) (told : Framing) (content : Content) (c : Option (List ℕ)) (n : ℕ)
-    → IsFront bytes (front.Final head at) → framing_of_response max h head ≡ Ok told → Took max e told bytes at (taken.Whole c n) content
-    → IsFound max h e bytes (found.Message (response_of h head c) (at + n))
-found_message max h e bytes at head told content c n x is k = (
+pub progress_message : (max : ℕ) (h e : Bool) (bytes : List ℕ) (at : ℕ) (head : StatusHead) (told : Framing) (content : Content) (c : Option (List ℕ)) (n : ℕ)
+    → IsFinalHead bytes (final_head.Complete head at) → framing_of_response max h head ≡ Ok told → Took max e told bytes at (content_progress.Whole c n) content
+    → IsHeadProgress max h e bytes (head_progress.Message (response_of h head c) (at + n))
+progress_message max h e bytes at head told content c n x is k = (
   (omega (arith, x.0.0), behind bytes at n x.0.1 k.0),
   subst (λ (u : List ℕ). Reads max h e bytes (Spelled (response_of h head c) u)) (drop-drop n at bytes)
       (reads_taken max h e bytes at head told (Whole c (drop n (drop at bytes))) x is k.1),
@@ -150,15 +150,15 @@ found_message max h e bytes at head told content c n x is k = (
 
 -- ---- a head that is at fault
 
-pub found_refused : (max : ℕ) (h e : Bool) (bytes : List ℕ) (f : FrameFault) → IsFront bytes (front.Faulty f) → IsFound max h e bytes (found.Faulty f)
-found_refused max h e bytes f x = (
+pub progress_refused : (max : ℕ) (h e : Bool) (bytes : List ℕ) (f : FrameFault) → IsFinalHead bytes (final_head.Faulty f) → IsHeadProgress max h e bytes (head_progress.Faulty f)
+progress_refused max h e bytes f x = (
   omega (arith, x.0),
   (x.1.0, x.1.1, x.1.3, subst (λ (o : Option ℕ). FrontBy max h e x.1.1 o (Faulty f)) (sym x.1.4) (Err f, x.1.5, tt, refl)),
 )
 
-pub found_unframed : (max : ℕ) (h e : Bool) (bytes : List ℕ) (at : ℕ) (head : StatusHead) (f : FrameFault) → IsFront bytes (front.Final head at)
-    → framing_of_response max h head ≡ Err f → IsFound max h e bytes (found.Faulty f)
-found_unframed max h e bytes at head f x is = (
+pub progress_unframed : (max : ℕ) (h e : Bool) (bytes : List ℕ) (at : ℕ) (head : StatusHead) (f : FrameFault) → IsFinalHead bytes (final_head.Complete head at)
+    → framing_of_response max h head ≡ Err f → IsHeadProgress max h e bytes (head_progress.Faulty f)
+progress_unframed max h e bytes at head f x is = (
   some_bytes bytes at _ x.0.0 x.0.1,
   (
     x.1.0,
@@ -172,9 +172,9 @@ found_unframed max h e bytes at head f x is = (
 -- ---- no head yet
 
 -- behind the interim responses a head may still end within the limit
-pub found_open : (max : ℕ) (h e : Bool) (bytes : List ℕ) (at : ℕ) → e ≡ false → length (drop at bytes) ≤ 32768 → IsFront bytes (front.Open at)
-    → IsFound max h e bytes (found.Incomplete at)
-found_open max h e bytes at open_still short x = (
+pub progress_open : (max : ℕ) (h e : Bool) (bytes : List ℕ) (at : ℕ) → e ≡ false → length (drop at bytes) ≤ 32768 → IsFinalHead bytes (final_head.Incomplete at)
+    → IsHeadProgress max h e bytes (head_progress.Incomplete at)
+progress_open max h e bytes at open_still short x = (
   x.0,
   (
     x.1.0,

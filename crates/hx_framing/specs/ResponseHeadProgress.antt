@@ -3,10 +3,10 @@ use Rattle.std.specs.Prelude.{◌≡◌, ℕ, ◌+◌, ◌<◌, ◌≤◌, ◌++
 use Rattle.hx_framing.specs.declared.status_head.StatusHead.{StatusHead}
 use Rattle.hx_framing.specs.declared.responses.Response.{Response}
 use Rattle.hx_framing.specs.declared.content.Content.{Content}
-use Rattle.hx_framing.specs.declared.answer.Found.{Found}
-use Rattle.hx_framing.specs.declared.answer.Found.TheVariants as found
-use Rattle.hx_framing.specs.declared.response_reading.StatusFront.{StatusFront}
-use Rattle.hx_framing.specs.declared.response_reading.StatusFront.TheVariants as front
+use Rattle.hx_framing.specs.declared.answer.HeadProgress.{HeadProgress}
+use Rattle.hx_framing.specs.declared.answer.HeadProgress.TheVariants as head_progress
+use Rattle.hx_framing.specs.declared.response_reading.FinalHead.{FinalHead}
+use Rattle.hx_framing.specs.declared.response_reading.FinalHead.TheVariants as final_head
 use Rattle.hx_framing.specs.Places.{head_length, most_head_bytes, IsOpenHead}
 use Rattle.hx_framing.specs.StatusHead.{Judges}
 use Rattle.hx_framing.specs.Lengths.{is_interim}
@@ -24,33 +24,33 @@ abbrev pub IsBehind : List ℕ → ℕ → Type 0
 IsBehind bytes n = (0 < n) × (n ≤ length bytes)
 
 -- what stands behind the interim responses in front; a head ends behind some bytes and within them
-abbrev pub IsFront : List ℕ → StatusFront → Type 0
-IsFront bytes (front.Open at) =
+abbrev pub IsFinalHead : List ℕ → FinalHead → Type 0
+IsFinalHead bytes (final_head.Incomplete at) =
     (at ≤ length bytes) × ((sizes : List ℕ) × Passes bytes sizes (drop at bytes))
     × (head_length (take most_head_bytes (drop at bytes)) ≡ None)
-IsFront bytes (front.Faulty f) =
+IsFinalHead bytes (final_head.Faulty f) =
     (0 < length bytes) × ((sizes : List ℕ) × (rest : List ℕ) × (n : ℕ) × Passes bytes sizes rest
     × (head_length (take most_head_bytes rest) ≡ Some n) × Judges (take n rest) (Err f))
-IsFront bytes (front.Final head at) =
+IsFinalHead bytes (final_head.Complete head at) =
     IsBehind bytes at × ((sizes : List ℕ) × (rest : List ℕ) × (n : ℕ) × Passes bytes sizes rest
     × (head_length (take most_head_bytes rest) ≡ Some n) × Judges (take n rest) (Ok head) × (is_interim head.status ≡ false)
     × (drop n rest ≡ drop at bytes))
 
 -- it is what the bytes read as; a response stream never ends without a message or a fault
-abbrev pub IsFound : ℕ → Bool → Bool → List ℕ → Found StatusHead Response → Type 0
-IsFound max_body to_head ended bytes (found.Incomplete n) =
+abbrev pub IsHeadProgress : ℕ → Bool → Bool → List ℕ → HeadProgress StatusHead Response → Type 0
+IsHeadProgress max_body to_head ended bytes (head_progress.Incomplete n) =
     (n ≤ length bytes) × Reads max_body to_head ended bytes Incomplete × ((sizes : List ℕ) × Passes bytes sizes (drop n bytes))
     × IsOpenHead (drop n bytes)
-IsFound max_body to_head ended bytes (found.Continue head content n) = ⊥
-IsFound max_body to_head ended bytes (found.Going head content n) =
+IsHeadProgress max_body to_head ended bytes (head_progress.NeedsContinue head content n) = ⊥
+IsHeadProgress max_body to_head ended bytes (head_progress.InContent head content n) =
     IsBehind bytes n × Reads max_body to_head ended bytes Incomplete × Resumes max_body to_head head content bytes (drop n bytes)
     × IsOpen content (drop n bytes)
-IsFound max_body to_head ended bytes (found.Message m n) =
+IsHeadProgress max_body to_head ended bytes (head_progress.Message m n) =
     IsBehind bytes n × Reads max_body to_head ended bytes (Spelled m (drop n bytes))
-IsFound max_body to_head ended bytes (found.Faulty f) =
+IsHeadProgress max_body to_head ended bytes (head_progress.Faulty f) =
     (1 ≤ length bytes + cond ended 1 0) × Reads max_body to_head ended bytes (Faulty f)
-IsFound max_body to_head ended bytes found.Over = ⊥
+IsHeadProgress max_body to_head ended bytes head_progress.Ended = ⊥
 
 -- the head of a final response stands behind the interim ones, so that what is due is told behind it
-abbrev pub HasFinal : List ℕ → Type 0
-HasFinal bytes = (head : StatusHead) × (at : ℕ) × IsFront bytes (front.Final head at)
+abbrev pub HasFinalHead : List ℕ → Type 0
+HasFinalHead bytes = (head : StatusHead) × (at : ℕ) × IsFinalHead bytes (final_head.Complete head at)

@@ -3,8 +3,8 @@ use Rattle.std.specs.Prelude.{◌≡◌, ℕ, ◌<◌, ◌≤◌, ◌++◌, Bool
 use Rattle.hx_framing.specs.declared.request_head.Head.{Head}
 use Rattle.hx_framing.specs.declared.requests.Request.{Request}
 use Rattle.hx_framing.specs.declared.content.Content.{Content}
-use Rattle.hx_framing.specs.declared.answer.Found.{Found}
-use Rattle.hx_framing.specs.declared.answer.Found.TheVariants as found
+use Rattle.hx_framing.specs.declared.answer.HeadProgress.{HeadProgress}
+use Rattle.hx_framing.specs.declared.answer.HeadProgress.TheVariants as head_progress
 use Rattle.hx_framing.specs.Contents.{body_from, IsOpen}
 use Rattle.hx_framing.specs.Places.{head_length, most_head_bytes, IsOpenHead}
 use Rattle.hx_framing.specs.Head.{Judges}
@@ -21,16 +21,16 @@ abbrev pub IsBehind : List ℕ → ℕ → Type 0
 IsBehind bytes n = (0 < n) × (n ≤ length bytes)
 
 -- it is what the bytes read as, before a continue was given
-abbrev pub IsFound : ℕ → Bool → List ℕ → Found Head Request → Type 0
-IsFound max_body ended bytes (found.Incomplete n) = Reads max_body ended false bytes Incomplete × IsOpenHead bytes
-IsFound max_body ended bytes (found.Continue head content n) =
+abbrev pub IsHeadProgress : ℕ → Bool → List ℕ → HeadProgress Head Request → Type 0
+IsHeadProgress max_body ended bytes (head_progress.Incomplete n) = Reads max_body ended false bytes Incomplete × IsOpenHead bytes
+IsHeadProgress max_body ended bytes (head_progress.NeedsContinue head content n) =
     IsBehind bytes n × Reads max_body ended false bytes Continue × Resumes max_body true head content bytes (drop n bytes)
-IsFound max_body ended bytes (found.Going head content n) =
+IsHeadProgress max_body ended bytes (head_progress.InContent head content n) =
     IsBehind bytes n × Reads max_body ended false bytes Incomplete × Resumes max_body false head content bytes (drop n bytes)
     × IsOpen content (drop n bytes)
-IsFound max_body ended bytes (found.Message m n) = IsBehind bytes n × Reads max_body ended false bytes (Spelled m (drop n bytes))
-IsFound max_body ended bytes (found.Faulty f) = Reads max_body ended false bytes (Faulty f)
-IsFound max_body ended bytes found.Over = Reads max_body ended false bytes Over
+IsHeadProgress max_body ended bytes (head_progress.Message m n) = IsBehind bytes n × Reads max_body ended false bytes (Spelled m (drop n bytes))
+IsHeadProgress max_body ended bytes (head_progress.Faulty f) = Reads max_body ended false bytes (Faulty f)
+IsHeadProgress max_body ended bytes head_progress.Ended = Reads max_body ended false bytes Over
 
 -- a head stands at the front of the bytes, so that what is due is told behind it
 abbrev pub HasHead : List ℕ → Type 0

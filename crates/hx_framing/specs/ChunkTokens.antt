@@ -1,8 +1,8 @@
--- What it means to take a piece of content in chunks: the bytes of the piece lead from a state to the next.
+-- What it means to take a token of content in chunks: the bytes of the token lead from a state to the next.
 use Rattle.std.specs.Prelude.{◌≡◌, ◌≤◌, ◌<◌, ℕ, true, List, ◌++◌, Some, length, take, drop, slice_index}
 use Rattle.hx_framing.specs.declared.chunk_state.ChunkState.{ChunkState}
-use Rattle.hx_framing.specs.declared.chunk_pieces.Piece.{Piece}
-use Rattle.hx_framing.specs.declared.chunk_pieces.Piece.TheVariants as piece
+use Rattle.hx_framing.specs.declared.chunk_pieces.ChunkToken.{ChunkToken}
+use Rattle.hx_framing.specs.declared.chunk_pieces.ChunkToken.TheVariants as token
 use Rattle.hx_framing.specs.Body.{Bad, Whole}
 use Rattle.hx_framing.specs.ChunkGrammar.{has_no_lf}
 use Rattle.hx_framing.specs.Chunking.{Chunking, NeedsData, chunking_of}
@@ -21,24 +21,24 @@ pub record IsOpenLine (s : Chunking) (bytes : List ℕ) : Type 0 where
   pub one_line : has_no_lf bytes ≡ true
   pub bounded : length bytes ≤ most_trailer_bytes
 
--- at a place, with the content old; new is the content behind the piece
-abbrev pub Takes : ChunkState → List ℕ → List ℕ → List ℕ → Piece → Type 0
-Takes place old bytes new piece.Short =
+-- at a place, with the content old; new is the content behind the token
+abbrev pub Takes : ChunkState → List ℕ → List ℕ → List ℕ → ChunkToken → Type 0
+Takes place old bytes new token.Incomplete =
     (new ≡ old) × IsOpenLine (chunking_of place old) bytes
-Takes place old bytes new (piece.Taken n next) =
+Takes place old bytes new (token.Whole n next) =
     (n ≤ length bytes)
     × (0 < n)
     × NeedsData next.phase next.need
     × (state_after (take n bytes) (chunking_of place old) ≡ Some (chunking_of next new))
-Takes place old bytes new (piece.Last n) =
+Takes place old bytes new (token.Last n) =
     (n ≤ length bytes)
     × (0 < n)
     × ((more : List ℕ) → chunks_from (bytes ++ more) (chunking_of place old) ≡ Whole (Some new) (drop n bytes ++ more))
-Takes place old bytes new (piece.Faulty f) = (more : List ℕ) → chunks_from (bytes ++ more) (chunking_of place old) ≡ Bad f
+Takes place old bytes new (token.Faulty f) = (more : List ℕ) → chunks_from (bytes ++ more) (chunking_of place old) ≡ Bad f
 
 -- how many bytes were taken
-abbrev pub bytes_of : Piece → ℕ
-bytes_of piece.Short = 0
-bytes_of (piece.Taken n next) = n
-bytes_of (piece.Last n) = n
-bytes_of (piece.Faulty f) = 0
+abbrev pub bytes_of : ChunkToken → ℕ
+bytes_of token.Incomplete = 0
+bytes_of (token.Whole n next) = n
+bytes_of (token.Last n) = n
+bytes_of (token.Faulty f) = 0

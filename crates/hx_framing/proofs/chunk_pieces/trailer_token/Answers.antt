@@ -1,13 +1,13 @@
 use Rattle.std.proofs.Common.{length, sym, ap, ◌∙◌, subst}
-use Rattle.hx_framing.specs.declared.chunk_pieces.Piece.{Piece}
-use Rattle.hx_framing.specs.Pieces.{Takes}
+use Rattle.hx_framing.specs.declared.chunk_pieces.ChunkToken.{ChunkToken}
+use Rattle.hx_framing.specs.ChunkTokens.{Takes}
 use Rattle.hx_framing.specs.SizeLine.{ends_in_cr}
-use Rattle.hx_framing.proofs.ChunkPieces.{trailer_open, trailer_bad, trailer_some}
-use Rattle.hx_framing.proofs.chunk_pieces.trailer_piece.Goals as goal
+use Rattle.hx_framing.proofs.ChunkTokens.{trailer_open, trailer_bad, trailer_some}
+use Rattle.hx_framing.proofs.chunk_pieces.trailer_token.Goals as goal
 
 pub returns-in_default : goal.returns-in_default
 returns-in_default c = λ content.
-    subst (λ (r : Piece). Takes c.args.place content c.args.bytes.now content r) (sym c.open_line.ensures)
+    subst (λ (r : ChunkToken). Takes c.args.place content c.args.bytes.now content r) (sym c.open_line.ensures)
     (trailer_open c.args.place content c.args.bytes.now _ c.requires.phase c.saturating_sub-limit.ensures c.in_default.ensures.none)
 
 pub returns-then-not-ends_in_cr : goal.returns-then-not-ends_in_cr

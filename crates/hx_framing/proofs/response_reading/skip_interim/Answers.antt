@@ -3,12 +3,12 @@ use Rattle.hx_framing.specs.declared.status_head.Judged.{Judged}
 use Rattle.hx_framing.specs.declared.status_head.Judged.TheVariants as judged
 use Rattle.hx_framing.specs.Places.{head_length}
 use Rattle.hx_framing.specs.StatusHead.{JudgesAs}
-use Rattle.hx_framing.specs.ResponseFound.{HasFinal}
+use Rattle.hx_framing.specs.ResponseHeadProgress.{HasFinalHead}
 use Rattle.hx_framing.proofs.MemoryLemmas.{on_err}
 use Rattle.hx_framing.proofs.HeadSearches.{head_some}
 use Rattle.hx_framing.proofs.ResponseLemmas.{place_within}
-use Rattle.hx_framing.proofs.ResponseFinding.{interim_at, front_final, front_faulty}
-use Rattle.hx_framing.proofs.response_reading.front_of.Goals as goal
+use Rattle.hx_framing.proofs.ResponseProgressLemmas.{interim_at, final_head_complete, final_head_faulty}
+use Rattle.hx_framing.proofs.response_reading.skip_interim.Goals as goal
 
 -- where the next head ends, as the loop has it
 place_of : (bytes : List ℕ) (at n : ℕ) (next : Option ℕ) → next ≡ head_length (take 32768 (drop at bytes)) → next ≡ Some n → head_length (take 32768 (drop at bytes)) ≡ Some n
@@ -35,28 +35,28 @@ loop-next-preserved c =
       c.head_within-next.ensures.size ∙ ap (λ u. head_length (take 32768 u)) c.rest_from.ensures,
     )
 
-pub returns-in-Final-clause-front : goal.returns-in-Final-clause-front
-returns-in-Final-clause-front c =
+pub returns-in-Final-clause-final_head : goal.returns-in-Final-clause-final_head
+returns-in-Final-clause-final_head c =
     let place = place_of c.args.bytes.now c.loop-next.at c.in-Some.n c.loop-next.next c.loop-next.invariant.2 c.in-Some.is in
     let j = judges c.args.bytes.now _ _ c.loop-next.at c.in-Some.n _ (judged.Final c.in-Final.head) c.rest_from-rest.ensures c.split_at.ensures.front c.in-Final.is c.in_ok-judge_head.ensures.judged in
-    front_final c.args.bytes.now c.loop-next.at c.in-Some.n c.in-Final.head c.loop-next.invariant.0 (head_some (take 32768 (drop c.loop-next.at c.args.bytes.now)) c.in-Some.n place) place j.0
+    final_head_complete c.args.bytes.now c.loop-next.at c.in-Some.n c.in-Final.head c.loop-next.invariant.0 (head_some (take 32768 (drop c.loop-next.at c.args.bytes.now)) c.in-Some.n place) place j.0
     j.1 c.loop-next.invariant.1
 
-pub returns-in-Faulty-clause-front : goal.returns-in-Faulty-clause-front
-returns-in-Faulty-clause-front c =
+pub returns-in-Faulty-clause-final_head : goal.returns-in-Faulty-clause-final_head
+returns-in-Faulty-clause-final_head c =
     let place = place_of c.args.bytes.now c.loop-next.at c.in-Some.n c.loop-next.next c.loop-next.invariant.2 c.in-Some.is in
     let j = judges c.args.bytes.now _ _ c.loop-next.at c.in-Some.n _ (judged.Faulty c.in-Faulty.fault) c.rest_from-rest.ensures c.split_at.ensures.front c.in-Faulty.is c.in_ok-judge_head.ensures.judged in
-    front_faulty c.args.bytes.now c.loop-next.at c.in-Some.n c.in-Faulty.fault c.loop-next.invariant.0 (head_some (take 32768 (drop c.loop-next.at c.args.bytes.now)) c.in-Some.n place) place j c.loop-next.invariant.1
+    final_head_faulty c.args.bytes.now c.loop-next.at c.in-Some.n c.in-Faulty.fault c.loop-next.invariant.0 (head_some (take 32768 (drop c.loop-next.at c.args.bytes.now)) c.in-Some.n place) place j c.loop-next.invariant.1
 
 pub returns-in_err-judge_head-clause-memory_last : goal.returns-in_err-judge_head-clause-memory_last
 returns-in_err-judge_head-clause-memory_last c =
     let place = place_of c.args.bytes.now c.loop-next.at c.in-Some.n c.loop-next.next c.loop-next.invariant.2 c.in-Some.is in
     let has = c.in_err-judge_head.ensures.memory_last in
     let j = judges c.args.bytes.now _ _ c.loop-next.at c.in-Some.n (judged.Final has.0) (judged.Final has.0) c.rest_from-rest.ensures c.split_at.ensures.front refl has.1 in
-    let final : HasFinal c.args.bytes.now = (
+    let final : HasFinalHead c.args.bytes.now = (
       has.0,
       c.loop-next.at + c.in-Some.n,
-      front_final c.args.bytes.now c.loop-next.at c.in-Some.n has.0 c.loop-next.invariant.0 (head_some (take 32768 (drop c.loop-next.at c.args.bytes.now)) c.in-Some.n place) place j.0
+      final_head_complete c.args.bytes.now c.loop-next.at c.in-Some.n has.0 c.loop-next.invariant.0 (head_some (take 32768 (drop c.loop-next.at c.args.bytes.now)) c.in-Some.n place) place j.0
           j.1 c.loop-next.invariant.1,
     ) in
     on_err _ final
