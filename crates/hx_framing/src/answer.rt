@@ -27,16 +27,18 @@ pub(crate) struct Rest<'a> {
     pub(crate) bytes: &'a [u8],
 }
 
-/// What stands at the front of unread bytes: what is due, and how many bytes it takes. H is a head, M a message.
+/// How far a message has come in unread bytes, from its head on: what is due, and how many of them it takes. H is a head,
+/// M a message.
 #[derive(Drop)]
 pub(crate) enum HeadProgress<H, M> {
     /// Nothing yet.
     Incomplete(usize),
-    /// A continue, before the content.
+    /// A continue is due, before the content.
     NeedsContinue(H, Content, usize),
-    /// Nothing before the content goes on.
+    /// A head, and a content that goes on.
     InContent(H, Content, usize),
     Message(M, usize),
     Faulty(FrameFault),
+    /// The stream has ended before a head.
     Ended,
 }

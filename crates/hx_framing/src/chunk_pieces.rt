@@ -16,7 +16,7 @@ use crate::limits::{MOST_SIZE_LINE_BYTES, MOST_TRAILER_BYTES};
 use crate::places::rest_from;
 use crate::size_line::{ends_in_cr, size_at};
 
-/// What stands at the front of the bytes.
+/// What stands at the front of the bytes: a size line, a run of data, the CRLF behind data, or a trailer line.
 #[derive(Clone, Copy)]
 pub(crate) enum ChunkToken {
     /// Nothing, or a part of a token.
@@ -28,7 +28,7 @@ pub(crate) enum ChunkToken {
     Faulty(FrameFault),
 }
 
-/// How far the bytes that were given went: how many of them were taken.
+/// How far a content has come with the bytes that were given: how many of them were taken.
 #[derive(Clone, Copy)]
 pub(crate) enum ChunkProgress {
     /// More are needed. What wasn't taken has to stand at the front of what is given next.

@@ -12,7 +12,7 @@ use crate::plain::Plain;
 use hx_fields::Bytes;
 use std::alloc::{AllocError, Global};
 
-/// A content, as far as the bytes go.
+/// How far a content has come with the bytes that were given.
 #[derive(Drop)]
 pub(crate) enum ContentProgress {
     /// It goes on behind so many bytes.

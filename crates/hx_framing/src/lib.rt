@@ -12,7 +12,7 @@
 //! | `ResponseStream` | the same of a response, and the end behind it | 9112, 4, 6 and 9.3 |
 //! | `Progress` | a stream so far, what was given of it, and which answers want of memory may hide | |
 //! | `Reading`, `Body` | what may stand at the front of bytes, and behind a head | 9112, 8 |
-//! | `RequestReading` | a head, its plan, its content: what stands at the front of requests | 9112, 2 and 6 |
+//! | `RequestReading` | a head, what it says of its content, its content: what stands at the front of requests | 9112, 2 and 6 |
 //! | `ResponseReading` | the same of a response, behind the interim ones | 9112, 4 and 6; 9110, 15.2 |
 //! | `Places` | where a head ends, and its limits in bytes and lines | 9112, 2.2 |
 //! | `Head` | which bytes are a request's head, what it gives, its fault | 9112, 2 to 5 |
@@ -89,4 +89,6 @@ pub use crate::requests::Request;
 pub use crate::response_reader::ResponseReader;
 pub use crate::responses::Response;
 pub use crate::text_laws::{forwarded_text, head_lengths, reply_texts};
-pub use crate::writing::{AddedLine, write_request, write_response, write_response_with};
+pub use crate::writing::{
+    AddedLine, ResponseLines, write_request, write_response, write_response_with,
+};

@@ -18,7 +18,7 @@ use crate::status_head::{Judged, StatusHead, judge_head};
 use hx_fields::Bytes;
 use std::alloc::{AllocError, Global};
 
-/// What stands behind the interim responses in front.
+/// How far the search for the head of the final response has come, behind the interim ones in front.
 #[derive(Drop)]
 pub(crate) enum FinalHead {
     /// They take so many bytes, and no head ends behind them.
@@ -61,7 +61,7 @@ pub(crate) fn response_of(
     }
 }
 
-/// What stands behind the interim responses in front. The first head takes `head_length` bytes.
+/// Skips the interim responses in front. The first head takes `head_length` bytes.
 fn skip_interim(
     alloc: Global,
     bytes: &[u8],
