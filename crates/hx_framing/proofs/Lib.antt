@@ -23,6 +23,7 @@ pub mod ChunkSound
 pub mod ChunkFaultSound
 pub mod ChunkFaultComplete
 pub mod BodyLemmas
+pub mod ContentReadings
 pub mod RequestLemmas
 pub mod RequestProgressLemmas
 pub mod RequestOnce

@@ -7,6 +7,7 @@ pub mod Version
 pub mod Head
 pub mod PlainContent
 pub mod Contents
+pub mod ContentReading
 pub mod Queue
 pub mod HeadLines
 pub mod GivenFields

@@ -7,7 +7,6 @@ ghost use Rattle.hx_framing.specs.RequestStream.{Answers, NeedsMemory};
 
 use crate::answer::{HeadProgress, Next, Rest};
 use crate::content::{Content, ContentProgress};
-use crate::fault::FrameFault;
 use crate::request_head::Head;
 use crate::request_phase::RequestPhase;
 use crate::request_reading::read_request;
@@ -212,18 +211,16 @@ impl RequestReader {
             → StandsFor (record self.old { phase = phase.InContent head content }) p → NeedsMemory p) }
         ensures err { OnErr result (self.new ≡ record self.old { phase = phase.InContent head content }) }
     {
-        match content.advance(alloc, false, self.unread.as_slice(), self.unread.searched()) {
+        // No content of a request runs until the close.
+        match self
+            .unread
+            .read_content(alloc, &mut content, self.ended, false)
+        {
             Err(error) => {
                 self.phase = RequestPhase::InContent(head, content);
                 Err(error)
             }
-            Ok(ContentProgress::Incomplete(_)) if self.ended => {
-                self.phase = RequestPhase::Faulty(FrameFault::Truncated);
-                Ok(Next::Refused(FrameFault::Truncated))
-            }
-            Ok(ContentProgress::Incomplete(n)) => {
-                self.unread.take_front(n);
-                self.unread.note_open_line();
+            Ok(ContentProgress::Incomplete(_)) => {
                 self.phase = RequestPhase::InContent(head, content);
                 Ok(Next::More)
             }
@@ -231,9 +228,8 @@ impl RequestReader {
                 self.phase = RequestPhase::Faulty(fault);
                 Ok(Next::Refused(fault))
             }
-            Ok(ContentProgress::Whole(whole, n)) => {
+            Ok(ContentProgress::Whole(whole, _)) => {
                 drop(content);
-                self.unread.take_front(n);
                 self.phase = RequestPhase::BeforeHead;
                 Ok(Next::Message(head.into_request(whole)))
             }

@@ -7,7 +7,6 @@ ghost use Rattle.hx_framing.specs.ResponseStream.{Answers, NeedsMemory};
 
 use crate::answer::{HeadProgress, Next, Rest};
 use crate::content::{Content, ContentProgress};
-use crate::fault::FrameFault;
 use crate::response_phase::ResponsePhase;
 use crate::response_reading::{read_response, response_of};
 use crate::responses::Response;
@@ -226,23 +225,13 @@ impl ResponseReader {
             → StandsFor (record self.old { phase = phase.InContent head content }) p → NeedsMemory p) }
         ensures err { OnErr result (self.new ≡ record self.old { phase = phase.InContent head content }) }
     {
-        match content.advance(
-            alloc,
-            self.ended,
-            self.unread.as_slice(),
-            self.unread.searched(),
-        ) {
+        let ended = self.ended;
+        match self.unread.read_content(alloc, &mut content, ended, ended) {
             Err(error) => {
                 self.phase = ResponsePhase::InContent(head, content);
                 Err(error)
             }
-            Ok(ContentProgress::Incomplete(_)) if self.ended => {
-                self.phase = ResponsePhase::Faulty(FrameFault::Truncated);
-                Ok(Next::Refused(FrameFault::Truncated))
-            }
-            Ok(ContentProgress::Incomplete(n)) => {
-                self.unread.take_front(n);
-                self.unread.note_open_line();
+            Ok(ContentProgress::Incomplete(_)) => {
                 self.phase = ResponsePhase::InContent(head, content);
                 Ok(Next::More)
             }
@@ -250,9 +239,8 @@ impl ResponseReader {
                 self.phase = ResponsePhase::Faulty(fault);
                 Ok(Next::Refused(fault))
             }
-            Ok(ContentProgress::Whole(whole, n)) => {
+            Ok(ContentProgress::Whole(whole, _)) => {
                 drop(content);
-                self.unread.take_front(n);
                 self.phase = ResponsePhase::Given;
                 Ok(Next::Message(response_of(alloc, self.to_head, head, whole)))
             }

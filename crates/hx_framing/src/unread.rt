@@ -2,8 +2,10 @@
 //!
 //! Taking bytes away from the front is cheap: they are moved up only once as many were taken as are left. How far
 //! they were searched for the end of a head or of a line is remembered, so that none is searched again for each piece.
-ghost use Rattle.std.specs.Prelude.{◌≡◌, ◌≤◌, ◌++◌, [], IsOk, OnOk, OnErr, length, drop};
+ghost use Rattle.std.specs.Prelude.{◌≡◌, ◌≤◌, ◌++◌, [], IsOk, OnOk, IfOk, OnErr, length, drop};
 
+use crate::content::{Content, ContentProgress};
+use crate::fault::FrameFault;
 use crate::limits::MOST_HEAD_BYTES;
 use crate::places::{HeadSearch, Searched, first, rest_from, search_head};
 use std::alloc::{AllocError, Global};
@@ -46,6 +48,7 @@ const UNSEARCHED: HeadSearch = HeadSearch {
 impl Unread {
     ghost use Rattle.std.specs.Prelude.{true, take};
     ghost use Rattle.hx_framing.specs.ChunkGrammar.{has_no_lf};
+    ghost use Rattle.hx_framing.specs.ContentReading.{ReadsOn};
     ghost use Rattle.hx_framing.specs.Places.{head_length, most_head_bytes};
 
     pub(crate) fn new(alloc: Global) -> Unread
@@ -134,6 +137,37 @@ impl Unread {
         ensures none { has_no_lf (take result self.now.items) ≡ true }
     {
         self.line
+    }
+
+    /// Goes on with a content, and takes away what it took of the bytes. `ended` says that no more come, so that a content
+    /// that goes on is cut off; `closed`, that they end a content until the close. An `Err` changes nothing.
+    pub(crate) fn read_content(
+        &mut self,
+        alloc: Global,
+        content: &mut Content,
+        ended: bool,
+        closed: bool,
+    ) -> Result<ContentProgress, AllocError>
+        ensures reads { IfOk result (λ progress. ReadsOn ended closed self.old.items content.old progress content.new self.new.items) }
+        ensures room { self.old.spare ≤ self.new.spare }
+        ensures err { OnErr result (self.new ≡ self.old) }
+        ensures err_content { OnErr result (content.new ≡ content.old) }
+    {
+        match content.advance(alloc, closed, self.as_slice(), self.searched())? {
+            ContentProgress::Incomplete(_) if ended => {
+                Ok(ContentProgress::Faulty(FrameFault::Truncated))
+            }
+            ContentProgress::Incomplete(n) => {
+                self.take_front(n);
+                self.note_open_line();
+                Ok(ContentProgress::Incomplete(n))
+            }
+            ContentProgress::Faulty(fault) => Ok(ContentProgress::Faulty(fault)),
+            ContentProgress::Whole(content, n) => {
+                self.take_front(n);
+                Ok(ContentProgress::Whole(content, n))
+            }
+        }
     }
 
     /// Remembers that the bytes hold no LF.
