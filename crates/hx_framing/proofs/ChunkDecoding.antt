@@ -3,9 +3,9 @@ use Rattle.std.proofs.Common.{◌≡◌, ℕ, ◌+◌, ◌≤◌, List, ◌++◌
 use Rattle.std.proofs.Math.Seq.{take-add}
 use Rattle.std.proofs.lemmas.List.{take-append-drop, drop-drop}
 use Rattle.hx_framing.specs.declared.fault.FrameFault.{FrameFault}
-use Rattle.hx_framing.specs.declared.chunk_state.ChunkState.{ChunkState}
-use Rattle.hx_framing.specs.declared.chunk_pieces.ChunkToken.TheVariants as token
-use Rattle.hx_framing.specs.declared.chunk_pieces.ChunkProgress.TheVariants as chunk_progress
+use Rattle.hx_framing.specs.declared.contents.tokens.ChunkState.{ChunkState}
+use Rattle.hx_framing.specs.declared.contents.tokens.ChunkToken.TheVariants as token
+use Rattle.hx_framing.specs.declared.contents.tokens.ChunkProgress.TheVariants as chunk_progress
 use Rattle.hx_framing.specs.Body.{Whole}
 use Rattle.hx_framing.specs.Chunking.{Chunking, chunking_of}
 use Rattle.hx_framing.specs.Chunks.{chunks_from, state_after}

@@ -4,10 +4,10 @@ use Rattle.std.proofs.lemmas.List.{take_more, take_all, take-append-drop, length
 use Rattle.std.proofs.lemmas.Bool.{lt-ltb, le-ltb, ltb-true, ltb-false, ne_eqb}
 use Rattle.hx_framing.specs.declared.fault.FrameFault.{FrameFault}
 use Rattle.hx_framing.specs.declared.fault.FrameFault.TheVariants as fault
-use Rattle.hx_framing.specs.declared.chunk_state.Phase.{Phase}
-use Rattle.hx_framing.specs.declared.chunk_state.Phase.TheVariants as phase
-use Rattle.hx_framing.specs.declared.chunk_state.ChunkState.{ChunkState}
-use Rattle.hx_framing.specs.declared.chunk_pieces.ChunkToken.TheVariants as token
+use Rattle.hx_framing.specs.declared.contents.tokens.Phase.{Phase}
+use Rattle.hx_framing.specs.declared.contents.tokens.Phase.TheVariants as phase
+use Rattle.hx_framing.specs.declared.contents.tokens.ChunkState.{ChunkState}
+use Rattle.hx_framing.specs.declared.contents.tokens.ChunkToken.TheVariants as token
 use Rattle.hx_framing.specs.Chunking.{Chunking, chunking_of}
 use Rattle.hx_framing.specs.Chunks.{most_trailer_bytes, Go, Stop, Fail, follow, chunks_from, going, state_after, with_line, sized, size_step, trailer_end, trailer_step}
 use Rattle.hx_framing.specs.ChunkGrammar.{has_no_lf}

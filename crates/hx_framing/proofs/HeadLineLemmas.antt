@@ -17,8 +17,8 @@ use Rattle.hx_fields.specs.declared.field_line.Field.{Field as Line}
 use Rattle.hx_fields.specs.Tokens as tokens
 use Rattle.hx_framing.specs.Places.{empty_lines_from, empty_lines_length}
 use Rattle.hx_framing.specs.Version.{without_return}
-use Rattle.hx_framing.specs.declared.request_head.Head.{Head}
-use Rattle.hx_framing.specs.declared.status_head.StatusHead.{StatusHead}
+use Rattle.hx_framing.specs.declared.heads.request_head.Head.{Head}
+use Rattle.hx_framing.specs.declared.heads.status_head.StatusHead.{StatusHead}
 use Rattle.hx_framing.specs.Head.{IsHead, Judges, field_of}
 use Rattle.hx_framing.specs.StatusHead as status
 use Rattle.hx_framing.specs.StatusHead.{IsStatusHead}

@@ -3,8 +3,8 @@ use Rattle.std.proofs.Common.{◌≡◌, ℕ, ◌+◌, ◌<◌, ◌≤◌, ◌-�
 use Rattle.std.proofs.lemmas.Bool.{leb-true, leb-false}
 use Rattle.std.proofs.lemmas.List.{append-nil, drop-append-le, drop-drop, take-append-le, take_all}
 use Rattle.std.proofs.Math.Seq.{take-append-add}
-use Rattle.hx_framing.specs.declared.places.HeadSearch.{HeadSearch}
-use Rattle.hx_framing.specs.declared.places.Searched.TheVariants as searched
+use Rattle.hx_framing.specs.declared.heads.head_end.HeadSearch.{HeadSearch}
+use Rattle.hx_framing.specs.declared.heads.head_end.Searched.TheVariants as searched
 use Rattle.hx_framing.specs.Places.{empty_lines_from, empty_lines_length, head_end_at, head_end_from, head_length, most_head_bytes, IsOpenHead}
 use Rattle.hx_framing.specs.Searching.{Reaches, IsSearched}
 use Rattle.hx_framing.proofs.HeadEnds.{empty_lines_stable, empty_stands}

@@ -3,9 +3,9 @@ use Rattle.std.proofs.Common.{◌≡◌, ℕ, ◌+◌, ◌-◌, ◌<◌, ◌≤�
 use Rattle.std.proofs.Math.Seq.{take-append-add, drop-append-add}
 use Rattle.std.proofs.lemmas.Bool.{lt-ltb, le-ltb, ltb-true, ltb-false}
 use Rattle.std.proofs.lemmas.List.{drop_all, take_all}
-use Rattle.hx_framing.specs.declared.content.Content.TheVariants as content
+use Rattle.hx_framing.specs.declared.contents.content.Content.TheVariants as content
 use Rattle.hx_framing.specs.declared.fault.FrameFault.TheVariants as fault
-use Rattle.hx_framing.specs.declared.content.ContentProgress.TheVariants as content_progress
+use Rattle.hx_framing.specs.declared.contents.content.ContentProgress.TheVariants as content_progress
 use Rattle.hx_framing.specs.Body.{Body, Short, Bad, Whole}
 use Rattle.hx_framing.specs.Contents.{Advances, announced_from, closed_from}
 use Rattle.hx_framing.specs.PlainContent.{PlainContent, grown}

@@ -1,12 +1,12 @@
 -- What a request reader reads in a content, and what it is left with.
 use Rattle.std.proofs.Common.{◌≡◌, ℕ, Bool, true, false, List, ◌++◌, drop, refl, sym, ap, ◌∙◌, subst, Option}
-use Rattle.hx_framing.specs.declared.request_head.Head.{Head}
-use Rattle.hx_framing.specs.declared.requests.Request.{Request}
+use Rattle.hx_framing.specs.declared.heads.request_head.Head.{Head}
+use Rattle.hx_framing.specs.declared.messages.Request.{Request}
 use Rattle.hx_framing.specs.declared.fault.FrameFault.{FrameFault}
-use Rattle.hx_framing.specs.declared.content.Content.{Content}
-use Rattle.hx_framing.specs.declared.content.ContentProgress.{ContentProgress}
-use Rattle.hx_framing.specs.declared.content.ContentProgress.TheVariants as content_progress
-use Rattle.hx_framing.specs.declared.request_phase.RequestPhase.TheVariants as phase
+use Rattle.hx_framing.specs.declared.contents.content.Content.{Content}
+use Rattle.hx_framing.specs.declared.contents.content.ContentProgress.{ContentProgress}
+use Rattle.hx_framing.specs.declared.contents.content.ContentProgress.TheVariants as content_progress
+use Rattle.hx_framing.specs.declared.readers.request_reader.RequestPhase.TheVariants as phase
 use Rattle.hx_framing.specs.Body.{Body, Short, Whole}
 use Rattle.hx_framing.specs.Contents.{body_from, Advances}
 use Rattle.hx_framing.specs.ContentReading.{ReadsOn}

@@ -1,10 +1,10 @@
 -- What a request reader reads before a head, and what it is left with.
 use Rattle.std.proofs.Common.{◌≡◌, ℕ, Bool, true, false, List, drop, sym, ◌∙◌, subst}
-use Rattle.hx_framing.specs.declared.request_head.Head.{Head}
-use Rattle.hx_framing.specs.declared.requests.Request.{Request}
-use Rattle.hx_framing.specs.declared.content.Content.{Content}
-use Rattle.hx_framing.specs.declared.answer.HeadProgress.{HeadProgress}
-use Rattle.hx_framing.specs.declared.request_phase.RequestPhase.TheVariants as phase
+use Rattle.hx_framing.specs.declared.heads.request_head.Head.{Head}
+use Rattle.hx_framing.specs.declared.messages.Request.{Request}
+use Rattle.hx_framing.specs.declared.contents.content.Content.{Content}
+use Rattle.hx_framing.specs.declared.readers.progress.HeadProgress.{HeadProgress}
+use Rattle.hx_framing.specs.declared.readers.request_reader.RequestPhase.TheVariants as phase
 use Rattle.hx_framing.specs.Progress.{Progress}
 use Rattle.hx_framing.specs.RequestHeadProgress.{Resumes, IsHeadProgress}
 use Rattle.hx_framing.specs.RequestState.{State, StandsFor}

@@ -1,12 +1,12 @@
 -- Behind the head of a request, and in its content, the answer may want memory.
 use Rattle.std.proofs.Common.{◌≡◌, ℕ, ◌&&◌, Bool, true, false, not, cond, List, drop, refl, sym, ap, subst, ◌∙◌, Option, Result, Ok, Err}
 use Rattle.hx_framing.specs.declared.fault.FrameFault.{FrameFault}
-use Rattle.hx_framing.specs.declared.lengths.RequestBody.{RequestBody}
-use Rattle.hx_framing.specs.declared.request_head.Head.{Head}
-use Rattle.hx_framing.specs.declared.requests.Request.{Request}
-use Rattle.hx_framing.specs.declared.content.Content.{Content}
-use Rattle.hx_framing.specs.declared.request_phase.RequestPhase.TheVariants as phase
-use Rattle.hx_framing.specs.declared.answer.Next.{Next}
+use Rattle.hx_framing.specs.declared.lengths.framing.RequestBody.{RequestBody}
+use Rattle.hx_framing.specs.declared.heads.request_head.Head.{Head}
+use Rattle.hx_framing.specs.declared.messages.Request.{Request}
+use Rattle.hx_framing.specs.declared.contents.content.Content.{Content}
+use Rattle.hx_framing.specs.declared.readers.request_reader.RequestPhase.TheVariants as phase
+use Rattle.hx_framing.specs.declared.messages.Next.{Next}
 use Rattle.hx_framing.specs.Lengths.{request_body_of}
 use Rattle.hx_framing.specs.Contents.{body_at, body_from}
 use Rattle.hx_framing.specs.Reading.{Reading, Continue, with_body}

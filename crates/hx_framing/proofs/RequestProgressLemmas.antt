@@ -2,15 +2,15 @@
 use Rattle.std.proofs.Common.{◌≡◌, ℕ, ◌+◌, ◌<◌, ◌≤◌, ◌&&◌, Bool, true, false, not, cond, List, ◌++◌, length, drop, take, ◌==◌, refl, sym, ap, ◌∙◌, subst, arith, Option, Some, None, Ok, Err, length-take, length-drop, drop-drop}
 use Rattle.std.proofs.lemmas.Bool.{le-ltb}
 use Rattle.std.proofs.lemmas.List.{drop-append-le, take-append-le}
-use Rattle.hx_framing.specs.declared.request_head.Head.{Head}
-use Rattle.hx_framing.specs.declared.requests.Request.{Request}
-use Rattle.hx_framing.specs.declared.lengths.RequestBody.{RequestBody}
+use Rattle.hx_framing.specs.declared.heads.request_head.Head.{Head}
+use Rattle.hx_framing.specs.declared.messages.Request.{Request}
+use Rattle.hx_framing.specs.declared.lengths.framing.RequestBody.{RequestBody}
 use Rattle.hx_framing.specs.declared.fault.FrameFault.{FrameFault}
 use Rattle.hx_framing.specs.declared.fault.FrameFault.TheVariants as fault
-use Rattle.hx_framing.specs.declared.content.Content.{Content}
-use Rattle.hx_framing.specs.declared.content.ContentProgress.{ContentProgress}
-use Rattle.hx_framing.specs.declared.content.ContentProgress.TheVariants as content_progress
-use Rattle.hx_framing.specs.declared.answer.HeadProgress.TheVariants as head_progress
+use Rattle.hx_framing.specs.declared.contents.content.Content.{Content}
+use Rattle.hx_framing.specs.declared.contents.content.ContentProgress.{ContentProgress}
+use Rattle.hx_framing.specs.declared.contents.content.ContentProgress.TheVariants as content_progress
+use Rattle.hx_framing.specs.declared.readers.progress.HeadProgress.TheVariants as head_progress
 use Rattle.hx_framing.specs.Places.{head_length, empty_lines_length}
 use Rattle.hx_framing.specs.Head.{Judges}
 use Rattle.hx_framing.specs.Lengths.{request_body_of}

@@ -1,13 +1,13 @@
 -- What a response reader reads in a content and before a head, as its functions have it.
 use Rattle.std.proofs.Common.{◌≡◌, ℕ, Bool, true, false, List, [], ◌++◌, drop, refl, sym, ap, ◌∙◌, subst, Option}
-use Rattle.hx_framing.specs.declared.status_head.StatusHead.{StatusHead}
-use Rattle.hx_framing.specs.declared.responses.Response.{Response}
+use Rattle.hx_framing.specs.declared.heads.status_head.StatusHead.{StatusHead}
+use Rattle.hx_framing.specs.declared.messages.Response.{Response}
 use Rattle.hx_framing.specs.declared.fault.FrameFault.{FrameFault}
-use Rattle.hx_framing.specs.declared.content.Content.{Content}
-use Rattle.hx_framing.specs.declared.content.ContentProgress.{ContentProgress}
-use Rattle.hx_framing.specs.declared.content.ContentProgress.TheVariants as content_progress
-use Rattle.hx_framing.specs.declared.answer.HeadProgress.{HeadProgress}
-use Rattle.hx_framing.specs.declared.response_phase.ResponsePhase.TheVariants as phase
+use Rattle.hx_framing.specs.declared.contents.content.Content.{Content}
+use Rattle.hx_framing.specs.declared.contents.content.ContentProgress.{ContentProgress}
+use Rattle.hx_framing.specs.declared.contents.content.ContentProgress.TheVariants as content_progress
+use Rattle.hx_framing.specs.declared.readers.progress.HeadProgress.{HeadProgress}
+use Rattle.hx_framing.specs.declared.readers.response_reader.ResponsePhase.TheVariants as phase
 use Rattle.hx_framing.specs.Body.{Body, Short, Whole}
 use Rattle.hx_framing.specs.Contents.{body_from, Advances}
 use Rattle.hx_framing.specs.ContentReading.{ReadsOn}

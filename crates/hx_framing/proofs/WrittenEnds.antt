@@ -9,7 +9,7 @@ use Rattle.httparse.specs.Grammar.{is_token_byte, is_uri_byte, is_value_byte, Al
 use Rattle.httparse.specs.Pieces.{Stops, is_newline}
 use Rattle.httparse.proofs.PieceLemmas.{Stops_token}
 use Rattle.hx_fields.specs.declared.field_line.Field.{Field}
-use Rattle.hx_framing.specs.declared.requests.Request.{Request}
+use Rattle.hx_framing.specs.declared.messages.Request.{Request}
 use Rattle.hx_framing.specs.Places.{empty_lines_length, head_end_from, head_length, most_head_bytes}
 use Rattle.hx_framing.specs.Text.{field_line, field_lines, content_bytes, request_text}
 use Rattle.hx_framing.specs.Written.{head_text, sent_fields, IsWritableField, IsWritable}

@@ -12,10 +12,10 @@ use Rattle.hx_fields.specs.declared.field_line.Field.{Field}
 use Rattle.hx_fields.specs.Names.{flatten, is_nonempty, joined}
 use Rattle.hx_fields.specs.Lines.{is_named, has, values_of, without_named}
 use Rattle.hx_framing.specs.declared.fault.FrameFault.TheVariants as fault
-use Rattle.hx_framing.specs.declared.lengths.Framing.{Framing}
-use Rattle.hx_framing.specs.declared.lengths.Framing.TheVariants as framing
-use Rattle.hx_framing.specs.declared.lengths.RequestBody.{RequestBody}
-use Rattle.hx_framing.specs.declared.requests.Request.{Request}
+use Rattle.hx_framing.specs.declared.lengths.framing.Framing.{Framing}
+use Rattle.hx_framing.specs.declared.lengths.framing.Framing.TheVariants as framing
+use Rattle.hx_framing.specs.declared.lengths.framing.RequestBody.{RequestBody}
+use Rattle.hx_framing.specs.declared.messages.Request.{Request}
 use Rattle.hx_framing.specs.Head.{Judges}
 use Rattle.hx_framing.specs.ContentLength.{comma_pieces, is_digits, length_told, one_number}
 use Rattle.hx_framing.specs.Lengths.{transfer_encoding, expect, codings, ends_in_chunks, is_only_chunked, is_above, framing_or, expectation, framing_of_request, with_expectation, request_body_of, without_lengths}

@@ -21,9 +21,9 @@ use Rattle.hx_fields.specs.Names.{flatten}
 use Rattle.hx_fields.specs.Lines.{is_named, has, values_of, without_named}
 use Rattle.hx_framing.specs.declared.fault.FrameFault.{FrameFault}
 use Rattle.hx_framing.specs.declared.fault.FrameFault.TheVariants as fault
-use Rattle.hx_framing.specs.declared.lengths.Framing.{Framing}
-use Rattle.hx_framing.specs.declared.lengths.Framing.TheVariants as framing
-use Rattle.hx_framing.specs.declared.status_head.StatusHead.{StatusHead}
+use Rattle.hx_framing.specs.declared.lengths.framing.Framing.{Framing}
+use Rattle.hx_framing.specs.declared.lengths.framing.Framing.TheVariants as framing
+use Rattle.hx_framing.specs.declared.heads.status_head.StatusHead.{StatusHead}
 use Rattle.hx_framing.specs.Body.{Short, Whole}
 use Rattle.hx_framing.specs.ContentLength.{announced_up_to, comma_pieces, length_told, one_number}
 use Rattle.hx_framing.specs.Contents.{body_at}

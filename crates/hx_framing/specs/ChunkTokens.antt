@@ -1,8 +1,8 @@
 -- What it means to take a token of content in chunks: the bytes of the token lead from a state to the next.
 use Rattle.std.specs.Prelude.{◌≡◌, ◌≤◌, ◌<◌, ℕ, true, List, ◌++◌, Some, length, take, drop, slice_index}
-use Rattle.hx_framing.specs.declared.chunk_state.ChunkState.{ChunkState}
-use Rattle.hx_framing.specs.declared.chunk_pieces.ChunkToken.{ChunkToken}
-use Rattle.hx_framing.specs.declared.chunk_pieces.ChunkToken.TheVariants as token
+use Rattle.hx_framing.specs.declared.contents.tokens.ChunkState.{ChunkState}
+use Rattle.hx_framing.specs.declared.contents.tokens.ChunkToken.{ChunkToken}
+use Rattle.hx_framing.specs.declared.contents.tokens.ChunkToken.TheVariants as token
 use Rattle.hx_framing.specs.Body.{Bad, Whole}
 use Rattle.hx_framing.specs.ChunkGrammar.{has_no_lf}
 use Rattle.hx_framing.specs.Chunking.{Chunking, NeedsData, chunking_of}

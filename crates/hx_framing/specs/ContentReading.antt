@@ -1,8 +1,8 @@
 -- How a reader goes on with a content over its unread bytes.
 use Rattle.std.specs.Prelude.{◌≡◌, ℕ, Bool, false, List, Option, drop}
-use Rattle.hx_framing.specs.declared.content.Content.{Content}
-use Rattle.hx_framing.specs.declared.content.ContentProgress.{ContentProgress}
-use Rattle.hx_framing.specs.declared.content.ContentProgress.TheVariants as content_progress
+use Rattle.hx_framing.specs.declared.contents.content.Content.{Content}
+use Rattle.hx_framing.specs.declared.contents.content.ContentProgress.{ContentProgress}
+use Rattle.hx_framing.specs.declared.contents.content.ContentProgress.TheVariants as content_progress
 use Rattle.hx_framing.specs.Contents.{body_from, Advances}
 use Rattle.hx_framing.specs.Reading.{Faulty, with_body}
 

@@ -4,12 +4,12 @@
 -- IsOpen: what stays unread of one that goes on
 use Rattle.std.specs.Prelude.{◌≡◌, ℕ, ◌≤◌, ◌++◌, Bool, cond, List, [], length, take, drop, nat_lt, Some, None}
 use Rattle.hx_framing.specs.declared.fault.FrameFault.TheVariants as fault
-use Rattle.hx_framing.specs.declared.lengths.Framing.{Framing}
-use Rattle.hx_framing.specs.declared.lengths.Framing.TheVariants as framing
-use Rattle.hx_framing.specs.declared.content.Content.{Content}
-use Rattle.hx_framing.specs.declared.content.Content.TheVariants as content
-use Rattle.hx_framing.specs.declared.content.ContentProgress.{ContentProgress}
-use Rattle.hx_framing.specs.declared.content.ContentProgress.TheVariants as content_progress
+use Rattle.hx_framing.specs.declared.lengths.framing.Framing.{Framing}
+use Rattle.hx_framing.specs.declared.lengths.framing.Framing.TheVariants as framing
+use Rattle.hx_framing.specs.declared.contents.content.Content.{Content}
+use Rattle.hx_framing.specs.declared.contents.content.Content.TheVariants as content
+use Rattle.hx_framing.specs.declared.contents.content.ContentProgress.{ContentProgress}
+use Rattle.hx_framing.specs.declared.contents.content.ContentProgress.TheVariants as content_progress
 use Rattle.hx_framing.specs.Body.{Body, Short, Bad, Whole}
 use Rattle.hx_framing.specs.Chunks.{chunks, chunks_from, start}
 use Rattle.hx_framing.specs.ChunkTokens.{IsOpenLine}

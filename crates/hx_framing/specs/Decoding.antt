@@ -1,7 +1,7 @@
 -- What a decoder of chunks does with the bytes that it is given.
 use Rattle.std.specs.Prelude.{◌≡◌, ◌≤◌, ◌<◌, ℕ, List, ◌++◌, Some, length, drop}
-use Rattle.hx_framing.specs.declared.chunk_pieces.ChunkProgress.{ChunkProgress}
-use Rattle.hx_framing.specs.declared.chunk_pieces.ChunkProgress.TheVariants as chunk_progress
+use Rattle.hx_framing.specs.declared.contents.tokens.ChunkProgress.{ChunkProgress}
+use Rattle.hx_framing.specs.declared.contents.tokens.ChunkProgress.TheVariants as chunk_progress
 use Rattle.hx_framing.specs.Body.{Short, Bad, Whole}
 use Rattle.hx_framing.specs.Chunking.{Chunking}
 use Rattle.hx_framing.specs.Chunks.{chunks_from, state_after}

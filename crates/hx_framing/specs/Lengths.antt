@@ -13,11 +13,11 @@ use Rattle.hx_fields.specs.Names.{is_same_name}
 use Rattle.hx_fields.specs.Lines.{has, combined_of, members_of, without_named}
 use Rattle.hx_framing.specs.declared.fault.FrameFault.{FrameFault}
 use Rattle.hx_framing.specs.declared.fault.FrameFault.TheVariants as fault
-use Rattle.hx_framing.specs.declared.lengths.Framing.{Framing}
-use Rattle.hx_framing.specs.declared.lengths.Framing.TheVariants as framing
-use Rattle.hx_framing.specs.declared.lengths.RequestBody.{RequestBody}
-use Rattle.hx_framing.specs.declared.request_head.Head.{Head}
-use Rattle.hx_framing.specs.declared.status_head.StatusHead.{StatusHead}
+use Rattle.hx_framing.specs.declared.lengths.framing.Framing.{Framing}
+use Rattle.hx_framing.specs.declared.lengths.framing.Framing.TheVariants as framing
+use Rattle.hx_framing.specs.declared.lengths.framing.RequestBody.{RequestBody}
+use Rattle.hx_framing.specs.declared.heads.request_head.Head.{Head}
+use Rattle.hx_framing.specs.declared.heads.status_head.StatusHead.{StatusHead}
 use Rattle.hx_framing.specs.ContentLength.{content_length, length_told, length_up_to, announced_up_to}
 
 abbrev pub transfer_encoding : List ℕ

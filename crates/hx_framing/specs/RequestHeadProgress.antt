@@ -1,10 +1,10 @@
 -- What is found at the front of a request stream, and how its content goes on.
 use Rattle.std.specs.Prelude.{◌≡◌, ℕ, ◌<◌, ◌≤◌, ◌++◌, Bool, true, false, List, length, take, drop, Some, Ok}
-use Rattle.hx_framing.specs.declared.request_head.Head.{Head}
-use Rattle.hx_framing.specs.declared.requests.Request.{Request}
-use Rattle.hx_framing.specs.declared.content.Content.{Content}
-use Rattle.hx_framing.specs.declared.answer.HeadProgress.{HeadProgress}
-use Rattle.hx_framing.specs.declared.answer.HeadProgress.TheVariants as head_progress
+use Rattle.hx_framing.specs.declared.heads.request_head.Head.{Head}
+use Rattle.hx_framing.specs.declared.messages.Request.{Request}
+use Rattle.hx_framing.specs.declared.contents.content.Content.{Content}
+use Rattle.hx_framing.specs.declared.readers.progress.HeadProgress.{HeadProgress}
+use Rattle.hx_framing.specs.declared.readers.progress.HeadProgress.TheVariants as head_progress
 use Rattle.hx_framing.specs.Contents.{body_from, IsOpen}
 use Rattle.hx_framing.specs.Places.{head_length, most_head_bytes, IsOpenHead}
 use Rattle.hx_framing.specs.Head.{Judges}

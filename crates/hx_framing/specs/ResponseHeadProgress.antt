@@ -1,12 +1,12 @@
 -- What is found at the front of a response stream, and how its content goes on.
 use Rattle.std.specs.Prelude.{◌≡◌, ℕ, ◌+◌, ◌<◌, ◌≤◌, ◌++◌, Bool, false, cond, List, length, take, drop, Some, None, Ok, Err}
-use Rattle.hx_framing.specs.declared.status_head.StatusHead.{StatusHead}
-use Rattle.hx_framing.specs.declared.responses.Response.{Response}
-use Rattle.hx_framing.specs.declared.content.Content.{Content}
-use Rattle.hx_framing.specs.declared.answer.HeadProgress.{HeadProgress}
-use Rattle.hx_framing.specs.declared.answer.HeadProgress.TheVariants as head_progress
-use Rattle.hx_framing.specs.declared.response_reading.FinalHead.{FinalHead}
-use Rattle.hx_framing.specs.declared.response_reading.FinalHead.TheVariants as final_head
+use Rattle.hx_framing.specs.declared.heads.status_head.StatusHead.{StatusHead}
+use Rattle.hx_framing.specs.declared.messages.Response.{Response}
+use Rattle.hx_framing.specs.declared.contents.content.Content.{Content}
+use Rattle.hx_framing.specs.declared.readers.progress.HeadProgress.{HeadProgress}
+use Rattle.hx_framing.specs.declared.readers.progress.HeadProgress.TheVariants as head_progress
+use Rattle.hx_framing.specs.declared.readers.response_reading.FinalHead.{FinalHead}
+use Rattle.hx_framing.specs.declared.readers.response_reading.FinalHead.TheVariants as final_head
 use Rattle.hx_framing.specs.Places.{head_length, most_head_bytes, IsOpenHead}
 use Rattle.hx_framing.specs.StatusHead.{Judges}
 use Rattle.hx_framing.specs.Lengths.{is_interim}

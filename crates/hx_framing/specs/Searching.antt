@@ -1,8 +1,8 @@
 -- How far a search for the end of a head has come, and what it finds.
 use Rattle.std.specs.Prelude.{◌≡◌, ℕ, ◌+◌, ◌≤◌, ◌++◌, true, false, List, Some, None, length, drop}
-use Rattle.hx_framing.specs.declared.places.HeadSearch.{HeadSearch}
-use Rattle.hx_framing.specs.declared.places.Searched.{Searched}
-use Rattle.hx_framing.specs.declared.places.Searched.TheVariants as searched
+use Rattle.hx_framing.specs.declared.heads.head_end.HeadSearch.{HeadSearch}
+use Rattle.hx_framing.specs.declared.heads.head_end.Searched.{Searched}
+use Rattle.hx_framing.specs.declared.heads.head_end.Searched.TheVariants as searched
 use Rattle.hx_framing.specs.Places.{empty_lines_from, empty_lines_length, head_end_from, head_length}
 
 -- no end of a head lies where the search has been: whatever bytes follow, it is found by going on from there

@@ -33,62 +33,21 @@
 //! holds of a new reader and that each call keeps.
 #![tactic(auto)]
 
-mod answer;
-pub mod bound_laws;
-pub mod chunk_fault_laws;
-pub mod chunk_laws;
-mod chunk_pieces;
-mod chunk_state;
-mod chunks;
-mod content;
-mod content_length;
-pub mod existence_laws;
+mod contents;
 mod fault;
-mod head_laws;
-mod length_laws;
+mod heads;
+pub mod laws;
 mod lengths;
 mod limits;
-mod lines;
-pub mod order_laws;
-mod places;
-mod plain;
-pub mod reading_laws;
-mod request_head;
-pub mod request_laws;
-mod request_phase;
-mod request_reader;
-mod request_reading;
-mod requests;
-pub mod response_laws;
-mod response_phase;
-mod response_reader;
-mod response_reading;
-mod responses;
-mod size_line;
-mod status_head;
-pub mod stream_laws;
-mod text_laws;
-mod unread;
-pub mod value_laws;
-mod version;
+mod messages;
+mod readers;
+mod slices;
 mod writing;
-pub mod writing_laws;
 
-pub use crate::answer::Next;
 pub use crate::fault::FrameFault;
-pub use crate::head_laws::{
-    field_lines_of_heads, request_heads_are_lines, response_heads_are_lines, versions_of_requests,
-    versions_of_responses,
-};
-pub use crate::length_laws::{
-    announced_lengths_to_head, codings_of_requests, expectations, large_lengths,
-    lengths_of_responses, lines_without_lengths, listed_lengths, statuses,
-};
-pub use crate::request_reader::RequestReader;
-pub use crate::requests::Request;
-pub use crate::response_reader::ResponseReader;
-pub use crate::responses::Response;
-pub use crate::text_laws::{forwarded_text, head_lengths, reply_texts};
+pub use crate::messages::{Next, Request, Response};
+pub use crate::readers::request_reader::RequestReader;
+pub use crate::readers::response_reader::ResponseReader;
 pub use crate::writing::{
     AddedLine, ResponseLines, write_request, write_response, write_response_with,
 };

@@ -2,7 +2,7 @@
 ghost use Rattle.std.specs.Prelude.{◌≡◌, ◌++◌, map, Option, OnOk, IfOk};
 ghost use Rattle.hx_framing.specs.Text.{field_line, field_lines, line_of, length_line, close_line, request_line, status_line, request_text, response_text};
 
-use crate::requests::Request;
+use crate::messages::Request;
 use hx_fields::{Bytes, Field, Fields};
 use itoa::Buffer;
 use std::alloc::{AllocError, Global};
