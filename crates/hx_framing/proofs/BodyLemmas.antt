@@ -4,13 +4,13 @@ use Rattle.std.proofs.lemmas.List.{append-nil, drop-append-le, take-append-le}
 use Rattle.std.proofs.lemmas.Bool.{ltb-true, ltb-false, lt-ltb, le-ltb}
 use Rattle.hx_framing.specs.declared.fault.FrameFault.{FrameFault}
 use Rattle.hx_framing.specs.declared.fault.FrameFault.TheVariants as fault
-use Rattle.hx_framing.specs.declared.chunk_pieces.Decoded.{Decoded}
-use Rattle.hx_framing.specs.declared.chunk_pieces.Decoded.TheVariants as decoded
-use Rattle.hx_framing.specs.declared.content.Content.{Content}
-use Rattle.hx_framing.specs.declared.content.Content.TheVariants as content
-use Rattle.hx_framing.specs.declared.content.Taken.TheVariants as taken
-use Rattle.hx_framing.specs.declared.lengths.Framing.{Framing}
-use Rattle.hx_framing.specs.declared.lengths.Framing.TheVariants as framing
+use Rattle.hx_framing.specs.declared.contents.tokens.ChunkProgress.{ChunkProgress}
+use Rattle.hx_framing.specs.declared.contents.tokens.ChunkProgress.TheVariants as chunk_progress
+use Rattle.hx_framing.specs.declared.contents.content.Content.{Content}
+use Rattle.hx_framing.specs.declared.contents.content.Content.TheVariants as content
+use Rattle.hx_framing.specs.declared.contents.content.ContentProgress.TheVariants as content_progress
+use Rattle.hx_framing.specs.declared.lengths.framing.Framing.{Framing}
+use Rattle.hx_framing.specs.declared.lengths.framing.Framing.TheVariants as framing
 use Rattle.hx_framing.specs.Body.{Body, Short, Bad, Whole, IsDecided, extended_body}
 use Rattle.hx_framing.specs.Chunking.{Chunking}
 use Rattle.hx_framing.specs.Chunks.{chunks_from, start}
@@ -113,22 +113,22 @@ begun_is max framing.UntilClose e bytes = refl
 nothing_more : (bytes : List ℕ) (s : Chunking) (b : Body) → chunks_from (bytes ++ []) s ≡ b → chunks_from bytes s ≡ b
 nothing_more bytes s b x = ap (λ u. chunks_from u s) (sym (append-nil bytes)) ∙ x
 
-pub decoded_more : (d : Decoded) (n : ℕ) (old : Chunking) (bytes : List ℕ) (new : Chunking) (ended : Bool) → d ≡ decoded.More n
-    → Decodes old bytes new d → Advances ended bytes (content.Chunked old) (taken.Short n) (content.Chunked new)
+pub decoded_more : (d : ChunkProgress) (n : ℕ) (old : Chunking) (bytes : List ℕ) (new : Chunking) (ended : Bool) → d ≡ chunk_progress.Incomplete n
+    → Decodes old bytes new d → Advances ended bytes (content.Chunked old) (content_progress.Incomplete n) (content.Chunked new)
 decoded_more d n old bytes new ended is h =
-    let k : Decodes old bytes new (decoded.More n) = subst (λ (d : Decoded). Decodes old bytes new d) is h in
+    let k : Decodes old bytes new (chunk_progress.Incomplete n) = subst (λ (d : ChunkProgress). Decodes old bytes new d) is h in
     (k.0, nothing_more bytes old Short (k.1 [] ∙ ap (λ u. chunks_from u new) (append-nil (drop n bytes)) ∙ k.2), λ more e. k.1 more, k.4)
 
-pub decoded_whole : (d : Decoded) (n : ℕ) (old : Chunking) (bytes : List ℕ) (mid new : Chunking) (c : List ℕ) (ended : Bool) → d ≡ decoded.Whole n
-    → c ≡ mid.content → Decodes old bytes mid d → Advances ended bytes (content.Chunked old) (taken.Whole (Some c) n) (content.Chunked new)
+pub decoded_whole : (d : ChunkProgress) (n : ℕ) (old : Chunking) (bytes : List ℕ) (mid new : Chunking) (c : List ℕ) (ended : Bool) → d ≡ chunk_progress.Whole n
+    → c ≡ mid.content → Decodes old bytes mid d → Advances ended bytes (content.Chunked old) (content_progress.Whole (Some c) n) (content.Chunked new)
 decoded_whole d n old bytes mid new c ended is same h =
-    let k : Decodes old bytes mid (decoded.Whole n) = subst (λ (d : Decoded). Decodes old bytes mid d) is h in
+    let k : Decodes old bytes mid (chunk_progress.Whole n) = subst (λ (d : ChunkProgress). Decodes old bytes mid d) is h in
     (k.0, nothing_more bytes old (Whole (Some c) (drop n bytes)) (k.2 [] ∙ ap (λ u. Whole (Some mid.content) u) (append-nil (drop n bytes)) ∙ ap (λ (c : List ℕ). Whole (Some c) (drop n bytes)) (sym same)))
 
-pub decoded_bad : (d : Decoded) (f : FrameFault) (old : Chunking) (bytes : List ℕ) (new : Chunking) (ended : Bool) → d ≡ decoded.Faulty f
-    → Decodes old bytes new d → Advances ended bytes (content.Chunked old) (taken.Bad f) (content.Chunked new)
+pub decoded_bad : (d : ChunkProgress) (f : FrameFault) (old : Chunking) (bytes : List ℕ) (new : Chunking) (ended : Bool) → d ≡ chunk_progress.Faulty f
+    → Decodes old bytes new d → Advances ended bytes (content.Chunked old) (content_progress.Faulty f) (content.Chunked new)
 decoded_bad d f old bytes new ended is h =
-    let k : Decodes old bytes new (decoded.Faulty f) = subst (λ (d : Decoded). Decodes old bytes new d) is h in
+    let k : Decodes old bytes new (chunk_progress.Faulty f) = subst (λ (d : ChunkProgress). Decodes old bytes new d) is h in
     nothing_more bytes old (Bad f) (k [])
 
 -- ---- what stays unread of a content

@@ -5,12 +5,12 @@ use Rattle.std.proofs.lemmas.Bool.{lt-ltb, le-ltb}
 use Rattle.httparse.specs.Grammar.{RequestHead, ResponseHead, ReadsRequest, ReadsResponse}
 use Rattle.httparse.proofs.GrammarLemmas.{request_unique, response_unique}
 use Rattle.hx_framing.specs.declared.fault.FrameFault.TheVariants as fault
-use Rattle.hx_framing.specs.declared.requests.Request.{Request}
-use Rattle.hx_framing.specs.declared.responses.Response.{Response}
+use Rattle.hx_framing.specs.declared.messages.Request.{Request}
+use Rattle.hx_framing.specs.declared.messages.Response.{Response}
 use Rattle.hx_framing.specs.Head.{IsHead, Judges, head_of, head_fault}
 use Rattle.hx_framing.specs.StatusHead as status
 use Rattle.hx_framing.specs.StatusHead.{IsStatusHead, status_head_of, status_head_fault}
-use Rattle.hx_framing.specs.Places.{blank_length, head_length}
+use Rattle.hx_framing.specs.Places.{empty_lines_length, head_length}
 use Rattle.hx_framing.specs.Reading.{Reading, Incomplete, Over, Faulty, cut_off}
 use Rattle.hx_framing.specs.RequestReading.{Reads}
 use Rattle.hx_framing.specs.ResponseReading as response
@@ -25,7 +25,7 @@ pub long_request : (max : ℕ) (e t : Bool) (bytes : List ℕ) → head_length (
     → Reads max e t bytes (Faulty fault.Head)
 long_request max e t bytes none long =
     reads_no_request max e t bytes (Faulty fault.Head) none
-    (sym (ap (λ (t : Bool). cond {A = Reading Request} t (Faulty fault.Head) (cond (e && (blank_length bytes == length bytes)) Over (cut_off e))) (lt-ltb 32768 (length bytes) long)))
+    (sym (ap (λ (t : Bool). cond {A = Reading Request} t (Faulty fault.Head) (cond (e && (empty_lines_length bytes == length bytes)) Over (cut_off e))) (lt-ltb 32768 (length bytes) long)))
 
 pub short_request : (max : ℕ) (t : Bool) (bytes : List ℕ) → head_length (take 32768 bytes) ≡ None → length bytes ≤ 32768
     → Reads max false t bytes Incomplete

@@ -1,16 +1,16 @@
--- Pieces of chunks one after another, as the decoder takes them.
+-- Tokens of chunks one after another, as the decoder takes them.
 use Rattle.std.proofs.Common.{◌≡◌, ℕ, ◌+◌, ◌≤◌, List, ◌++◌, length, drop, take, sym, ap, ◌∙◌, subst, arith, Some, length-drop, append_assoc}
 use Rattle.std.proofs.Math.Seq.{take-add}
 use Rattle.std.proofs.lemmas.List.{take-append-drop, drop-drop}
 use Rattle.hx_framing.specs.declared.fault.FrameFault.{FrameFault}
-use Rattle.hx_framing.specs.declared.chunk_state.ChunkState.{ChunkState}
-use Rattle.hx_framing.specs.declared.chunk_pieces.Piece.TheVariants as piece
-use Rattle.hx_framing.specs.declared.chunk_pieces.Decoded.TheVariants as decoded
+use Rattle.hx_framing.specs.declared.contents.tokens.ChunkState.{ChunkState}
+use Rattle.hx_framing.specs.declared.contents.tokens.ChunkToken.TheVariants as token
+use Rattle.hx_framing.specs.declared.contents.tokens.ChunkProgress.TheVariants as chunk_progress
 use Rattle.hx_framing.specs.Body.{Whole}
 use Rattle.hx_framing.specs.Chunking.{Chunking, chunking_of}
 use Rattle.hx_framing.specs.Chunks.{chunks_from, state_after}
 use Rattle.hx_framing.specs.Decoding.{Decodes}
-use Rattle.hx_framing.specs.Pieces.{Takes}
+use Rattle.hx_framing.specs.ChunkTokens.{Takes}
 use Rattle.hx_framing.proofs.ChunkStreams.{chunks_behind, state_behind, state_waits}
 
 -- the bytes behind those that lead to a state
@@ -21,7 +21,7 @@ led bytes more n s t leads =
     ∙ ap (λ l. chunks_from l s) (append_assoc (take n bytes) (drop n bytes) more)
     ∙ chunks_behind (take n bytes) (drop n bytes ++ more) s t leads
 
--- a piece more
+-- a token more
 pub leads_on : (bytes : List ℕ) (taken n : ℕ) (s t u : Chunking) → state_after (take taken bytes) s ≡ Some t → state_after (take n (drop taken bytes)) t ≡ Some u
     → state_after (take (taken + n) bytes) s ≡ Some u
 leads_on bytes taken n s t u leads on =
@@ -29,14 +29,14 @@ leads_on bytes taken n s t u leads on =
     ∙ state_behind (take taken bytes) (take n (drop taken bytes)) s t leads
     ∙ on
 
--- no piece more
+-- no token more
 pub decodes_more : (old : Chunking) (place : ChunkState) (was content bytes : List ℕ) (taken : ℕ)
-    → taken ≤ length bytes → state_after (take taken bytes) old ≡ Some (chunking_of place was) → Takes place was (drop taken bytes) content piece.Short
-    → Decodes old bytes (chunking_of place content) (decoded.More taken)
+    → taken ≤ length bytes → state_after (take taken bytes) old ≡ Some (chunking_of place was) → Takes place was (drop taken bytes) content token.Incomplete
+    → Decodes old bytes (chunking_of place content) (chunk_progress.Incomplete taken)
 decodes_more old place was content bytes taken inside leads takes =
     let t = chunking_of place was in
     let rest = drop taken bytes in
-    subst (λ (l : List ℕ). Decodes old bytes (chunking_of place l) (decoded.More taken)) (sym takes.0) (
+    subst (λ (l : List ℕ). Decodes old bytes (chunking_of place l) (chunk_progress.Incomplete taken)) (sym takes.0) (
       inside,
       λ more. led bytes more taken old t leads,
       state_waits rest t (record t { line = rest }) takes.1.leads,
@@ -44,10 +44,10 @@ decodes_more old place was content bytes taken inside leads takes =
       takes.1,
     )
 
--- the last piece
+-- the last token
 pub decodes_whole : (old : Chunking) (place : ChunkState) (was content bytes : List ℕ) (taken n : ℕ)
-    → taken ≤ length bytes → state_after (take taken bytes) old ≡ Some (chunking_of place was) → Takes place was (drop taken bytes) content (piece.Last n)
-    → Decodes old bytes (chunking_of place content) (decoded.Whole (taken + n))
+    → taken ≤ length bytes → state_after (take taken bytes) old ≡ Some (chunking_of place was) → Takes place was (drop taken bytes) content (token.Last n)
+    → Decodes old bytes (chunking_of place content) (chunk_progress.Whole (taken + n))
 decodes_whole old place was content bytes taken n inside leads takes =
     let t = chunking_of place was in (
       omega (arith, takes.0, length-drop taken bytes),
@@ -57,6 +57,6 @@ decodes_whole old place was content bytes taken n inside leads takes =
 
 -- a fault
 pub decodes_fault : (old : Chunking) (place new : ChunkState) (was content bytes : List ℕ) (taken : ℕ) (f : FrameFault)
-    → state_after (take taken bytes) old ≡ Some (chunking_of place was) → Takes place was (drop taken bytes) content (piece.Faulty f)
-    → Decodes old bytes (chunking_of new content) (decoded.Faulty f)
+    → state_after (take taken bytes) old ≡ Some (chunking_of place was) → Takes place was (drop taken bytes) content (token.Faulty f)
+    → Decodes old bytes (chunking_of new content) (chunk_progress.Faulty f)
 decodes_fault old place new was content bytes taken f leads takes = λ more. led bytes more taken old (chunking_of place was) leads ∙ takes more

@@ -5,7 +5,7 @@ use Rattle.std.proofs.lemmas.Bool.{ltb-true, le-ltb, lt-leb, leb-true, leb-false
 use Rattle.std.specs.List.{AllByRecursion}
 use Rattle.hx_framing.specs.declared.fault.FrameFault.{FrameFault}
 use Rattle.hx_framing.specs.declared.fault.FrameFault.TheVariants as fault
-use Rattle.hx_framing.specs.declared.chunk_state.Phase.TheVariants as phase
+use Rattle.hx_framing.specs.declared.contents.tokens.Phase.TheVariants as phase
 use Rattle.hx_framing.specs.Body.{Body, Short, Bad, Whole, IsDecided, extended_body}
 use Rattle.hx_framing.specs.Chunking.{Chunking}
 use Rattle.hx_framing.specs.Chunks.{most_trailer_bytes, Step, Go, Stop, Fail, follow, chunks_from, chunks, start, step, sized, trailer_end}

@@ -4,7 +4,7 @@ use Rattle.std.proofs.lemmas.Bool.{leb-false, ltb-true, ltb-false, eqb-true, eqb
 use Rattle.std.specs.List.{AllByRecursion}
 use Rattle.hx_framing.specs.declared.fault.FrameFault.{FrameFault}
 use Rattle.hx_framing.specs.declared.fault.FrameFault.TheVariants as fault
-use Rattle.hx_framing.specs.declared.chunk_state.Phase.TheVariants as phase
+use Rattle.hx_framing.specs.declared.contents.tokens.Phase.TheVariants as phase
 use Rattle.hx_framing.specs.Body.{Bad}
 use Rattle.hx_framing.specs.Chunks.{most_trailer_bytes, Go, Stop, Fail, follow, chunks_from, chunks, sized, trailer_end}
 use Rattle.hx_framing.specs.SizeLine.{most_size_line_bytes, is_size, size_of, size_at, ends_in_cr, but_last, capped}

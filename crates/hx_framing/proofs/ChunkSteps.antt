@@ -5,8 +5,8 @@ use Rattle.std.proofs.lemmas.Bool.{lt-ltb, leb-true, le-leb, ne_eqb}
 use Rattle.std.specs.List.{list_all, AllByRecursion}
 use Rattle.hx_framing.specs.declared.fault.FrameFault.{FrameFault}
 use Rattle.hx_framing.specs.declared.fault.FrameFault.TheVariants as fault
-use Rattle.hx_framing.specs.declared.chunk_state.Phase.{Phase}
-use Rattle.hx_framing.specs.declared.chunk_state.Phase.TheVariants as phase
+use Rattle.hx_framing.specs.declared.contents.tokens.Phase.{Phase}
+use Rattle.hx_framing.specs.declared.contents.tokens.Phase.TheVariants as phase
 use Rattle.hx_framing.specs.Body.{Whole}
 use Rattle.hx_framing.specs.Chunking.{Chunking}
 use Rattle.hx_framing.specs.Chunks.{most_trailer_bytes, Go, Stop, Fail, size_step, trailer_step, follow, chunks_from, going, state_after, chunks, with_line, sized}

@@ -2,14 +2,14 @@
 use Rattle.std.proofs.Common.{◌≡◌, ℕ, ◌≤◌, ◌&&◌, ◌||◌, ◌==◌, Bool, true, false, not, cond, refl, sym, ap, ◌∙◌, subst, arith, Result, Ok, Err}
 use Rattle.hx_framing.specs.declared.fault.FrameFault.{FrameFault}
 use Rattle.hx_framing.specs.declared.fault.FrameFault.TheVariants as fault
-use Rattle.hx_framing.specs.declared.lengths.Framing.{Framing}
-use Rattle.hx_framing.specs.declared.lengths.Framing.TheVariants as framing
-use Rattle.hx_framing.specs.declared.lengths.Plan.{Plan}
-use Rattle.hx_framing.specs.declared.request_head.Head.{Head}
-use Rattle.hx_framing.specs.declared.status_head.StatusHead.{StatusHead}
+use Rattle.hx_framing.specs.declared.lengths.framing.Framing.{Framing}
+use Rattle.hx_framing.specs.declared.lengths.framing.Framing.TheVariants as framing
+use Rattle.hx_framing.specs.declared.lengths.framing.RequestBody.{RequestBody}
+use Rattle.hx_framing.specs.declared.heads.request_head.Head.{Head}
+use Rattle.hx_framing.specs.declared.heads.status_head.StatusHead.{StatusHead}
 use Rattle.hx_framing.specs.Fault.{number_of}
 use Rattle.hx_framing.specs.FaultOrder.{stands_in_request, counts, stands_in_response, IsLeast}
-use Rattle.hx_framing.specs.Lengths.{has_both, has_bad_length, has_endless_coding, has_other_coding, is_too_large, has_other_expectation, has_content, expects_continue, expectation, framing_told, framing_of_response, is_without_content, is_taken_status, plan_of, with_expectation, with_status}
+use Rattle.hx_framing.specs.Lengths.{has_both, has_bad_length, has_endless_coding, has_other_coding, is_too_large, has_other_expectation, has_content, expects_continue, expectation, framing_told, framing_of_response, is_without_content, is_taken_status, request_body_of, with_expectation, with_status}
 
 -- the faults of a head, of which some stand
 abbrev stands : Bool → Bool → Bool → Bool → Bool → Bool → FrameFault → Bool
@@ -162,21 +162,21 @@ same_least table other f same is = record { this = sym (same f) ∙ is.this; lea
 
 -- ---- requests
 
-request_plan : Head → Plan
-request_plan head =
+told_request_body : Head → RequestBody
+told_request_body head =
     let told : Framing = framing_told framing.Nothing head.fields in
     record { framing = told; wants_continue = expects_continue (expectation head) && has_content told }
 
-request_first : (max : ℕ) (head : Head) → plan_of max head
+request_first : (max : ℕ) (head : Head) → request_body_of max head
     ≡ first (has_both head.fields) (has_bad_length head.minor head.fields || has_endless_coding head.fields) (has_other_coding head.fields)
-    (is_too_large max head.fields) (has_other_expectation (expectation head)) false (request_plan head)
-unfolding request_plan
+    (is_too_large max head.fields) (has_other_expectation (expectation head)) false (told_request_body head)
+unfolding told_request_body
 request_first max head =
     by_tests (has_both head.fields) (has_bad_length head.minor head.fields || has_endless_coding head.fields) (has_other_coding head.fields) (is_too_large max head.fields)
   where
     by_tests : (a b c d : Bool) → with_expectation (expectation head) (cond a (Err fault.BothLengths) (cond b (Err fault.Length) (cond c (Err fault.Coding)
         (cond d (Err fault.TooLarge) (Ok (framing_told framing.Nothing head.fields))))))
-        ≡ first a b c d (has_other_expectation (expectation head)) false (request_plan head)
+        ≡ first a b c d (has_other_expectation (expectation head)) false (told_request_body head)
     by_tests true b c d = refl
     by_tests false true c d = refl
     by_tests false false true d = refl
@@ -198,17 +198,17 @@ request_table max head fault.Expect = refl
 request_table max head fault.Truncated = refl
 request_table max head fault.Status = refl
 
-pub request_least : (max : ℕ) (head : Head) (f : FrameFault) → plan_of max head ≡ Err f → IsLeast (stands_in_request max head) f
+pub request_least : (max : ℕ) (head : Head) (f : FrameFault) → request_body_of max head ≡ Err f → IsLeast (stands_in_request max head) f
 request_least max head f h =
     same_least _ (stands_in_request max head) f (request_table max head)
     (least (has_both head.fields) (has_bad_length head.minor head.fields || has_endless_coding head.fields) (has_other_coding head.fields)
-    (is_too_large max head.fields) (has_other_expectation (expectation head)) false (request_plan head) f (sym (request_first max head) ∙ h))
+    (is_too_large max head.fields) (has_other_expectation (expectation head)) false (told_request_body head) f (sym (request_first max head) ∙ h))
 
-pub request_none : (max : ℕ) (head : Head) (plan : Plan) → plan_of max head ≡ Ok plan → (f : FrameFault) → stands_in_request max head f ≡ false
-request_none max head plan h f =
+pub request_none : (max : ℕ) (head : Head) (request_body : RequestBody) → request_body_of max head ≡ Ok request_body → (f : FrameFault) → stands_in_request max head f ≡ false
+request_none max head request_body h f =
     sym (request_table max head f)
     ∙ none_stands (has_both head.fields) (has_bad_length head.minor head.fields || has_endless_coding head.fields) (has_other_coding head.fields)
-    (is_too_large max head.fields) (has_other_expectation (expectation head)) false (request_plan head) plan f (sym (request_first max head) ∙ h)
+    (is_too_large max head.fields) (has_other_expectation (expectation head)) false (told_request_body head) request_body f (sym (request_first max head) ∙ h)
 
 -- ---- responses
 

@@ -12,15 +12,15 @@ use Rattle.httparse.proofs.GrammarLemmas.{print_request-append, print_response-a
 use Rattle.httparse.proofs.PieceLemmas.{token_is_no_newline}
 use Rattle.hx_fields.specs.declared.field_line.Field.{Field as Line}
 use Rattle.hx_fields.specs.Lines.{has, is_named, without_named}
-use Rattle.hx_framing.specs.declared.request_head.Head.{Head}
-use Rattle.hx_framing.specs.declared.status_head.StatusHead.{StatusHead}
-use Rattle.hx_framing.specs.declared.requests.Request.{Request}
-use Rattle.hx_framing.specs.declared.responses.Response.{Response}
-use Rattle.hx_framing.specs.declared.lengths.Plan.{Plan}
-use Rattle.hx_framing.specs.declared.lengths.Framing.{Framing}
+use Rattle.hx_framing.specs.declared.heads.request_head.Head.{Head}
+use Rattle.hx_framing.specs.declared.heads.status_head.StatusHead.{StatusHead}
+use Rattle.hx_framing.specs.declared.messages.Request.{Request}
+use Rattle.hx_framing.specs.declared.messages.Response.{Response}
+use Rattle.hx_framing.specs.declared.lengths.framing.RequestBody.{RequestBody}
+use Rattle.hx_framing.specs.declared.lengths.framing.Framing.{Framing}
 use Rattle.hx_framing.specs.declared.fault.FrameFault.{FrameFault}
 use Rattle.hx_framing.specs.declared.fault.FrameFault.TheVariants as fault
-use Rattle.hx_framing.specs.Places.{blank_length, head_length, most_head_bytes}
+use Rattle.hx_framing.specs.Places.{empty_lines_length, head_length, most_head_bytes}
 use Rattle.hx_framing.specs.Version.{start_line, without_return}
 use Rattle.hx_framing.specs.Head.{IsHead, Judges, field_of, head_of}
 use Rattle.hx_framing.specs.StatusHead as status
@@ -28,9 +28,9 @@ use Rattle.hx_framing.specs.StatusHead.{IsStatusHead, status_head_of}
 use Rattle.hx_framing.specs.Body.{Body, Short, Bad, Whole}
 use Rattle.hx_framing.specs.Contents.{body_at}
 use Rattle.hx_framing.specs.ContentLength.{content_length}
-use Rattle.hx_framing.specs.Lengths.{transfer_encoding, plan_of, framing_of_response, without_lengths}
+use Rattle.hx_framing.specs.Lengths.{transfer_encoding, request_body_of, framing_of_response, without_lengths}
 use Rattle.hx_framing.specs.Reading.{Continue, Over, Spelled, Faulty, cut_off, with_body}
-use Rattle.hx_framing.specs.RequestReading.{Reads, ReadsBy, request_of, with_plan}
+use Rattle.hx_framing.specs.RequestReading.{Reads, ReadsBy, request_of, with_request_body}
 use Rattle.hx_framing.specs.ResponseReading as response
 use Rattle.hx_framing.specs.ResponseReading.{FrontBy, Passes, response_of, with_framing}
 use Rattle.hx_framing.specs.GivenFields.{GivesFields, SpellsRequestLine, SpellsStatusLine, phrase_text, is_target_byte}
@@ -50,14 +50,14 @@ record Split (bytes line : List ℕ) (end : LineEnd) (fields : List Field) (last
   parts : bytes ≡ print_blank ends ++ (line ++ (print_end end ++ print_section fields last))
 
 -- behind the empty lines in front
-behind_blank : (bytes line : List ℕ) (end : LineEnd) (fields : List Field) (last : LineEnd) → Split bytes line end fields last
-    → drop (blank_length bytes) bytes ≡ line ++ (print_end end ++ print_section fields last)
-behind_blank bytes line end fields last s =
+behind_empty_lines : (bytes line : List ℕ) (end : LineEnd) (fields : List Field) (last : LineEnd) → Split bytes line end fields last
+    → drop (empty_lines_length bytes) bytes ≡ line ++ (print_end end ++ print_section fields last)
+behind_empty_lines bytes line end fields last s =
     let section : List ℕ = print_section fields last in
     let rest : List ℕ = line ++ (print_end end ++ section) in
     let begins : rest ≡ s.x ∷ (s.start ++ (print_end end ++ section)) = ap (λ l. l ++ (print_end end ++ section)) s.is in
-    let blank : blank_length bytes ≡ length (print_blank s.ends)
-    = ap blank_length (s.parts ∙ ap (λ l. print_blank s.ends ++ l) begins)
+    let blank : empty_lines_length bytes ≡ length (print_blank s.ends)
+    = ap empty_lines_length (s.parts ∙ ap (λ l. print_blank s.ends ++ l) begins)
     ∙ blank_is s.ends s.x (s.start ++ (print_end end ++ section)) 0 s.other ∙ omega arith in
     ap (λ n. drop n bytes) blank ∙ ap (drop (length (print_blank s.ends))) s.parts ∙ drop-append_seam (print_blank s.ends) rest
 
@@ -66,7 +66,7 @@ gives : (bytes line : List ℕ) (end : LineEnd) (fields : List Field) (last : Li
 gives bytes line end fields last s = record {
   lines = map text_of fields;
   last = with_return [] last;
-  are = ap (λ text. drop 1 (lines_of text)) (behind_blank bytes line end fields last s)
+  are = ap (λ text. drop 1 (lines_of text)) (behind_empty_lines bytes line end fields last s)
       ∙ ap (drop 1) (one_line line (print_section fields last) end s.none)
       ∙ section_lines fields last s.fine;
   ends = empty_end last;
@@ -87,7 +87,7 @@ first_line line rest lf none = up_to_feed line rest none
 starts : (bytes line : List ℕ) (end : LineEnd) (fields : List Field) (last : LineEnd) → Split bytes line end fields last
     → without_return (start_line bytes) ≡ line
 starts bytes line end fields last s =
-    ap (λ l. without_return (before_first (λ b. b == 10) l)) (behind_blank bytes line end fields last s)
+    ap (λ l. without_return (before_first (λ b. b == 10) l)) (behind_empty_lines bytes line end fields last s)
     ∙ ap without_return (first_line line (print_section fields last) end s.none)
     ∙ without_return-is line end s.returns
 
@@ -225,16 +225,16 @@ RequestLines bytes given =
     (n : ℕ) × (head_length (take most_head_bytes bytes) ≡ Some n)
     × ((fields : List Line) × GivesFields (take n bytes) fields × (given.fields ≡ without_lengths fields))
 
-plan_makes : (max : ℕ) (e t : Bool) (head : Head) (bytes : List ℕ) (m : Request) (rest : List ℕ) (f : Result Plan FrameFault)
-    → Spelled m rest ≡ with_plan max e t head bytes f → m.fields ≡ without_lengths head.fields
-plan_makes max e t head bytes m rest (Err f) is = absurd cc
-plan_makes max e t head bytes m rest (Ok plan) is = by_wish (plan.wants_continue && not t) is
+request_body_makes : (max : ℕ) (e t : Bool) (head : Head) (bytes : List ℕ) (m : Request) (rest : List ℕ) (f : Result RequestBody FrameFault)
+    → Spelled m rest ≡ with_request_body max e t head bytes f → m.fields ≡ without_lengths head.fields
+request_body_makes max e t head bytes m rest (Err f) is = absurd cc
+request_body_makes max e t head bytes m rest (Ok request_body) is = by_wish (request_body.wants_continue && not t) is
   where
-    by_wish : (w : Bool) → Spelled m rest ≡ cond w Continue (with_body e (request_of head) (body_at max plan.framing false bytes))
+    by_wish : (w : Bool) → Spelled m rest ≡ cond w Continue (with_body e (request_of head) (body_at max request_body.framing false bytes))
         → m.fields ≡ without_lengths head.fields
     by_wish true is = absurd cc
     by_wish false is =
-        let made = body_makes e (request_of head) (body_at max plan.framing false bytes) m rest is in ap (λ (r : Request). r.fields) made.1
+        let made = body_makes e (request_of head) (body_at max request_body.framing false bytes) m rest is in ap (λ (r : Request). r.fields) made.1
 
 no_request : (e over blank : Bool) (m : Request) (r : List ℕ) → Spelled m r ≡ cond over (Faulty fault.Head) (cond (e && blank) Over (cut_off e)) → ⊥
 no_request e true blank m r is = cc
@@ -247,10 +247,10 @@ pub request_lines_given : (max : ℕ) (e t : Bool) (bytes : List ℕ) (given : R
 request_lines_given max e t bytes given rest reads = by_place (head_length (take most_head_bytes bytes)) refl reads
   where
     by_place : (o : Option ℕ) → head_length (take most_head_bytes bytes) ≡ o → ReadsBy max e t bytes o (Spelled given rest) → RequestLines bytes given
-    by_place None place is = absurd (no_request e (nat_lt most_head_bytes (length bytes)) (blank_length bytes == length bytes) given rest is)
+    by_place None place is = absurd (no_request e (nat_lt most_head_bytes (length bytes)) (empty_lines_length bytes == length bytes) given rest is)
     by_place (Some n) place (Err f, judged, is) = absurd cc
     by_place (Some n) place (Ok head, judged, is) =
-        (n, place, (head.fields, request_gives (take n bytes) head judged, plan_makes max e t head (drop n bytes) given rest (plan_of max head) is))
+        (n, place, (head.fields, request_gives (take n bytes) head judged, request_body_makes max e t head (drop n bytes) given rest (request_body_of max head) is))
 
 abbrev ResponseLines : List ℕ → Response → Type 0
 ResponseLines front given =
@@ -288,28 +288,28 @@ pub record IsMadeRequest (given : Request) : Type 0 where
   pub minor : given.minor ≡ head.minor
   pub fields : given.fields ≡ without_lengths head.fields
 
-plan_minor : (max : ℕ) (e t : Bool) (head : Head) (bytes : List ℕ) (m : Request) (rest : List ℕ) (f : Result Plan FrameFault)
-    → Spelled m rest ≡ with_plan max e t head bytes f → m.minor ≡ head.minor
-plan_minor max e t head bytes m rest (Err f) is = absurd cc
-plan_minor max e t head bytes m rest (Ok plan) is = by_wish (plan.wants_continue && not t) is
+request_body_minor : (max : ℕ) (e t : Bool) (head : Head) (bytes : List ℕ) (m : Request) (rest : List ℕ) (f : Result RequestBody FrameFault)
+    → Spelled m rest ≡ with_request_body max e t head bytes f → m.minor ≡ head.minor
+request_body_minor max e t head bytes m rest (Err f) is = absurd cc
+request_body_minor max e t head bytes m rest (Ok request_body) is = by_wish (request_body.wants_continue && not t) is
   where
-    by_wish : (w : Bool) → Spelled m rest ≡ cond w Continue (with_body e (request_of head) (body_at max plan.framing false bytes)) → m.minor ≡ head.minor
+    by_wish : (w : Bool) → Spelled m rest ≡ cond w Continue (with_body e (request_of head) (body_at max request_body.framing false bytes)) → m.minor ≡ head.minor
     by_wish true is = absurd cc
     by_wish false is =
-        let made = body_makes e (request_of head) (body_at max plan.framing false bytes) m rest is in ap (λ (r : Request). r.minor) made.1
+        let made = body_makes e (request_of head) (body_at max request_body.framing false bytes) m rest is in ap (λ (r : Request). r.minor) made.1
 
 request_made : (max : ℕ) (e t : Bool) (bytes : List ℕ) (given : Request) (rest : List ℕ) → Reads max e t bytes (Spelled given rest) → IsMadeRequest given
 request_made max e t bytes given rest reads = by_place (head_length (take most_head_bytes bytes)) reads
   where
     by_place : (o : Option ℕ) → ReadsBy max e t bytes o (Spelled given rest) → IsMadeRequest given
-    by_place None is = absurd (no_request e (nat_lt most_head_bytes (length bytes)) (blank_length bytes == length bytes) given rest is)
+    by_place None is = absurd (no_request e (nat_lt most_head_bytes (length bytes)) (empty_lines_length bytes == length bytes) given rest is)
     by_place (Some n) (Err f, judged, is) = absurd cc
     by_place (Some n) (Ok head, judged, is) = record {
       text = take n bytes;
       head = head;
       judged = judged;
-      minor = plan_minor max e t head (drop n bytes) given rest (plan_of max head) is;
-      fields = plan_makes max e t head (drop n bytes) given rest (plan_of max head) is;
+      minor = request_body_minor max e t head (drop n bytes) given rest (request_body_of max head) is;
+      fields = request_body_makes max e t head (drop n bytes) given rest (request_body_of max head) is;
     }
 
 pub request_minor : (max : ℕ) (e t : Bool) (bytes : List ℕ) (given : Request) (rest : List ℕ) → Reads max e t bytes (Spelled given rest) → given.minor ≤ 1

@@ -15,10 +15,10 @@ use Rattle.httparse.proofs.PieceLemmas.{print_field-append, token_is_no_newline,
 use Rattle.httparse.proofs.TrimLemmas.{AllPass-trim_ows}
 use Rattle.hx_fields.specs.declared.field_line.Field.{Field as Line}
 use Rattle.hx_fields.specs.Tokens as tokens
-use Rattle.hx_framing.specs.Places.{blank_from, blank_length}
+use Rattle.hx_framing.specs.Places.{empty_lines_from, empty_lines_length}
 use Rattle.hx_framing.specs.Version.{without_return}
-use Rattle.hx_framing.specs.declared.request_head.Head.{Head}
-use Rattle.hx_framing.specs.declared.status_head.StatusHead.{StatusHead}
+use Rattle.hx_framing.specs.declared.heads.request_head.Head.{Head}
+use Rattle.hx_framing.specs.declared.heads.status_head.StatusHead.{StatusHead}
 use Rattle.hx_framing.specs.Head.{IsHead, Judges, field_of}
 use Rattle.hx_framing.specs.StatusHead as status
 use Rattle.hx_framing.specs.StatusHead.{IsStatusHead}
@@ -187,21 +187,21 @@ empty_end lf = refl
 -- ---- empty lines in front
 
 pub blank_is : (ends : List LineEnd) (x : ℕ) (rest : List ℕ) (at : ℕ) → is_newline x ≡ false
-    → blank_from at (print_blank ends ++ x ∷ rest) ≡ at + length (print_blank ends)
+    → empty_lines_from at (print_blank ends ++ x ∷ rest) ≡ at + length (print_blank ends)
 blank_is [] x [] at other =
     let parts = or_parts (x == 13) (x == 10) other in ap (λ t. cond t (at + 1) at) parts.1 ∙ omega arith
 blank_is [] x (y ∷ rest) at other =
     let parts = or_parts (x == 13) (x == 10) other in
     let cr : Bool = x == 13 in
-    ap (λ t. cond t (blank_from (at + 1) (y ∷ rest)) (cond (cr && (y == 10)) (blank_from (at + 2) rest) at)) parts.1
-    ∙ ap (λ t. cond (t && (y == 10)) (blank_from (at + 2) rest) at) parts.0 ∙ omega arith
+    ap (λ t. cond t (empty_lines_from (at + 1) (y ∷ rest)) (cond (cr && (y == 10)) (empty_lines_from (at + 2) rest) at)) parts.1
+    ∙ ap (λ t. cond (t && (y == 10)) (empty_lines_from (at + 2) rest) at) parts.0 ∙ omega arith
 blank_is (crlf ∷ ends) x rest at other = blank_is ends x rest (at + 2) other ∙ omega arith
 blank_is (lf ∷ ends) x rest at other = by_rest (print_blank ends ++ x ∷ rest) refl (blank_is ends x rest (at + 1) other) ∙ omega arith
   where
-    by_rest : (text : List ℕ) → print_blank ends ++ x ∷ rest ≡ text → blank_from (at + 1) (print_blank ends ++ x ∷ rest) ≡ at + 1 + length (print_blank ends)
-        → blank_from at (10 ∷ (print_blank ends ++ x ∷ rest)) ≡ at + 1 + length (print_blank ends)
-    by_rest [] is later = ap (λ t. blank_from at (10 ∷ t)) is ∙ ap (blank_from (at + 1)) (sym is) ∙ later
-    by_rest (c ∷ text) is later = ap (λ t. blank_from at (10 ∷ t)) is ∙ ap (blank_from (at + 1)) (sym is) ∙ later
+    by_rest : (text : List ℕ) → print_blank ends ++ x ∷ rest ≡ text → empty_lines_from (at + 1) (print_blank ends ++ x ∷ rest) ≡ at + 1 + length (print_blank ends)
+        → empty_lines_from at (10 ∷ (print_blank ends ++ x ∷ rest)) ≡ at + 1 + length (print_blank ends)
+    by_rest [] is later = ap (λ t. empty_lines_from at (10 ∷ t)) is ∙ ap (empty_lines_from (at + 1)) (sym is) ∙ later
+    by_rest (c ∷ text) is later = ap (λ t. empty_lines_from at (10 ∷ t)) is ∙ ap (empty_lines_from (at + 1)) (sym is) ∙ later
 
 -- ---- whole heads
 
@@ -214,9 +214,9 @@ whole bytes ends x start end fields last other none fine is = record {
   last = with_return [] last;
   are =
       let rest : List ℕ = (x ∷ start) ++ (print_end end ++ print_section fields last) in
-      let blank : blank_length bytes ≡ length (print_blank ends)
-      = ap blank_length is ∙ blank_is ends x (start ++ (print_end end ++ print_section fields last)) 0 other ∙ omega arith in
-      let behind : drop (blank_length bytes) bytes ≡ rest
+      let blank : empty_lines_length bytes ≡ length (print_blank ends)
+      = ap empty_lines_length is ∙ blank_is ends x (start ++ (print_end end ++ print_section fields last)) 0 other ∙ omega arith in
+      let behind : drop (empty_lines_length bytes) bytes ≡ rest
       = ap (λ n. drop n bytes) blank ∙ ap (drop (length (print_blank ends))) is ∙ drop-append_seam (print_blank ends) rest in
       ap (λ text. drop 1 (lines_of text)) behind
       ∙ ap (drop 1) (one_line (x ∷ start) (print_section fields last) end none)

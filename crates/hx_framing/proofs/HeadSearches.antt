@@ -3,54 +3,54 @@ use Rattle.std.proofs.Common.{◌≡◌, ℕ, ◌+◌, ◌<◌, ◌≤◌, ◌-�
 use Rattle.std.proofs.lemmas.Bool.{leb-true, leb-false}
 use Rattle.std.proofs.lemmas.List.{append-nil, drop-append-le, drop-drop, take-append-le, take_all}
 use Rattle.std.proofs.Math.Seq.{take-append-add}
-use Rattle.hx_framing.specs.declared.places.HeadSearch.{HeadSearch}
-use Rattle.hx_framing.specs.declared.places.Searched.TheVariants as searched
-use Rattle.hx_framing.specs.Places.{blank_from, blank_length, empty_at, empty_line_from, head_length, most_head_bytes, IsOpenHead}
+use Rattle.hx_framing.specs.declared.heads.head_end.HeadSearch.{HeadSearch}
+use Rattle.hx_framing.specs.declared.heads.head_end.Searched.TheVariants as searched
+use Rattle.hx_framing.specs.Places.{empty_lines_from, empty_lines_length, head_end_at, head_end_from, head_length, most_head_bytes, IsOpenHead}
 use Rattle.hx_framing.specs.Searching.{Reaches, IsSearched}
-use Rattle.hx_framing.proofs.HeadEnds.{blank_stable, empty_stands}
+use Rattle.hx_framing.proofs.HeadEnds.{empty_lines_stable, empty_stands}
 
 -- ---- the empty lines in front
 
 -- the empty lines go on from where they end
 pub record Goes (u more : List ℕ) (at : ℕ) : Type 0 where
   pub count : ℕ
-  pub end : blank_from at u ≡ at + count
-  pub on : blank_from at (u ++ more) ≡ blank_from (at + count) (drop count (u ++ more))
+  pub end : empty_lines_from at u ≡ at + count
+  pub on : empty_lines_from at (u ++ more) ≡ empty_lines_from (at + count) (drop count (u ++ more))
 
-stays : (u more : List ℕ) (at : ℕ) → blank_from at u ≡ at → Goes u more at
-stays u more at here = record { count = 0; end = here ∙ omega arith; on = ap (λ k. blank_from k (u ++ more)) (omega arith) }
+stays : (u more : List ℕ) (at : ℕ) → empty_lines_from at u ≡ at → Goes u more at
+stays u more at here = record { count = 0; end = here ∙ omega arith; on = ap (λ k. empty_lines_from k (u ++ more)) (omega arith) }
 
-blank_on : (u more : List ℕ) (at : ℕ) → Goes u more at
-blank_on [] more at = stays [] more at refl
-blank_on (b ∷ []) [] at = stays_or (b == 10) refl
+empty_lines_on : (u more : List ℕ) (at : ℕ) → Goes u more at
+empty_lines_on [] more at = stays [] more at refl
+empty_lines_on (b ∷ []) [] at = stays_or (b == 10) refl
   where
     stays_or : (t : Bool) → (b == 10) ≡ t → Goes (b ∷ []) [] at
     stays_or true p = record { count = 1; end = rw p refl; on = rw p refl }
     stays_or false p = stays (b ∷ []) [] at (rw p refl)
-blank_on (b ∷ []) (c ∷ more) at = stays_or (b == 10) refl
+empty_lines_on (b ∷ []) (c ∷ more) at = stays_or (b == 10) refl
   where
     stays_or : (t : Bool) → (b == 10) ≡ t → Goes (b ∷ []) (c ∷ more) at
     stays_or true p = record { count = 1; end = rw p refl; on = rw p refl }
     stays_or false p = stays (b ∷ []) (c ∷ more) at (rw p refl)
-blank_on (b ∷ c ∷ us) more at = by_test (blank_on (c ∷ us) more (at + 1)) (blank_on us more (at + 2)) (b == 10) refl (b == 13 && (c == 10)) refl
+empty_lines_on (b ∷ c ∷ us) more at = by_test (empty_lines_on (c ∷ us) more (at + 1)) (empty_lines_on us more (at + 2)) (b == 10) refl (b == 13 && (c == 10)) refl
   where
     by_test : Goes (c ∷ us) more (at + 1) → Goes us more (at + 2) → (t : Bool) → (b == 10) ≡ t → (s : Bool) → (b == 13 && (c == 10)) ≡ s → Goes (b ∷ c ∷ us) more at
     by_test one two true p s q = record {
       count = suc one.count;
       end = rw p (one.end ∙ omega arith);
-      on = rw p (one.on ∙ ap (λ k. blank_from k (drop one.count ((c ∷ us) ++ more))) (omega arith));
+      on = rw p (one.on ∙ ap (λ k. empty_lines_from k (drop one.count ((c ∷ us) ++ more))) (omega arith));
     }
     by_test one two false p true q = record {
       count = suc (suc two.count);
       end = rw (p, q) (two.end ∙ omega arith);
-      on = rw (p, q) (two.on ∙ ap (λ k. blank_from k (drop two.count (us ++ more))) (omega arith));
+      on = rw (p, q) (two.on ∙ ap (λ k. empty_lines_from k (drop two.count (us ++ more))) (omega arith));
     }
     by_test one two false p false q = stays (b ∷ c ∷ us) more at (rw (p, q) refl)
 
 -- ---- the lines of a head
 
 -- in one byte no line ends that an empty one follows
-short_none : (u : List ℕ) (at : ℕ) → length u ≤ 1 → empty_line_from at u ≡ None
+short_none : (u : List ℕ) (at : ℕ) → length u ≤ 1 → head_end_from at u ≡ None
 short_none [] at short = refl
 short_none (b ∷ []) at short = by_test (b == 10)
   where
@@ -60,20 +60,20 @@ short_none (b ∷ []) at short = by_test (b == 10)
 short_none (b ∷ c ∷ us) at short = absurd (omega arith)
 
 -- where none is found, none begins but in the last two bytes
-empty_on : (u more : List ℕ) (at k : ℕ) → k + 2 ≡ length u → empty_line_from at u ≡ None
-    → empty_line_from at (u ++ more) ≡ empty_line_from (at + k) (drop k (u ++ more))
+empty_on : (u more : List ℕ) (at k : ℕ) → k + 2 ≡ length u → head_end_from at u ≡ None
+    → head_end_from at (u ++ more) ≡ head_end_from (at + k) (drop k (u ++ more))
 empty_on [] more at k long none = absurd (omega arith)
 empty_on (b ∷ []) more at k long none = absurd (omega arith)
-empty_on (b ∷ c ∷ []) more at zero long none = ap (λ j. empty_line_from j (b ∷ c ∷ more)) (omega arith)
+empty_on (b ∷ c ∷ []) more at zero long none = ap (λ j. head_end_from j (b ∷ c ∷ more)) (omega arith)
 empty_on (b ∷ c ∷ []) more at (suc k) long none = absurd (omega arith)
 empty_on (b ∷ c ∷ d ∷ us) more at zero long none = absurd (omega arith)
-empty_on (b ∷ c ∷ d ∷ us) more at (suc k) long none = by_test (empty_at (b ∷ c ∷ d ∷ us) == 0) (empty_on (c ∷ d ∷ us) more (at + 1) k (omega arith)) none
+empty_on (b ∷ c ∷ d ∷ us) more at (suc k) long none = by_test (head_end_at (b ∷ c ∷ d ∷ us) == 0) (empty_on (c ∷ d ∷ us) more (at + 1) k (omega arith)) none
   where
     by_test : (t : Bool)
-        → (empty_line_from (at + 1) (c ∷ d ∷ us) ≡ None → empty_line_from (at + 1) ((c ∷ d ∷ us) ++ more) ≡ empty_line_from (at + 1 + k) (drop k ((c ∷ d ∷ us) ++ more)))
-        → cond t (empty_line_from (at + 1) (c ∷ d ∷ us)) (Some (at + empty_at (b ∷ c ∷ d ∷ us))) ≡ None
-        → cond t (empty_line_from (at + 1) ((c ∷ d ∷ us) ++ more)) (Some (at + empty_at (b ∷ c ∷ d ∷ us))) ≡ empty_line_from (at + suc k) (drop k ((c ∷ d ∷ us) ++ more))
-    by_test true later h = later h ∙ ap (λ j. empty_line_from j (drop k ((c ∷ d ∷ us) ++ more))) (omega arith)
+        → (head_end_from (at + 1) (c ∷ d ∷ us) ≡ None → head_end_from (at + 1) ((c ∷ d ∷ us) ++ more) ≡ head_end_from (at + 1 + k) (drop k ((c ∷ d ∷ us) ++ more)))
+        → cond t (head_end_from (at + 1) (c ∷ d ∷ us)) (Some (at + head_end_at (b ∷ c ∷ d ∷ us))) ≡ None
+        → cond t (head_end_from (at + 1) ((c ∷ d ∷ us) ++ more)) (Some (at + head_end_at (b ∷ c ∷ d ∷ us))) ≡ head_end_from (at + suc k) (drop k ((c ∷ d ∷ us) ++ more))
+    by_test true later h = later h ∙ ap (λ j. head_end_from j (drop k ((c ∷ d ∷ us) ++ more))) (omega arith)
     by_test false later h = absurd cc
 
 -- ---- searches
@@ -82,7 +82,7 @@ empty_on (b ∷ c ∷ d ∷ us) more at (suc k) long none = by_test (empty_at (b
 pub reaches_start : (bytes : List ℕ) → Reaches bytes (record { at = 0; in_lines = false })
 reaches_start bytes = record {
   within = omega arith;
-  blank = λ e more. refl;
+  empty_lines = λ e more. refl;
   room = λ e. absurd cc;
   lines = λ e. absurd cc;
 }
@@ -91,9 +91,9 @@ reaches_start bytes = record {
 reaches_append : (bytes w : List ℕ) (s : HeadSearch) → Reaches bytes s → Reaches (bytes ++ w) s
 reaches_append bytes w s r = record {
   within = omega (arith, r.within, length_append);
-  blank = λ e more. ap blank_length (append_assoc bytes w more) ∙ r.blank e (w ++ more) ∙ ap (λ u. blank_from s.at (drop s.at u)) (sym (append_assoc bytes w more));
+  empty_lines = λ e more. ap empty_lines_length (append_assoc bytes w more) ∙ r.empty_lines e (w ++ more) ∙ ap (λ u. empty_lines_from s.at (drop s.at u)) (sym (append_assoc bytes w more));
   room = λ e. omega (arith, r.room e, length_append);
-  lines = λ e more. ap head_length (append_assoc bytes w more) ∙ r.lines e (w ++ more) ∙ ap (λ u. empty_line_from s.at (drop s.at u)) (sym (append_assoc bytes w more));
+  lines = λ e more. ap head_length (append_assoc bytes w more) ∙ r.lines e (w ++ more) ∙ ap (λ u. head_end_from s.at (drop s.at u)) (sym (append_assoc bytes w more));
 }
   where
     length_append : length (bytes ++ w) ≡ length bytes + length w
@@ -112,57 +112,57 @@ reaches_fed k bytes w s r = by_length (leb k (length bytes)) refl
         (reaches_append bytes (take (k - length bytes) w) s (subst (λ (u : List ℕ). Reaches u s) (take_all k bytes long) r)))
 
 -- the empty lines in front end where the bytes end, or one byte before that
-pub searched_blank : (bytes : List ℕ) (at : ℕ) → at ≡ blank_length bytes → at ≤ length bytes → length bytes - at < 2
+pub searched_empty_lines : (bytes : List ℕ) (at : ℕ) → at ≡ empty_lines_length bytes → at ≤ length bytes → length bytes - at < 2
     → IsSearched bytes (searched.Open (record { at = at; in_lines = false }))
-searched_blank bytes at is within short = (
-  ap (λ (k : ℕ). empty_line_from k (drop k bytes)) (sym is) ∙ short_none (drop at bytes) at (omega (arith, length-drop at bytes)),
+searched_empty_lines bytes at is within short = (
+  ap (λ (k : ℕ). head_end_from k (drop k bytes)) (sym is) ∙ short_none (drop at bytes) at (omega (arith, length-drop at bytes)),
   record {
     within = within;
-    blank = λ e more.
-        let goes : Goes bytes more 0 = blank_on bytes more 0 in
+    empty_lines = λ e more.
+        let goes : Goes bytes more 0 = empty_lines_on bytes more 0 in
         let here : 0 + goes.count ≡ at = sym (is ∙ goes.end) in
         let count : goes.count ≡ at = omega arith in
-        goes.on ∙ ap (λ (k : ℕ). blank_from k (drop goes.count (bytes ++ more))) here ∙ ap (λ (k : ℕ). blank_from at (drop k (bytes ++ more))) count;
+        goes.on ∙ ap (λ (k : ℕ). empty_lines_from k (drop goes.count (bytes ++ more))) here ∙ ap (λ (k : ℕ). empty_lines_from at (drop k (bytes ++ more))) count;
     room = λ e. absurd cc;
     lines = λ e. absurd cc;
   },
 )
 
 -- behind them the lines of the head are searched
-pub lines_begin : (bytes : List ℕ) (at : ℕ) → at ≡ blank_length bytes → at + 2 ≤ length bytes
-    → (more : List ℕ) → head_length (bytes ++ more) ≡ empty_line_from at (drop at (bytes ++ more))
-lines_begin bytes at is room more = ap (λ (k : ℕ). empty_line_from k (drop k (bytes ++ more))) (blank_stable bytes more 0 (omega (arith, is)) ∙ sym is)
+pub lines_begin : (bytes : List ℕ) (at : ℕ) → at ≡ empty_lines_length bytes → at + 2 ≤ length bytes
+    → (more : List ℕ) → head_length (bytes ++ more) ≡ head_end_from at (drop at (bytes ++ more))
+lines_begin bytes at is room more = ap (λ (k : ℕ). head_end_from k (drop k (bytes ++ more))) (empty_lines_stable bytes more 0 (omega (arith, is)) ∙ sym is)
 
-pub searched_end : (bytes : List ℕ) (at n : ℕ) → ((more : List ℕ) → head_length (bytes ++ more) ≡ empty_line_from at (drop at (bytes ++ more)))
-    → empty_line_from at (drop at bytes) ≡ Some n → IsSearched bytes (searched.Ended n)
+pub searched_end : (bytes : List ℕ) (at n : ℕ) → ((more : List ℕ) → head_length (bytes ++ more) ≡ head_end_from at (drop at (bytes ++ more)))
+    → head_end_from at (drop at bytes) ≡ Some n → IsSearched bytes (searched.Ended n)
 searched_end bytes at n on found =
-    ap head_length (sym (append-nil bytes)) ∙ on [] ∙ ap (λ u. empty_line_from at (drop at u)) (append-nil bytes) ∙ found
+    ap head_length (sym (append-nil bytes)) ∙ on [] ∙ ap (λ u. head_end_from at (drop at u)) (append-nil bytes) ∙ found
 
-pub searched_lines : (bytes : List ℕ) (at to : ℕ) → ((more : List ℕ) → head_length (bytes ++ more) ≡ empty_line_from at (drop at (bytes ++ more)))
-    → at + 2 ≤ length bytes → to + 2 ≡ length bytes → empty_line_from at (drop at bytes) ≡ None
+pub searched_lines : (bytes : List ℕ) (at to : ℕ) → ((more : List ℕ) → head_length (bytes ++ more) ≡ head_end_from at (drop at (bytes ++ more)))
+    → at + 2 ≤ length bytes → to + 2 ≡ length bytes → head_end_from at (drop at bytes) ≡ None
     → IsSearched bytes (searched.Open (record { at = to; in_lines = true }))
 searched_lines bytes at to on room end none = (
-  ap head_length (sym (append-nil bytes)) ∙ on [] ∙ ap (λ u. empty_line_from at (drop at u)) (append-nil bytes) ∙ none,
+  ap head_length (sym (append-nil bytes)) ∙ on [] ∙ ap (λ u. head_end_from at (drop at u)) (append-nil bytes) ∙ none,
   record {
     within = omega arith;
-    blank = λ e. absurd cc;
+    empty_lines = λ e. absurd cc;
     room = λ e. omega arith;
     lines = λ e more.
         let here : drop at (bytes ++ more) ≡ drop at bytes ++ more = drop-append-le at bytes more (omega arith) in
         let on_rest = empty_on (drop at bytes) more at (to - at) (omega (arith, length-drop at bytes)) none in
         let there : drop (to - at) (drop at (bytes ++ more)) ≡ drop to (bytes ++ more) = drop-drop (to - at) at (bytes ++ more) ∙ ap (λ (k : ℕ). drop k (bytes ++ more)) (omega arith) in
-        on more ∙ ap (empty_line_from at) here ∙ on_rest ∙ ap (empty_line_from (at + (to - at))) (ap (drop (to - at)) (sym here) ∙ there) ∙ ap (λ (k : ℕ). empty_line_from k (drop to (bytes ++ more))) (omega arith);
+        on more ∙ ap (head_end_from at) here ∙ on_rest ∙ ap (head_end_from (at + (to - at))) (ap (drop (to - at)) (sym here) ∙ there) ∙ ap (λ (k : ℕ). head_end_from k (drop to (bytes ++ more))) (omega arith);
   },
 )
 
 -- the empty lines in front, from where the search stood
-pub blank_reached : (bytes : List ℕ) (s : HeadSearch) (at : ℕ) → Reaches bytes s → s.in_lines ≡ false → at ≡ blank_from s.at (drop s.at bytes) → at ≡ blank_length bytes
-blank_reached bytes s at r outside is =
-    is ∙ ap (λ u. blank_from s.at (drop s.at u)) (sym (append-nil bytes)) ∙ sym (r.blank outside []) ∙ ap blank_length (append-nil bytes)
+pub empty_lines_reached : (bytes : List ℕ) (s : HeadSearch) (at : ℕ) → Reaches bytes s → s.in_lines ≡ false → at ≡ empty_lines_from s.at (drop s.at bytes) → at ≡ empty_lines_length bytes
+empty_lines_reached bytes s at r outside is =
+    is ∙ ap (λ u. empty_lines_from s.at (drop s.at u)) (sym (append-nil bytes)) ∙ sym (r.empty_lines outside []) ∙ ap empty_lines_length (append-nil bytes)
 
 -- a head takes some bytes, and no more than there are
 pub head_some : (u : List ℕ) (n : ℕ) → head_length u ≡ Some n → 0 < n
-head_some u n found = omega (arith, (empty_stands (drop (blank_length u) u) (blank_length u) n found).two)
+head_some u n found = omega (arith, (empty_stands (drop (empty_lines_length u) u) (empty_lines_length u) n found).two)
 
 -- no head ends there, and the limit isn't reached
 pub open_head : (bytes : List ℕ) → length bytes ≤ most_head_bytes → head_length (take most_head_bytes bytes) ≡ None → IsOpenHead bytes

@@ -18,13 +18,14 @@ pub mod FaultOrders
 pub mod LengthLemmas
 pub mod ChunkStreams
 pub mod ChunkSteps
-pub mod ChunkPieces
+pub mod ChunkTokens
 pub mod ChunkSound
 pub mod ChunkFaultSound
 pub mod ChunkFaultComplete
 pub mod BodyLemmas
+pub mod ContentReadings
 pub mod RequestLemmas
-pub mod RequestFinding
+pub mod RequestProgressLemmas
 pub mod RequestOnce
 pub mod RequestStreams
 pub mod RequestContents
@@ -32,7 +33,7 @@ pub mod RequestHeads
 pub mod MemoryLemmas
 pub mod RequestMemory
 pub mod ResponseLemmas
-pub mod ResponseFinding
+pub mod ResponseProgressLemmas
 pub mod ResponseOnce
 pub mod ResponseStreams
 pub mod ResponseContents

@@ -2,21 +2,21 @@
 use Rattle.std.proofs.Common.{◌≡◌, ℕ, ◌+◌, ◌&&◌, ◌||◌, Bool, true, false, not, cond, List, [], ◌∷◌, length, ◌==◌, nat_lt, refl, ap, Option, Some, None, Result, Ok, Err, OnErr, ok_or}
 use Rattle.hx_framing.specs.declared.fault.FrameFault.{FrameFault}
 use Rattle.hx_framing.specs.declared.fault.FrameFault.TheVariants as fault
-use Rattle.hx_framing.specs.declared.chunk_state.Phase.{Phase}
-use Rattle.hx_framing.specs.declared.chunk_state.Phase.TheVariants as phase
-use Rattle.hx_framing.specs.declared.lengths.Framing.{Framing}
-use Rattle.hx_framing.specs.declared.lengths.Framing.TheVariants as framing
-use Rattle.hx_framing.specs.declared.request_head.Head.{Head}
-use Rattle.hx_framing.specs.declared.status_head.StatusHead.{StatusHead}
-use Rattle.hx_framing.specs.declared.content.Content.{Content}
-use Rattle.hx_framing.specs.declared.content.Content.TheVariants as content
+use Rattle.hx_framing.specs.declared.contents.tokens.Phase.{Phase}
+use Rattle.hx_framing.specs.declared.contents.tokens.Phase.TheVariants as phase
+use Rattle.hx_framing.specs.declared.lengths.framing.Framing.{Framing}
+use Rattle.hx_framing.specs.declared.lengths.framing.Framing.TheVariants as framing
+use Rattle.hx_framing.specs.declared.heads.request_head.Head.{Head}
+use Rattle.hx_framing.specs.declared.heads.status_head.StatusHead.{StatusHead}
+use Rattle.hx_framing.specs.declared.contents.content.Content.{Content}
+use Rattle.hx_framing.specs.declared.contents.content.Content.TheVariants as content
 use Rattle.hx_fields.specs.declared.field_line.Field.{Field}
 use Rattle.hx_framing.specs.Body.{Body, Short, Bad, Whole}
 use Rattle.hx_framing.specs.SizeLine.{size_at, is_size, but_last, ends_in_cr, capped, size_of}
 use Rattle.hx_framing.specs.Chunking.{Chunking}
 use Rattle.hx_framing.specs.Chunks.{Step, Go, Stop, Fail, sized, step_in, step, trailer_end, follow, chunks_from, start}
 use Rattle.hx_framing.specs.Contents.{body_at, body_from}
-use Rattle.hx_framing.specs.Lengths.{framing_of_lengths, has_both, has_bad_length, has_other_coding, is_too_large, with_expectation, has_other_expectation, expectation, framing_of_request, plan_of, with_status, is_taken_status, framing_of_response, is_without_content}
+use Rattle.hx_framing.specs.Lengths.{framing_of_lengths, has_both, has_bad_length, has_other_coding, is_too_large, with_expectation, has_other_expectation, expectation, framing_of_request, request_body_of, with_status, is_taken_status, framing_of_response, is_without_content}
 use Rattle.hx_framing.specs.Reading.{with_body}
 use Rattle.hx_framing.specs.Progress.{is_no_head, needs_memory, next_of}
 
@@ -101,8 +101,8 @@ expected_behind : (expected : Option (List ℕ)) (r : Result Framing FrameFault)
 expected_behind expected (Err f) x = x
 expected_behind expected (Ok told) x = judged_cond (has_other_expectation expected) _ _ refl tt
 
-pub plan_behind : (max : ℕ) (head : Head) → IsBehindHead (plan_of max head)
-plan_behind max head =
+pub request_body_behind : (max : ℕ) (head : Head) → IsBehindHead (request_body_of max head)
+request_body_behind max head =
     expected_behind (expectation head) (framing_of_request max head) (lengths_behind max head.minor framing.Nothing _ head.fields)
 
 status_behind : (status : ℕ) (r : Result Framing FrameFault) → IsBehindHead r → IsBehindHead (with_status status r)

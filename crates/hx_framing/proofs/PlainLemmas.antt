@@ -3,9 +3,9 @@ use Rattle.std.proofs.Common.{◌≡◌, ℕ, ◌+◌, ◌-◌, ◌<◌, ◌≤�
 use Rattle.std.proofs.Math.Seq.{take-append-add, drop-append-add}
 use Rattle.std.proofs.lemmas.Bool.{lt-ltb, le-ltb, ltb-true, ltb-false}
 use Rattle.std.proofs.lemmas.List.{drop_all, take_all}
-use Rattle.hx_framing.specs.declared.content.Content.TheVariants as content
+use Rattle.hx_framing.specs.declared.contents.content.Content.TheVariants as content
 use Rattle.hx_framing.specs.declared.fault.FrameFault.TheVariants as fault
-use Rattle.hx_framing.specs.declared.content.Taken.TheVariants as taken
+use Rattle.hx_framing.specs.declared.contents.content.ContentProgress.TheVariants as content_progress
 use Rattle.hx_framing.specs.Body.{Body, Short, Bad, Whole}
 use Rattle.hx_framing.specs.Contents.{Advances, announced_from, closed_from}
 use Rattle.hx_framing.specs.PlainContent.{PlainContent, grown}
@@ -48,7 +48,7 @@ all_taken : (bytes run : List ℕ) (n : ℕ) → run ≡ take n bytes → length
 all_taken bytes run n is long = is ∙ take_all n bytes long
 
 pub announced_more : (e : Bool) (s new : PlainContent) (bytes run : List ℕ) (n : ℕ) → new ≡ grown s run → run ≡ take n bytes → n ≡ length bytes → n < s.left
-    → Advances e bytes (content.Announced s) (taken.Short n) (content.Announced new)
+    → Advances e bytes (content.Announced s) (content_progress.Incomplete n) (content.Announced new)
 announced_more e s new bytes run n is ran all less =
     let whole : run ≡ bytes = all_taken bytes run n ran (omega arith) in
     let none : drop n bytes ≡ [] = drop_all n bytes (omega arith) in (
@@ -60,7 +60,7 @@ announced_more e s new bytes run n is ran all less =
     )
 
 pub announced_whole : (e : Bool) (s mid new : PlainContent) (bytes run c : List ℕ) (n : ℕ) → mid ≡ grown s run → run ≡ take n bytes → n ≡ s.left → n ≤ length bytes
-    → c ≡ mid.content → Advances e bytes (content.Announced s) (taken.Whole (Some c) n) (content.Announced new)
+    → c ≡ mid.content → Advances e bytes (content.Announced s) (content_progress.Whole (Some c) n) (content.Announced new)
 announced_whole e s mid new bytes run c n is ran all within same =
     let given : c ≡ s.content ++ take s.left bytes = same ∙ ap (λ (p : PlainContent). p.content) is ∙ ap (λ (r : List ℕ). s.content ++ r) (ran ∙ ap (λ (k : ℕ). take k bytes) all) in (
       within,
@@ -69,12 +69,12 @@ announced_whole e s mid new bytes run c n is ran all within same =
           ∙ ap (λ (k : ℕ). Whole (Some c) (drop k bytes)) (sym all),
     )
 
-pub closed_bad : (e : Bool) (s new : PlainContent) (bytes : List ℕ) → s.left < length bytes → Advances e bytes (content.UntilClose s) (taken.Bad fault.TooLarge) (content.UntilClose new)
+pub closed_bad : (e : Bool) (s new : PlainContent) (bytes : List ℕ) → s.left < length bytes → Advances e bytes (content.UntilClose s) (content_progress.Faulty fault.TooLarge) (content.UntilClose new)
 closed_bad e s new bytes over =
     ap (λ (t : Bool). cond {A = Body} t (Bad fault.TooLarge) (cond {A = Body} e (Whole (Some (s.content ++ bytes)) []) Short)) (lt-ltb _ _ over)
 
 pub closed_more : (e : Bool) (s new : PlainContent) (bytes : List ℕ) → e ≡ false → new ≡ grown s bytes → length bytes ≤ s.left
-    → Advances e bytes (content.UntilClose s) (taken.Short (length bytes)) (content.UntilClose new)
+    → Advances e bytes (content.UntilClose s) (content_progress.Incomplete (length bytes)) (content.UntilClose new)
 closed_more e s new bytes open_still is within =
     let none : drop (length bytes) bytes ≡ [] = drop_all (length bytes) bytes (omega arith) in (
       omega arith,
@@ -86,7 +86,7 @@ closed_more e s new bytes open_still is within =
     )
 
 pub closed_whole : (e : Bool) (s mid new : PlainContent) (bytes c : List ℕ) → e ≡ true → mid ≡ grown s bytes → length bytes ≤ s.left → c ≡ mid.content
-    → Advances e bytes (content.UntilClose s) (taken.Whole (Some c) (length bytes)) (content.UntilClose new)
+    → Advances e bytes (content.UntilClose s) (content_progress.Whole (Some c) (length bytes)) (content.UntilClose new)
 closed_whole e s mid new bytes c ends is within same =
     let none : drop (length bytes) bytes ≡ [] = drop_all (length bytes) bytes (omega arith) in
     let given : c ≡ s.content ++ bytes = same ∙ ap (λ (p : PlainContent). p.content) is in (
@@ -99,7 +99,7 @@ closed_whole e s mid new bytes c ends is within same =
 
 -- some are still to come
 pub announced_short : (s new : PlainContent) (bytes run : List ℕ) (n : ℕ) → new ≡ grown s run → run ≡ take n bytes → n ≡ min s.left (length bytes) → 0 < new.left
-    → (e : Bool) → Advances e bytes (content.Announced s) (taken.Short n) (content.Announced new)
+    → (e : Bool) → Advances e bytes (content.Announced s) (content_progress.Incomplete n) (content.Announced new)
 announced_short s new bytes run n is ran least some e =
     let left : new.left ≡ s.left - length run = ap (λ (p : PlainContent). p.left) is in
     let long : length run ≡ n = ap length ran ∙ omega (arith, length-take n bytes, least) in

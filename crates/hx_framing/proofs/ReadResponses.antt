@@ -5,10 +5,10 @@ use Rattle.std.proofs.lemmas.Bool.Decides.{nat_tests}
 use Rattle.hx_fields.specs.declared.field_line.Field.{Field}
 use Rattle.hx_framing.specs.declared.fault.FrameFault.{FrameFault}
 use Rattle.hx_framing.specs.declared.fault.FrameFault.TheVariants as fault
-use Rattle.hx_framing.specs.declared.lengths.Framing.{Framing}
-use Rattle.hx_framing.specs.declared.lengths.Framing.TheVariants as framing
-use Rattle.hx_framing.specs.declared.responses.Response.{Response}
-use Rattle.hx_framing.specs.declared.status_head.StatusHead.{StatusHead}
+use Rattle.hx_framing.specs.declared.lengths.framing.Framing.{Framing}
+use Rattle.hx_framing.specs.declared.lengths.framing.Framing.TheVariants as framing
+use Rattle.hx_framing.specs.declared.messages.Response.{Response}
+use Rattle.hx_framing.specs.declared.heads.status_head.StatusHead.{StatusHead}
 use Rattle.hx_framing.specs.Body.{Body, Short, Bad, Whole}
 use Rattle.hx_framing.specs.Contents.{body_at}
 use Rattle.hx_framing.specs.Lengths.{framing_of_response, is_interim, is_taken_status, is_without_content, framing_of_final, with_status, without_lengths}

@@ -8,8 +8,8 @@ use Rattle.std.proofs.lemmas.List.Elements.{All-cons, All-nil}
 use Rattle.std.proofs.lemmas.List.Sums.{AllPass-from_list_all}
 use Rattle.std.proofs.lemmas.Str.{IsUtf8-from_ascii}
 use Rattle.httparse.specs.Grammar.{crlf, Field, IsField, IsToken, RequestHead, IsRequestHead, ResponseHead, IsResponseHead, print_request, print_response, is_token_byte, is_uri_byte, is_value_byte, reason_phrase, is_token}
-use Rattle.hx_framing.specs.declared.requests.Request.{Request}
-use Rattle.hx_framing.specs.declared.responses.Response.{Response}
+use Rattle.hx_framing.specs.declared.messages.Request.{Request}
+use Rattle.hx_framing.specs.declared.messages.Response.{Response}
 use Rattle.hx_framing.specs.Places.{head_length, most_head_bytes, most_field_lines}
 use Rattle.hx_framing.specs.Head.{IsHead, head_of}
 use Rattle.hx_framing.specs.StatusHead.{IsStatusHead, status_head_of}

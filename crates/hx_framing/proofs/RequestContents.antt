@@ -1,59 +1,57 @@
 -- What a request reader reads in a content, and what it is left with.
 use Rattle.std.proofs.Common.{◌≡◌, ℕ, Bool, true, false, List, ◌++◌, drop, refl, sym, ap, ◌∙◌, subst, Option}
-use Rattle.hx_framing.specs.declared.request_head.Head.{Head}
-use Rattle.hx_framing.specs.declared.requests.Request.{Request}
+use Rattle.hx_framing.specs.declared.heads.request_head.Head.{Head}
+use Rattle.hx_framing.specs.declared.messages.Request.{Request}
 use Rattle.hx_framing.specs.declared.fault.FrameFault.{FrameFault}
-use Rattle.hx_framing.specs.declared.fault.FrameFault.TheVariants as fault
-use Rattle.hx_framing.specs.declared.content.Content.{Content}
-use Rattle.hx_framing.specs.declared.content.Taken.{Taken}
-use Rattle.hx_framing.specs.declared.content.Taken.TheVariants as taken
-use Rattle.hx_framing.specs.declared.request_phase.RequestPhase.TheVariants as phase
-use Rattle.hx_framing.specs.Body.{Body, Short, Bad, Whole}
-use Rattle.hx_framing.specs.Contents.{Advances}
+use Rattle.hx_framing.specs.declared.contents.content.Content.{Content}
+use Rattle.hx_framing.specs.declared.contents.content.ContentProgress.{ContentProgress}
+use Rattle.hx_framing.specs.declared.contents.content.ContentProgress.TheVariants as content_progress
+use Rattle.hx_framing.specs.declared.readers.request_reader.RequestPhase.TheVariants as phase
+use Rattle.hx_framing.specs.Body.{Body, Short, Whole}
+use Rattle.hx_framing.specs.Contents.{body_from, Advances}
+use Rattle.hx_framing.specs.ContentReading.{ReadsOn}
 use Rattle.hx_framing.specs.Reading.{Reading, Incomplete, Spelled, Faulty, cut_off, with_body}
 use Rattle.hx_framing.specs.Progress.{Progress}
 use Rattle.hx_framing.specs.RequestReading.{request_of, Reads}
-use Rattle.hx_framing.specs.RequestFound.{Resumes}
+use Rattle.hx_framing.specs.RequestHeadProgress.{Resumes}
 use Rattle.hx_framing.specs.RequestState.{State, StandsFor}
+use Rattle.hx_framing.proofs.ContentReadings.{body_faulty}
 use Rattle.hx_framing.proofs.RequestStreams.{inside, content_reads, stands_on, keeps_going}
 
 -- a reader in this content
 abbrev pub in_content : State → Head → Content → State
 in_content b head content = record b { phase = phase.InContent head content }
 
--- what was taken of the unread bytes, as a function has it
-pub took : (b : State) (slice unread : List ℕ) (content new : Content) (t s : Taken) → slice ≡ unread → unread ≡ b.unread → t ≡ s → Advances false slice content t new
-    → Advances false b.unread content s new
-took b slice unread content new t s same kept is h =
-    subst (λ (t : Taken). Advances false b.unread content t new) is (subst (λ (u : List ℕ). Advances false u content t new) (same ∙ kept) h)
-
-pub cut_reads : (b : State) (p : Progress Request) (head : Head) (content new : Content) (n : ℕ) → b.ended ≡ true
-    → Advances false b.unread content (taken.Short n) new → (stands : StandsFor (in_content b head content) p)
-    → Reads p.max_body p.ended p.told stands.rest (Faulty fault.Truncated)
-cut_reads b p head content new n ends k stands =
-    subst (λ (r : Reading Request). Reads p.max_body p.ended p.told stands.rest r) (ap (λ (e : Bool). cut_off {M = Request} e) ends)
-    (content_reads (in_content b head content) p head content Short refl stands k.1)
+-- what was read of the unread bytes, as a function has it
+pub read_of : (b : State) (e : Bool) (unread left : List ℕ) (content new : Content) (t s : ContentProgress) → e ≡ b.ended → unread ≡ b.unread → t ≡ s
+    → ReadsOn e false unread content t new left → ReadsOn b.ended false b.unread content s new left
+read_of b e unread left content new t s ends kept is h =
+    subst (λ (e : Bool). ReadsOn e false b.unread content s new left) ends
+    (subst (λ (t : ContentProgress). ReadsOn e false b.unread content t new left) is
+    (subst (λ (u : List ℕ). ReadsOn e false u content t new left) kept h))
 
 pub going_reads : (b : State) (p : Progress Request) (head : Head) (content new : Content) (n : ℕ) → b.ended ≡ false
-    → Advances false b.unread content (taken.Short n) new → (stands : StandsFor (in_content b head content) p)
+    → Advances false b.unread content (content_progress.Incomplete n) new → (stands : StandsFor (in_content b head content) p)
     → Reads p.max_body p.ended p.told stands.rest Incomplete
 going_reads b p head content new n open_still k stands =
     subst (λ (r : Reading Request). Reads p.max_body p.ended p.told stands.rest r) (ap (λ (e : Bool). cut_off {M = Request} e) open_still)
     (content_reads (in_content b head content) p head content Short refl stands k.1)
 
-pub bad_reads : (b : State) (p : Progress Request) (head : Head) (content new : Content) (f : FrameFault)
-    → Advances false b.unread content (taken.Bad f) new → (stands : StandsFor (in_content b head content) p)
+pub faulty_reads : (b : State) (p : Progress Request) (head : Head) (content : Content) (f : FrameFault)
+    → with_body {M = Option (List ℕ)} b.ended (λ c. c) (body_from content false b.unread) ≡ Faulty f → (stands : StandsFor (in_content b head content) p)
     → Reads p.max_body p.ended p.told stands.rest (Faulty f)
-bad_reads b p head content new f k stands = content_reads (in_content b head content) p head content (Bad f) refl stands k
+faulty_reads b p head content f k stands =
+    subst (λ (r : Reading Request). Reads p.max_body p.ended p.told stands.rest r) (body_faulty b.ended (request_of head) (body_from content false b.unread) f k)
+    (content_reads (in_content b head content) p head content (body_from content false b.unread) refl stands refl)
 
 pub whole_reads : (b : State) (p : Progress Request) (head : Head) (content new : Content) (c : Option (List ℕ)) (n : ℕ)
-    → Advances false b.unread content (taken.Whole c n) new → (stands : StandsFor (in_content b head content) p)
+    → Advances false b.unread content (content_progress.Whole c n) new → (stands : StandsFor (in_content b head content) p)
     → Reads p.max_body p.ended p.told stands.rest (Spelled (request_of head c) (drop n b.unread))
 whole_reads b p head content new c n k stands = content_reads (in_content b head content) p head content (Whole c (drop n b.unread)) refl stands k.1
 
 -- the content goes on
 pub stands_going : (b t : State) (p : Progress Request) (head : Head) (content new : Content) (n : ℕ) → t.max_body ≡ b.max_body → t.ended ≡ b.ended
-    → t.phase ≡ phase.InContent head new → t.unread ≡ drop n b.unread → Advances false b.unread content (taken.Short n) new
+    → t.phase ≡ phase.InContent head new → t.unread ≡ drop n b.unread → Advances false b.unread content (content_progress.Incomplete n) new
     → StandsFor (in_content b head content) p → StandsFor t p
 stands_going b t p head content new n max e going left k stands =
     let on : Resumes p.max_body p.told head content stands.rest b.unread = inside (in_content b head content) p head content refl stands in

@@ -1,23 +1,23 @@
 -- What a request reader reads before a head, and what it is left with.
 use Rattle.std.proofs.Common.{◌≡◌, ℕ, Bool, true, false, List, drop, sym, ◌∙◌, subst}
-use Rattle.hx_framing.specs.declared.request_head.Head.{Head}
-use Rattle.hx_framing.specs.declared.requests.Request.{Request}
-use Rattle.hx_framing.specs.declared.content.Content.{Content}
-use Rattle.hx_framing.specs.declared.answer.Found.{Found}
-use Rattle.hx_framing.specs.declared.request_phase.RequestPhase.TheVariants as phase
+use Rattle.hx_framing.specs.declared.heads.request_head.Head.{Head}
+use Rattle.hx_framing.specs.declared.messages.Request.{Request}
+use Rattle.hx_framing.specs.declared.contents.content.Content.{Content}
+use Rattle.hx_framing.specs.declared.readers.progress.HeadProgress.{HeadProgress}
+use Rattle.hx_framing.specs.declared.readers.request_reader.RequestPhase.TheVariants as phase
 use Rattle.hx_framing.specs.Progress.{Progress}
-use Rattle.hx_framing.specs.RequestFound.{Resumes, IsFound}
+use Rattle.hx_framing.specs.RequestHeadProgress.{Resumes, IsHeadProgress}
 use Rattle.hx_framing.specs.RequestState.{State, StandsFor}
 use Rattle.hx_framing.proofs.RequestStreams.{before, keeps_going}
 
 -- what is found in the unread bytes, as a function has it
-pub found_of : (b : State) (max : ℕ) (e : Bool) (slice unread : List ℕ) (f g : Found Head Request) → max ≡ b.max_body → e ≡ b.ended → slice ≡ unread → unread ≡ b.unread → f ≡ g
-    → IsFound max e slice f → IsFound b.max_body b.ended b.unread g
-found_of b max e slice unread f g same ends read kept is h =
-    subst (λ (m : ℕ). IsFound m b.ended b.unread g) same
-    (subst (λ (e : Bool). IsFound max e b.unread g) ends
-    (subst (λ (u : List ℕ). IsFound max e u g) (read ∙ kept)
-    (subst (λ (f : Found Head Request). IsFound max e slice f) is h)))
+pub progress_of : (b : State) (max : ℕ) (e : Bool) (slice unread : List ℕ) (f g : HeadProgress Head Request) → max ≡ b.max_body → e ≡ b.ended → slice ≡ unread → unread ≡ b.unread → f ≡ g
+    → IsHeadProgress max e slice f → IsHeadProgress b.max_body b.ended b.unread g
+progress_of b max e slice unread f g same ends read kept is h =
+    subst (λ (m : ℕ). IsHeadProgress m b.ended b.unread g) same
+    (subst (λ (e : Bool). IsHeadProgress max e b.unread g) ends
+    (subst (λ (u : List ℕ). IsHeadProgress max e u g) (read ∙ kept)
+    (subst (λ (f : HeadProgress Head Request). IsHeadProgress max e slice f) is h)))
 
 resumes_kept : (b : State) (p : Progress Request) (t : Bool) (head : Head) (content : Content) (unread : List ℕ) → b.phase ≡ phase.BeforeHead → (stands : StandsFor b p)
     → Resumes b.max_body t head content b.unread unread → Resumes p.max_body t head content stands.rest unread

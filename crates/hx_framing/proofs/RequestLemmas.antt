@@ -2,39 +2,39 @@
 use Rattle.std.proofs.Common.{◌≡◌, ℕ, ◌<◌, ◌≤◌, ◌&&◌, Bool, true, false, not, cond, List, ◌++◌, length, drop, take, ◌==◌, nat_lt, refl, sym, ap, ◌∙◌, subst, arith, Option, Some, None, Result, Ok, Err, length-append, length-take}
 use Rattle.std.proofs.lemmas.List.{drop-append-le, take-append-le}
 use Rattle.std.proofs.lemmas.Bool.{ltb-true, lt-ltb}
-use Rattle.hx_framing.specs.declared.request_head.Head.{Head}
-use Rattle.hx_framing.specs.declared.requests.Request.{Request}
-use Rattle.hx_framing.specs.declared.lengths.Plan.{Plan}
+use Rattle.hx_framing.specs.declared.heads.request_head.Head.{Head}
+use Rattle.hx_framing.specs.declared.messages.Request.{Request}
+use Rattle.hx_framing.specs.declared.lengths.framing.RequestBody.{RequestBody}
 use Rattle.hx_framing.specs.declared.fault.FrameFault.{FrameFault}
 use Rattle.hx_framing.specs.declared.fault.FrameFault.TheVariants as fault
-use Rattle.hx_framing.specs.Places.{head_length, blank_length}
+use Rattle.hx_framing.specs.Places.{head_length, empty_lines_length}
 use Rattle.hx_framing.specs.Head.{Judges}
-use Rattle.hx_framing.specs.Lengths.{plan_of}
+use Rattle.hx_framing.specs.Lengths.{request_body_of}
 use Rattle.hx_framing.specs.Contents.{body_at}
 use Rattle.hx_framing.specs.Reading.{Reading, Incomplete, Continue, Over, Spelled, Faulty, cut_off, with_body, IsSettled, extended}
-use Rattle.hx_framing.specs.RequestReading.{request_of, with_plan, with_head, ReadsBy, Reads}
+use Rattle.hx_framing.specs.RequestReading.{request_of, with_request_body, with_head, ReadsBy, Reads}
 use Rattle.hx_framing.proofs.HeadEnds.{head_within_bytes, front_stable}
 use Rattle.hx_framing.proofs.BodyLemmas.{body_message, body_ended, body_over, settled_decided, body_extended, body_append}
 
 -- ---- a request
 
-plan_message : (max : ℕ) (e t : Bool) (head : Head) (bytes : List ℕ) (m : Request) (r : List ℕ) (f : Result Plan FrameFault)
-    → Spelled m r ≡ with_plan max e t head bytes f → Spelled m r ≡ with_plan max false true head bytes f
-plan_message max e t head bytes m r (Err f) x = absurd cc
-plan_message max e t head bytes m r (Ok plan) x = by_wish plan.wants_continue t x
+request_body_message : (max : ℕ) (e t : Bool) (head : Head) (bytes : List ℕ) (m : Request) (r : List ℕ) (f : Result RequestBody FrameFault)
+    → Spelled m r ≡ with_request_body max e t head bytes f → Spelled m r ≡ with_request_body max false true head bytes f
+request_body_message max e t head bytes m r (Err f) x = absurd cc
+request_body_message max e t head bytes m r (Ok request_body) x = by_wish request_body.wants_continue t x
   where
     body : Bool → Reading Request
-    body e = with_body e (request_of head) (body_at max plan.framing false bytes)
+    body e = with_body e (request_of head) (body_at max request_body.framing false bytes)
 
     by_wish : (w t : Bool) → Spelled m r ≡ cond (w && not t) Continue (body e) → Spelled m r ≡ cond (w && false) Continue (body false)
-    by_wish true true x = body_message e (request_of head) m r (body_at max plan.framing false bytes) x
+    by_wish true true x = body_message e (request_of head) m r (body_at max request_body.framing false bytes) x
     by_wish true false x = absurd cc
-    by_wish false t x = body_message e (request_of head) m r (body_at max plan.framing false bytes) x
+    by_wish false t x = body_message e (request_of head) m r (body_at max request_body.framing false bytes) x
 
 head_message : (max : ℕ) (e t : Bool) (bytes : List ℕ) (m : Request) (r : List ℕ) (j : Result Head FrameFault)
     → Spelled m r ≡ with_head max e t bytes j → Spelled m r ≡ with_head max false true bytes j
 head_message max e t bytes m r (Err f) x = absurd cc
-head_message max e t bytes m r (Ok head) x = plan_message max e t head bytes m r (plan_of max head) x
+head_message max e t bytes m r (Ok head) x = request_body_message max e t head bytes m r (request_body_of max head) x
 
 no_message : (e over blank : Bool) (m : Request) (r : List ℕ) → Spelled m r ≡ cond over (Faulty fault.Head) (cond (e && blank) Over (cut_off e)) → ⊥
 no_message e true blank m r x = cc
@@ -46,25 +46,25 @@ pub reads_message : (max : ℕ) (e t : Bool) (u : List ℕ) (m : Request) (r : L
 reads_message max e t u m r x = by_place (head_length (take 32768 u)) x
   where
     by_place : (o : Option ℕ) → ReadsBy max e t u o (Spelled m r) → ReadsBy max false true u o (Spelled m r)
-    by_place None x = absurd (no_message e (nat_lt 32768 (length u)) (blank_length u == length u) m r x)
+    by_place None x = absurd (no_message e (nat_lt 32768 (length u)) (empty_lines_length u == length u) m r x)
     by_place (Some n) x = (x.0, x.1, head_message max e t (drop n u) m r x.0 x.2)
 
 -- ---- what is due stays due where the stream ends
 
-plan_ended : (max : ℕ) (t : Bool) (head : Head) (bytes : List ℕ) (r : Reading Request) (f : Result Plan FrameFault) → IsSettled r
-    → r ≡ with_plan max false t head bytes f → r ≡ with_plan max true t head bytes f
-plan_ended max t head bytes r (Err g) due x = x
-plan_ended max t head bytes r (Ok plan) due x = by_wish (plan.wants_continue && not t) x
+request_body_ended : (max : ℕ) (t : Bool) (head : Head) (bytes : List ℕ) (r : Reading Request) (f : Result RequestBody FrameFault) → IsSettled r
+    → r ≡ with_request_body max false t head bytes f → r ≡ with_request_body max true t head bytes f
+request_body_ended max t head bytes r (Err g) due x = x
+request_body_ended max t head bytes r (Ok request_body) due x = by_wish (request_body.wants_continue && not t) x
   where
-    by_wish : (w : Bool) → r ≡ cond w Continue (with_body false (request_of head) (body_at max plan.framing false bytes))
-        → r ≡ cond w Continue (with_body true (request_of head) (body_at max plan.framing false bytes))
+    by_wish : (w : Bool) → r ≡ cond w Continue (with_body false (request_of head) (body_at max request_body.framing false bytes))
+        → r ≡ cond w Continue (with_body true (request_of head) (body_at max request_body.framing false bytes))
     by_wish true x = x
-    by_wish false x = body_ended (request_of head) r (body_at max plan.framing false bytes) due x
+    by_wish false x = body_ended (request_of head) r (body_at max request_body.framing false bytes) due x
 
 head_ended : (max : ℕ) (t : Bool) (bytes : List ℕ) (r : Reading Request) (j : Result Head FrameFault) → IsSettled r
     → r ≡ with_head max false t bytes j → r ≡ with_head max true t bytes j
 head_ended max t bytes r (Err g) due x = x
-head_ended max t bytes r (Ok head) due x = plan_ended max t head bytes r (plan_of max head) due x
+head_ended max t bytes r (Ok head) due x = request_body_ended max t head bytes r (request_body_of max head) due x
 
 no_head_ended : (over blank : Bool) (r : Reading Request) → IsSettled r → r ≡ cond over (Faulty fault.Head) Incomplete
     → r ≡ cond over (Faulty fault.Head) (cond blank Over (Faulty fault.Truncated))
@@ -76,7 +76,7 @@ reads_ended max true t u r due x = x
 reads_ended max false t u r due x = by_place (head_length (take 32768 u)) x
   where
     by_place : (o : Option ℕ) → ReadsBy max false t u o r → ReadsBy max true t u o r
-    by_place None x = no_head_ended (nat_lt 32768 (length u)) (blank_length u == length u) r due x
+    by_place None x = no_head_ended (nat_lt 32768 (length u)) (empty_lines_length u == length u) r due x
     by_place (Some n) x = (x.0, x.1, head_ended max t (drop n u) r x.0 due x.2)
 
 -- before the stream's end no end is read
@@ -91,15 +91,15 @@ reads_over max t u x = by_place (head_length (take 32768 u)) x
     wish_over true r none x = cc
     wish_over false r none x = none x
 
-    plan_over : (head : Head) (bytes : List ℕ) (f : Result Plan FrameFault) → Over ≡ with_plan max false t head bytes f → ⊥
-    plan_over head bytes (Err f) x = cc
-    plan_over head bytes (Ok plan) x =
-        let body = body_at max plan.framing false bytes in
-        wish_over (plan.wants_continue && not t) (with_body false (request_of head) body) (body_over false (request_of head) body) x
+    request_body_over : (head : Head) (bytes : List ℕ) (f : Result RequestBody FrameFault) → Over ≡ with_request_body max false t head bytes f → ⊥
+    request_body_over head bytes (Err f) x = cc
+    request_body_over head bytes (Ok request_body) x =
+        let body = body_at max request_body.framing false bytes in
+        wish_over (request_body.wants_continue && not t) (with_body false (request_of head) body) (body_over false (request_of head) body) x
 
     head_over : (bytes : List ℕ) (j : Result Head FrameFault) → Over ≡ with_head max false t bytes j → ⊥
     head_over bytes (Err f) x = cc
-    head_over bytes (Ok head) x = plan_over head bytes (plan_of max head) x
+    head_over bytes (Ok head) x = request_body_over head bytes (request_body_of max head) x
 
     by_place : (o : Option ℕ) → ReadsBy max false t u o Over → ⊥
     by_place None x = no_over (nat_lt 32768 (length u)) x
@@ -107,25 +107,25 @@ reads_over max t u x = by_place (head_length (take 32768 u)) x
 
 -- ---- bytes that come later
 
-plan_append : (max : ℕ) (t : Bool) (head : Head) (bytes w : List ℕ) (f : Result Plan FrameFault) → IsSettled (with_plan max false t head bytes f)
-    → with_plan max false t head (bytes ++ w) f ≡ extended (with_plan max false t head bytes f) w
-plan_append max t head bytes w (Err g) due = refl
-plan_append max t head bytes w (Ok plan) due = by_wish (plan.wants_continue && not t) due
+request_body_append : (max : ℕ) (t : Bool) (head : Head) (bytes w : List ℕ) (f : Result RequestBody FrameFault) → IsSettled (with_request_body max false t head bytes f)
+    → with_request_body max false t head (bytes ++ w) f ≡ extended (with_request_body max false t head bytes f) w
+request_body_append max t head bytes w (Err g) due = refl
+request_body_append max t head bytes w (Ok request_body) due = by_wish (request_body.wants_continue && not t) due
   where
     body : List ℕ → Reading Request
-    body bytes = with_body false (request_of head) (body_at max plan.framing false bytes)
+    body bytes = with_body false (request_of head) (body_at max request_body.framing false bytes)
 
     by_wish : (s : Bool) → IsSettled (cond s Continue (body bytes)) → cond s Continue (body (bytes ++ w)) ≡ extended (cond s Continue (body bytes)) w
     by_wish true due = refl
     by_wish false due =
-        let decided = settled_decided (request_of head) (body_at max plan.framing false bytes) due in
-        ap (λ b. with_body false (request_of head) b) (body_append max plan.framing bytes w decided)
-        ∙ body_extended (request_of head) (body_at max plan.framing false bytes) w decided
+        let decided = settled_decided (request_of head) (body_at max request_body.framing false bytes) due in
+        ap (λ b. with_body false (request_of head) b) (body_append max request_body.framing bytes w decided)
+        ∙ body_extended (request_of head) (body_at max request_body.framing false bytes) w decided
 
 head_append : (max : ℕ) (t : Bool) (bytes w : List ℕ) (j : Result Head FrameFault) → IsSettled (with_head max false t bytes j)
     → with_head max false t (bytes ++ w) j ≡ extended (with_head max false t bytes j) w
 head_append max t bytes w (Err g) due = refl
-head_append max t bytes w (Ok head) due = plan_append max t head bytes w (plan_of max head) due
+head_append max t bytes w (Ok head) due = request_body_append max t head bytes w (request_body_of max head) due
 
 pub reads_append : (max : ℕ) (t : Bool) (u w : List ℕ) (r : Reading Request) → IsSettled r → Reads max false t u r → Reads max false t (u ++ w) (extended r w)
 reads_append max t u w r due x = by_place (head_length (take 32768 u)) refl x

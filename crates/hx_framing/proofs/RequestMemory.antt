@@ -1,21 +1,21 @@
 -- Behind the head of a request, and in its content, the answer may want memory.
 use Rattle.std.proofs.Common.{◌≡◌, ℕ, ◌&&◌, Bool, true, false, not, cond, List, drop, refl, sym, ap, subst, ◌∙◌, Option, Result, Ok, Err}
 use Rattle.hx_framing.specs.declared.fault.FrameFault.{FrameFault}
-use Rattle.hx_framing.specs.declared.lengths.Plan.{Plan}
-use Rattle.hx_framing.specs.declared.request_head.Head.{Head}
-use Rattle.hx_framing.specs.declared.requests.Request.{Request}
-use Rattle.hx_framing.specs.declared.content.Content.{Content}
-use Rattle.hx_framing.specs.declared.request_phase.RequestPhase.TheVariants as phase
-use Rattle.hx_framing.specs.declared.answer.Next.{Next}
-use Rattle.hx_framing.specs.Lengths.{plan_of}
+use Rattle.hx_framing.specs.declared.lengths.framing.RequestBody.{RequestBody}
+use Rattle.hx_framing.specs.declared.heads.request_head.Head.{Head}
+use Rattle.hx_framing.specs.declared.messages.Request.{Request}
+use Rattle.hx_framing.specs.declared.contents.content.Content.{Content}
+use Rattle.hx_framing.specs.declared.readers.request_reader.RequestPhase.TheVariants as phase
+use Rattle.hx_framing.specs.declared.messages.Next.{Next}
+use Rattle.hx_framing.specs.Lengths.{request_body_of}
 use Rattle.hx_framing.specs.Contents.{body_at, body_from}
 use Rattle.hx_framing.specs.Reading.{Reading, Continue, with_body}
-use Rattle.hx_framing.specs.RequestReading.{request_of, with_plan, with_head, Reads, ReadsBy}
-use Rattle.hx_framing.specs.RequestFound.{HasHead}
+use Rattle.hx_framing.specs.RequestReading.{request_of, with_request_body, with_head, Reads, ReadsBy}
+use Rattle.hx_framing.specs.RequestHeadProgress.{HasHead}
 use Rattle.hx_framing.specs.RequestState.{State, StandsFor}
 use Rattle.hx_framing.specs.RequestStream.{NeedsMemory}
 use Rattle.hx_framing.specs.Progress.{Progress, needs_memory, next_of}
-use Rattle.hx_framing.proofs.MemoryLemmas.{IsBehindHead, plan_behind, body_behind, rest_behind, body_needs}
+use Rattle.hx_framing.proofs.MemoryLemmas.{IsBehindHead, request_body_behind, body_behind, rest_behind, body_needs}
 use Rattle.hx_framing.proofs.RequestOnce.{answered_once_lem}
 use Rattle.hx_framing.proofs.RequestStreams.{answers_by, kept_reads, content_reads}
 
@@ -23,10 +23,10 @@ wish_needs : (w : Bool) (r : Reading Request) → needs_memory (next_of r) ≡ t
 wish_needs true r x = refl
 wish_needs false r x = x
 
-plan_needs : (max : ℕ) (e t : Bool) (head : Head) (bytes : List ℕ) (r : Result Plan FrameFault) → IsBehindHead r → needs_memory (next_of (with_plan max e t head bytes r)) ≡ true
-plan_needs max e t head bytes (Err f) x = ap not x
-plan_needs max e t head bytes (Ok plan) x =
-    wish_needs (plan.wants_continue && not t) _ (body_needs e (request_of head) (body_at max plan.framing false bytes) (body_behind max plan.framing false bytes))
+request_body_needs : (max : ℕ) (e t : Bool) (head : Head) (bytes : List ℕ) (r : Result RequestBody FrameFault) → IsBehindHead r → needs_memory (next_of (with_request_body max e t head bytes r)) ≡ true
+request_body_needs max e t head bytes (Err f) x = ap not x
+request_body_needs max e t head bytes (Ok request_body) x =
+    wish_needs (request_body.wants_continue && not t) _ (body_needs e (request_of head) (body_at max request_body.framing false bytes) (body_behind max request_body.framing false bytes))
 
 -- the answer of a stream is one
 needs_by : (p : Progress Request) (s : State) (r : Reading Request) → (stands : StandsFor s p) → Reads p.max_body p.ended p.told stands.rest r
@@ -41,7 +41,7 @@ pub head_needs : (s : State) (p : Progress Request) → s.phase ≡ phase.Before
 head_needs s p waiting has stands =
     needs_by p s (with_head s.max_body s.ended false (drop has.0 s.unread) (Ok has.1)) stands
     (kept_reads s p _ waiting stands (head_reads s.max_body s.ended false s.unread has))
-    (plan_needs s.max_body s.ended false has.1 (drop has.0 s.unread) (plan_of s.max_body has.1) (plan_behind s.max_body has.1))
+    (request_body_needs s.max_body s.ended false has.1 (drop has.0 s.unread) (request_body_of s.max_body has.1) (request_body_behind s.max_body has.1))
 
 pub content_needs : (s : State) (p : Progress Request) (head : Head) (content : Content) → s.phase ≡ phase.InContent head content → StandsFor s p → NeedsMemory p
 content_needs s p head content going stands =

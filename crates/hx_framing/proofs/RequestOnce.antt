@@ -1,10 +1,10 @@
 -- What the definitions of request streams say is one thing.
 use Rattle.std.proofs.Common.{◌≡◌, ℕ, Bool, true, false, List, [], ◌∷◌, length, take, drop, refl, sym, ap, ◌∙◌, subst, Option, Some, None, Result, Ok, Err, arith}
 use Rattle.httparse.proofs.GrammarLemmas.{request_unique}
-use Rattle.hx_framing.specs.declared.request_head.Head.{Head}
+use Rattle.hx_framing.specs.declared.heads.request_head.Head.{Head}
 use Rattle.hx_framing.specs.declared.fault.FrameFault.{FrameFault}
-use Rattle.hx_framing.specs.declared.requests.Request.{Request}
-use Rattle.hx_framing.specs.declared.answer.Next.{Next}
+use Rattle.hx_framing.specs.declared.messages.Request.{Request}
+use Rattle.hx_framing.specs.declared.messages.Next.{Next}
 use Rattle.hx_framing.specs.Places.{head_length}
 use Rattle.hx_framing.specs.Head.{Judges, head_of}
 use Rattle.hx_framing.specs.Reading.{Reading, Spelled}

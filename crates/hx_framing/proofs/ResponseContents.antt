@@ -1,56 +1,52 @@
 -- What a response reader reads in a content and before a head, as its functions have it.
 use Rattle.std.proofs.Common.{◌≡◌, ℕ, Bool, true, false, List, [], ◌++◌, drop, refl, sym, ap, ◌∙◌, subst, Option}
-use Rattle.hx_framing.specs.declared.status_head.StatusHead.{StatusHead}
-use Rattle.hx_framing.specs.declared.responses.Response.{Response}
+use Rattle.hx_framing.specs.declared.heads.status_head.StatusHead.{StatusHead}
+use Rattle.hx_framing.specs.declared.messages.Response.{Response}
 use Rattle.hx_framing.specs.declared.fault.FrameFault.{FrameFault}
-use Rattle.hx_framing.specs.declared.fault.FrameFault.TheVariants as fault
-use Rattle.hx_framing.specs.declared.content.Content.{Content}
-use Rattle.hx_framing.specs.declared.content.Taken.{Taken}
-use Rattle.hx_framing.specs.declared.content.Taken.TheVariants as taken
-use Rattle.hx_framing.specs.declared.answer.Found.{Found}
-use Rattle.hx_framing.specs.declared.response_phase.ResponsePhase.TheVariants as phase
-use Rattle.hx_framing.specs.Body.{Body, Short, Bad, Whole}
+use Rattle.hx_framing.specs.declared.contents.content.Content.{Content}
+use Rattle.hx_framing.specs.declared.contents.content.ContentProgress.{ContentProgress}
+use Rattle.hx_framing.specs.declared.contents.content.ContentProgress.TheVariants as content_progress
+use Rattle.hx_framing.specs.declared.readers.progress.HeadProgress.{HeadProgress}
+use Rattle.hx_framing.specs.declared.readers.response_reader.ResponsePhase.TheVariants as phase
+use Rattle.hx_framing.specs.Body.{Body, Short, Whole}
 use Rattle.hx_framing.specs.Contents.{body_from, Advances}
+use Rattle.hx_framing.specs.ContentReading.{ReadsOn}
 use Rattle.hx_framing.specs.Reading.{Reading, Incomplete, Spelled, Faulty, cut_off, with_body}
 use Rattle.hx_framing.specs.Progress.{Progress}
 use Rattle.hx_framing.specs.ResponseReading.{response_of, Reads}
-use Rattle.hx_framing.specs.ResponseFound.{Resumes, IsFound}
+use Rattle.hx_framing.specs.ResponseHeadProgress.{Resumes, IsHeadProgress}
 use Rattle.hx_framing.specs.ResponseState.{State, StandsFor}
+use Rattle.hx_framing.proofs.ContentReadings.{body_faulty}
 use Rattle.hx_framing.proofs.ResponseStreams.{inside, content_reads, Same, stands_going}
 
 -- a reader in this content
 abbrev pub in_content : State → StatusHead → Content → State
 in_content b head content = record b { phase = phase.InContent head content }
 
--- what was taken of the unread bytes
-pub took : (b : State) (e : Bool) (slice unread : List ℕ) (content new : Content) (t s : Taken) → e ≡ b.ended → slice ≡ unread → unread ≡ b.unread → t ≡ s
-    → Advances e slice content t new → Advances b.ended b.unread content s new
-took b e slice unread content new t s ends same kept is h =
-    subst (λ (e : Bool). Advances e b.unread content s new) ends
-    (subst (λ (t : Taken). Advances e b.unread content t new) is
-    (subst (λ (u : List ℕ). Advances e u content t new) (same ∙ kept) h))
-
-pub cut_reads : (b : State) (p : Progress Response) (head : StatusHead) (content new : Content) (n : ℕ) → b.ended ≡ true
-    → Advances b.ended b.unread content (taken.Short n) new → StandsFor (in_content b head content) p
-    → Reads p.max_body p.to_head p.ended p.stream (Faulty fault.Truncated)
-cut_reads b p head content new n ends k stands =
-    subst (λ (r : Reading Response). Reads p.max_body p.to_head p.ended p.stream r) (ap (λ (e : Bool). cut_off {M = Response} e) ends)
-    (content_reads (in_content b head content) p head content Short refl stands k.1)
+-- what was read of the unread bytes
+pub read_of : (b : State) (e : Bool) (unread left : List ℕ) (content new : Content) (t s : ContentProgress) → e ≡ b.ended → unread ≡ b.unread → t ≡ s
+    → ReadsOn e e unread content t new left → ReadsOn b.ended b.ended b.unread content s new left
+read_of b e unread left content new t s ends kept is h =
+    subst (λ (e : Bool). ReadsOn e e b.unread content s new left) ends
+    (subst (λ (t : ContentProgress). ReadsOn e e b.unread content t new left) is
+    (subst (λ (u : List ℕ). ReadsOn e e u content t new left) kept h))
 
 pub going_reads : (b : State) (p : Progress Response) (head : StatusHead) (content new : Content) (n : ℕ) → b.ended ≡ false
-    → Advances b.ended b.unread content (taken.Short n) new → StandsFor (in_content b head content) p
+    → Advances b.ended b.unread content (content_progress.Incomplete n) new → StandsFor (in_content b head content) p
     → Reads p.max_body p.to_head p.ended p.stream Incomplete
 going_reads b p head content new n open_still k stands =
     subst (λ (r : Reading Response). Reads p.max_body p.to_head p.ended p.stream r) (ap (λ (e : Bool). cut_off {M = Response} e) open_still)
     (content_reads (in_content b head content) p head content Short refl stands k.1)
 
-pub bad_reads : (b : State) (p : Progress Response) (head : StatusHead) (content new : Content) (f : FrameFault)
-    → Advances b.ended b.unread content (taken.Bad f) new → StandsFor (in_content b head content) p
+pub faulty_reads : (b : State) (p : Progress Response) (head : StatusHead) (content : Content) (f : FrameFault)
+    → with_body {M = Option (List ℕ)} b.ended (λ c. c) (body_from content b.ended b.unread) ≡ Faulty f → StandsFor (in_content b head content) p
     → Reads p.max_body p.to_head p.ended p.stream (Faulty f)
-bad_reads b p head content new f k stands = content_reads (in_content b head content) p head content (Bad f) refl stands k
+faulty_reads b p head content f k stands =
+    subst (λ (r : Reading Response). Reads p.max_body p.to_head p.ended p.stream r) (body_faulty b.ended (response_of b.to_head head) (body_from content b.ended b.unread) f k)
+    (content_reads (in_content b head content) p head content (body_from content b.ended b.unread) refl stands refl)
 
 pub whole_reads : (b : State) (p : Progress Response) (head : StatusHead) (content new : Content) (c : Option (List ℕ)) (n : ℕ)
-    → Advances b.ended b.unread content (taken.Whole c n) new → StandsFor (in_content b head content) p
+    → Advances b.ended b.unread content (content_progress.Whole c n) new → StandsFor (in_content b head content) p
     → Reads p.max_body p.to_head p.ended p.stream (Spelled (response_of b.to_head head c) (drop n b.unread))
 whole_reads b p head content new c n k stands = content_reads (in_content b head content) p head content (Whole c (drop n b.unread)) refl stands k.1
 
@@ -60,7 +56,7 @@ none_given b p head content stands = (inside (in_content b head content) p head 
 
 -- the content goes on
 pub stands_later : (b t : State) (p : Progress Response) (head : StatusHead) (content new : Content) (n : ℕ) → Same (in_content b head content) t
-    → t.phase ≡ phase.InContent head new → t.unread ≡ drop n b.unread → Advances b.ended b.unread content (taken.Short n) new
+    → t.phase ≡ phase.InContent head new → t.unread ≡ drop n b.unread → Advances b.ended b.unread content (content_progress.Incomplete n) new
     → StandsFor (in_content b head content) p → StandsFor t p
 stands_later b t p head content new n same going left k stands =
     let here = inside (in_content b head content) p head content refl stands in
@@ -70,11 +66,11 @@ stands_later b t p head content new n same going left k stands =
     stands_going (in_content b head content) t p head new same here.none going later stands
 
 -- what is found in the unread bytes
-pub found_of : (b : State) (max : ℕ) (h e : Bool) (slice unread : List ℕ) (f g : Found StatusHead Response) → max ≡ b.max_body → h ≡ b.to_head → e ≡ b.ended
-    → slice ≡ unread → unread ≡ b.unread → f ≡ g → IsFound max h e slice f → IsFound b.max_body b.to_head b.ended b.unread g
-found_of b max h e slice unread f g same head ends read kept is x =
-    subst (λ (m : ℕ). IsFound m b.to_head b.ended b.unread g) same
-    (subst (λ (h : Bool). IsFound max h b.ended b.unread g) head
-    (subst (λ (e : Bool). IsFound max h e b.unread g) ends
-    (subst (λ (u : List ℕ). IsFound max h e u g) (read ∙ kept)
-    (subst (λ (f : Found StatusHead Response). IsFound max h e slice f) is x))))
+pub progress_of : (b : State) (max : ℕ) (h e : Bool) (slice unread : List ℕ) (f g : HeadProgress StatusHead Response) → max ≡ b.max_body → h ≡ b.to_head → e ≡ b.ended
+    → slice ≡ unread → unread ≡ b.unread → f ≡ g → IsHeadProgress max h e slice f → IsHeadProgress b.max_body b.to_head b.ended b.unread g
+progress_of b max h e slice unread f g same head ends read kept is x =
+    subst (λ (m : ℕ). IsHeadProgress m b.to_head b.ended b.unread g) same
+    (subst (λ (h : Bool). IsHeadProgress max h b.ended b.unread g) head
+    (subst (λ (e : Bool). IsHeadProgress max h e b.unread g) ends
+    (subst (λ (u : List ℕ). IsHeadProgress max h e u g) (read ∙ kept)
+    (subst (λ (f : HeadProgress StatusHead Response). IsHeadProgress max h e slice f) is x))))

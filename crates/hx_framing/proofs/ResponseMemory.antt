@@ -1,17 +1,17 @@
 -- Behind the head of a final response, and in its content, the answer may want memory.
 use Rattle.std.proofs.Common.{◌≡◌, ℕ, Bool, true, not, List, [], drop, refl, sym, ap, subst, ◌∙◌, Option, Result, Ok, Err}
 use Rattle.hx_framing.specs.declared.fault.FrameFault.{FrameFault}
-use Rattle.hx_framing.specs.declared.lengths.Framing.{Framing}
-use Rattle.hx_framing.specs.declared.status_head.StatusHead.{StatusHead}
-use Rattle.hx_framing.specs.declared.responses.Response.{Response}
-use Rattle.hx_framing.specs.declared.content.Content.{Content}
-use Rattle.hx_framing.specs.declared.response_phase.ResponsePhase.TheVariants as phase
-use Rattle.hx_framing.specs.declared.answer.Next.{Next}
+use Rattle.hx_framing.specs.declared.lengths.framing.Framing.{Framing}
+use Rattle.hx_framing.specs.declared.heads.status_head.StatusHead.{StatusHead}
+use Rattle.hx_framing.specs.declared.messages.Response.{Response}
+use Rattle.hx_framing.specs.declared.contents.content.Content.{Content}
+use Rattle.hx_framing.specs.declared.readers.response_reader.ResponsePhase.TheVariants as phase
+use Rattle.hx_framing.specs.declared.messages.Next.{Next}
 use Rattle.hx_framing.specs.Lengths.{framing_of_response}
 use Rattle.hx_framing.specs.Contents.{body_at, body_from}
 use Rattle.hx_framing.specs.Reading.{Reading, with_body}
 use Rattle.hx_framing.specs.ResponseReading.{response_of, with_framing, with_head, Reads, FrontBy}
-use Rattle.hx_framing.specs.ResponseFound.{HasFinal}
+use Rattle.hx_framing.specs.ResponseHeadProgress.{HasFinalHead}
 use Rattle.hx_framing.specs.ResponseState.{State, StandsFor}
 use Rattle.hx_framing.specs.ResponseStream.{NeedsMemory}
 use Rattle.hx_framing.specs.Progress.{Progress, needs_memory, next_of}
@@ -29,7 +29,7 @@ needs_by : (p : Progress Response) (s : State) (r : Reading Response) → p.give
 needs_by p s r none stands reads needs = λ answer x.
     ap (λ (a : Next Response). needs_memory a) (answered_once_lem p answer (next_of r) x (answers_by p s r none stands reads)) ∙ needs
 
-final_reads : (max : ℕ) (h e : Bool) (bytes : List ℕ) → (has : HasFinal bytes)
+final_reads : (max : ℕ) (h e : Bool) (bytes : List ℕ) → (has : HasFinalHead bytes)
     → Reads max h e bytes (with_head max h e (drop has.2.1.2 has.2.1.1) (Ok has.0))
 final_reads max h e bytes has =
     let x = has.2.1 in (
@@ -39,7 +39,7 @@ final_reads max h e bytes has =
       subst (λ (o : Option ℕ). FrontBy max h e x.1 o (with_head max h e (drop x.2 x.1) (Ok has.0))) (sym x.4) (Ok has.0, x.5, x.6, refl),
     )
 
-pub head_needs : (s : State) (p : Progress Response) → s.phase ≡ phase.BeforeHead → HasFinal s.unread → StandsFor s p → NeedsMemory p
+pub head_needs : (s : State) (p : Progress Response) → s.phase ≡ phase.BeforeHead → HasFinalHead s.unread → StandsFor s p → NeedsMemory p
 head_needs s p waiting has stands =
     let rest = drop has.2.1.2 has.2.1.1 in
     needs_by p s (with_head s.max_body s.to_head s.ended rest (Ok has.0)) (before s p waiting stands).none stands

@@ -1,10 +1,10 @@
 -- What the definitions of response streams say is one thing.
 use Rattle.std.proofs.Common.{◌≡◌, ℕ, Bool, true, false, List, [], ◌∷◌, take, drop, sym, ap, ◌∙◌, subst, Option, Some, None, Result, Ok, Err}
 use Rattle.httparse.proofs.GrammarLemmas.{response_unique}
-use Rattle.hx_framing.specs.declared.status_head.StatusHead.{StatusHead}
-use Rattle.hx_framing.specs.declared.responses.Response.{Response}
+use Rattle.hx_framing.specs.declared.heads.status_head.StatusHead.{StatusHead}
+use Rattle.hx_framing.specs.declared.messages.Response.{Response}
 use Rattle.hx_framing.specs.declared.fault.FrameFault.{FrameFault}
-use Rattle.hx_framing.specs.declared.answer.Next.{Next}
+use Rattle.hx_framing.specs.declared.messages.Next.{Next}
 use Rattle.hx_framing.specs.Places.{head_length}
 use Rattle.hx_framing.specs.StatusHead.{Judges, status_head_of}
 use Rattle.hx_framing.specs.Lengths.{is_interim}
@@ -27,8 +27,8 @@ front_once max h e bytes a b x y = by_place (head_length (take 32768 bytes)) x y
     by_place (Some n) x y = x.3 ∙ ap (with_head max h e (drop n bytes)) (judged_once_lem (take n bytes) x.0 y.0 x.1 y.1) ∙ sym y.3
 
 -- behind the interim responses stands none
-front_final : (max : ℕ) (h e : Bool) (bytes : List ℕ) (r : Reading Response) (n : ℕ) → Front max h e bytes r → IsInterim bytes n → ⊥
-front_final max h e bytes r n x y = by_some (subst (λ (o : Option ℕ). FrontBy max h e bytes o r) y.place x)
+final_head_complete : (max : ℕ) (h e : Bool) (bytes : List ℕ) (r : Reading Response) (n : ℕ) → Front max h e bytes r → IsInterim bytes n → ⊥
+final_head_complete max h e bytes r n x y = by_some (subst (λ (o : Option ℕ). FrontBy max h e bytes o r) y.place x)
   where
     both : (t : Bool) → t ≡ false → t ≡ true → ⊥
     both true x y = cc
@@ -46,8 +46,8 @@ once_behind : (max : ℕ) (h e : Bool) (a b : Reading Response) (bytes : List �
     → Front max h e r a → Front max h e q b → a ≡ b
 once_behind max h e a b bytes [] [] r q x y f g =
     front_once max h e q a b (subst (λ (u : List ℕ). Front max h e u a) (sym x ∙ y) f) g
-once_behind max h e a b bytes [] (m ∷ ys) r q x y f g = absurd (front_final max h e bytes a m (subst (λ (u : List ℕ). Front max h e u a) (sym x) f) y.0)
-once_behind max h e a b bytes (n ∷ xs) [] r q x y f g = absurd (front_final max h e bytes b n (subst (λ (u : List ℕ). Front max h e u b) (sym y) g) x.0)
+once_behind max h e a b bytes [] (m ∷ ys) r q x y f g = absurd (final_head_complete max h e bytes a m (subst (λ (u : List ℕ). Front max h e u a) (sym x) f) y.0)
+once_behind max h e a b bytes (n ∷ xs) [] r q x y f g = absurd (final_head_complete max h e bytes b n (subst (λ (u : List ℕ). Front max h e u b) (sym y) g) x.0)
 once_behind max h e a b bytes (n ∷ xs) (m ∷ ys) r q x y f g =
     let same : n ≡ m = same_size n m (sym x.0.place ∙ y.0.place) in
     once_behind max h e a b (drop m bytes) xs ys r q (subst (λ (k : ℕ). Passes (drop k bytes) xs r) same x.1) y.1 f g

@@ -1,19 +1,19 @@
 -- Streams of one response: bytes that come later, and what a reader stands for.
 use Rattle.std.proofs.Common.{◌≡◌, ℕ, Bool, true, false, List, [], ◌∷◌, ◌++◌, drop, refl, sym, ap, subst, ◌∙◌, append_assoc, Result, Ok, Err, OnOk}
 use Rattle.std.proofs.lemmas.List.{append-nil}
-use Rattle.hx_framing.specs.declared.status_head.StatusHead.{StatusHead}
-use Rattle.hx_framing.specs.declared.responses.Response.{Response}
+use Rattle.hx_framing.specs.declared.heads.status_head.StatusHead.{StatusHead}
+use Rattle.hx_framing.specs.declared.messages.Response.{Response}
 use Rattle.hx_framing.specs.declared.fault.FrameFault.{FrameFault}
-use Rattle.hx_framing.specs.declared.answer.Next.{Next}
-use Rattle.hx_framing.specs.declared.answer.Next.TheVariants.{End}
-use Rattle.hx_framing.specs.declared.content.Content.{Content}
-use Rattle.hx_framing.specs.declared.response_phase.ResponsePhase.{ResponsePhase}
-use Rattle.hx_framing.specs.declared.response_phase.ResponsePhase.TheVariants as phase
+use Rattle.hx_framing.specs.declared.messages.Next.{Next}
+use Rattle.hx_framing.specs.declared.messages.Next.TheVariants.{End}
+use Rattle.hx_framing.specs.declared.contents.content.Content.{Content}
+use Rattle.hx_framing.specs.declared.readers.response_reader.ResponsePhase.{ResponsePhase}
+use Rattle.hx_framing.specs.declared.readers.response_reader.ResponsePhase.TheVariants as phase
 use Rattle.hx_framing.specs.Body.{Body}
 use Rattle.hx_framing.specs.Contents.{body_from}
 use Rattle.hx_framing.specs.Reading.{Reading, Incomplete, Continue, Over, Spelled, Faulty, with_body, IsSettled, extended}
 use Rattle.hx_framing.specs.ResponseReading.{response_of, Passes, Reads}
-use Rattle.hx_framing.specs.ResponseFound.{Resumes}
+use Rattle.hx_framing.specs.ResponseHeadProgress.{Resumes}
 use Rattle.hx_framing.specs.ResponseStream.{IsGiven, AnswersBy, Answers}
 use Rattle.hx_framing.specs.Progress.{Progress, next_of, fed, finished, IsDue}
 use Rattle.hx_framing.specs.ResponseState.{State, StandsFor, KeepsBy}

@@ -1,7 +1,7 @@
 -- Bytes that wait to be read.
 use Rattle.std.proofs.Common.{◌≡◌, ℕ, ◌≤◌, List, ◌++◌, true, length, drop, take, sym, ap, ◌∙◌, subst, arith, length-append}
 use Rattle.std.proofs.lemmas.List.{drop-append-le, take-append-le}
-use Rattle.hx_framing.specs.declared.places.HeadSearch.{HeadSearch}
+use Rattle.hx_framing.specs.declared.heads.head_end.HeadSearch.{HeadSearch}
 use Rattle.hx_framing.specs.ChunkGrammar.{has_no_lf}
 use Rattle.hx_framing.specs.Places.{most_head_bytes}
 use Rattle.hx_framing.specs.Searching.{Reaches}

@@ -9,8 +9,8 @@ use Rattle.httparse.specs.Grammar.{is_token_byte, is_uri_byte, is_value_byte, Al
 use Rattle.httparse.specs.Pieces.{Stops, is_newline}
 use Rattle.httparse.proofs.PieceLemmas.{Stops_token}
 use Rattle.hx_fields.specs.declared.field_line.Field.{Field}
-use Rattle.hx_framing.specs.declared.requests.Request.{Request}
-use Rattle.hx_framing.specs.Places.{blank_length, empty_line_from, head_length, most_head_bytes}
+use Rattle.hx_framing.specs.declared.messages.Request.{Request}
+use Rattle.hx_framing.specs.Places.{empty_lines_length, head_end_from, head_length, most_head_bytes}
 use Rattle.hx_framing.specs.Text.{field_line, field_lines, content_bytes, request_text}
 use Rattle.hx_framing.specs.Written.{head_text, sent_fields, IsWritableField, IsWritable}
 use Rattle.hx_framing.proofs.HeadEnds.{front_stable}
@@ -39,11 +39,11 @@ pub inside_append : (a b : List ℕ) → AreInside a → AreInside b → AreInsi
 inside_append a b x y = list_all-append is_inside a b ∙ and_from _ _ x y
 
 -- one byte further, by the four tests of the search
-pub step : (x : ℕ) (l : List ℕ) (at : ℕ) → (x == 10) ≡ false → empty_line_from at (x ∷ l) ≡ empty_line_from (at + 1) l
+pub step : (x : ℕ) (l : List ℕ) (at : ℕ) → (x == 10) ≡ false → head_end_from at (x ∷ l) ≡ head_end_from (at + 1) l
 step x l at other = by_test (x == 10) (slice_index (x ∷ l) 1 == 10) (slice_index (x ∷ l) 1 == 13) (slice_index (x ∷ l) 2 == 10) other
   where
     by_test : (t s r q : Bool) → t ≡ false
-        → cond (cond (t && s) 2 (cond (t && r && q) 3 0) == 0) (empty_line_from (at + 1) l) (Some (at + cond (t && s) 2 (cond (t && r && q) 3 0))) ≡ empty_line_from (at + 1) l
+        → cond (cond (t && s) 2 (cond (t && r && q) 3 0) == 0) (head_end_from (at + 1) l) (Some (at + cond (t && s) 2 (cond (t && r && q) 3 0))) ≡ head_end_from (at + 1) l
     by_test true s r q e = absurd cc
     by_test false s r q e = refl
 
@@ -52,19 +52,19 @@ not_true true e = absurd cc
 not_true false e = refl
 
 -- behind bytes that end no line
-pub run : (xs ys : List ℕ) (at : ℕ) → AreInside xs → empty_line_from at (xs ++ ys) ≡ empty_line_from (at + length xs) ys
-run [] ys at inside = let e : at ≡ at + 0 = omega arith in ap (λ k. empty_line_from k ys) e
+pub run : (xs ys : List ℕ) (at : ℕ) → AreInside xs → head_end_from at (xs ++ ys) ≡ head_end_from (at + length xs) ys
+run [] ys at inside = let e : at ≡ at + 0 = omega arith in ap (λ k. head_end_from k ys) e
 run (x ∷ xs) ys at inside =
     let e : at + 1 + length xs ≡ at + length (x ∷ xs) = omega arith in
     let parts = and_parts _ _ inside in
-    step x (xs ++ ys) at (not_true (x == 10) parts.0) ∙ run xs ys (at + 1) parts.1 ∙ ap (λ k. empty_line_from k ys) e
+    step x (xs ++ ys) at (not_true (x == 10) parts.0) ∙ run xs ys (at + 1) parts.1 ∙ ap (λ k. head_end_from k ys) e
 
 -- a line end with another line behind it
-line_end : (l : List ℕ) (at : ℕ) → Stops is_newline l → empty_line_from at (10 ∷ l) ≡ empty_line_from (at + 1) l
+line_end : (l : List ℕ) (at : ℕ) → Stops is_newline l → head_end_from at (10 ∷ l) ≡ head_end_from (at + 1) l
 line_end [] at stops = absurd stops
 line_end (y ∷ l) at stops =
     let parts = or_parts _ _ stops in
-    by_test (y == 10) (y == 13) (slice_index l 0 == 10) (empty_line_from (at + 1) (y ∷ l)) parts.1 parts.0
+    by_test (y == 10) (y == 13) (slice_index l 0 == 10) (head_end_from (at + 1) (y ∷ l)) parts.1 parts.0
   where
     by_test : (s r q : Bool) (later : Option ℕ) → s ≡ false → r ≡ false
         → cond (cond (true && s) 2 (cond (true && r && q) 3 0) == 0) later (Some (at + cond (true && s) 2 (cond (true && r && q) 3 0))) ≡ later
@@ -95,7 +95,7 @@ line_stops f l writable =
 
 -- field lines with an empty line behind them
 pub lines_end : (fs : List Field) (l : List ℕ) (at : ℕ) → All IsWritableField fs
-    → empty_line_from at (10 ∷ (field_lines fs ++ 13 ∷ 10 ∷ l)) ≡ Some (at + 1 + length (field_lines fs) + 2)
+    → head_end_from at (10 ∷ (field_lines fs ++ 13 ∷ 10 ∷ l)) ≡ Some (at + 1 + length (field_lines fs) + 2)
 lines_end [] l at all = let e : at + 3 ≡ at + 1 + 0 + 2 = omega arith in ap Some e
 lines_end (f ∷ fs) l at all =
     let writable = All-head IsWritableField f fs all in
@@ -104,8 +104,8 @@ lines_end (f ∷ fs) l at all =
     let lines : length (field_lines (f ∷ fs)) ≡ length (front f) + 2 + length (field_lines fs)
     = ap (λ t. length (t ++ field_lines fs)) (line_parts f) ∙ length-append (front f ++ 13 ∷ 10 ∷ []) (field_lines fs) ∙ ap (λ k. k + length (field_lines fs)) (length-append (front f) (13 ∷ 10 ∷ [])) in
     let size : start + 1 + length (field_lines fs) + 2 ≡ at + 1 + length (field_lines (f ∷ fs)) + 2 = omega (arith, lines) in
-    ap (λ t. empty_line_from at (10 ∷ (t ++ field_lines fs ++ 13 ∷ 10 ∷ l))) (line_parts f)
-    ∙ ap (λ t. empty_line_from at (10 ∷ t)) (regroup (front f) (field_lines fs) (13 ∷ 10 ∷ l))
+    ap (λ t. head_end_from at (10 ∷ (t ++ field_lines fs ++ 13 ∷ 10 ∷ l))) (line_parts f)
+    ∙ ap (λ t. head_end_from at (10 ∷ t)) (regroup (front f) (field_lines fs) (13 ∷ 10 ∷ l))
     ∙ line_end (front f ++ 13 ∷ 10 ∷ rest) at (line_stops f (13 ∷ 10 ∷ rest) writable)
     ∙ run (front f) (13 ∷ 10 ∷ rest) (at + 1) (front_inside f writable)
     ∙ step 13 (10 ∷ rest) (at + 1 + length (front f)) refl
@@ -116,10 +116,10 @@ lines_end (f ∷ fs) l at all =
     regroup a b c = simp append_assoc refl
 
 -- no empty line in front
-pub blank_none : (l : List ℕ) → Stops is_newline l → blank_length l ≡ 0
-blank_none [] stops = absurd stops
-blank_none (b ∷ []) stops = let other : (b == 10) ≡ false = (or_parts _ _ stops).1 in rw other refl
-blank_none (b ∷ c ∷ l) stops =
+pub empty_lines_none : (l : List ℕ) → Stops is_newline l → empty_lines_length l ≡ 0
+empty_lines_none [] stops = absurd stops
+empty_lines_none (b ∷ []) stops = let other : (b == 10) ≡ false = (or_parts _ _ stops).1 in rw other refl
+empty_lines_none (b ∷ c ∷ l) stops =
     let other : (b == 10) ≡ false = (or_parts _ _ stops).1 in
     let more : (b == 13) ≡ false = (or_parts _ _ stops).0 in
     rw (other, more) refl
@@ -161,11 +161,11 @@ whole_end r writable =
     let at : ℕ = 0 + length (start r) + 1 in
     let size : at + 1 + length (field_lines fs) + 2 ≡ length (whole r)
     = omega (arith, length-append (start r) (13 ∷ 10 ∷ tail), length-append (field_lines fs) (13 ∷ 10 ∷ [])) in
-    let found : empty_line_from 0 (whole r) ≡ Some (length (whole r))
+    let found : head_end_from 0 (whole r) ≡ Some (length (whole r))
     = run (start r) (13 ∷ 10 ∷ tail) 0 (start_inside r writable) ∙ step 13 (10 ∷ tail) (0 + length (start r)) refl
     ∙ lines_end fs [] at (sent_writable r writable) ∙ ap Some size in
-    let zero : blank_length (whole r) ≡ 0 = blank_none (whole r) (start_stops r (13 ∷ 10 ∷ tail) writable) in
-    subst (λ k. empty_line_from k (drop k (whole r)) ≡ Some (length (whole r))) (sym zero) found
+    let zero : empty_lines_length (whole r) ≡ 0 = empty_lines_none (whole r) (start_stops r (13 ∷ 10 ∷ tail) writable) in
+    subst (λ k. head_end_from k (drop k (whole r)) ≡ Some (length (whole r))) (sym zero) found
 
 -- where the head ends in what is written, whatever follows
 pub head_ends : (r : Request) → IsWritable r → (rest : List ℕ)

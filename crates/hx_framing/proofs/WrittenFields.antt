@@ -11,7 +11,7 @@ use Rattle.std.proofs.lemmas.List.Elements.{filter-append}
 use Rattle.std.proofs.lemmas.List.Folds.{list_any-append}
 use Rattle.hx_fields.specs.declared.field_line.Field.{Field}
 use Rattle.hx_fields.specs.Lines.{is_named, has, values_of, without_named}
-use Rattle.hx_framing.specs.declared.requests.Request.{Request}
+use Rattle.hx_framing.specs.declared.messages.Request.{Request}
 use Rattle.hx_framing.specs.Text.{content_length, content_bytes, request_text}
 use Rattle.hx_framing.specs.Written.{head_text, length_fields, close_field, sent_fields, IsWritable}
 use Rattle.hx_framing.proofs.WrittenLines.{digit_bytes}

@@ -12,13 +12,13 @@ use Rattle.hx_fields.specs.declared.field_line.Field.{Field}
 use Rattle.hx_fields.specs.Names.{flatten, is_nonempty, joined}
 use Rattle.hx_fields.specs.Lines.{is_named, has, values_of, without_named}
 use Rattle.hx_framing.specs.declared.fault.FrameFault.TheVariants as fault
-use Rattle.hx_framing.specs.declared.lengths.Framing.{Framing}
-use Rattle.hx_framing.specs.declared.lengths.Framing.TheVariants as framing
-use Rattle.hx_framing.specs.declared.lengths.Plan.{Plan}
-use Rattle.hx_framing.specs.declared.requests.Request.{Request}
+use Rattle.hx_framing.specs.declared.lengths.framing.Framing.{Framing}
+use Rattle.hx_framing.specs.declared.lengths.framing.Framing.TheVariants as framing
+use Rattle.hx_framing.specs.declared.lengths.framing.RequestBody.{RequestBody}
+use Rattle.hx_framing.specs.declared.messages.Request.{Request}
 use Rattle.hx_framing.specs.Head.{Judges}
 use Rattle.hx_framing.specs.ContentLength.{comma_pieces, is_digits, length_told, one_number}
-use Rattle.hx_framing.specs.Lengths.{transfer_encoding, expect, codings, ends_in_chunks, is_only_chunked, is_above, framing_or, expectation, framing_of_request, with_expectation, plan_of, without_lengths}
+use Rattle.hx_framing.specs.Lengths.{transfer_encoding, expect, codings, ends_in_chunks, is_only_chunked, is_above, framing_or, expectation, framing_of_request, with_expectation, request_body_of, without_lengths}
 use Rattle.hx_framing.specs.Body.{Short, Whole}
 use Rattle.hx_framing.specs.Contents.{body_at}
 use Rattle.hx_framing.specs.Reading.{Reading, Spelled, with_body}
@@ -26,7 +26,7 @@ use Rattle.hx_framing.specs.RequestReading.{request_of, Reads}
 use Rattle.hx_framing.specs.Text.{content_length, content_bytes, request_text}
 use Rattle.hx_framing.specs.Written.{head_text, sent_fields, sent_head, close_field, read_back, IsWritable}
 use Rattle.hx_framing.proofs.LengthTold.{values_of-absent}
-use Rattle.hx_framing.proofs.RequestFinding.{Begins, reads_content}
+use Rattle.hx_framing.proofs.RequestProgressLemmas.{Begins, reads_content}
 use Rattle.hx_framing.proofs.WrittenLines.{written_head, head_written}
 use Rattle.hx_framing.proofs.WrittenEnds.{head_ends}
 use Rattle.hx_framing.proofs.WrittenFields.{lengths_none, lengths_some, codings_none, expectations_none, without_length, without_coding, decimal_back, head_front, content_behind}
@@ -107,13 +107,13 @@ framing_sent r c max writable is small =
     (length_told fields) (codings_none r writable) (length_sent r c writable is) (ap (is_above max) told ∙ within_sent max c small)
     ∙ ap (λ n. Ok (framing_or framing.Nothing n)) told
 
-abbrev sent_plan : Option (List ℕ) → Plan
-sent_plan c = record { framing = sent_framing c; wants_continue = false }
+abbrev sent_request_body : Option (List ℕ) → RequestBody
+sent_request_body c = record { framing = sent_framing c; wants_continue = false }
 
 -- no continue is wanted
-plan_sent : (r : Request) (c : Option (List ℕ)) (max : ℕ) → IsWritable r → r.content ≡ c → length (content_bytes c) ≤ max
-    → plan_of max (sent_head r) ≡ Ok (sent_plan c)
-plan_sent r c max writable is small =
+request_body_sent : (r : Request) (c : Option (List ℕ)) (max : ℕ) → IsWritable r → r.content ≡ c → length (content_bytes c) ≤ max
+    → request_body_of max (sent_head r) ≡ Ok (sent_request_body c)
+request_body_sent r c max writable is small =
     let none : expectation (sent_head r) ≡ None = ap joined (values_of-absent (sent_fields r) expect (expectations_none r writable)) in
     ap (λ expected. with_expectation expected (framing_of_request max (sent_head r))) none
     ∙ ap (with_expectation None) (framing_sent r c max writable is small)
@@ -136,22 +136,22 @@ request_sent r writable =
     λ i. record { method = r.method; target = r.target; minor = 1; fields = fields i; content = r.content }
 
 begins_sent : (r : Request) (max : ℕ) (rest : List ℕ) → IsWritable r → length (content_bytes r.content) ≤ max
-    → Begins max (request_text r ++ rest) (length (head_text r)) (sent_head r) (sent_plan r.content)
+    → Begins max (request_text r ++ rest) (length (head_text r)) (sent_head r) (sent_request_body r.content)
 begins_sent r max rest writable small =
     let read = head_written r writable in record {
       place = head_ends r writable rest;
       judged = subst (λ (u : List ℕ). Judges u (Ok (sent_head r))) (sym (head_front r rest)) (written_head r, read.0, sym read.1);
-      plan_is = plan_sent r r.content max writable refl small;
+      request_body_is = request_body_sent r r.content max writable refl small;
     }
 
 pub request_back : (r : Request) (max : ℕ) (e t : Bool) (rest : List ℕ) → IsWritable r → length (content_bytes r.content) ≤ max
     → Reads max e t (request_text r ++ rest) (Spelled (read_back r) rest)
 request_back r max e t rest writable small =
     let head = sent_head r in
-    let plan = sent_plan r.content in
+    let request_body = sent_request_body r.content in
     let bytes = request_text r ++ rest in
     let at = length (head_text r) in
     subst (λ (reading : Reading Request). Reads max e t bytes reading)
-    (ap (λ u. with_body e (request_of head) (body_at max plan.framing false u)) (content_behind r rest)
+    (ap (λ u. with_body e (request_of head) (body_at max request_body.framing false u)) (content_behind r rest)
     ∙ ap (with_body e (request_of head)) (body_sent max r.content rest) ∙ ap (λ m. Spelled m rest) (request_sent r writable))
-    (reads_content max e t bytes at head plan (begins_sent r max rest writable small) refl)
+    (reads_content max e t bytes at head request_body (begins_sent r max rest writable small) refl)

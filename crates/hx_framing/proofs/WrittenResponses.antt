@@ -21,14 +21,14 @@ use Rattle.hx_fields.specs.Names.{flatten}
 use Rattle.hx_fields.specs.Lines.{is_named, has, values_of, without_named}
 use Rattle.hx_framing.specs.declared.fault.FrameFault.{FrameFault}
 use Rattle.hx_framing.specs.declared.fault.FrameFault.TheVariants as fault
-use Rattle.hx_framing.specs.declared.lengths.Framing.{Framing}
-use Rattle.hx_framing.specs.declared.lengths.Framing.TheVariants as framing
-use Rattle.hx_framing.specs.declared.status_head.StatusHead.{StatusHead}
+use Rattle.hx_framing.specs.declared.lengths.framing.Framing.{Framing}
+use Rattle.hx_framing.specs.declared.lengths.framing.Framing.TheVariants as framing
+use Rattle.hx_framing.specs.declared.heads.status_head.StatusHead.{StatusHead}
 use Rattle.hx_framing.specs.Body.{Short, Whole}
 use Rattle.hx_framing.specs.ContentLength.{announced_up_to, comma_pieces, length_told, one_number}
 use Rattle.hx_framing.specs.Contents.{body_at}
 use Rattle.hx_framing.specs.Lengths.{announced_of, codings, framing_of_final, framing_of_response, framing_or, is_above, is_interim, is_only_chunked, is_taken_status, is_without_content, transfer_encoding, with_status, without_lengths}
-use Rattle.hx_framing.specs.Places.{blank_length, empty_line_from, head_length, most_head_bytes}
+use Rattle.hx_framing.specs.Places.{empty_lines_length, head_end_from, head_length, most_head_bytes}
 use Rattle.hx_framing.specs.Reading.{Spelled, with_body}
 use Rattle.hx_framing.specs.ResponseReading.{FrontBy, Reads, content_of, response_of, with_framing}
 use Rattle.hx_framing.specs.StatusHead.{IsStatusHead, Judges, status_head_of}
@@ -37,7 +37,7 @@ use Rattle.hx_framing.specs.Text.{close_line, field_line, field_lines, length_li
 use Rattle.hx_framing.specs.Written.{IsWritableField, close_field, length_fields}
 use Rattle.hx_framing.specs.WrittenResponse.{IsWritableResponse, SentResponse, close_fields, response_back, response_fields, sent_head_text, sent_text}
 use Rattle.hx_framing.proofs.HeadEnds.{front_stable}
-use Rattle.hx_framing.proofs.WrittenEnds.{AreInside, blank_none, inside_append, inside_by, lines_end, run, step}
+use Rattle.hx_framing.proofs.WrittenEnds.{AreInside, empty_lines_none, inside_append, inside_by, lines_end, run, step}
 use Rattle.hx_framing.proofs.WrittenFields.{decimal_back, filter_none, filter_other}
 use Rattle.hx_framing.proofs.WrittenLines.{close_writable, length_fields_writable, length_lines, lines_are_fields, lines_back, print_lines, written_field}
 use Rattle.hx_framing.proofs.WrittenRequests.{and_false, none_has, one_piece}
@@ -141,11 +141,11 @@ whole_end h m writable =
     let at : ℕ = 0 + length (start m) + 1 in
     let size : at + 1 + length (field_lines fs) + 2 ≡ length (whole m)
     = omega (arith, length-append (start m) (13 ∷ 10 ∷ tail), length-append (field_lines fs) (13 ∷ 10 ∷ [])) in
-    let found : empty_line_from 0 (whole m) ≡ Some (length (whole m))
+    let found : head_end_from 0 (whole m) ≡ Some (length (whole m))
     = run (start m) (13 ∷ 10 ∷ tail) 0 (start_inside h m writable) ∙ step 13 (10 ∷ tail) (0 + length (start m)) refl
     ∙ lines_end fs [] at (all_writable h m writable) ∙ ap Some size in
-    let zero : blank_length (whole m) ≡ 0 = blank_none (whole m) refl in
-    subst (λ k. empty_line_from k (drop k (whole m)) ≡ Some (length (whole m))) (sym zero) found
+    let zero : empty_lines_length (whole m) ≡ 0 = empty_lines_none (whole m) refl in
+    subst (λ k. head_end_from k (drop k (whole m)) ≡ Some (length (whole m))) (sym zero) found
 
 head_ends : (h : Bool) (m : SentResponse) → IsWritableResponse h m → (rest : List ℕ)
     → head_length (take most_head_bytes (sent_text m ++ rest)) ≡ Some (length (sent_head_text m))

@@ -1,8 +1,8 @@
 -- How far content in chunks has come (RFC 9112, section 7.1).
 use Rattle.std.specs.Prelude.{◌≡◌, ◌<◌, ℕ, List, []}
-use Rattle.hx_framing.specs.declared.chunk_state.Phase.{Phase}
-use Rattle.hx_framing.specs.declared.chunk_state.Phase.TheVariants as phase
-use Rattle.hx_framing.specs.declared.chunk_state.ChunkState.{ChunkState}
+use Rattle.hx_framing.specs.declared.contents.tokens.Phase.{Phase}
+use Rattle.hx_framing.specs.declared.contents.tokens.Phase.TheVariants as phase
+use Rattle.hx_framing.specs.declared.contents.tokens.ChunkState.{ChunkState}
 
 -- need: bytes of data still to come of this chunk; left: bytes of content that later chunks may have;
 -- used: bytes of the whole trailer lines; content: the data so far; line: the bytes of the line so far, or the CR behind data

@@ -6,8 +6,8 @@
 use Rattle.std.specs.Prelude.{ℕ, ◌+◌, ◌-◌, cond, List, [], ◌∷◌, ◌++◌, length, ◌==◌, nat_lt, Option, Some, None, Result, Ok, Err}
 use Rattle.hx_framing.specs.declared.fault.FrameFault.{FrameFault}
 use Rattle.hx_framing.specs.declared.fault.FrameFault.TheVariants as fault
-use Rattle.hx_framing.specs.declared.chunk_state.Phase.{Phase}
-use Rattle.hx_framing.specs.declared.chunk_state.Phase.TheVariants as phase
+use Rattle.hx_framing.specs.declared.contents.tokens.Phase.{Phase}
+use Rattle.hx_framing.specs.declared.contents.tokens.Phase.TheVariants as phase
 use Rattle.hx_framing.specs.Body.{Body, Short, Bad, Whole}
 use Rattle.hx_framing.specs.Chunking.{Chunking}
 use Rattle.hx_framing.specs.SizeLine.{size_at, ends_in_cr, most_size_line_bytes}

@@ -4,15 +4,15 @@
 -- IsOpen: what stays unread of one that goes on
 use Rattle.std.specs.Prelude.{◌≡◌, ℕ, ◌≤◌, ◌++◌, Bool, cond, List, [], length, take, drop, nat_lt, Some, None}
 use Rattle.hx_framing.specs.declared.fault.FrameFault.TheVariants as fault
-use Rattle.hx_framing.specs.declared.lengths.Framing.{Framing}
-use Rattle.hx_framing.specs.declared.lengths.Framing.TheVariants as framing
-use Rattle.hx_framing.specs.declared.content.Content.{Content}
-use Rattle.hx_framing.specs.declared.content.Content.TheVariants as content
-use Rattle.hx_framing.specs.declared.content.Taken.{Taken}
-use Rattle.hx_framing.specs.declared.content.Taken.TheVariants as taken
+use Rattle.hx_framing.specs.declared.lengths.framing.Framing.{Framing}
+use Rattle.hx_framing.specs.declared.lengths.framing.Framing.TheVariants as framing
+use Rattle.hx_framing.specs.declared.contents.content.Content.{Content}
+use Rattle.hx_framing.specs.declared.contents.content.Content.TheVariants as content
+use Rattle.hx_framing.specs.declared.contents.content.ContentProgress.{ContentProgress}
+use Rattle.hx_framing.specs.declared.contents.content.ContentProgress.TheVariants as content_progress
 use Rattle.hx_framing.specs.Body.{Body, Short, Bad, Whole}
 use Rattle.hx_framing.specs.Chunks.{chunks, chunks_from, start}
-use Rattle.hx_framing.specs.Pieces.{IsOpenLine}
+use Rattle.hx_framing.specs.ChunkTokens.{IsOpenLine}
 use Rattle.hx_framing.specs.PlainContent.{PlainContent, plain_start}
 
 -- n bytes (RFC 9112, section 6.2)
@@ -64,10 +64,10 @@ IsOpen (content.Chunked chunks) bytes = IsOpenLine chunks bytes
 IsOpen (content.UntilClose s) bytes = bytes ≡ []
 
 -- what is found in the bytes of a content: it goes on behind n of them, is at fault, or ends behind n of them
-abbrev pub Advances : Bool → List ℕ → Content → Taken → Content → Type 0
-Advances ended bytes old (taken.Short n) new =
+abbrev pub Advances : Bool → List ℕ → Content → ContentProgress → Content → Type 0
+Advances ended bytes old (content_progress.Incomplete n) new =
     (n ≤ length bytes) × (body_from old ended bytes ≡ Short)
     × ((more : List ℕ) (e : Bool) → body_from old e (bytes ++ more) ≡ body_from new e (drop n bytes ++ more))
     × IsOpen new (drop n bytes)
-Advances ended bytes old (taken.Bad f) new = body_from old ended bytes ≡ Bad f
-Advances ended bytes old (taken.Whole c n) new = (n ≤ length bytes) × (body_from old ended bytes ≡ Whole c (drop n bytes))
+Advances ended bytes old (content_progress.Faulty f) new = body_from old ended bytes ≡ Bad f
+Advances ended bytes old (content_progress.Whole c n) new = (n ≤ length bytes) × (body_from old ended bytes ≡ Whole c (drop n bytes))

@@ -3,8 +3,8 @@
 use Rattle.std.specs.Prelude.{◌≡◌, ℕ, ◌≤◌, ◌&&◌, ◌||◌, ◌==◌, Bool, true, false, not}
 use Rattle.hx_framing.specs.declared.fault.FrameFault.{FrameFault}
 use Rattle.hx_framing.specs.declared.fault.FrameFault.TheVariants.{Head, Version, BothLengths, Length, Coding, Chunk, TooLarge, Expect, Truncated, Status}
-use Rattle.hx_framing.specs.declared.request_head.Head.{Head as RequestHead}
-use Rattle.hx_framing.specs.declared.status_head.StatusHead.{StatusHead}
+use Rattle.hx_framing.specs.declared.heads.request_head.Head.{Head as RequestHead}
+use Rattle.hx_framing.specs.declared.heads.status_head.StatusHead.{StatusHead}
 use Rattle.hx_framing.specs.Fault.{number_of}
 use Rattle.hx_framing.specs.Lengths.{has_both, has_bad_length, has_endless_coding, has_other_coding, is_too_large, has_other_expectation, expectation, is_without_content, is_taken_status}
 

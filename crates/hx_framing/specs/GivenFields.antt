@@ -10,8 +10,8 @@ use Rattle.std.specs.Str.Parse.{digits_value}
 use Rattle.hx_fields.specs.declared.field_line.Field.{Field}
 use Rattle.hx_fields.specs.Names.{is_blank}
 use Rattle.hx_fields.specs.Tokens.{is_token}
-use Rattle.hx_framing.specs.declared.request_head.Head.{Head}
-use Rattle.hx_framing.specs.declared.status_head.StatusHead.{StatusHead}
+use Rattle.hx_framing.specs.declared.heads.request_head.Head.{Head}
+use Rattle.hx_framing.specs.declared.heads.status_head.StatusHead.{StatusHead}
 use Rattle.hx_framing.specs.Version.{without_return}
 use Rattle.hx_framing.specs.HeadLines.{lines_behind, is_empty_line}
 

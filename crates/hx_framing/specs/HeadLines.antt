@@ -3,7 +3,7 @@ use Rattle.std.specs.Prelude.{◌≡◌, ℕ, ◌++◌, ◌&&◌, ◌||◌, ◌=
 use Rattle.std.specs.List.{list_all, before_first, position_or_len, slice_split}
 use Rattle.hx_fields.specs.declared.field_line.Field.{Field}
 use Rattle.hx_fields.specs.Tokens.{is_token}
-use Rattle.hx_framing.specs.Places.{blank_length}
+use Rattle.hx_framing.specs.Places.{empty_lines_length}
 use Rattle.hx_framing.specs.Version.{without_return}
 
 abbrev pub is_colon : ℕ → Bool
@@ -15,7 +15,7 @@ is_line_end b = b == 13 || b == 10
 
 -- the lines behind the start line, each without its LF, and what stands behind the last LF
 abbrev pub lines_behind : List ℕ → List (List ℕ)
-lines_behind bytes = drop 1 (slice_split (λ b. b == 10) (drop (blank_length bytes) bytes))
+lines_behind bytes = drop 1 (slice_split (λ b. b == 10) (drop (empty_lines_length bytes) bytes))
 
 -- what stands before the first colon of a line
 abbrev pub name_of : List ℕ → List ℕ

@@ -3,12 +3,12 @@ use Rattle.std.specs.Prelude.{ℕ, List, codes, true, false, Result, Ok}
 use Rattle.hx_fields.specs.declared.field_line.Field.{Field}
 use Rattle.hx_fields.specs.Examples.{line}
 use Rattle.hx_framing.specs.declared.fault.FrameFault.{FrameFault}
-use Rattle.hx_framing.specs.declared.lengths.Framing.{Framing}
-use Rattle.hx_framing.specs.declared.lengths.Framing.TheVariants as framing
-use Rattle.hx_framing.specs.declared.lengths.Plan.{Plan}
-use Rattle.hx_framing.specs.declared.request_head.Head.{Head}
-use Rattle.hx_framing.specs.declared.status_head.StatusHead.{StatusHead}
-use Rattle.hx_framing.specs.Lengths.{plan_of, framing_of_response}
+use Rattle.hx_framing.specs.declared.lengths.framing.Framing.{Framing}
+use Rattle.hx_framing.specs.declared.lengths.framing.Framing.TheVariants as framing
+use Rattle.hx_framing.specs.declared.lengths.framing.RequestBody.{RequestBody}
+use Rattle.hx_framing.specs.declared.heads.request_head.Head.{Head}
+use Rattle.hx_framing.specs.declared.heads.status_head.StatusHead.{StatusHead}
+use Rattle.hx_framing.specs.Lengths.{request_body_of, framing_of_response}
 
 abbrev pub length_line : List ℕ → Field
 length_line value = line (codes "Content-Length") value
@@ -28,8 +28,8 @@ abbrev pub response_head : ℕ → ℕ → List Field → StatusHead
 response_head status minor fields = record { status = status; minor = minor; fields = fields }
 
 -- judged with at most 1000 bytes of content
-abbrev pub asks : ℕ → List Field → Result Plan FrameFault
-asks minor fields = plan_of 1000 (request_head minor fields)
+abbrev pub asks : ℕ → List Field → Result RequestBody FrameFault
+asks minor fields = request_body_of 1000 (request_head minor fields)
 
 abbrev pub answers : ℕ → ℕ → List Field → Result Framing FrameFault
 answers status minor fields = framing_of_response 1000 false (response_head status minor fields)
@@ -37,13 +37,13 @@ answers status minor fields = framing_of_response 1000 false (response_head stat
 abbrev pub answers_head : ℕ → List Field → Result Framing FrameFault
 answers_head status fields = framing_of_response 1000 true (response_head status 1 fields)
 
--- a plan that waits for no continue
-abbrev pub plain : Framing → Result Plan FrameFault
+-- a content that waits for no continue
+abbrev pub plain : Framing → Result RequestBody FrameFault
 plain told = Ok (record { framing = told; wants_continue = false })
 
-abbrev pub of_length : ℕ → Result Plan FrameFault
+abbrev pub of_length : ℕ → Result RequestBody FrameFault
 of_length n = plain (framing.Announced n)
 
--- a plan that waits for a continue
-abbrev pub waiting : Framing → Result Plan FrameFault
+-- a content that waits for a continue
+abbrev pub waiting : Framing → Result RequestBody FrameFault
 waiting told = Ok (record { framing = told; wants_continue = true })

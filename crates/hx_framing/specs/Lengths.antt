@@ -3,7 +3,7 @@
 --
 -- has_both, has_bad_length, has_endless_coding, has_other_coding, is_too_large, has_other_expectation: what is at fault
 -- framing_told: what faultless length fields say
--- framing_of_lengths, plan_of, framing_of_response: how a head is judged
+-- framing_of_lengths, request_body_of, framing_of_response: how a head is judged
 -- announced_of, without_lengths: what a message keeps of its length fields
 -- uncoded, framing_of_codings, framing_of_only_coding: the judgement in steps
 use Rattle.std.specs.Prelude.{ℕ, ◌-◌, ◌^◌, ◌&&◌, ◌||◌, Bool, true, false, cond, not, List, [], length, Option, Some, None, is_some, Result, Ok, Err, nat_lt, nat_le, ◌==◌, codes, count_by, slice_index_or}
@@ -13,11 +13,11 @@ use Rattle.hx_fields.specs.Names.{is_same_name}
 use Rattle.hx_fields.specs.Lines.{has, combined_of, members_of, without_named}
 use Rattle.hx_framing.specs.declared.fault.FrameFault.{FrameFault}
 use Rattle.hx_framing.specs.declared.fault.FrameFault.TheVariants as fault
-use Rattle.hx_framing.specs.declared.lengths.Framing.{Framing}
-use Rattle.hx_framing.specs.declared.lengths.Framing.TheVariants as framing
-use Rattle.hx_framing.specs.declared.lengths.Plan.{Plan}
-use Rattle.hx_framing.specs.declared.request_head.Head.{Head}
-use Rattle.hx_framing.specs.declared.status_head.StatusHead.{StatusHead}
+use Rattle.hx_framing.specs.declared.lengths.framing.Framing.{Framing}
+use Rattle.hx_framing.specs.declared.lengths.framing.Framing.TheVariants as framing
+use Rattle.hx_framing.specs.declared.lengths.framing.RequestBody.{RequestBody}
+use Rattle.hx_framing.specs.declared.heads.request_head.Head.{Head}
+use Rattle.hx_framing.specs.declared.heads.status_head.StatusHead.{StatusHead}
 use Rattle.hx_framing.specs.ContentLength.{content_length, length_told, length_up_to, announced_up_to}
 
 abbrev pub transfer_encoding : List ℕ
@@ -114,15 +114,15 @@ framing_of_request max_body head =
     framing_of_lengths max_body head.minor framing.Nothing (has_endless_coding head.fields) head.fields
 
 -- a client that expects a continue waits for it only where it has content to send
-abbrev pub with_expectation : Option (List ℕ) → Result Framing FrameFault → Result Plan FrameFault
+abbrev pub with_expectation : Option (List ℕ) → Result Framing FrameFault → Result RequestBody FrameFault
 with_expectation expected (Err f) = Err f
 with_expectation expected (Ok told) =
     cond (has_other_expectation expected) (Err fault.Expect)
     (Ok (record { framing = told; wants_continue = expects_continue expected && has_content told }))
 
 -- how the content of a request is judged by its head
-abbrev pub plan_of : ℕ → Head → Result Plan FrameFault
-plan_of max_body head = with_expectation (expectation head) (framing_of_request max_body head)
+abbrev pub request_body_of : ℕ → Head → Result RequestBody FrameFault
+request_body_of max_body head = with_expectation (expectation head) (framing_of_request max_body head)
 
 -- an interim response (RFC 9110, section 15.2)
 -- own: 101 switches protocols and is refused

@@ -7,11 +7,12 @@ pub mod Version
 pub mod Head
 pub mod PlainContent
 pub mod Contents
+pub mod ContentReading
 pub mod Queue
 pub mod HeadLines
 pub mod GivenFields
 pub mod RequestReading
-pub mod RequestFound
+pub mod RequestHeadProgress
 pub mod RequestStream
 pub mod RequestState
 pub mod StatusHead
@@ -21,7 +22,7 @@ pub mod LengthExamples
 pub mod ReadingExamples
 pub mod ResponseReading
 pub mod ResponseStream
-pub mod ResponseFound
+pub mod ResponseHeadProgress
 pub mod ResponseState
 pub mod Text
 pub mod Examples
@@ -31,7 +32,7 @@ pub mod Chunking
 pub mod Chunks
 pub mod ChunkGrammar
 pub mod ChunkFaults
-pub mod Pieces
+pub mod ChunkTokens
 pub mod Decoding
 pub mod Written
 pub mod WrittenResponse

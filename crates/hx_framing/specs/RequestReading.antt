@@ -1,13 +1,13 @@
 -- What stands at the front of the unread bytes of a request stream (RFC 9112, sections 2 and 6).
 use Rattle.std.specs.Prelude.{◌≡◌, ℕ, ◌&&◌, Bool, false, not, cond, List, Option, Some, None, Result, Ok, Err, length, take, drop, nat_lt, ◌==◌}
-use Rattle.hx_framing.specs.declared.request_head.Head.{Head}
-use Rattle.hx_framing.specs.declared.requests.Request.{Request}
-use Rattle.hx_framing.specs.declared.lengths.Plan.{Plan}
+use Rattle.hx_framing.specs.declared.heads.request_head.Head.{Head}
+use Rattle.hx_framing.specs.declared.messages.Request.{Request}
+use Rattle.hx_framing.specs.declared.lengths.framing.RequestBody.{RequestBody}
 use Rattle.hx_framing.specs.declared.fault.FrameFault.{FrameFault}
 use Rattle.hx_framing.specs.declared.fault.FrameFault.TheVariants as fault
-use Rattle.hx_framing.specs.Places.{head_length, blank_length, most_head_bytes}
+use Rattle.hx_framing.specs.Places.{head_length, empty_lines_length, most_head_bytes}
 use Rattle.hx_framing.specs.Head.{Judges}
-use Rattle.hx_framing.specs.Lengths.{plan_of, without_lengths}
+use Rattle.hx_framing.specs.Lengths.{request_body_of, without_lengths}
 use Rattle.hx_framing.specs.Contents.{body_at}
 use Rattle.hx_framing.specs.Reading.{Reading, Continue, Over, Faulty, cut_off, with_body}
 
@@ -23,21 +23,21 @@ request_of head content = record {
 
 -- behind a head that tells its content; a continue comes before all that may follow (RFC 9110, section 10.1.1)
 -- no request's content runs until the close, so it is the same whether the stream ends
-abbrev pub with_plan : ℕ → Bool → Bool → Head → List ℕ → Result Plan FrameFault → Reading Request
-with_plan max_body ended told head bytes (Err f) = Faulty f
-with_plan max_body ended told head bytes (Ok plan) =
-    cond (plan.wants_continue && not told) Continue (with_body ended (request_of head) (body_at max_body plan.framing false bytes))
+abbrev pub with_request_body : ℕ → Bool → Bool → Head → List ℕ → Result RequestBody FrameFault → Reading Request
+with_request_body max_body ended told head bytes (Err f) = Faulty f
+with_request_body max_body ended told head bytes (Ok body) =
+    cond (body.wants_continue && not told) Continue (with_body ended (request_of head) (body_at max_body body.framing false bytes))
 
 -- behind a judged head
 abbrev pub with_head : ℕ → Bool → Bool → List ℕ → Result Head FrameFault → Reading Request
 with_head max_body ended told bytes (Err f) = Faulty f
-with_head max_body ended told bytes (Ok head) = with_plan max_body ended told head bytes (plan_of max_body head)
+with_head max_body ended told bytes (Ok head) = with_request_body max_body ended told head bytes (request_body_of max_body head)
 
 -- no head ends within the limit; empty lines alone are no message
 abbrev pub without_head : Bool → List ℕ → Reading Request
 without_head ended bytes =
     cond (nat_lt most_head_bytes (length bytes)) (Faulty fault.Head)
-    (cond (ended && (blank_length bytes == length bytes)) Over (cut_off ended))
+    (cond (ended && (empty_lines_length bytes == length bytes)) Over (cut_off ended))
 
 abbrev pub ReadsBy : ℕ → Bool → Bool → List ℕ → Option ℕ → Reading Request → Type 0
 ReadsBy max_body ended told bytes None reading = reading ≡ without_head ended bytes

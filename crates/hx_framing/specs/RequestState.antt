@@ -1,13 +1,13 @@
 -- What a request reader keeps, and which streams it stands for.
 use Rattle.std.specs.Prelude.{◌≡◌, ℕ, ◌+◌, ◌*◌, ◌≤◌, Bool, false, List, length}
-use Rattle.hx_framing.specs.declared.requests.Request.{Request}
-use Rattle.hx_framing.specs.declared.request_phase.RequestPhase.{RequestPhase}
-use Rattle.hx_framing.specs.declared.request_phase.RequestPhase.TheVariants as phase
+use Rattle.hx_framing.specs.declared.messages.Request.{Request}
+use Rattle.hx_framing.specs.declared.readers.request_reader.RequestPhase.{RequestPhase}
+use Rattle.hx_framing.specs.declared.readers.request_reader.RequestPhase.TheVariants as phase
 use Rattle.hx_framing.specs.Places.{IsOpenHead, most_head_bytes}
 use Rattle.hx_framing.specs.Contents.{IsOpen}
 use Rattle.hx_framing.specs.Reading.{Faulty}
 use Rattle.hx_framing.specs.RequestReading.{Reads}
-use Rattle.hx_framing.specs.RequestFound.{Resumes}
+use Rattle.hx_framing.specs.RequestHeadProgress.{Resumes}
 use Rattle.hx_framing.specs.RequestStream.{StreamSpells}
 use Rattle.hx_framing.specs.Progress.{Progress}
 

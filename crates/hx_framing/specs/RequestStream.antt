@@ -1,7 +1,7 @@
 -- A stream of requests: its messages, and what a reader answers of it (RFC 9112, sections 2 to 7 and 9.3).
 use Rattle.std.specs.Prelude.{◌≡◌, ℕ, true, false, List, [], ◌∷◌}
-use Rattle.hx_framing.specs.declared.requests.Request.{Request}
-use Rattle.hx_framing.specs.declared.answer.Next.{Next}
+use Rattle.hx_framing.specs.declared.messages.Request.{Request}
+use Rattle.hx_framing.specs.declared.messages.Next.{Next}
 use Rattle.hx_framing.specs.Reading.{Reading, Spelled}
 use Rattle.hx_framing.specs.RequestReading.{Reads}
 use Rattle.hx_framing.specs.Progress.{Progress, next_of, needs_memory}

@@ -1,13 +1,13 @@
 -- What a response reader keeps, and which streams it stands for.
 use Rattle.std.specs.Prelude.{◌≡◌, ℕ, ◌+◌, ◌*◌, ◌≤◌, Bool, cond, List, [], ◌∷◌, length}
-use Rattle.hx_framing.specs.declared.responses.Response.{Response}
-use Rattle.hx_framing.specs.declared.response_phase.ResponsePhase.{ResponsePhase}
-use Rattle.hx_framing.specs.declared.response_phase.ResponsePhase.TheVariants as phase
+use Rattle.hx_framing.specs.declared.messages.Response.{Response}
+use Rattle.hx_framing.specs.declared.readers.response_reader.ResponsePhase.{ResponsePhase}
+use Rattle.hx_framing.specs.declared.readers.response_reader.ResponsePhase.TheVariants as phase
 use Rattle.hx_framing.specs.Places.{IsOpenHead, most_head_bytes}
 use Rattle.hx_framing.specs.Contents.{IsOpen}
 use Rattle.hx_framing.specs.Reading.{Faulty}
 use Rattle.hx_framing.specs.ResponseReading.{Passes, Reads}
-use Rattle.hx_framing.specs.ResponseFound.{Resumes}
+use Rattle.hx_framing.specs.ResponseHeadProgress.{Resumes}
 use Rattle.hx_framing.specs.ResponseStream.{IsGiven}
 use Rattle.hx_framing.specs.Progress.{Progress}
 

@@ -1,8 +1,8 @@
 -- A stream of one response: what a reader answers of it (RFC 9112, sections 4, 6 and 9.3).
 use Rattle.std.specs.Prelude.{◌≡◌, ℕ, Bool, true, List, [], ◌∷◌}
-use Rattle.hx_framing.specs.declared.responses.Response.{Response}
-use Rattle.hx_framing.specs.declared.answer.Next.{Next}
-use Rattle.hx_framing.specs.declared.answer.Next.TheVariants.{End}
+use Rattle.hx_framing.specs.declared.messages.Response.{Response}
+use Rattle.hx_framing.specs.declared.messages.Next.{Next}
+use Rattle.hx_framing.specs.declared.messages.Next.TheVariants.{End}
 use Rattle.hx_framing.specs.Reading.{Reading, Spelled}
 use Rattle.hx_framing.specs.ResponseReading.{Reads}
 use Rattle.hx_framing.specs.Progress.{Progress, next_of, needs_memory}

@@ -1,16 +1,16 @@
 -- How far a search for the end of a head has come, and what it finds.
 use Rattle.std.specs.Prelude.{◌≡◌, ℕ, ◌+◌, ◌≤◌, ◌++◌, true, false, List, Some, None, length, drop}
-use Rattle.hx_framing.specs.declared.places.HeadSearch.{HeadSearch}
-use Rattle.hx_framing.specs.declared.places.Searched.{Searched}
-use Rattle.hx_framing.specs.declared.places.Searched.TheVariants as searched
-use Rattle.hx_framing.specs.Places.{blank_from, blank_length, empty_line_from, head_length}
+use Rattle.hx_framing.specs.declared.heads.head_end.HeadSearch.{HeadSearch}
+use Rattle.hx_framing.specs.declared.heads.head_end.Searched.{Searched}
+use Rattle.hx_framing.specs.declared.heads.head_end.Searched.TheVariants as searched
+use Rattle.hx_framing.specs.Places.{empty_lines_from, empty_lines_length, head_end_from, head_length}
 
 -- no end of a head lies where the search has been: whatever bytes follow, it is found by going on from there
 pub record Reaches (bytes : List ℕ) (search : HeadSearch) : Type 0 where
   pub within : search.at ≤ length bytes
-  pub blank : search.in_lines ≡ false → (more : List ℕ) → blank_length (bytes ++ more) ≡ blank_from search.at (drop search.at (bytes ++ more))
+  pub empty_lines : search.in_lines ≡ false → (more : List ℕ) → empty_lines_length (bytes ++ more) ≡ empty_lines_from search.at (drop search.at (bytes ++ more))
   pub room : search.in_lines ≡ true → search.at + 2 ≤ length bytes
-  pub lines : search.in_lines ≡ true → (more : List ℕ) → head_length (bytes ++ more) ≡ empty_line_from search.at (drop search.at (bytes ++ more))
+  pub lines : search.in_lines ≡ true → (more : List ℕ) → head_length (bytes ++ more) ≡ head_end_from search.at (drop search.at (bytes ++ more))
 
 abbrev pub IsSearched : List ℕ → Searched → Type 0
 IsSearched bytes (searched.Ended n) = head_length bytes ≡ Some n

@@ -3,9 +3,9 @@ use Rattle.std.specs.Prelude.{◌≡◌, ℕ, ◌≤◌, true, false, if◌then�
 use Rattle.httparse.specs.Grammar.{ResponseHead, ReadsResponse, status_code}
 use Rattle.httparse.specs.declared.spans.HeaderSpan.{HeaderSpan}
 use Rattle.httparse.specs.declared.spans.ResponseSpans.{ResponseSpans}
-use Rattle.hx_framing.specs.declared.status_head.StatusHead.{StatusHead}
-use Rattle.hx_framing.specs.declared.status_head.Judged.{Judged}
-use Rattle.hx_framing.specs.declared.status_head.Judged.TheVariants as judged
+use Rattle.hx_framing.specs.declared.heads.status_head.StatusHead.{StatusHead}
+use Rattle.hx_framing.specs.declared.heads.status_head.Judged.{Judged}
+use Rattle.hx_framing.specs.declared.heads.status_head.Judged.TheVariants as judged
 use Rattle.hx_framing.specs.declared.fault.FrameFault.{FrameFault}
 use Rattle.hx_framing.specs.declared.fault.FrameFault.TheVariants as fault
 use Rattle.hx_framing.specs.Places.{most_field_lines}

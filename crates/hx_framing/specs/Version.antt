@@ -2,11 +2,11 @@
 use Rattle.std.specs.Prelude.{ℕ, ◌-◌, ◌&&◌, Bool, cond, not, List, ◌==◌, nat_lt, nat_eq, length, take, drop, codes, slice_index}
 use Rattle.std.specs.List.{starts_with, before_first}
 use Rattle.std.specs.Char.{is_ascii_digit}
-use Rattle.hx_framing.specs.Places.{blank_length}
+use Rattle.hx_framing.specs.Places.{empty_lines_length}
 
 -- the start line: what stands behind the empty lines in front, up to the first LF
 abbrev pub start_line : List ℕ → List ℕ
-start_line bytes = before_first (λ b. b == 10) (drop (blank_length bytes) bytes)
+start_line bytes = before_first (λ b. b == 10) (drop (empty_lines_length bytes) bytes)
 
 -- a line without the CR of its line end
 abbrev pub without_return : List ℕ → List ℕ

@@ -2,7 +2,7 @@
 ghost use Rattle.std.specs.Prelude.{◌≡◌, ◌++◌, map, Option, OnOk, IfOk};
 ghost use Rattle.hx_framing.specs.Text.{field_line, field_lines, line_of, length_line, close_line, request_line, status_line, request_text, response_text};
 
-use crate::requests::Request;
+use crate::messages::Request;
 use hx_fields::{Bytes, Field, Fields};
 use itoa::Buffer;
 use std::alloc::{AllocError, Global};
@@ -12,6 +12,17 @@ use std::alloc::{AllocError, Global};
 pub struct AddedLine<'a> {
     pub name: &'a [u8],
     pub value: &'a [u8],
+}
+
+/// The lines of a response behind its status line, in their order.
+#[derive(Clone, Copy)]
+pub struct ResponseLines<'a> {
+    pub fields: &'a Fields,
+    pub added: &'a [AddedLine<'a>],
+    /// The Content-Length in bytes, where one is told.
+    pub length: Option<u64>,
+    /// Whether the connection closes behind the response.
+    pub close: bool,
 }
 
 fn write_line(text: &mut Vec<u8>, name: &[u8], value: &[u8]) -> Result<(), AllocError>
@@ -131,28 +142,31 @@ pub fn write_response(
     ensures { IfOk result (λ text. text
         ≡ response_text status fields.now length close content.now) }
 {
-    write_response_with(alloc, status, fields, &[], length, close, content)
+    let lines = ResponseLines {
+        fields,
+        added: &[],
+        length,
+        close,
+    };
+    write_response_with(alloc, status, &lines, content)
 }
 
-/// The same with further lines behind the fields.
+/// The same of lines that are told apart, with further ones behind the fields.
 pub fn write_response_with(
     alloc: Global,
     status: u16,
-    fields: &Fields,
-    added: &[AddedLine<'_>],
-    length: Option<u64>,
-    close: bool,
+    lines: &ResponseLines<'_>,
     content: &[u8],
 ) -> Result<Bytes, AllocError>
     ensures { IfOk result (λ text. text
-        ≡ response_text status (fields.now ++ map line_of added.now) length close content.now) }
+        ≡ response_text status (lines.now.fields.now ++ map line_of lines.now.added.now) lines.now.length lines.now.close content.now) }
 {
-    let mut text = Vec::with_capacity(alloc, room_for(fields, content.len()))?;
+    let mut text = Vec::with_capacity(alloc, room_for(lines.fields, content.len()))?;
     write_status_line(&mut text, status)?;
-    write_lines(&mut text, fields.as_slice())?;
-    write_added(&mut text, added)?;
-    write_length(&mut text, length)?;
-    write_close(&mut text, close)?;
+    write_lines(&mut text, lines.fields.as_slice())?;
+    write_added(&mut text, lines.added)?;
+    write_length(&mut text, lines.length)?;
+    write_close(&mut text, lines.close)?;
     text.extend_from_slice(b"\r\n")?;
     text.extend_from_slice(content)?;
     Ok(Bytes::from_vec(text))

@@ -4,10 +4,10 @@ use Rattle.httpdate.specs.Date.{parse_secs}
 use Rattle.hx_fields.specs.declared.limits.TheConstants.{END_OF_TIME}
 use Rattle.hx_fields.specs.declared.field_line.Field.{Field}
 use Rattle.hx_fields.specs.Lines.{count_of, has, values_of}
-use Rattle.hx_framing.specs.declared.requests.Request.{Request}
+use Rattle.hx_framing.specs.declared.messages.Request.{Request}
 use Rattle.hx_target.specs.declared.targets.Target.{Target}
 use Rattle.hx_hop.specs.declared.validators.Conditions.{Conditions}
-use Rattle.hx_framing.specs.declared.responses.Response.{Response}
+use Rattle.hx_framing.specs.declared.messages.Response.{Response}
 use Rattle.hx_target.specs.declared.keys.Key.{Key}
 use Rattle.hx_hop.specs.Answering.{answered_of, dated_of, has_one_date}
 use Rattle.hx_hop.specs.Asking.{asked_of}

@@ -1,7 +1,7 @@
 //! What the definitions of `specs/` say together, and what they give on the first example: each function's
 //! contract is a law, and its body is empty.
 ghost use Rattle.std.specs.Prelude.{◌≡◌, Result, None, Some, [], ◌∷◌, codes, length, true, false, decimal, ◌++◌};
-ghost use Rattle.hx_framing.specs.declared.requests.Request.{Request};
+ghost use Rattle.hx_framing.specs.declared.messages.Request.{Request};
 ghost use Rattle.hx_framing.specs.Text.{request_text};
 ghost use Rattle.hx_target.specs.declared.faults.TargetFault.{TargetFault};
 ghost use Rattle.hx_hop.specs.declared.request_view.Asked.{Asked as AskedFor};

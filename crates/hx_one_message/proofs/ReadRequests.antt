@@ -9,15 +9,15 @@ use Rattle.hx_fields.specs.declared.field_line.Field.{Field}
 use Rattle.hx_fields.specs.Lines.{has, is_named, without_named}
 use Rattle.hx_framing.specs.declared.fault.FrameFault.{FrameFault}
 use Rattle.hx_framing.specs.declared.fault.FrameFault.TheVariants as fault
-use Rattle.hx_framing.specs.declared.request_head.Head.{Head}
-use Rattle.hx_framing.specs.declared.requests.Request.{Request}
+use Rattle.hx_framing.specs.declared.heads.request_head.Head.{Head}
+use Rattle.hx_framing.specs.declared.messages.Request.{Request}
 use Rattle.hx_framing.specs.Body.{Body, Short, Bad, Whole}
 use Rattle.hx_framing.specs.Contents.{body_at}
 use Rattle.hx_framing.specs.Head.{IsHead, Judges, field_of, head_of}
-use Rattle.hx_framing.specs.Lengths.{plan_of, without_lengths}
-use Rattle.hx_framing.specs.Places.{blank_length, head_length, most_head_bytes}
+use Rattle.hx_framing.specs.Lengths.{request_body_of, without_lengths}
+use Rattle.hx_framing.specs.Places.{empty_lines_length, head_length, most_head_bytes}
 use Rattle.hx_framing.specs.Reading.{Continue, Faulty, Over, Spelled, cut_off, with_body}
-use Rattle.hx_framing.specs.RequestReading.{Reads, ReadsBy, request_of, with_head, with_plan, without_head}
+use Rattle.hx_framing.specs.RequestReading.{Reads, ReadsBy, request_of, with_head, with_request_body, without_head}
 use Rattle.hx_framing.specs.Written.{IsWritableField}
 use Rattle.hx_hop.proofs.Lines.{list_any_fewer, list_any_none_left, not_true}
 use Rattle.hx_one_message.specs.OneMessage.{IsClean}
@@ -53,7 +53,7 @@ head_is_clean bytes h content is = record {
 
 -- which of the readings is a request
 no_request : (ended : Bool) (bytes : List ℕ) (r : Request) (rest : List ℕ) → Spelled r rest ≡ without_head ended bytes → ⊥
-no_request ended bytes r rest is = by_tests (nat_lt most_head_bytes (length bytes)) (ended && (blank_length bytes == length bytes)) ended is
+no_request ended bytes r rest is = by_tests (nat_lt most_head_bytes (length bytes)) (ended && (empty_lines_length bytes == length bytes)) ended is
   where
     by_tests : (t u e : Bool) → Spelled r rest ≡ cond t (Faulty fault.Head) (cond u Over (cut_off e)) → ⊥
     by_tests true u e h = cc
@@ -68,7 +68,7 @@ of_body ended head (Bad f) r rest is = absurd cc
 of_body ended head (Whole content behind) r rest is = (content, cc)
 
 of_plan : (max_body : ℕ) (ended told : Bool) (head : Head) (bytes : List ℕ) (plan : Result _ FrameFault) (r : Request) (rest : List ℕ)
-    → Spelled r rest ≡ with_plan max_body ended told head bytes plan → (content : Option (List ℕ)) × (r ≡ request_of head content)
+    → Spelled r rest ≡ with_request_body max_body ended told head bytes plan → (content : Option (List ℕ)) × (r ≡ request_of head content)
 of_plan max_body ended told head bytes (Err f) r rest is = absurd cc
 of_plan max_body ended told head bytes (Ok plan) r rest is = by_test (plan.wants_continue && not told) is
   where
@@ -80,7 +80,7 @@ of_head : (max_body : ℕ) (ended told : Bool) (bytes behind : List ℕ) (judged
     → Judges bytes judged → Spelled r rest ≡ with_head max_body ended told behind judged → IsClean r
 of_head max_body ended told bytes behind (Err f) r rest judges is = absurd cc
 of_head max_body ended told bytes behind (Ok head) r rest (h, is_head, same) is =
-    let made = of_plan max_body ended told head behind (plan_of max_body head) r rest is in
+    let made = of_plan max_body ended told head behind (request_body_of max_body head) r rest is in
     subst IsClean (sym (made.1 ∙ ap (λ (g : Head). request_of g made.0) same)) (head_is_clean bytes h made.0 is_head)
 
 by_length : (max_body : ℕ) (ended told : Bool) (bytes : List ℕ) (o : Option ℕ) (r : Request) (rest : List ℕ)

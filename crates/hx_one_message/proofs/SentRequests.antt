@@ -14,7 +14,7 @@ use Rattle.http_header.proofs.TokenLemmas.{AllPass-from_test}
 use Rattle.httparse.specs.Grammar.{AllPass, IsToken, is_ows, is_token_byte, is_uri_byte, is_value_byte}
 use Rattle.hx_fields.specs.declared.field_line.Field.{Field}
 use Rattle.hx_fields.specs.Lines.{is_named, values_of, without_named}
-use Rattle.hx_framing.specs.declared.requests.Request.{Request}
+use Rattle.hx_framing.specs.declared.messages.Request.{Request}
 use Rattle.hx_framing.specs.Written.{IsWritableField}
 use Rattle.hx_framing.proofs.WrittenLines.{digit_bytes}
 use Rattle.hx_framing.proofs.WrittenRequests.{request_back}

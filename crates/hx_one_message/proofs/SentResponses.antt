@@ -9,8 +9,8 @@ use Rattle.httparse.specs.Grammar.{is_token_byte}
 use Rattle.hx_fields.specs.declared.limits.TheConstants.{END_OF_TIME}
 use Rattle.hx_fields.specs.declared.field_line.Field.{Field}
 use Rattle.hx_fields.specs.Lines.{has, is_named, without_named}
-use Rattle.hx_framing.specs.declared.responses.Response.{Response}
-use Rattle.hx_framing.specs.declared.status_head.StatusHead.{StatusHead}
+use Rattle.hx_framing.specs.declared.messages.Response.{Response}
+use Rattle.hx_framing.specs.declared.heads.status_head.StatusHead.{StatusHead}
 use Rattle.hx_framing.specs.ContentLength.{announced_up_to, length_told}
 use Rattle.hx_framing.specs.Lengths.{announced_of, is_interim, is_without_content, transfer_encoding, without_lengths}
 use Rattle.hx_framing.specs.Reading.{Spelled}

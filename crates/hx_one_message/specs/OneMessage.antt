@@ -3,7 +3,7 @@
 use Rattle.std.specs.Prelude.{◌≡◌, ℕ, ◌<◌, ◌≤◌, ◌^◌, ◌++◌, Bool, false, List, length, codes, All, Option, IfSome, Ok}
 use Rattle.httparse.specs.Grammar.{AllPass, IsToken, is_value_byte, trim_ows}
 use Rattle.hx_fields.specs.Lines.{has, values_of}
-use Rattle.hx_framing.specs.declared.requests.Request.{Request}
+use Rattle.hx_framing.specs.declared.messages.Request.{Request}
 use Rattle.hx_framing.specs.Places.{most_field_lines, most_head_bytes}
 use Rattle.hx_framing.specs.Reading.{Spelled}
 use Rattle.hx_framing.specs.RequestReading.{Reads}

@@ -4,7 +4,7 @@ use Rattle.std.specs.Prelude.{◌≡◌, ℕ, ◌<◌, ◌≤◌, ◌^◌, ◌==
 use Rattle.hx_fields.specs.declared.limits.TheConstants.{END_OF_TIME}
 use Rattle.hx_fields.specs.declared.field_line.Field.{Field}
 use Rattle.hx_fields.specs.Lines.{has}
-use Rattle.hx_framing.specs.declared.responses.Response.{Response}
+use Rattle.hx_framing.specs.declared.messages.Response.{Response}
 use Rattle.hx_framing.specs.Places.{most_field_lines, most_head_bytes}
 use Rattle.hx_framing.specs.Reading.{Spelled}
 use Rattle.hx_framing.specs.ResponseReading.{Reads}

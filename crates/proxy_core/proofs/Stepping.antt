@@ -3,7 +3,7 @@ use Rattle.std.proofs.Common.{◌≡◌, inl, inr, ℕ, Bool, true, false, not, 
 use Rattle.std.specs.List.{filter}
 use Rattle.std.proofs.lemmas.Bool.{eqb-true, cases_Bool}
 use Rattle.std.proofs.lemmas.Option.{same_Some}
-use Rattle.hx_framing.specs.declared.responses.Response.{Response}
+use Rattle.hx_framing.specs.declared.messages.Response.{Response}
 use Rattle.hx_target.specs.declared.keys.Key.{Key}
 use Rattle.hx_hop.specs.declared.request_view.Asked.{Asked}
 use Rattle.hx_allow.specs.Lines.{Table}

@@ -1,7 +1,7 @@
 -- What is stored, and under which serial.
 use Rattle.std.proofs.Common.{◌≡◌, ℕ, Bool, true, false, cond, Option, None, Some, is_none, refl, sym, subst}
 use Rattle.std.specs.Prelude.{Result, IfOk}
-use Rattle.hx_framing.specs.declared.responses.Response.{Response}
+use Rattle.hx_framing.specs.declared.messages.Response.{Response}
 use Rattle.hx_vary.specs.Vary.{is_star}
 use Rattle.hx_hop.specs.Answering.{answered_of}
 use Rattle.hx_allow.specs.Lines.{Table}

@@ -6,7 +6,7 @@
 -- NamesFirst: of an item                                          NamesFirstRules: of each item of a good trace
 use Rattle.std.specs.Prelude.{◌≡◌, ◌⊎◌, ℕ, true, false, List, ◌∷◌, Option, Some, None, is_some}
 use Rattle.hx_directives.specs.Occurrences.{occurrences_of}
-use Rattle.hx_framing.specs.declared.responses.Response.{Response}
+use Rattle.hx_framing.specs.declared.messages.Response.{Response}
 use Rattle.hx_hop.specs.declared.request_view.Asked.{Asked}
 use Rattle.hx_hop.specs.Moments.{date_text_of}
 use Rattle.hx_allow.specs.Lines.{Table}

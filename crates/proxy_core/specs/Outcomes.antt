@@ -9,7 +9,7 @@ use Rattle.hx_directives.specs.Occurrences.{occurrences_of}
 use Rattle.hx_directives.specs.Answers.{has as has_directive}
 use Rattle.hx_directives.specs.declared.names.Directive.TheVariants.{OnlyIfCached as OnlyIfHeld}
 use Rattle.hx_framing.specs.Text.{request_text}
-use Rattle.hx_framing.specs.declared.responses.Response.{Response}
+use Rattle.hx_framing.specs.declared.messages.Response.{Response}
 use Rattle.std.specs.Option.{option_and_then}
 use Rattle.hx_hop.specs.declared.request_view.Asked.{Asked}
 use Rattle.hx_hop.specs.Forwarding.{forwarded_of}

@@ -5,7 +5,7 @@
 -- TwiceForwardOneReply, NothingInvalidatedIsSent: the promises
 use Rattle.std.specs.Prelude.{◌≡◌, ℕ, ◌+◌, ◌≤◌, ◌==◌, ◌&&◌, ◌||◌, nat_le, not, Bool, true, false, List, [], ◌∷◌, ◌++◌, Option, Some, None, is_none, cond}
 use Rattle.http.specs.Method.{safe_methods, is_among}
-use Rattle.hx_framing.specs.declared.responses.Response.{Response}
+use Rattle.hx_framing.specs.declared.messages.Response.{Response}
 use Rattle.hx_target.specs.declared.keys.Key.{Key}
 use Rattle.hx_target.specs.Keys.{same_key}
 use Rattle.hx_hop.specs.declared.request_view.Asked.{Asked}

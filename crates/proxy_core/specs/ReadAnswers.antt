@@ -3,7 +3,7 @@
 --
 -- IsRead: a response that some stream spells     IsReadEvent: an event that is no answer, or a read one
 use Rattle.std.specs.Prelude.{ℕ, Bool, List}
-use Rattle.hx_framing.specs.declared.responses.Response.{Response}
+use Rattle.hx_framing.specs.declared.messages.Response.{Response}
 use Rattle.hx_framing.specs.Reading.{Spelled}
 use Rattle.hx_framing.specs.ResponseReading.{Reads}
 use Rattle.proxy_core.specs.declared.event.Event.{Event}

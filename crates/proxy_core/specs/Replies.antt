@@ -5,7 +5,7 @@ use Rattle.std.specs.Prelude.{ℕ, ℤ, ◌==◌, ◌||◌, List, [], ◌∷◌,
 use Rattle.std.specs.Fmt.{decimal}
 use Rattle.hx_fields.specs.declared.field_line.Field.{Field}
 use Rattle.hx_framing.specs.Text.{response_text}
-use Rattle.hx_framing.specs.declared.responses.Response.{Response}
+use Rattle.hx_framing.specs.declared.messages.Response.{Response}
 use Rattle.hx_age.specs.Lifetime.{lifetime_of}
 use Rattle.hx_age.specs.Age.{times_of, age_of, ttl_of}
 use Rattle.hx_hop.specs.Answering.{answered_of}

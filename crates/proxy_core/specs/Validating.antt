@@ -4,7 +4,7 @@
 -- is_answered: the 304 answers a held response     refreshed: what that becomes     is_kept: and whether it is kept
 use Rattle.std.specs.Prelude.{ℕ, ◌==◌, nat_lt, ◌&&◌, not, Bool, false, List, length, codes, Option, Some, None, option_map, is_some, is_none, cond}
 use Rattle.std.specs.Option.{option_and_then}
-use Rattle.hx_framing.specs.declared.responses.Response.{Response}
+use Rattle.hx_framing.specs.declared.messages.Response.{Response}
 use Rattle.hx_age.specs.Age.{times_of}
 use Rattle.hx_age.specs.Lifetime.{lifetime_of}
 use Rattle.hx_vary.specs.Vary.{is_star}

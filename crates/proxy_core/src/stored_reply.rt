@@ -10,7 +10,7 @@ use crate::exchange::Exchange;
 use crate::reply_text::{content_sent, is_head, length_told};
 use hx_age::{Lifetime, current_age, ttl};
 use hx_fields::{Bytes, Fields};
-use hx_framing::{AddedLine, write_response_with};
+use hx_framing::{AddedLine, ResponseLines, write_response_with};
 use hx_hop::Asked;
 use hx_status::{Detail, How, Status, member};
 use hx_store::Entry;
@@ -138,8 +138,13 @@ impl StoredReply<'_> {
                 value: member.as_slice(),
             },
         ];
-        let close = self.asked.close;
-        write_response_with(alloc, status, fields, &added, length, close, content)
+        let lines = ResponseLines {
+            fields,
+            added: &added,
+            length,
+            close: self.asked.close,
+        };
+        write_response_with(alloc, status, &lines, content)
     }
 }
 

@@ -3,9 +3,9 @@ use Rattle.std.proofs.Common.{◌≡◌, ℕ, ◌+◌, ◌<◌, ◌≤◌, ◌^�
 use Rattle.std.proofs.Math.ListN.{length-set}
 use Rattle.proxy_core.specs.State.{State as CoreState}
 use Rattle.hx_framing.specs.Progress.{start}
-use Rattle.hx_framing.specs.declared.answer.Next.{Next}
-use Rattle.hx_framing.specs.declared.answer.Next.TheVariants as next
-use Rattle.hx_framing.specs.declared.requests.Request.{Request}
+use Rattle.hx_framing.specs.declared.messages.Next.{Next}
+use Rattle.hx_framing.specs.declared.messages.Next.TheVariants as next
+use Rattle.hx_framing.specs.declared.messages.Request.{Request}
 use Rattle.proxy_engine.specs.Look.{Look, Unknown, Quiet, Due, known}
 use Rattle.proxy_engine.specs.Due.{is_busy}
 use Rattle.proxy_engine.specs.Activities.{has_exchange}

@@ -1,10 +1,10 @@
 -- An act is done in one way, and the same steps have one trace.
 use Rattle.std.proofs.Common.{◌≡◌, inl, inr, ℕ, ◌+◌, List, [], ◌∷◌, ◌++◌, bytes_eq, codes, sym, ap, ◌∙◌, subst, Bool, Result, Ok, Err}
 use Rattle.hx_allow.specs.Lines.{Table}
-use Rattle.hx_framing.specs.declared.requests.Request.{Request}
+use Rattle.hx_framing.specs.declared.messages.Request.{Request}
 use Rattle.hx_framing.specs.declared.fault.FrameFault.TheVariants as frame
-use Rattle.hx_framing.specs.declared.answer.Next.{Next}
-use Rattle.hx_framing.specs.declared.answer.Next.TheVariants as next
+use Rattle.hx_framing.specs.declared.messages.Next.{Next}
+use Rattle.hx_framing.specs.declared.messages.Next.TheVariants as next
 use Rattle.hx_hop.specs.declared.request_view.Asked.{Asked}
 use Rattle.hx_hop.specs.Asking.{IsAsked}
 use Rattle.hx_status.specs.declared.cause.Cause.{Cause}

@@ -3,9 +3,9 @@ use Rattle.std.proofs.Common.{◌≡◌, ◌≤◌, inl, inr, ℕ, Bool, true, f
 use Rattle.std.specs.Prelude.{Option, Some, None}
 use Rattle.std.specs.List.{AllByRecursion}
 use Rattle.hx_allow.specs.Lines.{Table}
-use Rattle.hx_framing.specs.declared.responses.Response.{Response}
-use Rattle.hx_framing.specs.declared.answer.Next.{Next}
-use Rattle.hx_framing.specs.declared.answer.Next.TheVariants as next
+use Rattle.hx_framing.specs.declared.messages.Response.{Response}
+use Rattle.hx_framing.specs.declared.messages.Next.{Next}
+use Rattle.hx_framing.specs.declared.messages.Next.TheVariants as next
 use Rattle.hx_framing.specs.Progress.{Progress, next_of}
 use Rattle.hx_framing.specs.Reading.{Reading, Incomplete, Continue, Over, Spelled, Faulty}
 use Rattle.hx_framing.specs.ResponseReading.{Reads}

@@ -1,8 +1,8 @@
 -- One act is due first.
 use Rattle.std.proofs.Common.{◌⊎◌, inl, inr, ◌≡◌, ℕ, ◌<◌, ◌≤◌, List, get_or, refl, sym, ap, ◌∙◌, subst, arith, Bool, true, false, Option, None, Some, ◌+◌}
 use Rattle.std.proofs.lemmas.Bool.{cases_lt}
-use Rattle.hx_framing.specs.declared.requests.Request.{Request}
-use Rattle.hx_framing.specs.declared.answer.Next.{Next}
+use Rattle.hx_framing.specs.declared.messages.Request.{Request}
+use Rattle.hx_framing.specs.declared.messages.Next.{Next}
 use Rattle.hx_framing.proofs.RequestOnce.{answered_once_lem as requests_once}
 use Rattle.hx_framing.proofs.ResponseOnce.{answered_once_lem as responses_once}
 use Rattle.proxy_engine.specs.Story.{Story, ConnStory, LinkStory, no_connection, no_link}

@@ -1,11 +1,11 @@
 -- A reader of requests that is asked ahead: what is known of the next answer.
 use Rattle.std.proofs.Common.{◌≡◌, ℕ, false, List, refl, sym, subst, ◌∙◌}
-use Rattle.hx_framing.specs.declared.requests.Request.{Request}
-use Rattle.hx_framing.specs.declared.answer.Next.{Next}
-use Rattle.hx_framing.specs.declared.answer.Next.TheVariants as next
+use Rattle.hx_framing.specs.declared.messages.Request.{Request}
+use Rattle.hx_framing.specs.declared.messages.Next.{Next}
+use Rattle.hx_framing.specs.declared.messages.Next.TheVariants as next
 use Rattle.hx_framing.specs.Progress.{Progress, fed, finished, moved}
-use Rattle.hx_framing.specs.declared.request_phase.RequestPhase.{RequestPhase}
-use Rattle.hx_framing.specs.declared.request_phase.RequestPhase.TheVariants as phase
+use Rattle.hx_framing.specs.declared.readers.request_reader.RequestPhase.{RequestPhase}
+use Rattle.hx_framing.specs.declared.readers.request_reader.RequestPhase.TheVariants as phase
 use Rattle.hx_framing.specs.RequestState.{State, StandsFor, Keeps}
 use Rattle.hx_framing.specs.RequestStream.{Answers}
 use Rattle.hx_framing.proofs.RequestStreams.{due_fed, due_finished}

@@ -1,12 +1,12 @@
 -- A reader of an origin's answer that is asked ahead: what is known of the next answer.
 use Rattle.std.proofs.Common.{◌≡◌, ℕ, Bool, false, List, [], ◌∷◌, refl, sym, subst, ◌∙◌}
-use Rattle.hx_framing.specs.declared.responses.Response.{Response}
-use Rattle.hx_framing.specs.declared.answer.Next.{Next}
-use Rattle.hx_framing.specs.declared.answer.Next.TheVariants as next
+use Rattle.hx_framing.specs.declared.messages.Response.{Response}
+use Rattle.hx_framing.specs.declared.messages.Next.{Next}
+use Rattle.hx_framing.specs.declared.messages.Next.TheVariants as next
 use Rattle.hx_framing.specs.Progress.{Progress, start, fed, finished, moved}
 use Rattle.hx_framing.specs.Reading.{Incomplete}
-use Rattle.hx_framing.specs.declared.response_phase.ResponsePhase.{ResponsePhase}
-use Rattle.hx_framing.specs.declared.response_phase.ResponsePhase.TheVariants as phase
+use Rattle.hx_framing.specs.declared.readers.response_reader.ResponsePhase.{ResponsePhase}
+use Rattle.hx_framing.specs.declared.readers.response_reader.ResponsePhase.TheVariants as phase
 use Rattle.hx_framing.specs.ResponseState.{State, StandsFor, KeepsBy}
 use Rattle.hx_framing.specs.ResponseStream.{Answers}
 use Rattle.hx_framing.proofs.ResponseStreams.{due_fed, due_finished}

@@ -1,9 +1,9 @@
 -- What a look shows is what stands.
 use Rattle.std.proofs.Common.{◌≡◌, ℕ, Bool, true, false, ◌||◌, refl, sym, ap, subst, ◌∙◌, cond, Option, None, Some, is_some, ◌&&◌}
-use Rattle.hx_framing.specs.declared.requests.Request.{Request}
-use Rattle.hx_framing.specs.declared.responses.Response.{Response}
-use Rattle.hx_framing.specs.declared.answer.Next.{Next}
-use Rattle.hx_framing.specs.declared.answer.Next.TheVariants as next
+use Rattle.hx_framing.specs.declared.messages.Request.{Request}
+use Rattle.hx_framing.specs.declared.messages.Response.{Response}
+use Rattle.hx_framing.specs.declared.messages.Next.{Next}
+use Rattle.hx_framing.specs.declared.messages.Next.TheVariants as next
 use Rattle.proxy_engine.specs.Look.{Look, Unknown, Quiet, Due, Shows, is_due}
 use Rattle.proxy_engine.proofs.RequestWatching.{answers_shown as request_shown}
 use Rattle.proxy_engine.proofs.ResponseWatching.{answers_shown as response_shown}

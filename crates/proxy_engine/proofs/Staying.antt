@@ -2,10 +2,10 @@
 use Rattle.std.proofs.Common.{◌≡◌, ℕ, zero, suc, ◌-◌, ◌<◌, List, [], ◌∷◌, ◌++◌, length, get_or, set, refl, sym, ◌∙◌, subst, arith, Bool, true, false, ◌||◌, cond, Some, is_some, Result, Ok, Err, None}
 use Rattle.std.proofs.lemmas.List.{length_push}
 use Rattle.std.proofs.Math.ListN.{length-set}
-use Rattle.hx_framing.specs.declared.requests.Request.{Request}
+use Rattle.hx_framing.specs.declared.messages.Request.{Request}
 use Rattle.hx_framing.specs.declared.fault.FrameFault.TheVariants as frame
-use Rattle.hx_framing.specs.declared.answer.Next.{Next}
-use Rattle.hx_framing.specs.declared.answer.Next.TheVariants as next
+use Rattle.hx_framing.specs.declared.messages.Next.{Next}
+use Rattle.hx_framing.specs.declared.messages.Next.TheVariants as next
 use Rattle.hx_framing.specs.Progress.{fed, finished}
 use Rattle.hx_hop.specs.declared.request_view.Asked.{Asked}
 use Rattle.proxy_engine.specs.Admitted.{Refusal}

@@ -1,7 +1,7 @@
 -- The core's steps, done on both sides.
 use Rattle.std.proofs.Common.{◌≡◌, ℕ, ◌+◌, ◌<◌, ◌≤◌, ◌^◌, List, [], ◌∷◌, length, refl, sym, ap, ◌∙◌, subst, arith, Bool, true, false, Option, Some, None, is_some, Ok}
-use Rattle.hx_framing.specs.declared.requests.Request.{Request}
-use Rattle.hx_framing.specs.declared.answer.Next.TheVariants as next
+use Rattle.hx_framing.specs.declared.messages.Request.{Request}
+use Rattle.hx_framing.specs.declared.messages.Next.TheVariants as next
 use Rattle.hx_hop.specs.declared.request_view.Asked.{Asked}
 use Rattle.proxy_engine.specs.Admitted.{IsAdmitted}
 use Rattle.hx_allow.specs.Lines.{Table}
@@ -16,7 +16,7 @@ use Rattle.proxy_core.specs.declared.outcome.Outcome.TheVariants as outcomes
 use Rattle.proxy_core.specs.declared.event.Event.TheVariants as events
 use Rattle.proxy_script.specs.declared.effect_list.Effect.{Effect}
 use Rattle.proxy_script.specs.declared.effect_list.Effect.TheVariants as effects
-use Rattle.hx_framing.specs.declared.responses.Response.{Response}
+use Rattle.hx_framing.specs.declared.messages.Response.{Response}
 use Rattle.hx_status.specs.declared.cause.FailKind.{FailKind}
 use Rattle.proxy_engine.specs.Look.{Look, Unknown, Quiet, Due}
 use Rattle.proxy_engine.specs.declared.activities.Activity.TheVariants.{Free}

@@ -13,7 +13,7 @@ use Rattle.proxy_core.specs.Waiting.{IsReady}
 use Rattle.proxy_core.specs.declared.stage.Stage.{Stage}
 use Rattle.proxy_core.specs.declared.stage.Stage.TheVariants as stages
 use Rattle.std.specs.Prelude.{filter, option_map}
-use Rattle.hx_framing.specs.declared.responses.Response.{Response}
+use Rattle.hx_framing.specs.declared.messages.Response.{Response}
 use Rattle.hx_status.specs.declared.cause.FailKind.{FailKind}
 use Rattle.hx_allow.specs.Matching.{verdict_of}
 use Rattle.proxy_core.specs.declared.fault.CoreFault.{CoreFault}

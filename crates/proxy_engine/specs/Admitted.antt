@@ -2,7 +2,7 @@
 --
 -- IsAdmitted: a request as the core sees it, or why and how it is refused
 use Rattle.std.specs.Prelude.{◌≡◌, Bool, codes, bytes_eq, Result, Ok, Err}
-use Rattle.hx_framing.specs.declared.requests.Request.{Request}
+use Rattle.hx_framing.specs.declared.messages.Request.{Request}
 use Rattle.hx_hop.specs.declared.request_view.Asked.{Asked}
 use Rattle.hx_hop.specs.Asking.{IsAsked}
 use Rattle.hx_target.specs.declared.faults.TargetFault.{TargetFault}

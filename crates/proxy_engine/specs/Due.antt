@@ -4,12 +4,12 @@
 -- next_ready: the first request that may be woken            Act, IsDueFirst: the first act that is due, or that none is
 use Rattle.std.specs.Prelude.{◌≡◌, ℕ, ◌<◌, List, length, Bool, true, false, ◌||◌, Option, None, Some, if◌then◌else◌, slice_index_or, ◌+◌, ◌&&◌, slice_get}
 use Rattle.std.specs.Option.{option_map}
-use Rattle.hx_framing.specs.declared.requests.Request.{Request}
-use Rattle.hx_framing.specs.declared.responses.Response.{Response}
+use Rattle.hx_framing.specs.declared.messages.Request.{Request}
+use Rattle.hx_framing.specs.declared.messages.Response.{Response}
 use Rattle.hx_framing.specs.declared.fault.FrameFault.{FrameFault}
 use Rattle.hx_framing.specs.declared.fault.FrameFault.TheVariants as frame
-use Rattle.hx_framing.specs.declared.answer.Next.{Next}
-use Rattle.hx_framing.specs.declared.answer.Next.TheVariants as next
+use Rattle.hx_framing.specs.declared.messages.Next.{Next}
+use Rattle.hx_framing.specs.declared.messages.Next.TheVariants as next
 use Rattle.hx_framing.specs.RequestStream.{Answers as RequestAnswers}
 use Rattle.hx_framing.specs.ResponseStream.{Answers as ResponseAnswers}
 use Rattle.hx_status.specs.declared.cause.FailKind.{FailKind}

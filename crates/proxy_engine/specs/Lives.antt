@@ -7,7 +7,7 @@
 -- ActsInOneWay, HasOneTrace, LivesAreRuns: the laws
 use Rattle.std.specs.Prelude.{◌≡◌, ◌⊎◌, ℕ, ◌+◌, List, [], ◌∷◌, ◌++◌, Bool, true, None, Some, Ok, Err}
 use Rattle.hx_allow.specs.Lines.{Table}
-use Rattle.hx_framing.specs.declared.answer.Next.TheVariants as next
+use Rattle.hx_framing.specs.declared.messages.Next.TheVariants as next
 use Rattle.hx_hop.specs.declared.request_view.Asked.{Asked}
 use Rattle.hx_hop.specs.Moments.{date_text_of}
 use Rattle.hx_status.specs.declared.cause.Cause.{Cause}

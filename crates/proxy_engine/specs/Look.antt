@@ -1,7 +1,7 @@
 -- What is known of the next answer of a reader that is asked ahead.
 use Rattle.std.specs.Prelude.{◌≡◌, ℕ, Bool, true, false}
-use Rattle.hx_framing.specs.declared.answer.Next.{Next}
-use Rattle.hx_framing.specs.declared.answer.Next.TheVariants as next
+use Rattle.hx_framing.specs.declared.messages.Next.{Next}
+use Rattle.hx_framing.specs.declared.messages.Next.TheVariants as next
 
 pub data Look (M : Type 0) : Type 0 where
   Unknown Quiet : Look M

@@ -1,7 +1,7 @@
 -- A reader of requests that is asked ahead, and which streams it stands for.
 use Rattle.std.specs.Prelude.{ℕ, ◌+◌}
-use Rattle.hx_framing.specs.declared.requests.Request.{Request}
-use Rattle.hx_framing.specs.declared.answer.Next.TheVariants as next
+use Rattle.hx_framing.specs.declared.messages.Request.{Request}
+use Rattle.hx_framing.specs.declared.messages.Next.TheVariants as next
 use Rattle.hx_framing.specs.Progress.{Progress, moved, IsDue}
 use Rattle.hx_framing.specs.RequestState.{State, StandsFor, weight}
 use Rattle.hx_framing.specs.RequestStream.{Answers}

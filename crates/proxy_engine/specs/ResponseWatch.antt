@@ -1,6 +1,6 @@
 -- A reader of an origin's answer that is asked ahead, and which streams it stands for.
-use Rattle.hx_framing.specs.declared.responses.Response.{Response}
-use Rattle.hx_framing.specs.declared.answer.Next.TheVariants as next
+use Rattle.hx_framing.specs.declared.messages.Response.{Response}
+use Rattle.hx_framing.specs.declared.messages.Next.TheVariants as next
 use Rattle.hx_framing.specs.Progress.{Progress, moved, IsDue}
 use Rattle.hx_framing.specs.ResponseState.{State, StandsFor}
 use Rattle.hx_framing.specs.ResponseStream.{Answers}

@@ -6,10 +6,10 @@
 -- Did, Failed, Lessens: what a call of work did, or why it did nothing
 use Rattle.std.specs.Prelude.{◌≡◌, ℕ, ◌+◌, ◌*◌, ◌<◌, ◌≤◌, ◌^◌, List, [], ◌∷◌, length, sum_by, ◌&&◌, ◌||◌, not, Bool, true, false, Option, None, Some, slice_index_or, if◌then◌else◌}
 use Rattle.std.specs.Option.{option_map}
-use Rattle.hx_framing.specs.declared.requests.Request.{Request}
-use Rattle.hx_framing.specs.declared.responses.Response.{Response}
-use Rattle.hx_framing.specs.declared.answer.Next.{Next}
-use Rattle.hx_framing.specs.declared.answer.Next.TheVariants as next
+use Rattle.hx_framing.specs.declared.messages.Request.{Request}
+use Rattle.hx_framing.specs.declared.messages.Response.{Response}
+use Rattle.hx_framing.specs.declared.messages.Next.{Next}
+use Rattle.hx_framing.specs.declared.messages.Next.TheVariants as next
 use Rattle.hx_status.specs.declared.cause.FailKind.{FailKind}
 use Rattle.proxy_core.specs.State.{State as CoreState}
 use Rattle.proxy_engine.specs.Activities.{has_exchange}

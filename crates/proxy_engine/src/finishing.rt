@@ -1,8 +1,8 @@
 //! An exchange ends: its origin has answered or failed, or its client is gone.
 ghost use Rattle.std.specs.Prelude.{◌≡◌, ℕ, ◌+◌, ◌<◌, ◌≤◌, ◌^◌, nat_le, List, [], None, length, vec_len, vec_capacity, true, false, Some, is_some, IfOk, IfErr, OnOk, OnErr, slice_index_or};
 ghost use Rattle.hx_fields.specs.declared.limits.TheConstants.{END_OF_TIME};
-ghost use Rattle.hx_framing.specs.declared.responses.Response.{Response as Told};
-ghost use Rattle.hx_framing.specs.declared.answer.Next.{Next as Answer};
+ghost use Rattle.hx_framing.specs.declared.messages.Response.{Response as Told};
+ghost use Rattle.hx_framing.specs.declared.messages.Next.{Next as Answer};
 ghost use Rattle.proxy_core.specs.declared.event.Event.TheVariants.{Fail};
 ghost use Rattle.proxy_core.specs.State.{State as CoreState, Steps};
 ghost use Rattle.proxy_engine.specs.Story.{Story};

@@ -7,7 +7,7 @@ ghost use Rattle.proxy_engine.specs.Lives.{ActsInOneWay, HasOneTrace, LivesAreRu
 ghost use Rattle.proxy_engine.specs.FinalAnswers.{AnswersAreFinal, AnswersAreRead};
 ghost use Rattle.proxy_engine.specs.Orderly.{BeginsOrderly, TakesInOrder, ActsInOrder, TakesStay, ActsStay};
 
-use hx_framing::response_laws::what_is_read_is_final;
+use hx_framing::laws::response_laws::what_is_read_is_final;
 use hx_hop::a_request_is_asked_in_one_way;
 
 /// One act is due first, or none is: so `work` has no choice.

@@ -1,7 +1,7 @@
 //! Changes of one connection. None takes memory.
 ghost use Rattle.std.specs.Prelude.{◌≡◌, ℕ, ◌+◌, ◌*◌, ◌<◌, ◌≤◌, List, sum_by, true, false, Option, Some, None, is_some, slice_index_or, slice_set};
-ghost use Rattle.hx_framing.specs.declared.requests.Request.{Request};
-ghost use Rattle.hx_framing.specs.declared.answer.Next.{Next};
+ghost use Rattle.hx_framing.specs.declared.messages.Request.{Request};
+ghost use Rattle.hx_framing.specs.declared.messages.Next.{Next};
 ghost use Rattle.proxy_core.specs.State.{State as CoreState};
 ghost use Rattle.proxy_engine.specs.Look.{Due, known};
 ghost use Rattle.proxy_engine.specs.Story.{Story, ConnStory, with_connection};

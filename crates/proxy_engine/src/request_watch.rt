@@ -2,8 +2,8 @@
 //! twice, and a request that finds no memory on its way isn't lost.
 ghost use Rattle.std.specs.Prelude.{◌≡◌, ◌+◌, ◌*◌, ◌≤◌, length, false, IsOk, OnOk, OnErr, IfSome, is_some};
 ghost use Rattle.hx_framing.specs.Progress.{Progress, start, fed, finished, moved};
-ghost use Rattle.hx_framing.specs.declared.requests.Request.{Request};
-ghost use Rattle.hx_framing.specs.declared.answer.Next.{Next};
+ghost use Rattle.hx_framing.specs.declared.messages.Request.{Request};
+ghost use Rattle.hx_framing.specs.declared.messages.Next.{Next};
 ghost use Rattle.proxy_engine.specs.Look.{Due, Shows, is_due, known, look_by};
 ghost use Rattle.proxy_engine.specs.RequestWatch.{look_of};
 

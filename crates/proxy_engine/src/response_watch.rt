@@ -2,8 +2,8 @@
 //! reads bytes twice, and an answer that finds no memory on its way isn't lost.
 ghost use Rattle.std.specs.Prelude.{◌≡◌, ◌≤◌, length, false, IsOk, OnOk, OnErr, IfSome, is_some};
 ghost use Rattle.hx_framing.specs.Progress.{Progress, start, fed, finished};
-ghost use Rattle.hx_framing.specs.declared.responses.Response.{Response};
-ghost use Rattle.hx_framing.specs.declared.answer.Next.{Next};
+ghost use Rattle.hx_framing.specs.declared.messages.Response.{Response};
+ghost use Rattle.hx_framing.specs.declared.messages.Next.{Next};
 ghost use Rattle.proxy_engine.specs.Look.{Quiet, Due, Shows, is_due, look_by, unsettled};
 ghost use Rattle.proxy_engine.specs.ResponseWatch.{look_of};
 

@@ -1,9 +1,9 @@
 //! What a client's stream asks for is done.
 ghost use Rattle.std.specs.Prelude.{◌≡◌, ℕ, ◌+◌, ◌<◌, ◌≤◌, ◌^◌, List, length, sum_by, true, false, Option, None, Some, is_some, IfOk, IfErr, OnOk, OnErr, Ok, Err, slice_index_or};
 ghost use Rattle.hx_fields.specs.declared.limits.TheConstants.{END_OF_TIME};
-ghost use Rattle.hx_framing.specs.declared.requests.Request.{Request};
-ghost use Rattle.hx_framing.specs.declared.answer.Next.{Next};
-ghost use Rattle.hx_framing.specs.declared.answer.Next.TheVariants as next;
+ghost use Rattle.hx_framing.specs.declared.messages.Request.{Request};
+ghost use Rattle.hx_framing.specs.declared.messages.Next.{Next};
+ghost use Rattle.hx_framing.specs.declared.messages.Next.TheVariants as next;
 ghost use Rattle.proxy_engine.specs.Admitted.{IsAdmitted};
 ghost use Rattle.hx_hop.specs.Moments.{date_text_of};
 ghost use Rattle.proxy_core.specs.Replies.{refused_text, is_head};

@@ -1,8 +1,8 @@
 //! What is to be done on a connection where something is due.
 ghost use Rattle.std.specs.Prelude.{◌≡◌, true, IfOk, Some, is_some, codes, bytes_eq};
-ghost use Rattle.hx_framing.specs.declared.requests.Request.{Request as Spelled};
-ghost use Rattle.hx_framing.specs.declared.answer.Next.{Next as Told};
-ghost use Rattle.hx_framing.specs.declared.answer.Next.TheVariants as next;
+ghost use Rattle.hx_framing.specs.declared.messages.Request.{Request as Spelled};
+ghost use Rattle.hx_framing.specs.declared.messages.Next.{Next as Told};
+ghost use Rattle.hx_framing.specs.declared.messages.Next.TheVariants as next;
 ghost use Rattle.proxy_engine.specs.Look.{Due};
 ghost use Rattle.proxy_engine.specs.State.{wish_at};
 ghost use Rattle.proxy_engine.specs.Wishes.{IsMessageWish, IsWish, wish_by};

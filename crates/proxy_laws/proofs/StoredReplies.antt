@@ -9,7 +9,7 @@ use Rattle.httparse.specs.Grammar.{IsToken, is_token_byte}
 use Rattle.hx_fields.specs.declared.limits.TheConstants.{END_OF_TIME}
 use Rattle.hx_fields.specs.declared.field_line.Field.{Field}
 use Rattle.hx_fields.specs.Lines.{has, is_named}
-use Rattle.hx_framing.specs.declared.responses.Response.{Response}
+use Rattle.hx_framing.specs.declared.messages.Response.{Response}
 use Rattle.hx_framing.specs.Lengths.{is_interim, is_without_content}
 use Rattle.hx_framing.specs.Written.{IsWritableField}
 use Rattle.hx_framing.proofs.WrittenResponses.{response_is_read_back}

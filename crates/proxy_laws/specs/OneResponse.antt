@@ -3,7 +3,7 @@
 use Rattle.std.specs.Prelude.{ℕ, ◌<◌, ◌^◌, ◌++◌, Bool, List, [], ◌∷◌, length, codes, Some}
 use Rattle.httparse.specs.Grammar.{IsToken}
 use Rattle.hx_fields.specs.declared.limits.TheConstants.{END_OF_TIME}
-use Rattle.hx_framing.specs.declared.responses.Response.{Response}
+use Rattle.hx_framing.specs.declared.messages.Response.{Response}
 use Rattle.hx_framing.specs.Reading.{Spelled}
 use Rattle.hx_framing.specs.ResponseReading.{Reads}
 use Rattle.hx_framing.specs.WrittenResponse.{SentResponse, response_back}

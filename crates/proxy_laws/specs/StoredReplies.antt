@@ -9,7 +9,7 @@ use Rattle.hx_fields.specs.declared.field_line.Field.{Field}
 use Rattle.httparse.specs.Grammar.{IsToken}
 use Rattle.hx_fields.specs.Lines.{has}
 use Rattle.hx_allow.specs.Lines.{Table}
-use Rattle.hx_framing.specs.declared.responses.Response.{Response}
+use Rattle.hx_framing.specs.declared.messages.Response.{Response}
 use Rattle.hx_framing.specs.Lengths.{is_without_content}
 use Rattle.hx_framing.specs.Reading.{Spelled}
 use Rattle.hx_framing.specs.ResponseReading.{Reads}

@@ -1,5 +1,5 @@
 use Rattle.std.proofs.Common.{◌+◌, List, ℕ, ◌∷◌, [], refl, ap, ◌∙◌, arith}
-use Rattle.hx_framing.specs.declared.answer.Next.TheVariants.{NeedsContinue}
+use Rattle.hx_framing.specs.declared.messages.Next.TheVariants.{NeedsContinue}
 use Rattle.proxy_script.specs.declared.effect_list.Effect.TheVariants.{Client}
 use Rattle.proxy_engine.specs.Story.{with_connection}
 use Rattle.proxy_engine.specs.Acts.{passing}

@@ -1,6 +1,6 @@
 use Rattle.std.proofs.Common.{◌≡◌, ℕ, sum_by, ◌+◌, ◌∙◌, ◌++◌, List, Option, length, sym, ap, subst, arith}
 use Rattle.proxy_script.specs.declared.effect_list.Effect.{Effect}
-use Rattle.hx_framing.specs.declared.answer.Next.TheVariants.{Message}
+use Rattle.hx_framing.specs.declared.messages.Next.TheVariants.{Message}
 use Rattle.hx_allow.specs.Lines.{Table}
 use Rattle.proxy_core.specs.State.{State as CoreState}
 use Rattle.proxy_core.specs.declared.exchange.Exchange.{Exchange}

@@ -1,6 +1,6 @@
 use Rattle.std.proofs.Common.{length, ◌≡◌, ◌+◌, ◌^◌, sym, ◌∙◌, arith}
 use Rattle.std.proofs.lemmas.Bool.{leb-true}
-use Rattle.hx_framing.specs.declared.answer.Next.TheVariants.{Message}
+use Rattle.hx_framing.specs.declared.messages.Next.TheVariants.{Message}
 use Rattle.proxy_engine.specs.Due.{Serves}
 use Rattle.proxy_engine.specs.State.{LinkStands}
 use Rattle.proxy_engine.proofs.Parts.{both_length}

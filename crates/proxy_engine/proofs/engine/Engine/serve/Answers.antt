@@ -1,6 +1,6 @@
 use Rattle.std.proofs.Common.{get_or, None, ◌≡◌, Some, is_some, sym, subst, ap, ◌∙◌}
-use Rattle.hx_framing.specs.declared.requests.Request.{Request}
-use Rattle.hx_framing.specs.declared.answer.Next.{Next}
+use Rattle.hx_framing.specs.declared.messages.Request.{Request}
+use Rattle.hx_framing.specs.declared.messages.Next.{Next}
 use Rattle.proxy_engine.specs.Due.{Serves}
 use Rattle.proxy_engine.specs.State.{State, Done, wish_at}
 use Rattle.proxy_engine.proofs.Changes.{free_there, wish_free}

@@ -1,6 +1,6 @@
 use Rattle.std.proofs.Common.{◌||◌, refl, ap, ◌∙◌, arith, false}
 use Rattle.proxy_engine.specs.Look.{Look, may_show}
-use Rattle.hx_framing.specs.declared.responses.Response.{Response}
+use Rattle.hx_framing.specs.declared.messages.Response.{Response}
 use Rattle.proxy_engine.specs.Marked.{LinkList, may_stand}
 use Rattle.proxy_engine.proofs.Keeping.{elsewhere, listed_same, one_more}
 use Rattle.proxy_engine.proofs.Marking.{marked_room, marked_spare, below_same}

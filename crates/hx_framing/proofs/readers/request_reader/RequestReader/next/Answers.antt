@@ -1,0 +1,73 @@
+use Rattle.std.proofs.Common.{sym, ap, ◌∙◌, subst, IfOk, OnErr}
+use Rattle.hx_framing.specs.declared.messages.Request.{Request}
+use Rattle.hx_framing.specs.declared.readers.request_reader.RequestPhase.{RequestPhase}
+use Rattle.hx_framing.specs.Progress.{Progress, moved}
+use Rattle.hx_framing.specs.RequestStream.{Answers, NeedsMemory}
+use Rattle.hx_framing.specs.RequestState.{State, StandsFor}
+use Rattle.hx_framing.proofs.readers.request_reader.RequestReader.next.Goals as goal
+
+pub returns-in-BeforeHead-clause-answers : goal.returns-in-BeforeHead-clause-answers
+returns-in-BeforeHead-clause-answers c =
+    let same = ap (λ (f : RequestPhase). record {
+      max_body = c.self.inside.max_body;
+      unread = c.self.inside.unread.items;
+      spare = c.self.inside.unread.spare;
+      ended = c.self.inside.ended;
+      phase = f;
+    }) (c.replace.ensures.after ∙ sym c.in-BeforeHead.is ∙ c.replace.ensures.value) ∙ c.self.view_is in
+    subst (λ (s : State). IfOk c.read_head.result (λ answer. (p : Progress Request) → StandsFor s p → Answers p answer)) same c.read_head.ensures.answers
+
+pub returns-in-BeforeHead-clause-stands : goal.returns-in-BeforeHead-clause-stands
+returns-in-BeforeHead-clause-stands c =
+    let same = ap (λ (f : RequestPhase). record {
+      max_body = c.self.inside.max_body;
+      unread = c.self.inside.unread.items;
+      spare = c.self.inside.unread.spare;
+      ended = c.self.inside.ended;
+      phase = f;
+    }) (c.replace.ensures.after ∙ sym c.in-BeforeHead.is ∙ c.replace.ensures.value) ∙ c.self.view_is in
+    subst (λ (s : State). IfOk c.read_head.result (λ answer. (p : Progress Request) → StandsFor s p → StandsFor c.read_head.new.self (moved p answer))) same c.read_head.ensures.stands
+
+pub returns-in-InContent-clause-answers : goal.returns-in-InContent-clause-answers
+returns-in-InContent-clause-answers c =
+    let same = ap (λ (f : RequestPhase). record {
+      max_body = c.self.inside.max_body;
+      unread = c.self.inside.unread.items;
+      spare = c.self.inside.unread.spare;
+      ended = c.self.inside.ended;
+      phase = f;
+    }) (sym c.in-InContent.is ∙ c.replace.ensures.value) ∙ c.self.view_is in
+    subst (λ (s : State). IfOk c.read_content.result (λ answer. (p : Progress Request) → StandsFor s p → Answers p answer)) same c.read_content.ensures.answers
+
+pub returns-in-InContent-clause-stands : goal.returns-in-InContent-clause-stands
+returns-in-InContent-clause-stands c =
+    let same = ap (λ (f : RequestPhase). record {
+      max_body = c.self.inside.max_body;
+      unread = c.self.inside.unread.items;
+      spare = c.self.inside.unread.spare;
+      ended = c.self.inside.ended;
+      phase = f;
+    }) (sym c.in-InContent.is ∙ c.replace.ensures.value) ∙ c.self.view_is in
+    subst (λ (s : State). IfOk c.read_content.result (λ answer. (p : Progress Request) → StandsFor s p → StandsFor c.read_content.new.self (moved p answer))) same c.read_content.ensures.stands
+
+pub returns-in-BeforeHead-clause-memory_last : goal.returns-in-BeforeHead-clause-memory_last
+returns-in-BeforeHead-clause-memory_last c =
+    let same = ap (λ (f : RequestPhase). record {
+      max_body = c.self.inside.max_body;
+      unread = c.self.inside.unread.items;
+      spare = c.self.inside.unread.spare;
+      ended = c.self.inside.ended;
+      phase = f;
+    }) (c.replace.ensures.after ∙ sym c.in-BeforeHead.is ∙ c.replace.ensures.value) ∙ c.self.view_is in
+    subst (λ (s : State). OnErr c.read_head.result ((p : Progress Request) → StandsFor s p → NeedsMemory p)) same c.read_head.ensures.memory_last
+
+pub returns-in-InContent-clause-memory_last : goal.returns-in-InContent-clause-memory_last
+returns-in-InContent-clause-memory_last c =
+    let same = ap (λ (f : RequestPhase). record {
+      max_body = c.self.inside.max_body;
+      unread = c.self.inside.unread.items;
+      spare = c.self.inside.unread.spare;
+      ended = c.self.inside.ended;
+      phase = f;
+    }) (sym c.in-InContent.is ∙ c.replace.ensures.value) ∙ c.self.view_is in
+    subst (λ (s : State). OnErr c.read_content.result ((p : Progress Request) → StandsFor s p → NeedsMemory p)) same c.read_content.ensures.memory_last

@@ -1,0 +1,17 @@
+-- How a reader goes on with a content over its unread bytes.
+use Rattle.std.specs.Prelude.{◌≡◌, ℕ, Bool, false, List, Option, drop}
+use Rattle.hx_framing.specs.declared.contents.content.Content.{Content}
+use Rattle.hx_framing.specs.declared.contents.content.ContentProgress.{ContentProgress}
+use Rattle.hx_framing.specs.declared.contents.content.ContentProgress.TheVariants as content_progress
+use Rattle.hx_framing.specs.Contents.{body_from, Advances}
+use Rattle.hx_framing.specs.Reading.{Faulty, with_body}
+
+-- ended: no more bytes come, so that a content that goes on is cut off; closed: they end a content until the close
+-- left: the bytes behind what was taken
+abbrev pub ReadsOn : Bool → Bool → List ℕ → Content → ContentProgress → Content → List ℕ → Type 0
+ReadsOn ended closed bytes old (content_progress.Incomplete n) new left =
+    (ended ≡ false) × Advances closed bytes old (content_progress.Incomplete n) new × (left ≡ drop n bytes)
+ReadsOn ended closed bytes old (content_progress.Faulty f) new left =
+    (with_body {M = Option (List ℕ)} ended (λ content. content) (body_from old closed bytes) ≡ Faulty f) × (left ≡ bytes)
+ReadsOn ended closed bytes old (content_progress.Whole c n) new left =
+    Advances closed bytes old (content_progress.Whole c n) new × (left ≡ drop n bytes)

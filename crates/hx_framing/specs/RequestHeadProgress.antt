@@ -1,0 +1,38 @@
+-- What is found at the front of a request stream, and how its content goes on.
+use Rattle.std.specs.Prelude.{◌≡◌, ℕ, ◌<◌, ◌≤◌, ◌++◌, Bool, true, false, List, length, take, drop, Some, Ok}
+use Rattle.hx_framing.specs.declared.heads.request_head.Head.{Head}
+use Rattle.hx_framing.specs.declared.messages.Request.{Request}
+use Rattle.hx_framing.specs.declared.contents.content.Content.{Content}
+use Rattle.hx_framing.specs.declared.readers.progress.HeadProgress.{HeadProgress}
+use Rattle.hx_framing.specs.declared.readers.progress.HeadProgress.TheVariants as head_progress
+use Rattle.hx_framing.specs.Contents.{body_from, IsOpen}
+use Rattle.hx_framing.specs.Places.{head_length, most_head_bytes, IsOpenHead}
+use Rattle.hx_framing.specs.Head.{Judges}
+use Rattle.hx_framing.specs.Reading.{Incomplete, Continue, Over, Spelled, Faulty, with_body}
+use Rattle.hx_framing.specs.RequestReading.{request_of, Reads}
+
+-- whatever comes, the bytes read as this head with what the unread ones make of its content
+abbrev pub Resumes : ℕ → Bool → Head → Content → List ℕ → List ℕ → Type 0
+Resumes max_body told head content bytes unread = (more : List ℕ) (ended : Bool)
+    → Reads max_body ended told (bytes ++ more) (with_body ended (request_of head) (body_from content false (unread ++ more)))
+
+-- a place behind some of the bytes
+abbrev pub IsBehind : List ℕ → ℕ → Type 0
+IsBehind bytes n = (0 < n) × (n ≤ length bytes)
+
+-- it is what the bytes read as, before a continue was given
+abbrev pub IsHeadProgress : ℕ → Bool → List ℕ → HeadProgress Head Request → Type 0
+IsHeadProgress max_body ended bytes (head_progress.Incomplete n) = Reads max_body ended false bytes Incomplete × IsOpenHead bytes
+IsHeadProgress max_body ended bytes (head_progress.NeedsContinue head content n) =
+    IsBehind bytes n × Reads max_body ended false bytes Continue × Resumes max_body true head content bytes (drop n bytes)
+IsHeadProgress max_body ended bytes (head_progress.InContent head content n) =
+    IsBehind bytes n × Reads max_body ended false bytes Incomplete × Resumes max_body false head content bytes (drop n bytes)
+    × IsOpen content (drop n bytes)
+IsHeadProgress max_body ended bytes (head_progress.Message m n) = IsBehind bytes n × Reads max_body ended false bytes (Spelled m (drop n bytes))
+IsHeadProgress max_body ended bytes (head_progress.Faulty f) = Reads max_body ended false bytes (Faulty f)
+IsHeadProgress max_body ended bytes head_progress.Ended = Reads max_body ended false bytes Over
+
+-- a head stands at the front of the bytes, so that what is due is told behind it
+abbrev pub HasHead : List ℕ → Type 0
+HasHead bytes =
+    (n : ℕ) × (head : Head) × (head_length (take most_head_bytes bytes) ≡ Some n) × Judges (take n bytes) (Ok head)

@@ -1,0 +1,90 @@
+//! Size lines of chunks (RFC 9112, section 7.1). The definitions are in `specs/SizeLine.antt`.
+ghost use Rattle.std.specs.Prelude.{◌≡◌, ◌≤◌, length};
+ghost use Rattle.std.specs.List.{list_all};
+ghost use Rattle.std.specs.Str.Parse.{digits_value};
+ghost use Rattle.hx_framing.specs.SizeLine.{starts_well, is_line_byte, is_extension, hex_length, is_size, ends_in_cr, but_last, capped, size_at};
+
+use crate::fault::FrameFault;
+use crate::limits::{MOST_EXTENSION_BYTES, MOST_SIZE_DIGITS};
+use hx_fields::number_up_to;
+
+fn is_line_byte(b: u8) -> bool
+    ensures { result ≡ is_line_byte b }
+{
+    (b == b'\t' || b >= b' ') && b != 127
+}
+
+fn are_line_bytes(text: &[u8]) -> bool
+    ensures { result ≡ list_all is_line_byte text.now }
+{
+    text.iter().all(|b| is_line_byte(*b))
+}
+
+fn starts_well(text: &[u8]) -> bool
+    ensures { result ≡ starts_well text.now }
+{
+    for b in text {
+        if *b != b' ' && *b != b'\t' {
+            return *b == b';';
+        }
+    }
+    true
+}
+
+fn is_extension(text: &[u8]) -> bool
+    ensures { result ≡ is_extension text.now }
+{
+    text.len() <= MOST_EXTENSION_BYTES && are_line_bytes(text) && starts_well(text)
+}
+
+/// How many hexadecimal digits stand at the front.
+fn hex_length(text: &[u8]) -> usize
+    ensures value { result ≡ hex_length text.now }
+    ensures within { result ≤ length text.now }
+{
+    for (i, b) in text.iter().enumerate() {
+        if !b.is_ascii_hexdigit() {
+            return i;
+        }
+    }
+    text.len()
+}
+
+fn is_size(text: &[u8]) -> bool
+    ensures { result ≡ is_size text.now }
+{
+    let digits = hex_length(text);
+    let (_, extension) = text.split_at(digits);
+    digits > 0 && digits <= MOST_SIZE_DIGITS && is_extension(extension)
+}
+
+/// Whether the last byte is CR.
+pub(crate) fn ends_in_cr(line: &[u8]) -> bool
+    ensures { result ≡ ends_in_cr line.now }
+{
+    match line {
+        [.., last] => *last == b'\r',
+        [] => false,
+    }
+}
+
+fn but_last(line: &[u8]) -> &[u8]
+    ensures { result.now ≡ but_last line.now }
+{
+    match line {
+        [front @ .., _] => front,
+        [] => line,
+    }
+}
+
+/// The size that a line without its LF spells, or its fault, where `left` bytes of content may still come.
+pub(crate) fn size_at(line: &[u8], left: u64) -> Result<u64, FrameFault>
+    ensures { result ≡ size_at line.now left }
+{
+    let text = but_last(line);
+    if !ends_in_cr(line) || !is_size(text) {
+        return Err(FrameFault::Chunk);
+    }
+    let (digits, _) = text.split_at(hex_length(text));
+    number_up_to(left, 16, digits).ok_or(FrameFault::TooLarge)
+}

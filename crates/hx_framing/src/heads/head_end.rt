@@ -1,0 +1,152 @@
+//! Where the head of a message ends. The definitions are in `specs/Places.antt` and `specs/Searching.antt`.
+ghost use Rattle.std.specs.Prelude.{◌≡◌, ◌≤◌, ◌<◌, ◌+◌, ◌++◌, ℕ, List, length, drop, take, slice_index, IfSome};
+ghost use Rattle.hx_framing.specs.Places.{empty_line_at, empty_lines_from, head_end_at, empty_lines_length, head_end_from, head_length};
+ghost use Rattle.hx_framing.specs.Searching.{Reaches, IsSearched};
+
+use crate::slices::{first, rest_from};
+use memchr::memchr;
+
+/// A search goes on from here when more bytes come.
+#[derive(Clone, Copy)]
+pub(crate) struct HeadSearch {
+    /// The bytes in front of this index are looked at no more.
+    pub(crate) at: usize,
+    /// It is behind the empty lines in front of the head.
+    pub(crate) in_lines: bool,
+}
+
+/// What a search finds.
+#[derive(Clone, Copy)]
+pub(crate) enum Searched {
+    /// The head takes so many bytes.
+    Ended(usize),
+    Open(HeadSearch),
+}
+
+/// The byte at an index, or 0 past the end.
+fn byte_at(bytes: &[u8], i: usize) -> u8
+    ensures { result ≡ slice_index bytes.now i }
+{
+    if i < bytes.len() { bytes[i] } else { 0 }
+}
+
+fn empty_line_at(bytes: &[u8]) -> usize
+    ensures size { result ≡ empty_line_at bytes.now }
+    ensures within { result ≤ length bytes.now }
+{
+    if byte_at(bytes, 0) == b'\n' {
+        1
+    } else if byte_at(bytes, 0) == b'\r' && byte_at(bytes, 1) == b'\n' {
+        2
+    } else {
+        0
+    }
+}
+
+fn head_end_at(bytes: &[u8]) -> usize
+    ensures size { result ≡ head_end_at bytes.now }
+    ensures within { result ≤ length bytes.now }
+{
+    if byte_at(bytes, 0) != b'\n' {
+        0
+    } else if byte_at(bytes, 1) == b'\n' {
+        2
+    } else if byte_at(bytes, 1) == b'\r' && byte_at(bytes, 2) == b'\n' {
+        3
+    } else {
+        0
+    }
+}
+
+/// Where the empty lines end, from an index on.
+fn empty_lines_from(bytes: &[u8], from: usize) -> usize
+    requires { from ≤ length bytes.now }
+    ensures size { result ≡ empty_lines_from from (drop from bytes.now) }
+    ensures within { result ≤ length bytes.now }
+{
+    let mut at = from;
+    while empty_line_at(rest_from(bytes, at)) > 0 {
+        at += empty_line_at(rest_from(bytes, at));
+    }
+    at
+}
+
+/// How many bytes the empty lines in front take.
+pub(crate) fn empty_lines_length(bytes: &[u8]) -> usize
+    ensures size { result ≡ empty_lines_length bytes.now }
+    ensures within { result ≤ length bytes.now }
+{
+    empty_lines_from(bytes, 0)
+}
+
+/// Where the first empty line from an index on ends. The search goes from one LF to the next.
+fn head_end_from(bytes: &[u8], from: usize) -> Option<usize>
+    requires { from ≤ length bytes.now }
+    ensures place { result ≡ head_end_from from (drop from bytes.now) }
+    ensures within { IfSome result (λ end. end ≤ length bytes.now) }
+    ensures some { IfSome result (λ end. 0 < end) }
+{
+    let mut at = from;
+    while let Some(skipped) = memchr(b'\n', rest_from(bytes, at)) {
+        at += skipped;
+        let empty = head_end_at(rest_from(bytes, at));
+        if empty > 0 {
+            return Some(at + empty);
+        }
+        at += 1;
+    }
+    None
+}
+
+/// Searches the lines of a head from an index on, in front of which none is empty.
+fn search_lines(bytes: &[u8], from: usize) -> Searched
+    requires room { from + 2 ≤ length bytes.now }
+    requires lines { (more : List ℕ) → head_length (bytes.now ++ more)
+        ≡ head_end_from from (drop from (bytes.now ++ more)) }
+    ensures { IsSearched bytes.now result }
+{
+    match head_end_from(bytes, from) {
+        Some(end) => Searched::Ended(end),
+        // An empty line takes three bytes at most with the line end in front of it.
+        None => Searched::Open(HeadSearch {
+            at: bytes.len() - 2,
+            in_lines: true,
+        }),
+    }
+}
+
+/// Goes on with a search for the end of a head.
+pub(crate) fn search_head(bytes: &[u8], search: HeadSearch) -> Searched
+    requires { Reaches bytes.now search }
+    ensures { IsSearched bytes.now result }
+{
+    if search.in_lines {
+        return search_lines(bytes, search.at);
+    }
+    let first_line = empty_lines_from(bytes, search.at);
+    if bytes.len() - first_line < 2 {
+        return Searched::Open(HeadSearch {
+            at: first_line,
+            in_lines: false,
+        });
+    }
+    search_lines(bytes, first_line)
+}
+
+/// How many bytes a head takes.
+fn head_length(bytes: &[u8]) -> Option<usize>
+    ensures size { result ≡ head_length bytes.now }
+    ensures within { IfSome result (λ end. end ≤ length bytes.now) }
+    ensures some { IfSome result (λ end. 0 < end) }
+{
+    head_end_from(bytes, empty_lines_length(bytes))
+}
+
+/// How many bytes a head takes, if it ends within the limit.
+pub(crate) fn head_within(bytes: &[u8], limit: usize) -> Option<usize>
+    ensures size { result ≡ head_length (take limit bytes.now) }
+    ensures within { IfSome result (λ end. end ≤ length bytes.now) }
+    ensures some { IfSome result (λ end. 0 < end) }
+{
+    head_length(first(bytes, limit))
+}

@@ -1,0 +1,101 @@
+//! Heads of responses (RFC 9112, sections 2, 4 and 5). The definitions are in `specs/StatusHead.antt`.
+ghost use Rattle.std.specs.Prelude.{◌≡◌, IfOk, IfSome, IfNone, OnErr};
+ghost use Rattle.httparse.specs.Grammar.{ResponseHead};
+ghost use Rattle.httparse.specs.Spans.{IsResponseAt, IsResponseWithin};
+ghost use Rattle.hx_framing.specs.declared.heads.status_head.StatusHead.{StatusHead};
+ghost use Rattle.hx_framing.specs.declared.heads.status_head.Judged.TheVariants as judged;
+ghost use Rattle.hx_framing.specs.StatusHead.{IsStatusHead, JudgesAs, status_head_at, status_head_fault};
+
+use crate::fault::FrameFault;
+use crate::heads::lines::fields_at;
+use crate::heads::version::response_has_other_version;
+use crate::lengths::framing::is_interim;
+use crate::limits::MOST_FIELD_LINES;
+use httparse::Status;
+use httparse::spans::{EMPTY_HEADER_SPAN, HeaderSpan, ResponseSpans, parse_response};
+use hx_fields::{Bytes, Fields};
+use std::alloc::{AllocError, Global};
+
+/// A head: the status, the minor version and the field lines.
+#[derive(Drop)]
+pub(crate) struct StatusHead {
+    pub(crate) status: u16,
+    pub(crate) minor: u8,
+    pub(crate) fields: Fields,
+}
+
+/// How the bytes of a whole head are judged.
+#[derive(Drop)]
+pub(crate) enum Judged {
+    /// The head of an interim response. It is passed over, so it isn't copied.
+    Interim,
+    Final(StatusHead),
+    Faulty(FrameFault),
+}
+
+/// Where the parts of a head are, if just these bytes are one.
+fn find_head(bytes: &[u8], spans: &mut [HeaderSpan; MOST_FIELD_LINES]) -> Option<ResponseSpans>
+    ensures within { IfSome result (IsResponseWithin bytes.now spans.new) }
+    ensures found { IfSome result (λ r. (h : ResponseHead) × IsStatusHead bytes.now h
+        × IsResponseAt bytes.now spans.new r h) }
+    ensures none { IfNone result ((h : ResponseHead) → ¬ (IsStatusHead bytes.now h)) }
+{
+    match parse_response(bytes, spans) {
+        Ok(Status::Complete(found)) => {
+            if found.len == bytes.len() {
+                Some(found)
+            } else {
+                None
+            }
+        }
+        Ok(Status::Partial) => None,
+        Err(_) => None,
+    }
+}
+
+/// The head whose parts the spans cover. It keeps one copy of the bytes, which its parts share.
+fn copy_head(
+    alloc: Global,
+    bytes: &[u8],
+    spans: &[HeaderSpan],
+    found: ResponseSpans,
+) -> Result<StatusHead, AllocError>
+    requires { IsResponseWithin bytes.now spans.now found }
+    ensures { IfOk result (λ head. head ≡ status_head_at bytes.now spans.now found) }
+{
+    let head = Bytes::shared_copy_of(alloc, bytes)?;
+    Ok(StatusHead {
+        status: found.code,
+        minor: found.version,
+        fields: fields_at(alloc, &head, &spans[..found.headers])?,
+    })
+}
+
+/// The fault of bytes that are no head.
+fn status_head_fault(bytes: &[u8]) -> FrameFault
+    ensures { result ≡ status_head_fault bytes.now }
+{
+    if response_has_other_version(bytes) {
+        FrameFault::Version
+    } else {
+        FrameFault::Head
+    }
+}
+
+/// Judges the bytes of a whole head. Only that of a final response is copied, so want of memory hides no fault of
+/// other bytes.
+pub(crate) fn judge_head(alloc: Global, bytes: &[u8]) -> Result<Judged, AllocError>
+    ensures judged { IfOk result (JudgesAs bytes.now) }
+    ensures memory_last { OnErr result ((head : StatusHead) × JudgesAs bytes.now (judged.Final head)) }
+{
+    let mut spans = [EMPTY_HEADER_SPAN; MOST_FIELD_LINES];
+    match find_head(bytes, &mut spans) {
+        Some(found) => {
+            if is_interim(found.code) {
+                return Ok(Judged::Interim);
+            }
+            Ok(Judged::Final(copy_head(alloc, bytes, &spans, found)?))
+        }
+        None => Ok(Judged::Faulty(status_head_fault(bytes))),
+    }
+}

@@ -1,0 +1,64 @@
+//! Laws on what a request stream spells. They hold of the definitions, so each body is empty.
+ghost use Rattle.std.specs.Prelude.{◌≡◌, ◌++◌, ℕ, Bool, List, length, false};
+ghost use Rattle.hx_framing.specs.declared.messages.Request.{Request};
+ghost use Rattle.hx_framing.specs.declared.messages.Next.{Next};
+ghost use Rattle.hx_framing.specs.declared.fault.FrameFault.{FrameFault};
+ghost use Rattle.hx_framing.specs.Reading.{Reading, Faulty, IsSettled, extended};
+ghost use Rattle.hx_framing.specs.RequestReading.{Reads};
+ghost use Rattle.hx_framing.specs.RequestStream.{StreamSpells, Answers};
+ghost use Rattle.hx_framing.specs.Progress.{Progress, IsDue, fed, finished};
+ghost use Rattle.hx_framing.specs.RequestState.{State, StandsFor};
+
+/// One thing stands at the front of the unread bytes.
+pub fn read_once()
+    ensures { (max_body : ℕ) → (ended told : Bool) → (bytes : List ℕ) → (a b : Reading Request)
+        → Reads max_body ended told bytes a → Reads max_body ended told bytes b → a ≡ b }
+{}
+
+/// What is due stays due, whatever comes behind it: so it doesn't matter how the stream is cut.
+pub fn read_stays()
+    ensures { (max_body : ℕ) → (told : Bool) → (bytes more : List ℕ) → (reading : Reading Request)
+        → IsSettled reading → Reads max_body false told bytes reading
+        → Reads max_body false told (bytes ++ more) (extended reading more) }
+{}
+
+/// A stream has one fault at most behind the same requests: where one of its beginnings is at fault, so is every
+/// longer one, by the same fault. So the fault of a stream is the one at its earliest place.
+pub fn one_fault()
+    ensures { (max_body : ℕ) → (told : Bool) → (bytes more : List ℕ) → (f g : FrameFault)
+        → Reads max_body false told bytes (Faulty f)
+        → Reads max_body false told (bytes ++ more) (Faulty g) → f ≡ g }
+{}
+
+/// What a stream spells it spells however it goes on: the requests given never change.
+pub fn spelled_stays()
+    ensures { (max_body : ℕ) → (stream more : List ℕ) → (ms : List Request) → (rest : List ℕ)
+        → StreamSpells max_body stream ms rest
+        → StreamSpells max_body (stream ++ more) ms (rest ++ more) }
+{}
+
+/// A stream begins with one list of so many requests.
+pub fn spelled_once()
+    ensures { (max_body : ℕ) → (stream : List ℕ) → (ms ns : List Request) → (r q : List ℕ)
+        → length ms ≡ length ns → StreamSpells max_body stream ms r
+        → StreamSpells max_body stream ns q → (ms ≡ ns) × (r ≡ q) }
+{}
+
+/// The requests given are those that the stream spells.
+pub fn given_are_spelled()
+    ensures { (reader : State) → (p : Progress Request) → StandsFor reader p → (rest : List ℕ)
+        × StreamSpells p.max_body p.stream p.given rest }
+{}
+
+/// One answer is right.
+pub fn answered_once()
+    ensures { (p : Progress Request) → (a b : Next Request) → Answers p a → Answers p b → a ≡ b }
+{}
+
+/// An answer that is due stays the right one, whatever comes and where the stream ends.
+pub fn due_stays()
+    ensures piece { (p : Progress Request) → (answer : Next Request) → (piece : List ℕ)
+        → p.ended ≡ false → IsDue answer → Answers p answer → Answers (fed p piece) answer }
+    ensures end { (p : Progress Request) → (answer : Next Request) → IsDue answer → Answers p answer
+        → Answers (finished p) answer }
+{}

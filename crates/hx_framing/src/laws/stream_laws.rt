@@ -1,0 +1,53 @@
+//! What a reader answers of whole streams, one message after another, computed from the definitions.
+ghost use Rattle.std.specs.Prelude.{◌≡◌, ◌∷◌, [], true, false, codes, Some};
+ghost use Rattle.hx_framing.specs.declared.messages.Next.TheVariants as next;
+ghost use Rattle.hx_framing.specs.declared.fault.FrameFault.TheVariants as fault;
+ghost use Rattle.hx_framing.specs.declared.messages.Request.{Request};
+ghost use Rattle.hx_framing.specs.Progress.{fed, finished, moved, next_of, start};
+ghost use Rattle.hx_framing.specs.Reading.{Continue, Faulty, Incomplete, Over, Spelled};
+ghost use Rattle.hx_framing.specs.ReadingExamples.{behind, hello_answered, hello_behind, hi, in_a_row, put_with, waiting};
+ghost use Rattle.hx_framing.specs.RequestStream as request;
+ghost use Rattle.hx_framing.specs.ResponseStream as response;
+
+/// Requests in a row are given one by one, and what follows waits (RFC 9112, section 9.3.2).
+pub fn requests_in_a_row_are_given()
+    ensures spelled { request.StreamSpells 1000 in_a_row
+        (put_with [] (Some (codes "hi")) ∷ put_with [] (Some (codes "abc")) ∷ []) (codes "PUT") }
+    ensures first { request.Answers (behind false []) (next.Message (put_with [] (Some (codes "hi")))) }
+    ensures second { request.Answers (behind false (put_with [] (Some (codes "hi")) ∷ []))
+        (next.Message (put_with [] (Some (codes "abc")))) }
+    ensures third { request.Answers (behind false
+        (put_with [] (Some (codes "hi")) ∷ put_with [] (Some (codes "abc")) ∷ [])) next.More }
+    ensures cut { request.Answers (behind true
+        (put_with [] (Some (codes "hi")) ∷ put_with [] (Some (codes "abc")) ∷ [])) (next.Refused fault.Truncated) }
+{}
+
+/// A response is given, and then the end, whether its stream goes on or not.
+pub fn a_response_is_given()
+    ensures first { response.Answers (hello_behind false []) (next.Message hello_answered) }
+    ensures end { response.Answers (hello_behind false (hello_answered ∷ [])) next.End }
+    ensures closed { response.Answers (hello_behind true (hello_answered ∷ [])) next.End }
+{}
+
+/// A stream grows by its pieces, ends once, and remembers what was given of it and whether the next message's continue was.
+pub fn streams_go_on()
+    ensures pieces { fed (fed (start 1000 true) (codes "GET")) (codes " /") ≡ waiting true (codes "GET /") false [] false }
+    ensures end { finished (waiting false (codes "GET /") false [] false)
+        ≡ waiting false (codes "GET /") true [] false }
+    ensures told { moved (waiting false [] false [] false) next.NeedsContinue ≡ waiting false [] false [] true }
+    ensures message { moved (waiting false [] false (hi ∷ []) true) (next.Message (put_with [] (Some [])))
+        ≡ waiting false [] false (hi ∷ put_with [] (Some []) ∷ []) false }
+    ensures nothing { moved (waiting false [] false (hi ∷ []) true) next.More ≡ waiting false [] false (hi ∷ []) true }
+    ensures refused { moved (waiting false [] false (hi ∷ []) true) (next.Refused fault.Chunk)
+        ≡ waiting false [] false (hi ∷ []) true }
+    ensures over { moved (waiting false [] true (hi ∷ []) true) next.End ≡ waiting false [] true (hi ∷ []) true }
+{}
+
+/// What is answered of what stands at the front of a stream.
+pub fn readings_are_answered()
+    ensures incomplete { next_of {M = Request} Incomplete ≡ next.More }
+    ensures told { next_of {M = Request} Continue ≡ next.NeedsContinue }
+    ensures over { next_of {M = Request} Over ≡ next.End }
+    ensures spelled { next_of (Spelled hi (codes "x")) ≡ next.Message hi }
+    ensures faulty { next_of {M = Request} (Faulty fault.Length) ≡ next.Refused fault.Length }
+{}

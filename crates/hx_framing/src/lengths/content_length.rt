@@ -1,0 +1,100 @@
+//! The length that Content-Length lines tell (RFC 9110, section 8.6). The definitions are in
+//! `specs/ContentLength.antt`.
+//!
+//! No function here takes memory, and each passes its bytes once or twice.
+ghost use Rattle.std.specs.Prelude.{◌≡◌, ◌<◌, MatchOption, IfSome, Some, None, true, filter};
+ghost use Rattle.std.specs.List.{list_all};
+ghost use Rattle.std.specs.Char.{is_ascii_digit};
+ghost use Rattle.std.specs.Str.Parse.{digits_value};
+ghost use Rattle.hx_fields.specs.Lines.{is_named};
+ghost use Rattle.hx_framing.specs.ContentLength.{comma_pieces, is_digits, significant, is_number, length_told, length_up_to, content_length};
+
+use crate::fault::FrameFault;
+use crate::slices::{before_byte, rest_from};
+use hx_fields::{Field, Fields, is_same_name, number_up_to};
+
+fn all_digits(text: &[u8]) -> bool
+    ensures { result ≡ list_all is_ascii_digit text.now }
+{
+    text.iter().all(|b| b.is_ascii_digit())
+}
+
+fn is_digits(text: &[u8]) -> bool
+    ensures { result ≡ is_digits text.now }
+{
+    !text.is_empty() && all_digits(text)
+}
+
+/// A number without the zeros in front.
+fn significant(text: &[u8]) -> &[u8]
+    ensures { result.now ≡ significant text.now }
+{
+    let mut at = 0;
+    while at < text.len() && text[at] == b'0' {
+        at += 1;
+    }
+    rest_from(text, at)
+}
+
+/// Whether a text is the number of these digits, of which the first isn't 0.
+fn is_number(digits: &[u8], text: &[u8]) -> bool
+    ensures { result ≡ is_number digits.now text.now }
+{
+    is_digits(text) && significant(text) == digits
+}
+
+/// Whether each piece of a value is the number of these digits.
+fn are_pieces(digits: &[u8], value: &[u8]) -> bool
+    ensures { result ≡ list_all (is_number digits.now) (comma_pieces value.now) }
+{
+    value
+        .split(|b| *b == b',')
+        .all(|piece| is_number(digits, piece))
+}
+
+/// Whether each piece of each Content-Length line is the number of these digits.
+fn are_all_pieces(digits: &[u8], lines: &[Field]) -> bool
+    ensures { result ≡ list_all (λ (line : Field). list_all (is_number digits.now) (comma_pieces line.value))
+        (filter (is_named content_length) lines.now) }
+{
+    lines
+        .iter()
+        .filter(|line| is_same_name(line.name.as_slice(), b"content-length"))
+        .all(|line| are_pieces(digits, line.value.as_slice()))
+}
+
+/// The digits of the length that the lines tell, without zeros in front.
+fn digits_told(fields: &Fields) -> Option<&[u8]>
+    ensures digits { IfSome result (λ digits. list_all is_ascii_digit digits.now ≡ true) }
+    ensures told { MatchOption result (length_told fields.now ≡ None)
+        (λ digits. length_told fields.now ≡ Some (digits_value 10 digits.now)) }
+{
+    let text = before_byte(fields.value(b"content-length")?, b',');
+    if !is_digits(text) {
+        return None;
+    }
+    let digits = significant(text);
+    if are_all_pieces(digits, fields.as_slice()) {
+        Some(digits)
+    } else {
+        None
+    }
+}
+
+/// The number of these digits, if it is at most so much.
+fn value_up_to(most: u64, digits: &[u8]) -> Result<u64, FrameFault>
+    requires { list_all is_ascii_digit digits.now ≡ true }
+    ensures { result ≡ length_up_to most (Some (digits_value 10 digits.now)) }
+{
+    number_up_to(most, 10, digits).ok_or(FrameFault::TooLarge)
+}
+
+/// The length that the lines tell, in bytes, if it is at most so much.
+pub(crate) fn length_up_to(most: u64, fields: &Fields) -> Result<u64, FrameFault>
+    ensures { result ≡ length_up_to most (length_told fields.now) }
+{
+    match digits_told(fields) {
+        Some(digits) => value_up_to(most, digits),
+        None => Err(FrameFault::Length),
+    }
+}

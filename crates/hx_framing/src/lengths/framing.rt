@@ -1,0 +1,265 @@
+//! How long the content behind a head is, by its fields (RFC 9112, section 6). The definitions are
+//! in `specs/Lengths.antt`.
+ghost use Rattle.std.specs.Prelude.{◌≡◌, IfOk};
+ghost use Rattle.hx_framing.specs.Lengths.{announced_or, is_chunked, ends_in_chunks, is_only_chunked, framing_of_only_coding, framing_of_codings, has_both, uncoded, framing_of_request, expectation, has_content, request_body_of, is_interim, is_without_content, framing_of_final, with_status, framing_of_response, announced_of, without_lengths};
+
+use crate::fault::FrameFault;
+use crate::heads::request_head::Head;
+use crate::heads::status_head::StatusHead;
+use crate::lengths::content_length::length_up_to;
+use crate::limits::MOST_ANNOUNCED_BYTES;
+use hx_fields::{Bytes, Fields, is_same_name};
+use std::alloc::{AllocError, Global};
+
+/// How long a content is.
+#[derive(Clone, Copy)]
+pub(crate) enum Framing {
+    /// There is none.
+    Nothing,
+    /// So many bytes.
+    Announced(u64),
+    /// It comes in chunks (RFC 9112, section 7.1).
+    Chunked,
+    /// It runs until the connection closes.
+    UntilClose,
+}
+
+/// What a request head says of its content.
+#[derive(Clone, Copy)]
+pub(crate) struct RequestBody {
+    pub(crate) framing: Framing,
+    /// The client waits for a continue before it sends the content.
+    pub(crate) wants_continue: bool,
+}
+
+/// What Content-Length announces, or what holds without it.
+fn announced_or(max_body: u64, neither: Framing, fields: &Fields) -> Result<Framing, FrameFault>
+    ensures { result ≡ announced_or max_body neither fields.now }
+{
+    if !fields.has(b"content-length") {
+        return Ok(neither);
+    }
+    match length_up_to(max_body, fields) {
+        Ok(length) => Ok(Framing::Announced(length)),
+        Err(fault) => Err(fault),
+    }
+}
+
+fn is_chunked(coding: &Bytes) -> bool
+    ensures { result ≡ is_chunked coding.now }
+{
+    is_same_name(coding.as_slice(), b"chunked")
+}
+
+/// Whether the last coding is chunked, and no other is.
+fn ends_in_chunks(codings: &[Bytes]) -> bool
+    ensures { result ≡ ends_in_chunks codings.now }
+{
+    match codings {
+        [.., last] => is_chunked(last) && codings.iter().filter(|c| is_chunked(c)).count() == 1,
+        [] => false,
+    }
+}
+
+fn is_only_chunked(codings: &[Bytes]) -> bool
+    ensures { result ≡ is_only_chunked codings.now }
+{
+    match codings {
+        [only] => is_chunked(only),
+        _ => false,
+    }
+}
+
+/// What the codings of a response say.
+fn framing_of_only_coding(codings: &[Bytes]) -> Result<Framing, FrameFault>
+    ensures { result ≡ framing_of_only_coding codings.now }
+{
+    if is_only_chunked(codings) {
+        Ok(Framing::Chunked)
+    } else {
+        Err(FrameFault::Coding)
+    }
+}
+
+/// What the codings of a request say.
+fn framing_of_codings(codings: &[Bytes]) -> Result<Framing, FrameFault>
+    ensures { result ≡ framing_of_codings codings.now }
+{
+    if ends_in_chunks(codings) {
+        framing_of_only_coding(codings)
+    } else {
+        Err(FrameFault::Length)
+    }
+}
+
+fn has_both(fields: &Fields) -> bool
+    ensures { result ≡ has_both fields.now }
+{
+    fields.has(b"transfer-encoding") && fields.has(b"content-length")
+}
+
+/// What is judged of the length fields without their codings, where that is enough.
+fn uncoded(
+    max_body: u64,
+    minor: u8,
+    neither: Framing,
+    fields: &Fields,
+) -> Option<Result<Framing, FrameFault>>
+    ensures { result ≡ uncoded max_body minor neither fields.now }
+{
+    if has_both(fields) {
+        Some(Err(FrameFault::BothLengths))
+    } else if !fields.has(b"transfer-encoding") {
+        Some(announced_or(max_body, neither, fields))
+    } else if minor == 0 {
+        Some(Err(FrameFault::Length))
+    } else {
+        None
+    }
+}
+
+/// What the length fields of a request say.
+fn framing_of_request(
+    alloc: Global,
+    max_body: u64,
+    head: &Head,
+) -> Result<Result<Framing, FrameFault>, AllocError>
+    ensures { IfOk result (λ r. r ≡ framing_of_request max_body head.now) }
+{
+    match uncoded(max_body, head.minor, Framing::Nothing, &head.fields) {
+        Some(judged) => Ok(judged),
+        None => {
+            let codings = head.fields.members(alloc, b"transfer-encoding")?;
+            Ok(framing_of_codings(codings.as_slice()))
+        }
+    }
+}
+
+/// What is expected of a server.
+fn expectation(alloc: Global, head: &Head) -> Result<Option<Bytes>, AllocError>
+    ensures { IfOk result (λ r. r ≡ expectation head.now) }
+{
+    if head.minor == 1 {
+        head.fields.combined(alloc, b"expect")
+    } else {
+        Ok(None)
+    }
+}
+
+fn has_content(framing: Framing) -> bool
+    ensures { result ≡ has_content framing }
+{
+    match framing {
+        Framing::Nothing => false,
+        Framing::Announced(length) => length > 0,
+        Framing::Chunked | Framing::UntilClose => true,
+    }
+}
+
+/// How the content of a request is judged by its head.
+pub(crate) fn request_body_of(
+    alloc: Global,
+    max_body: u64,
+    head: &Head,
+) -> Result<Result<RequestBody, FrameFault>, AllocError>
+    ensures { IfOk result (λ r. r ≡ request_body_of max_body head.now) }
+{
+    let framing = match framing_of_request(alloc, max_body, head)? {
+        Ok(framing) => framing,
+        Err(fault) => return Ok(Err(fault)),
+    };
+    match expectation(alloc, head)? {
+        None => Ok(Ok(RequestBody {
+            framing,
+            wants_continue: false,
+        })),
+        Some(value) => {
+            if is_same_name(value.as_slice(), b"100-continue") {
+                Ok(Ok(RequestBody {
+                    framing,
+                    wants_continue: has_content(framing),
+                }))
+            } else {
+                Ok(Err(FrameFault::Expect))
+            }
+        }
+    }
+}
+
+/// Whether a status is that of an interim response.
+pub(crate) fn is_interim(status: u16) -> bool
+    ensures { result ≡ is_interim status }
+{
+    matches!(status, 100 | 102..=199)
+}
+
+fn is_without_content(to_head: bool, status: u16) -> bool
+    ensures { result ≡ is_without_content to_head status }
+{
+    to_head || is_interim(status) || status == 204 || status == 304
+}
+
+/// What the length fields of a response with content say.
+fn framing_of_final(
+    alloc: Global,
+    max_body: u64,
+    head: &StatusHead,
+) -> Result<Result<Framing, FrameFault>, AllocError>
+    ensures { IfOk result (λ r. r ≡ framing_of_final max_body head.now) }
+{
+    match uncoded(max_body, head.minor, Framing::UntilClose, &head.fields) {
+        Some(judged) => Ok(judged),
+        None => {
+            let codings = head.fields.members(alloc, b"transfer-encoding")?;
+            Ok(framing_of_only_coding(codings.as_slice()))
+        }
+    }
+}
+
+/// What was judged, where a response may have this status.
+fn with_status(status: u16, judged: Result<Framing, FrameFault>) -> Result<Framing, FrameFault>
+    ensures { result ≡ with_status status judged }
+{
+    match judged {
+        Ok(_) if status < 100 || status >= 600 || status == 101 => Err(FrameFault::Status),
+        other => other,
+    }
+}
+
+/// How the content of a response is judged by its head.
+pub(crate) fn framing_of_response(
+    alloc: Global,
+    max_body: u64,
+    to_head: bool,
+    head: &StatusHead,
+) -> Result<Result<Framing, FrameFault>, AllocError>
+    ensures { IfOk result (λ r. r ≡ framing_of_response max_body to_head head.now) }
+{
+    if head.status == 101 || is_without_content(to_head, head.status) {
+        return Ok(with_status(head.status, Ok(Framing::Nothing)));
+    }
+    let judged = framing_of_final(alloc, max_body, head)?;
+    Ok(with_status(head.status, judged))
+}
+
+/// The length that an answer to HEAD announces, in bytes.
+pub(crate) fn announced_of(to_head: bool, head: &StatusHead) -> Option<u64>
+    ensures { result ≡ announced_of to_head head.now }
+{
+    if !to_head || head.fields.has(b"transfer-encoding") {
+        return None;
+    }
+    match length_up_to(MOST_ANNOUNCED_BYTES, &head.fields) {
+        Ok(length) => Some(length),
+        Err(_) => None,
+    }
+}
+
+/// The lines that are no length fields.
+pub(crate) fn without_lengths(mut fields: Fields) -> Fields
+    ensures { result ≡ without_lengths fields }
+{
+    fields.remove_named(b"content-length");
+    fields.remove_named(b"transfer-encoding");
+    fields
+}

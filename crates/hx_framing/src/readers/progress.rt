@@ -1,0 +1,30 @@
+//! What a reader finds in its unread bytes.
+
+use crate::contents::content::Content;
+use crate::fault::FrameFault;
+
+/// The bytes of a stream that no message has taken, and what they are read by.
+#[derive(Clone, Copy)]
+pub(crate) struct Rest<'a> {
+    /// Bytes of content that a message may have.
+    pub(crate) max_body: u64,
+    /// No more bytes come.
+    pub(crate) ended: bool,
+    pub(crate) bytes: &'a [u8],
+}
+
+/// How far a message has come in unread bytes, from its head on: what is due, and how many of them it takes. H is a head,
+/// M a message.
+#[derive(Drop)]
+pub(crate) enum HeadProgress<H, M> {
+    /// Nothing yet.
+    Incomplete(usize),
+    /// A continue is due, before the content.
+    NeedsContinue(H, Content, usize),
+    /// A head, and a content that goes on.
+    InContent(H, Content, usize),
+    Message(M, usize),
+    Faulty(FrameFault),
+    /// The stream has ended before a head.
+    Ended,
+}

@@ -1,0 +1,89 @@
+//! What stands at the front of the unread bytes of a request stream. The definitions are in
+//! `specs/RequestReading.antt` and `specs/RequestHeadProgress.antt`.
+ghost use Rattle.std.specs.Prelude.{◌≡◌, ◌<◌, IfOk, OnErr, Some, None, Ok, Err, length, take, drop};
+ghost use Rattle.hx_framing.specs.Places.{head_length as head_length_of, most_head_bytes};
+ghost use Rattle.hx_framing.specs.Head.{Judges};
+ghost use Rattle.hx_framing.specs.Lengths.{request_body_of};
+ghost use Rattle.hx_framing.specs.RequestHeadProgress.{IsHeadProgress, HasHead};
+
+use crate::contents::content::{Content, ContentProgress};
+use crate::fault::FrameFault;
+use crate::heads::head_end::empty_lines_length;
+use crate::heads::request_head::{Head, judge_head};
+use crate::lengths::framing::{RequestBody, request_body_of};
+use crate::limits::MOST_HEAD_BYTES;
+use crate::messages::Request;
+use crate::readers::progress::{HeadProgress, Rest};
+use crate::slices::rest_from;
+use std::alloc::{AllocError, Global};
+
+/// Where no head ends within the limit.
+fn without_head(rest: &Rest<'_>) -> HeadProgress<Head, Request>
+    requires { head_length_of (take most_head_bytes rest.now.bytes.now) ≡ None }
+    ensures { IsHeadProgress rest.now.max_body rest.now.ended rest.now.bytes.now result }
+{
+    if rest.bytes.len() > MOST_HEAD_BYTES {
+        HeadProgress::Faulty(FrameFault::Head)
+    } else if rest.ended && empty_lines_length(rest.bytes) == rest.bytes.len() {
+        HeadProgress::Ended
+    } else if rest.ended {
+        HeadProgress::Faulty(FrameFault::Truncated)
+    } else {
+        HeadProgress::Incomplete(0)
+    }
+}
+
+/// Behind a head of `at` bytes that tells its content.
+fn with_request_body(
+    alloc: Global,
+    rest: &Rest<'_>,
+    at: usize,
+    head: Head,
+    body: RequestBody,
+) -> Result<HeadProgress<Head, Request>, AllocError>
+    requires place { head_length_of (take most_head_bytes rest.now.bytes.now) ≡ Some at }
+    requires some { 0 < at }
+    requires judged { Judges (take at rest.now.bytes.now) (Ok head) }
+    requires body { request_body_of rest.now.max_body head ≡ Ok body }
+    ensures progress { IfOk result (IsHeadProgress rest.now.max_body rest.now.ended rest.now.bytes.now) }
+    ensures memory_last { OnErr result (HasHead rest.now.bytes.now) }
+{
+    let mut content = Content::begun(alloc, rest.max_body, body.framing);
+    if body.wants_continue {
+        return Ok(HeadProgress::NeedsContinue(head, content, at));
+    }
+    match content.advance(alloc, false, rest_from(rest.bytes, at), 0)? {
+        ContentProgress::Incomplete(_) if rest.ended => Ok(HeadProgress::Faulty(
+            FrameFault::Truncated,
+        )),
+        ContentProgress::Incomplete(n) => Ok(HeadProgress::InContent(head, content, at + n)),
+        ContentProgress::Faulty(fault) => Ok(HeadProgress::Faulty(fault)),
+        ContentProgress::Whole(content, n) => Ok(HeadProgress::Message(
+            head.into_request(content),
+            at + n,
+        )),
+    }
+}
+
+/// What stands at the front of the unread bytes, before a continue was given. A head takes `head_length` of them.
+pub(crate) fn read_request(
+    alloc: Global,
+    rest: &Rest<'_>,
+    head_length: Option<usize>,
+) -> Result<HeadProgress<Head, Request>, AllocError>
+    requires { head_length ≡ head_length_of (take most_head_bytes rest.now.bytes.now) }
+    ensures progress { IfOk result (IsHeadProgress rest.now.max_body rest.now.ended rest.now.bytes.now) }
+    ensures memory_last { OnErr result (HasHead rest.now.bytes.now) }
+{
+    let Some(at) = head_length else {
+        return Ok(without_head(rest));
+    };
+    let (front, _) = rest.bytes.split_at(at);
+    match judge_head(alloc, front)? {
+        Err(fault) => Ok(HeadProgress::Faulty(fault)),
+        Ok(head) => match request_body_of(alloc, rest.max_body, &head)? {
+            Err(fault) => Ok(HeadProgress::Faulty(fault)),
+            Ok(body) => with_request_body(alloc, rest, at, head, body),
+        },
+    }
+}

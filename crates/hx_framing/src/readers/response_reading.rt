@@ -1,0 +1,157 @@
+//! What stands at the front of a response stream. The definitions are in `specs/ResponseReading.antt` and
+//! `specs/ResponseHeadProgress.antt`.
+ghost use Rattle.std.specs.Prelude.{◌≡◌, ◌≤◌, IfOk, OnErr, Ok, Bool, length, take};
+ghost use Rattle.hx_framing.specs.Places.{head_length as head_length_of, most_head_bytes};
+ghost use Rattle.hx_framing.specs.declared.readers.response_reading.FinalHead.TheVariants as final_head;
+ghost use Rattle.hx_framing.specs.Lengths.{framing_of_response};
+ghost use Rattle.hx_framing.specs.ResponseReading.{content_of, response_of};
+ghost use Rattle.hx_framing.specs.ResponseHeadProgress.{IsHeadProgress, IsFinalHead, HasFinalHead};
+
+use crate::contents::content::{Content, ContentProgress};
+use crate::fault::FrameFault;
+use crate::heads::head_end::head_within;
+use crate::heads::status_head::{Judged, StatusHead, judge_head};
+use crate::lengths::framing::{Framing, announced_of, framing_of_response, without_lengths};
+use crate::limits::MOST_HEAD_BYTES;
+use crate::messages::Response;
+use crate::readers::progress::{HeadProgress, Rest};
+use crate::slices::rest_from;
+use hx_fields::Bytes;
+use std::alloc::{AllocError, Global};
+
+/// How far the search for the head of the final response has come, behind the interim ones in front.
+#[derive(Drop)]
+pub(crate) enum FinalHead {
+    /// They take so many bytes, and no head ends behind them.
+    Incomplete(usize),
+    Faulty(FrameFault),
+    /// The head of a final response, and where it ends.
+    Complete(StatusHead, usize),
+}
+
+/// The bytes of a content; no content has none.
+fn content_of(alloc: Global, content: Option<Bytes>) -> Bytes
+    ensures { result ≡ content_of content }
+{
+    match content {
+        Some(bytes) => bytes,
+        None => Bytes::new(alloc),
+    }
+}
+
+/// A head with its content, without its length fields.
+pub(crate) fn response_of(
+    alloc: Global,
+    to_head: bool,
+    head: StatusHead,
+    content: Option<Bytes>,
+) -> Response
+    ensures { result ≡ response_of to_head head content }
+{
+    let announced = announced_of(to_head, &head);
+    let StatusHead {
+        status,
+        minor: _,
+        fields,
+    } = head;
+    Response {
+        status,
+        fields: without_lengths(fields),
+        content: content_of(alloc, content),
+        announced,
+    }
+}
+
+/// Skips the interim responses in front. The first head takes `head_length` bytes.
+fn skip_interim(
+    alloc: Global,
+    bytes: &[u8],
+    head_length: Option<usize>,
+) -> Result<FinalHead, AllocError>
+    requires { head_length ≡ head_length_of (take most_head_bytes bytes.now) }
+    ensures final_head { IfOk result (IsFinalHead bytes.now) }
+    ensures memory_last { OnErr result (HasFinalHead bytes.now) }
+{
+    let mut at = 0;
+    let mut next = head_length;
+    loop {
+        let rest = rest_from(bytes, at);
+        let Some(n) = next else {
+            return Ok(FinalHead::Incomplete(at));
+        };
+        let (head, _) = rest.split_at(n);
+        match judge_head(alloc, head)? {
+            Judged::Interim => {
+                at += n;
+                next = head_within(rest_from(bytes, at), MOST_HEAD_BYTES);
+            }
+            Judged::Final(head) => return Ok(FinalHead::Complete(head, at + n)),
+            Judged::Faulty(fault) => return Ok(FinalHead::Faulty(fault)),
+        }
+    }
+}
+
+/// Where no head ends within the limit behind the interim responses, which take `at` bytes.
+fn without_head(rest: &Rest<'_>, at: usize) -> HeadProgress<StatusHead, Response>
+    requires within { at ≤ length rest.now.bytes.now }
+    requires open { IsFinalHead rest.now.bytes.now (final_head.Incomplete at) }
+    ensures { (to_head : Bool) → IsHeadProgress rest.now.max_body to_head rest.now.ended rest.now.bytes.now result }
+{
+    if rest.bytes.len() - at > MOST_HEAD_BYTES {
+        HeadProgress::Faulty(FrameFault::Head)
+    } else if rest.ended {
+        HeadProgress::Faulty(FrameFault::Truncated)
+    } else {
+        HeadProgress::Incomplete(at)
+    }
+}
+
+/// Behind a final head, which ends at `at`.
+fn with_framing(
+    alloc: Global,
+    rest: &Rest<'_>,
+    to_head: bool,
+    at: usize,
+    head: StatusHead,
+    framing: Framing,
+) -> Result<HeadProgress<StatusHead, Response>, AllocError>
+    requires final_head { IsFinalHead rest.now.bytes.now (final_head.Complete head at) }
+    requires framing { framing_of_response rest.now.max_body to_head head ≡ Ok framing }
+    ensures progress { IfOk result (IsHeadProgress rest.now.max_body to_head rest.now.ended rest.now.bytes.now) }
+    ensures memory_last { OnErr result (HasFinalHead rest.now.bytes.now) }
+{
+    let mut content = Content::begun(alloc, rest.max_body, framing);
+    match content.advance(alloc, rest.ended, rest_from(rest.bytes, at), 0)? {
+        ContentProgress::Incomplete(_) if rest.ended => Ok(HeadProgress::Faulty(
+            FrameFault::Truncated,
+        )),
+        ContentProgress::Incomplete(n) => Ok(HeadProgress::InContent(head, content, at + n)),
+        ContentProgress::Faulty(fault) => Ok(HeadProgress::Faulty(fault)),
+        ContentProgress::Whole(content, n) => {
+            Ok(HeadProgress::Message(response_of(alloc, to_head, head, content), at + n))
+        }
+    }
+}
+
+/// What stands at the front of the unread bytes. The first head takes `head_length` of them.
+pub(crate) fn read_response(
+    alloc: Global,
+    rest: &Rest<'_>,
+    to_head: bool,
+    head_length: Option<usize>,
+) -> Result<HeadProgress<StatusHead, Response>, AllocError>
+    requires { head_length ≡ head_length_of (take most_head_bytes rest.now.bytes.now) }
+    ensures progress { IfOk result (IsHeadProgress rest.now.max_body to_head rest.now.ended rest.now.bytes.now) }
+    ensures memory_last { OnErr result (HasFinalHead rest.now.bytes.now) }
+{
+    match skip_interim(alloc, rest.bytes, head_length)? {
+        FinalHead::Incomplete(at) => Ok(without_head(rest, at)),
+        FinalHead::Faulty(fault) => Ok(HeadProgress::Faulty(fault)),
+        FinalHead::Complete(head, at) => {
+            match framing_of_response(alloc, rest.max_body, to_head, &head)? {
+                Err(fault) => Ok(HeadProgress::Faulty(fault)),
+                Ok(framing) => with_framing(alloc, rest, to_head, at, head, framing),
+            }
+        }
+    }
+}
