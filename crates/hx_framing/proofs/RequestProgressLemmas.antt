@@ -14,13 +14,15 @@ use Rattle.hx_framing.specs.declared.readers.progress.HeadProgress.TheVariants a
 use Rattle.hx_framing.specs.Places.{head_length, empty_lines_length}
 use Rattle.hx_framing.specs.Head.{Judges}
 use Rattle.hx_framing.specs.Lengths.{request_body_of}
-use Rattle.hx_framing.specs.Body.{Body, Short, Bad, Whole}
-use Rattle.hx_framing.specs.Contents.{body_at, body_from, begun, Advances, IsOpen}
+use Rattle.hx_framing.specs.Body.{Body, Short, Whole}
+use Rattle.hx_framing.specs.Contents.{body_at, body_from, begun, IsOpen}
+use Rattle.hx_framing.specs.ContentReading.{ReadsOn, behind as behind_read}
 use Rattle.hx_framing.specs.Reading.{Reading, Incomplete, Continue, Over, Spelled, Faulty, cut_off, with_body}
 use Rattle.hx_framing.specs.RequestReading.{request_of, with_request_body, without_head, ReadsBy, Reads}
 use Rattle.hx_framing.specs.RequestHeadProgress.{Resumes, IsHeadProgress}
 use Rattle.hx_framing.proofs.HeadEnds.{head_within_bytes, front_stable}
 use Rattle.hx_framing.proofs.BodyLemmas.{begun_is}
+use Rattle.hx_framing.proofs.ContentReadings.{body_faulty}
 
 -- the bytes begin with this head, which tells this of its content
 pub record Begins (max : ℕ) (bytes : List ℕ) (at : ℕ) (head : Head) (request_body : RequestBody) : Type 0 where
@@ -83,9 +85,10 @@ progress_continue max e bytes at head request_body b some wants = (
     never true = refl
     never false = refl
 
--- what was taken of the content behind the head
-abbrev pub Took : ℕ → RequestBody → List ℕ → ℕ → ContentProgress → Content → Type 0
-Took max request_body bytes at t content = Advances false (drop at bytes) (begun max request_body.framing) t content
+-- what was read of the content behind the head
+abbrev pub Took : ℕ → Bool → RequestBody → List ℕ → ℕ → ContentProgress → Content → Type 0
+Took max e request_body bytes at t content =
+    ReadsOn e false (drop at bytes) (begun max request_body.framing) t content (behind_read t (drop at bytes))
 
 reads_taken : (max : ℕ) (e : Bool) (bytes : List ℕ) (at : ℕ) (head : Head) (request_body : RequestBody) (body : Body) → Begins max bytes at head request_body
     → request_body.wants_continue ≡ false → body_from (begun max request_body.framing) false (drop at bytes) ≡ body
@@ -94,40 +97,35 @@ reads_taken max e bytes at head request_body body b quiet is =
     subst (λ (body : Body). Reads max e false bytes (with_body e (request_of head) body)) (begun_is max request_body.framing false (drop at bytes) ∙ is)
     (reads_content max e false bytes at head request_body b (ap (λ (w : Bool). w && true) quiet))
 
-pub progress_cut : (max : ℕ) (e : Bool) (bytes : List ℕ) (at : ℕ) (head : Head) (request_body : RequestBody) (content : Content) (t : ContentProgress) (n : ℕ) → Begins max bytes at head request_body
-    → request_body.wants_continue ≡ false → e ≡ true → t ≡ content_progress.Incomplete n → Took max request_body bytes at t content → IsHeadProgress max e bytes (head_progress.Faulty fault.Truncated)
-progress_cut max e bytes at head request_body content t n b quiet ends is took =
-    let k : Took max request_body bytes at (content_progress.Incomplete n) content = subst (λ (t : ContentProgress). Took max request_body bytes at t content) is took in
-    subst (λ (r : Reading Request). Reads max e false bytes r) (ap (λ (e : Bool). cut_off {M = Request} e) ends)
-    (reads_taken max e bytes at head request_body Short b quiet k.1)
-
 pub progress_going : (max : ℕ) (e : Bool) (bytes : List ℕ) (at : ℕ) (head : Head) (request_body : RequestBody) (content : Content) (t : ContentProgress) (n : ℕ) → Begins max bytes at head request_body
-    → 0 < at → request_body.wants_continue ≡ false → e ≡ false → t ≡ content_progress.Incomplete n → Took max request_body bytes at t content → IsHeadProgress max e bytes (head_progress.InContent head content (at + n))
-progress_going max e bytes at head request_body content t n b some quiet open_still is took =
-    let k : Took max request_body bytes at (content_progress.Incomplete n) content = subst (λ (t : ContentProgress). Took max request_body bytes at t content) is took in
+    → 0 < at → request_body.wants_continue ≡ false → t ≡ content_progress.Incomplete n → Took max e request_body bytes at t content → IsHeadProgress max e bytes (head_progress.InContent head content (at + n))
+progress_going max e bytes at head request_body content t n b some quiet is took =
+    let k : Took max e request_body bytes at (content_progress.Incomplete n) content = subst (λ (t : ContentProgress). Took max e request_body bytes at t content) is took in
     let same : drop n (drop at bytes) ≡ drop (at + n) bytes = drop-drop n at bytes in (
-      (omega arith, behind bytes at n (place_within bytes at b.place) k.0),
-      subst (λ (r : Reading Request). Reads max e false bytes r) (ap (λ (e : Bool). cut_off {M = Request} e) open_still)
-          (reads_taken max e bytes at head request_body Short b quiet k.1),
+      (omega arith, behind bytes at n (place_within bytes at b.place) k.1.0),
+      subst (λ (r : Reading Request). Reads max e false bytes r) (ap (λ (e : Bool). cut_off {M = Request} e) k.0)
+          (reads_taken max e bytes at head request_body Short b quiet k.1.1),
       resumes_from max false bytes at head request_body content (drop (at + n) bytes) b (ap (λ (w : Bool). w && true) quiet)
-          (λ more. begun_is max request_body.framing false (drop at bytes ++ more) ∙ k.2 more false ∙ ap (λ u. body_from content false (u ++ more)) same),
-      subst (λ (u : List ℕ). IsOpen content u) same k.3,
+          (λ more. begun_is max request_body.framing false (drop at bytes ++ more) ∙ k.1.2 more false ∙ ap (λ u. body_from content false (u ++ more)) same),
+      subst (λ (u : List ℕ). IsOpen content u) same k.1.3,
     )
 
-pub progress_bad : (max : ℕ) (e : Bool) (bytes : List ℕ) (at : ℕ) (head : Head) (request_body : RequestBody) (content : Content) (t : ContentProgress) (f : FrameFault) → Begins max bytes at head request_body
-    → request_body.wants_continue ≡ false → t ≡ content_progress.Faulty f → Took max request_body bytes at t content → IsHeadProgress max e bytes (head_progress.Faulty f)
-progress_bad max e bytes at head request_body content t f b quiet is took =
-    let k : Took max request_body bytes at (content_progress.Faulty f) content = subst (λ (t : ContentProgress). Took max request_body bytes at t content) is took in
-    reads_taken max e bytes at head request_body (Bad f) b quiet k
+pub progress_faulty : (max : ℕ) (e : Bool) (bytes : List ℕ) (at : ℕ) (head : Head) (request_body : RequestBody) (content : Content) (t : ContentProgress) (f : FrameFault) → Begins max bytes at head request_body
+    → request_body.wants_continue ≡ false → t ≡ content_progress.Faulty f → Took max e request_body bytes at t content → IsHeadProgress max e bytes (head_progress.Faulty f)
+progress_faulty max e bytes at head request_body content t f b quiet is took =
+    let k : Took max e request_body bytes at (content_progress.Faulty f) content = subst (λ (t : ContentProgress). Took max e request_body bytes at t content) is took in
+    let body : Body = body_from (begun max request_body.framing) false (drop at bytes) in
+    subst (λ (r : Reading Request). Reads max e false bytes r) (body_faulty e (request_of head) body f k.0)
+    (reads_taken max e bytes at head request_body body b quiet refl)
 
 pub progress_message : (max : ℕ) (e : Bool) (bytes : List ℕ) (at : ℕ) (head : Head) (request_body : RequestBody) (content : Content) (t : ContentProgress) (c : Option (List ℕ)) (n : ℕ)
-    → Begins max bytes at head request_body → 0 < at → request_body.wants_continue ≡ false → t ≡ content_progress.Whole c n → Took max request_body bytes at t content
+    → Begins max bytes at head request_body → 0 < at → request_body.wants_continue ≡ false → t ≡ content_progress.Whole c n → Took max e request_body bytes at t content
     → IsHeadProgress max e bytes (head_progress.Message (request_of head c) (at + n))
 progress_message max e bytes at head request_body content t c n b some quiet is took =
-    let k : Took max request_body bytes at (content_progress.Whole c n) content = subst (λ (t : ContentProgress). Took max request_body bytes at t content) is took in (
-      (omega arith, behind bytes at n (place_within bytes at b.place) k.0),
+    let k : Took max e request_body bytes at (content_progress.Whole c n) content = subst (λ (t : ContentProgress). Took max e request_body bytes at t content) is took in (
+      (omega arith, behind bytes at n (place_within bytes at b.place) k.0.0),
       subst (λ (u : List ℕ). Reads max e false bytes (Spelled (request_of head c) u)) (drop-drop n at bytes)
-          (reads_taken max e bytes at head request_body (Whole c (drop n (drop at bytes))) b quiet k.1),
+          (reads_taken max e bytes at head request_body (Whole c (drop n (drop at bytes))) b quiet k.0.1),
     )
 
 -- ---- a head that is at fault, and none
@@ -148,11 +146,11 @@ reads_without max e t bytes r none is = subst (λ (o : Option ℕ). ReadsBy max 
 
 -- ---- as a function has it
 
-pub took : (max : ℕ) (request_body : RequestBody) (bytes : List ℕ) (at : ℕ) (rest : List ℕ) (old : Content) (t : ContentProgress) (content : Content)
-    → rest ≡ drop at bytes → old ≡ begun max request_body.framing → Advances false rest old t content → Took max request_body bytes at t content
-took max request_body bytes at rest old t content same is h =
-    subst (λ (u : List ℕ). Advances false u (begun max request_body.framing) t content) same
-    (subst (λ (o : Content). Advances false rest o t content) is h)
+pub took : (max : ℕ) (e : Bool) (request_body : RequestBody) (bytes : List ℕ) (at : ℕ) (rest : List ℕ) (old : Content) (t : ContentProgress) (content : Content)
+    → rest ≡ drop at bytes → old ≡ begun max request_body.framing → ReadsOn e false rest old t content (behind_read t rest) → Took max e request_body bytes at t content
+took max e request_body bytes at rest old t content same is h =
+    subst (λ (u : List ℕ). ReadsOn e false u (begun max request_body.framing) t content (behind_read t u)) same
+    (subst (λ (o : Content). ReadsOn e false rest o t content (behind_read t rest)) is h)
 
 -- a head may still end within the limit
 pub waits_for_head : (e : Bool) (bytes : List ℕ) → e ≡ false → length bytes ≤ 32768 → Incomplete ≡ without_head e bytes

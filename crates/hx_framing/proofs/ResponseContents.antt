@@ -1,5 +1,5 @@
 -- What a response reader reads in a content and before a head, as its functions have it.
-use Rattle.std.proofs.Common.{◌≡◌, ℕ, Bool, true, false, List, [], ◌++◌, drop, refl, sym, ap, ◌∙◌, subst, Option}
+use Rattle.std.proofs.Common.{◌≡◌, ℕ, Bool, false, List, [], ◌++◌, drop, refl, sym, ap, ◌∙◌, subst, Option}
 use Rattle.hx_framing.specs.declared.heads.status_head.StatusHead.{StatusHead}
 use Rattle.hx_framing.specs.declared.messages.Response.{Response}
 use Rattle.hx_framing.specs.declared.fault.FrameFault.{FrameFault}

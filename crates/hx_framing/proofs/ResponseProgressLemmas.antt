@@ -15,14 +15,16 @@ use Rattle.hx_framing.specs.declared.readers.response_reading.FinalHead.TheVaria
 use Rattle.hx_framing.specs.Places.{head_length}
 use Rattle.hx_framing.specs.StatusHead.{Judges}
 use Rattle.hx_framing.specs.Lengths.{framing_of_response, is_interim}
-use Rattle.hx_framing.specs.Body.{Body, Short, Bad, Whole}
-use Rattle.hx_framing.specs.Contents.{body_at, body_from, begun, Advances, IsOpen}
+use Rattle.hx_framing.specs.Body.{Body, Short, Whole}
+use Rattle.hx_framing.specs.Contents.{body_at, body_from, begun, IsOpen}
+use Rattle.hx_framing.specs.ContentReading.{ReadsOn, behind as behind_read}
 use Rattle.hx_framing.specs.Reading.{Reading, Incomplete, Spelled, Faulty, cut_off, with_body}
 use Rattle.hx_framing.specs.ResponseReading.{response_of, with_framing, FrontBy, Passes, Reads}
 use Rattle.hx_framing.specs.ResponseHeadProgress.{Resumes, IsFinalHead, IsHeadProgress}
 use Rattle.hx_framing.proofs.HeadEnds.{front_stable}
 use Rattle.hx_framing.proofs.HeadSearches.{open_head}
 use Rattle.hx_framing.proofs.BodyLemmas.{begun_is}
+use Rattle.hx_framing.proofs.ContentReadings.{body_faulty}
 use Rattle.hx_framing.proofs.ResponseLemmas.{place_within, passes_append, passes_push}
 
 -- ---- interim responses in front
@@ -93,16 +95,16 @@ resumes_from max h bytes at head told content unread x is on = λ more ended.
     (ap (body_at max told ended) (drop-append-le at bytes more x.0.1) ∙ on more ended)
     (reads_final max h ended (bytes ++ more) at head told (final_append bytes more at head x) is)
 
--- what was taken of the content behind the head
+-- what was read of the content behind the head
 abbrev pub Took : ℕ → Bool → Framing → List ℕ → ℕ → ContentProgress → Content → Type 0
-Took max e told bytes at t content = Advances e (drop at bytes) (begun max told) t content
+Took max e told bytes at t content = ReadsOn e e (drop at bytes) (begun max told) t content (behind_read t (drop at bytes))
 
 pub took : (max : ℕ) (e : Bool) (told : Framing) (bytes : List ℕ) (at : ℕ) (rest : List ℕ) (old : Content) (t s : ContentProgress) (content : Content)
-    → rest ≡ drop at bytes → old ≡ begun max told → t ≡ s → Advances e rest old t content → Took max e told bytes at s content
+    → rest ≡ drop at bytes → old ≡ begun max told → t ≡ s → ReadsOn e e rest old t content (behind_read t rest) → Took max e told bytes at s content
 took max e told bytes at rest old t s content same is kind h =
-    subst (λ (t : ContentProgress). Advances e (drop at bytes) (begun max told) t content) kind
-    (subst (λ (u : List ℕ). Advances e u (begun max told) t content) same
-    (subst (λ (o : Content). Advances e rest o t content) is h))
+    subst (λ (t : ContentProgress). Took max e told bytes at t content) kind
+    (subst (λ (u : List ℕ). ReadsOn e e u (begun max told) t content (behind_read t u)) same
+    (subst (λ (o : Content). ReadsOn e e rest o t content (behind_read t rest)) is h))
 
 reads_taken : (max : ℕ) (h e : Bool) (bytes : List ℕ) (at : ℕ) (head : StatusHead) (told : Framing) (body : Body) → IsFinalHead bytes (final_head.Complete head at)
     → framing_of_response max h head ≡ Ok told → body_from (begun max told) e (drop at bytes) ≡ body → Reads max h e bytes (with_body e (response_of h head) body)
@@ -117,35 +119,32 @@ some_bytes bytes at k some within = omega (arith, some, within)
 behind : (bytes : List ℕ) (at n : ℕ) → at ≤ length bytes → n ≤ length (drop at bytes) → at + n ≤ length bytes
 behind bytes at n low high = omega (arith, low, high, length-drop at bytes)
 
-pub progress_cut : (max : ℕ) (h e : Bool) (bytes : List ℕ) (at : ℕ) (head : StatusHead) (told : Framing) (content : Content) (n : ℕ) → IsFinalHead bytes (final_head.Complete head at)
-    → framing_of_response max h head ≡ Ok told → e ≡ true → Took max e told bytes at (content_progress.Incomplete n) content → IsHeadProgress max h e bytes (head_progress.Faulty fault.Truncated)
-progress_cut max h e bytes at head told content n x is ends k = (
-  some_bytes bytes at _ x.0.0 x.0.1,
-  subst (λ (r : Reading Response). Reads max h e bytes r) (ap (λ (e : Bool). cut_off {M = Response} e) ends) (reads_taken max h e bytes at head told Short x is k.1),
-)
-
 pub progress_going : (max : ℕ) (h e : Bool) (bytes : List ℕ) (at : ℕ) (head : StatusHead) (told : Framing) (content : Content) (n : ℕ) → IsFinalHead bytes (final_head.Complete head at)
-    → framing_of_response max h head ≡ Ok told → e ≡ false → Took max e told bytes at (content_progress.Incomplete n) content → IsHeadProgress max h e bytes (head_progress.InContent head content (at + n))
-progress_going max h e bytes at head told content n x is open_still k =
+    → framing_of_response max h head ≡ Ok told → Took max e told bytes at (content_progress.Incomplete n) content → IsHeadProgress max h e bytes (head_progress.InContent head content (at + n))
+progress_going max h e bytes at head told content n x is k =
     let same : drop n (drop at bytes) ≡ drop (at + n) bytes = drop-drop n at bytes in (
-      (omega (arith, x.0.0), behind bytes at n x.0.1 k.0),
-      subst (λ (r : Reading Response). Reads max h e bytes r) (ap (λ (e : Bool). cut_off {M = Response} e) open_still) (reads_taken max h e bytes at head told Short x is k.1),
+      (omega (arith, x.0.0), behind bytes at n x.0.1 k.1.0),
+      subst (λ (r : Reading Response). Reads max h e bytes r) (ap (λ (e : Bool). cut_off {M = Response} e) k.0) (reads_taken max h e bytes at head told Short x is k.1.1),
       resumes_from max h bytes at head told content (drop (at + n) bytes) x is
-          (λ more e. begun_is max told e (drop at bytes ++ more) ∙ k.2 more e ∙ ap (λ u. body_from content e (u ++ more)) same),
-      subst (λ (u : List ℕ). IsOpen content u) same k.3,
+          (λ more e. begun_is max told e (drop at bytes ++ more) ∙ k.1.2 more e ∙ ap (λ u. body_from content e (u ++ more)) same),
+      subst (λ (u : List ℕ). IsOpen content u) same k.1.3,
     )
 
-pub progress_bad : (max : ℕ) (h e : Bool) (bytes : List ℕ) (at : ℕ) (head : StatusHead) (told : Framing) (content : Content) (f : FrameFault) → IsFinalHead bytes (final_head.Complete head at)
+pub progress_faulty : (max : ℕ) (h e : Bool) (bytes : List ℕ) (at : ℕ) (head : StatusHead) (told : Framing) (content : Content) (f : FrameFault) → IsFinalHead bytes (final_head.Complete head at)
     → framing_of_response max h head ≡ Ok told → Took max e told bytes at (content_progress.Faulty f) content → IsHeadProgress max h e bytes (head_progress.Faulty f)
-progress_bad max h e bytes at head told content f x is k = (some_bytes bytes at _ x.0.0 x.0.1, reads_taken max h e bytes at head told (Bad f) x is k)
+progress_faulty max h e bytes at head told content f x is k =
+    let body : Body = body_from (begun max told) e (drop at bytes) in (
+      some_bytes bytes at _ x.0.0 x.0.1,
+      subst (λ (r : Reading Response). Reads max h e bytes r) (body_faulty e (response_of h head) body f k.0) (reads_taken max h e bytes at head told body x is refl),
+    )
 
 pub progress_message : (max : ℕ) (h e : Bool) (bytes : List ℕ) (at : ℕ) (head : StatusHead) (told : Framing) (content : Content) (c : Option (List ℕ)) (n : ℕ)
     → IsFinalHead bytes (final_head.Complete head at) → framing_of_response max h head ≡ Ok told → Took max e told bytes at (content_progress.Whole c n) content
     → IsHeadProgress max h e bytes (head_progress.Message (response_of h head c) (at + n))
 progress_message max h e bytes at head told content c n x is k = (
-  (omega (arith, x.0.0), behind bytes at n x.0.1 k.0),
+  (omega (arith, x.0.0), behind bytes at n x.0.1 k.0.0),
   subst (λ (u : List ℕ). Reads max h e bytes (Spelled (response_of h head c) u)) (drop-drop n at bytes)
-      (reads_taken max h e bytes at head told (Whole c (drop n (drop at bytes))) x is k.1),
+      (reads_taken max h e bytes at head told (Whole c (drop n (drop at bytes))) x is k.0.1),
 )
 
 -- ---- a head that is at fault

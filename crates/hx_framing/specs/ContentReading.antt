@@ -1,10 +1,16 @@
--- How a reader goes on with a content over its unread bytes.
+-- How a reader goes on with a content over bytes that weren't read.
 use Rattle.std.specs.Prelude.{◌≡◌, ℕ, Bool, false, List, Option, drop}
 use Rattle.hx_framing.specs.declared.contents.content.Content.{Content}
 use Rattle.hx_framing.specs.declared.contents.content.ContentProgress.{ContentProgress}
 use Rattle.hx_framing.specs.declared.contents.content.ContentProgress.TheVariants as content_progress
 use Rattle.hx_framing.specs.Contents.{body_from, Advances}
 use Rattle.hx_framing.specs.Reading.{Faulty, with_body}
+
+-- the bytes behind what was taken
+abbrev pub behind : ContentProgress → List ℕ → List ℕ
+behind (content_progress.Incomplete n) bytes = drop n bytes
+behind (content_progress.Faulty f) bytes = bytes
+behind (content_progress.Whole c n) bytes = drop n bytes
 
 -- ended: no more bytes come, so that a content that goes on is cut off; closed: they end a content until the close
 -- left: the bytes behind what was taken

@@ -3,6 +3,7 @@ ghost use Rattle.std.specs.Prelude.{◌≡◌, ◌≤◌, IfOk, OnErr, Bool, tru
 ghost use Rattle.hx_framing.specs.declared.contents.content.Content.TheVariants as content;
 ghost use Rattle.hx_framing.specs.ChunkGrammar.{has_no_lf};
 ghost use Rattle.hx_framing.specs.Contents.{begun, Advances};
+ghost use Rattle.hx_framing.specs.ContentReading.{ReadsOn, behind};
 
 use crate::contents::chunks::Chunks;
 use crate::contents::plain::Plain;
@@ -59,7 +60,7 @@ impl Content {
 
     /// Goes on with the bytes that are there; `ended` says that no more come. No LF stands in the first `searched` of
     /// them. An `Err` changes nothing.
-    pub(crate) fn advance(
+    fn advance(
         &mut self,
         alloc: Global,
         ended: bool,
@@ -76,6 +77,31 @@ impl Content {
             Content::Announced(plain) => plain.take_announced(alloc, bytes),
             Content::Chunked(chunks) => decode_chunks(chunks, alloc, bytes, searched),
             Content::UntilClose(plain) => plain.take_until_close(alloc, ended, bytes),
+        }
+    }
+
+    /// Goes on with the bytes that are there; `closed` says that they end a content until the close, `ended` that no more
+    /// come, so that a content that goes on is cut off. No LF stands in the first `searched` of them. An `Err` changes
+    /// nothing.
+    pub(crate) fn read(
+        &mut self,
+        alloc: Global,
+        ended: bool,
+        closed: bool,
+        bytes: &[u8],
+        searched: usize,
+    ) -> Result<ContentProgress, AllocError>
+        requires within { searched ≤ length bytes.now }
+        requires none { has_no_lf (take searched bytes.now) ≡ true }
+        ensures reads { IfOk result (λ progress.
+            ReadsOn ended closed bytes.now self.old progress self.new (behind progress bytes.now)) }
+        ensures err { OnErr result (self.new ≡ self.old) }
+    {
+        match self.advance(alloc, closed, bytes, searched)? {
+            ContentProgress::Incomplete(_) if ended => {
+                Ok(ContentProgress::Faulty(FrameFault::Truncated))
+            }
+            progress => Ok(progress),
         }
     }
 }

@@ -52,10 +52,8 @@ fn with_request_body(
     if body.wants_continue {
         return Ok(HeadProgress::NeedsContinue(head, content, at));
     }
-    match content.advance(alloc, false, rest_from(rest.bytes, at), 0)? {
-        ContentProgress::Incomplete(_) if rest.ended => Ok(HeadProgress::Faulty(
-            FrameFault::Truncated,
-        )),
+    // No content of a request runs until the close.
+    match content.read(alloc, rest.ended, false, rest_from(rest.bytes, at), 0)? {
         ContentProgress::Incomplete(n) => Ok(HeadProgress::InContent(head, content, at + n)),
         ContentProgress::Faulty(fault) => Ok(HeadProgress::Faulty(fault)),
         ContentProgress::Whole(content, n) => Ok(HeadProgress::Message(

@@ -121,10 +121,7 @@ fn with_framing(
     ensures memory_last { OnErr result (HasFinalHead rest.now.bytes.now) }
 {
     let mut content = Content::begun(alloc, rest.max_body, framing);
-    match content.advance(alloc, rest.ended, rest_from(rest.bytes, at), 0)? {
-        ContentProgress::Incomplete(_) if rest.ended => Ok(HeadProgress::Faulty(
-            FrameFault::Truncated,
-        )),
+    match content.read(alloc, rest.ended, rest.ended, rest_from(rest.bytes, at), 0)? {
         ContentProgress::Incomplete(n) => Ok(HeadProgress::InContent(head, content, at + n)),
         ContentProgress::Faulty(fault) => Ok(HeadProgress::Faulty(fault)),
         ContentProgress::Whole(content, n) => {

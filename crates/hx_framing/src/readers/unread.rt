@@ -5,7 +5,6 @@
 ghost use Rattle.std.specs.Prelude.{◌≡◌, ◌≤◌, ◌++◌, [], IsOk, OnOk, IfOk, OnErr, length, drop};
 
 use crate::contents::content::{Content, ContentProgress};
-use crate::fault::FrameFault;
 use crate::heads::head_end::{HeadSearch, Searched, search_head};
 use crate::limits::MOST_HEAD_BYTES;
 use crate::slices::{first, rest_from};
@@ -140,8 +139,7 @@ impl Unread {
         self.line
     }
 
-    /// Goes on with a content, and takes away what it took of the bytes. `ended` says that no more come, so that a content
-    /// that goes on is cut off; `closed`, that they end a content until the close. An `Err` changes nothing.
+    /// Goes on with a content, as its `read` does, and takes away what it took of the bytes. An `Err` changes nothing.
     pub(crate) fn read_content(
         &mut self,
         alloc: Global,
@@ -154,10 +152,7 @@ impl Unread {
         ensures err { OnErr result (self.new ≡ self.old) }
         ensures err_content { OnErr result (content.new ≡ content.old) }
     {
-        match content.advance(alloc, closed, self.as_slice(), self.searched())? {
-            ContentProgress::Incomplete(_) if ended => {
-                Ok(ContentProgress::Faulty(FrameFault::Truncated))
-            }
+        match content.read(alloc, ended, closed, self.as_slice(), self.searched())? {
             ContentProgress::Incomplete(n) => {
                 self.take_front(n);
                 self.note_open_line();

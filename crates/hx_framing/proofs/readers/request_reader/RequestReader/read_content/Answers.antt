@@ -1,4 +1,4 @@
-use Rattle.std.proofs.Common.{ℕ, List, drop, refl, sym, ap, ◌∙◌, subst}
+use Rattle.std.proofs.Common.{ℕ, List, drop, refl, sym, ap, subst}
 use Rattle.hx_framing.specs.declared.messages.Request.{Request}
 use Rattle.hx_framing.specs.declared.contents.content.ContentProgress.TheVariants as content_progress
 use Rattle.hx_framing.specs.Reading.{Spelled}
