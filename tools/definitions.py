@@ -14,12 +14,15 @@ import os
 import re
 import subprocess
 import tempfile
+import threading
 import time
 from concurrent.futures import ThreadPoolExecutor
 
 BEGIN, END = "<!-- tools/mutants --definitions writes from here -->", "<!-- to here, of definitions -->"
 # So many mutants are tried by one start of the compiler.
 AT_ONCE = 40
+# What the prover said is written by one lane at a time.
+WRITING = threading.Lock()
 # The laws are asked in these steps: those on no file of lemmas, on at most so many, and on any number.
 COMPUTED, ON_FEW, ON_MANY = STEPS = range(3)
 FEW = 1
@@ -218,7 +221,7 @@ def try_by(step, rt, crate, mutants, kept):
         copy.write(room, [texts for texts, _laws in sets.values()])
         said = said_of(rt, crate, room, [law for _texts, laws in sets.values() for law in laws], kept)
     os.makedirs(f"{crate.folder}/out/mutants", exist_ok=True)
-    with open(f"{crate.folder}/out/mutants/definitions.txt", "a", encoding="utf-8") as it:
+    with WRITING, open(f"{crate.folder}/out/mutants/definitions.txt", "a", encoding="utf-8") as it:
         it.write(said)
     unchanged = judged(None, 0, sets[0][1], said)
     if unchanged.fault or unchanged.refused_by:
@@ -226,21 +229,43 @@ def try_by(step, rt, crate, mutants, kept):
     return [judged(it, at + 1, sets[at + 1][1], said) for at, it in enumerate(mutants)]
 
 
-def try_crate(rt, crate, names, at_once):
-    """Tries the mutants of the crate's definitions that have these names, or all, and prints a line for each."""
-    mutants, tried, began = [it for it in mutants_of(rt, crate) if not names or it.name in names], [], time.monotonic()
-    good = [it for it in mutants if not it.fault]
-    say = lambda found: [print(f"{crate.name}/{it.mutant.name}: {it.word()}", flush=True) for it in found]
-    tried += [Tried(it, [], it.fault) for it in mutants if it.fault]
-    say(tried)
-    with tempfile.TemporaryDirectory(prefix="definitions-kept-") as kept:
-        for at in range(0, len(good), at_once):
-            some = try_some(rt, crate, good[at : at + at_once], kept)
-            say(some)
-            tried += some
-    if mutants:
-        print(f"{crate.name}: {counted(tried)}, in {time.monotonic() - began:.0f} s", flush=True)
-    return tried
+class Batches:
+    """Tries mutants of crates, so many at once, side by side: each lane keeps its own work of a crate from one batch to the next."""
+
+    def __init__(self, rt, room, lanes):
+        self.rt, self.room, self.pool, self.printing = rt, room, ThreadPoolExecutor(lanes), threading.Lock()
+
+    def try_batch(self, crate, mutants):
+        kept = f"{self.room}/{crate.name}-{threading.get_ident()}"
+        os.makedirs(kept, exist_ok=True)
+        began = time.monotonic()
+        tried = try_some(self.rt, crate, mutants, kept)
+        self.say(tried)
+        return tried, time.monotonic() - began
+
+    def say(self, tried):
+        with self.printing:
+            for it in tried:
+                print(f"{it.mutant.crate.name}/{it.mutant.name}: {it.word()}", flush=True)
+
+    def begin(self, crate, names):
+        """What is begun of the crate's mutants that have these names, or of all: those that can't be read, and the batches."""
+        mutants = [it for it in mutants_of(self.rt, crate) if not names or it.name in names]
+        good, bad = [it for it in mutants if not it.fault], [Tried(it, [], it.fault) for it in mutants if it.fault]
+        self.say(bad)
+        return bad, [self.pool.submit(self.try_batch, crate, good[at : at + AT_ONCE]) for at in range(0, len(good), AT_ONCE)]
+
+    def end(self, crate, bad, batches):
+        """What became of the crate's mutants, with a line that counts them."""
+        done = [it.result() for it in batches]
+        tried = bad + [it for some, _seconds in done for it in some]
+        if tried:
+            self.say_count(crate, tried, sum(seconds for _some, seconds in done))
+        return tried
+
+    def say_count(self, crate, tried, seconds):
+        with self.printing:
+            print(f"{crate.name}: {counted(tried)}, in {seconds:.0f} s of a lane", flush=True)
 
 
 def counted(tried):
@@ -272,8 +297,10 @@ def write_page(rt, page, tried):
 def main(rt, crates, names, page):
     """names: of mutants, where not all of these crates are to be tried; then the page stays as it is."""
     lanes = os.environ.get("RT_JOBS", "")
-    with ThreadPoolExecutor(int(lanes) if lanes.isdigit() else rt.processors()) as pool:
-        tried = dict(zip([it.name for it in crates], pool.map(lambda it: try_crate(rt, it, names, AT_ONCE), crates)))
+    with tempfile.TemporaryDirectory(prefix="definitions-kept-") as room:
+        batches = Batches(rt, room, int(lanes) if lanes.isdigit() else rt.processors())
+        begun = [(it, *batches.begin(it, names)) for it in crates]
+        tried = {crate.name: batches.end(crate, bad, some) for crate, bad, some in begun}
     if not names:
         write_page(rt, page, tried)
     every = [it for of_crate in tried.values() for it in of_crate]
