@@ -17,7 +17,7 @@ use Rattle.proxy_core.specs.declared.fallback.Fallback.TheVariants.{Sends, Refus
 use Rattle.proxy_core.specs.Outcomes.{find_exchange, outcome_of, failed, fallback_for}
 use Rattle.proxy_core.specs.Leading.{is_forwarded}
 use Rattle.proxy_core.specs.Validating.{condition_at}
-use Rattle.proxy_core.specs.State.{State as CoreState, Steps, open_after, closed, left_open, goes_out, sent_out, woken_out, rule_of, named_by, invalidated_by}
+use Rattle.proxy_core.specs.State.{State as CoreState, Steps, open_after, closed, left_open, goes_out, woken_out, rule_of, named_by, invalidated_by}
 use Rattle.proxy_core.proofs.Waits.{is_wait, late_no_wait}
 use Rattle.proxy_engine.specs.declared.lookahead.Lookahead.TheVariants.{Due}
 use Rattle.proxy_engine.specs.Due.{Finish, Gives, Breaks}

@@ -19,7 +19,7 @@ use Rattle.proxy_engine.specs.Due.{Breaks, Lost, Stood, Wanted, WishBy, FinishBy
 use Rattle.proxy_engine.specs.State.{ConnStands, LinkStands, wish_seen}
 use Rattle.proxy_engine.specs.Places.{Kept, Falls, AllBelow, IsLeast, IsMarked}
 use Rattle.proxy_engine.specs.Held.{GrowsConnection, GrowsLink}
-use Rattle.proxy_engine.specs.Marked.{EndList, may_be_lost, may_want, may_stand, LooksLikeConnection, LooksLikeLink, Alike, AtEach, NoneBelow, NoneAtAll, lost_at}
+use Rattle.proxy_engine.specs.Marked.{EndList, may_be_lost, may_want, may_stand, Alike, AtEach, NoneBelow, NoneAtAll, lost_at}
 use Rattle.proxy_engine.specs.declared.activities.Activity.{Activity}
 use Rattle.proxy_engine.specs.declared.ends.Connection.{Connection}
 use Rattle.proxy_engine.specs.declared.ends.Link.{Link}

@@ -1,12 +1,11 @@
 -- A reader that is asked ahead: what is known of the next answer.
 use Rattle.std.proofs.Common.{◌≡◌, ℕ, Bool, false, List, [], ◌∷◌, refl, sym, subst}
-use Rattle.hx_framing.specs.declared.requests.Request.{Request}
 use Rattle.hx_framing.specs.declared.responses.Response.{Response}
 use Rattle.hx_framing.specs.declared.answer.Next.{Next}
 use Rattle.hx_framing.specs.declared.answer.Next.TheVariants as next
 use Rattle.hx_framing.specs.declared.response_phase.ResponsePhase.{ResponsePhase}
 use Rattle.hx_framing.specs.declared.response_phase.ResponsePhase.TheVariants as phase
-use Rattle.hx_framing.specs.Progress.{Progress, start, moved, IsDue}
+use Rattle.hx_framing.specs.Progress.{Progress, start}
 use Rattle.hx_framing.specs.Reading.{Incomplete}
 use Rattle.hx_framing.specs.RequestStream.{Answers as RequestAnswers}
 use Rattle.hx_framing.specs.ResponseState.{State, StandsFor, KeepsBy}

@@ -15,9 +15,10 @@ pub(crate) trait Endpoint: Drop {
     /// What a look leaves.
     ghost LooksLike: { Self → Self → Type 0 };
 
-    /// What it leaves to make room for bytes, and for how many there is room.
+    /// What is left where room for bytes is made.
     ghost Grows: { Self → Self → Type 0 };
 
+    /// For how many bytes there is room.
     ghost spare: { Self → ℕ };
 
     /// Whether something is due there. A look keeps what it finds, so nothing is read twice.

@@ -19,9 +19,10 @@ pub trait Reader: Drop {
     /// How many more bytes find room without new memory.
     ghost spare: { Self → ℕ };
 
-    /// A bound on what is still to come of what was fed, and what the end of the stream adds to it.
+    /// A bound on what is still to come of what was fed.
     ghost weight: { Self → ℕ };
 
+    /// What the end of the stream adds to it.
     ghost end_weight: { ℕ };
 
     /// Makes room, so that one `feed` of at most n bytes finds its memory. An `Err` changes nothing.
