@@ -6,11 +6,16 @@ use Rattle.hx_framing.specs.Progress.{start}
 use Rattle.hx_framing.specs.declared.messages.Next.{Next}
 use Rattle.hx_framing.specs.declared.messages.Next.TheVariants as next
 use Rattle.hx_framing.specs.declared.messages.Request.{Request}
-use Rattle.proxy_engine.specs.Look.{Look, Unknown, Quiet, Due, known}
+use Rattle.proxy_engine.specs.declared.lookahead.Lookahead.{Lookahead}
+use Rattle.proxy_engine.specs.declared.lookahead.Lookahead.TheVariants.{Unknown, Quiet, Due}
+use Rattle.proxy_engine.specs.Lookahead.{known}
 use Rattle.proxy_engine.specs.Due.{is_busy}
 use Rattle.proxy_engine.specs.Activities.{has_exchange}
 use Rattle.proxy_engine.specs.Acts.{doing, with_opened, closing}
-use Rattle.proxy_engine.specs.ResponseWatch.{Watched, Stands as WatchStands}
+use Rattle.hx_framing.specs.ResponseState.{State as ResponseState}
+use Rattle.hx_framing.specs.declared.messages.Response.{Response}
+use Rattle.proxy_engine.specs.declared.peeked.Peeked.{Peeked}
+use Rattle.proxy_engine.specs.Peeked.{ResponseStands}
 use Rattle.proxy_engine.specs.Story.{Story, ConnStory, LinkStory, opened, no_connection, no_link, connection_at, link_at, with_connection, with_link, with_core}
 use Rattle.proxy_engine.specs.Wiring.{activity_of}
 use Rattle.proxy_engine.specs.State.{Both, ConnStands, LinkStands, Stands, state, wish_at, wish_seen, wish_load, is_free, gone_at, finish_at, connection_load}
@@ -46,15 +51,15 @@ pub changed_core : (cs : List (Option Connection)) (ks : List (Option Link)) (co
 changed_core cs ks core first new s h = record { connections = h.connections; links = h.links; core = refl; first = h.first; numbers = h.numbers }
 
 -- a link is opened for the connection at i, which has it already
-pub opened_link : (cs : List (Option Connection)) (ks : List (Option Link)) (core : CoreState) (first max_body place : ℕ) (to_head : Bool) (s : Story) (i : ℕ) (w : Watched)
-    → place ≡ length ks → core.table.max_body ≡ max_body → WatchStands w (start max_body to_head) → first + length ks < 2 ^ 64 → Stands (state cs ks core first) (with_connection s i (doing (Forwarded place)))
-    → Stands (state cs (ks ++ Some (record { watch = w; ended = false; failed = None; connection = i }) ∷ []) core first) (with_opened s i to_head)
+pub opened_link : (cs : List (Option Connection)) (ks : List (Option Link)) (core : CoreState) (first max_body place : ℕ) (to_head : Bool) (s : Story) (i : ℕ) (w : Peeked ResponseState Response)
+    → place ≡ length ks → core.table.max_body ≡ max_body → ResponseStands w (start max_body to_head) → first + length ks < 2 ^ 64 → Stands (state cs ks core first) (with_connection s i (doing (Forwarded place)))
+    → Stands (state cs (ks ++ Some (record { reader = w; ended = false; failed = None; connection = i }) ∷ []) core first) (with_opened s i to_head)
 opened_link cs ks core first max_body place to_head s i w at most fresh small h =
     let same = both_length LinkStands ks s.links h.links in
-    let watch : WatchStands w (start s.core.table.max_body to_head) = subst (λ (n : ℕ). WatchStands w (start n to_head)) (sym most ∙ ap (λ (k : CoreState). k.table.max_body) h.core) fresh in
+    let reader : ResponseStands w (start s.core.table.max_body to_head) = subst (λ (n : ℕ). ResponseStands w (start n to_head)) (sym most ∙ ap (λ (k : CoreState). k.table.max_body) h.core) fresh in
     record {
       connections = subst (λ (n : ℕ). Both ConnStands cs (set s.connections i (doing (Forwarded n) (connection_at s i)))) (at ∙ same) h.connections;
-      links = both_push LinkStands ks s.links (Some (record { watch = w; ended = false; failed = None; connection = i })) (opened s.core.table.max_body to_head i) h.links record { watch = watch; ended = refl; failed = refl; still = refl; connection = refl };
+      links = both_push LinkStands ks s.links (Some (record { reader = w; ended = false; failed = None; connection = i })) (opened s.core.table.max_body to_head i) h.links record { reader = reader; ended = refl; failed = refl; still = refl; connection = refl };
       core = h.core;
       first = h.first;
       numbers = let first_is : first ≡ s.first = h.first in rw length-append (omega (arith, same));
@@ -92,7 +97,7 @@ wish_by false o e = refl
 -- one on which something is due is free
 pub wish_free : (o : Option Connection) → is_some (wish_at o) ≡ true → is_free o ≡ true
 wish_free None e = absurd (cc)
-wish_free (Some c) e = wish_by (is_busy c.gone false c.activity) (wish_seen c.watch.look) e
+wish_free (Some c) e = wish_by (is_busy c.gone false c.activity) (wish_seen c.reader.ahead) e
 
 or_true : (a b : Bool) → a || (b || true) ≡ true
 or_true true b = refl
@@ -129,10 +134,10 @@ finish_there (Some k) e = refl
 -- where it isn't closed
 pub left_open : (o : Option Connection) (c : ConnStory) → ConnStands o c → ConnStands o (closing false c)
 left_open None c h = (ap (λ (b : Bool). c.gone || b) (or_false c.closed) ∙ h.0, h.1)
-left_open (Some x) c h = record { watch = h.watch; ended = h.ended; gone = h.gone; activity = h.activity; still = ap (λ (b : Bool). b || false) h.still; used = h.used }
+left_open (Some x) c h = record { reader = h.reader; ended = h.ended; gone = h.gone; activity = h.activity; still = ap (λ (b : Bool). b || false) h.still; used = h.used }
 
 -- what a look shows to be due, and how much that counts
-wish_due : (busy : Bool) (l : Look Request) (a : Next Request) → cond busy None (wish_seen l) ≡ Some a → l ≡ Due a
+wish_due : (busy : Bool) (l : Lookahead Request) (a : Next Request) → cond busy None (wish_seen l) ≡ Some a → l ≡ Due a
 wish_due true l a e = absurd (cc)
 wish_due false Unknown a e = absurd (cc)
 wish_due false Quiet a e = absurd (cc)
@@ -142,10 +147,10 @@ wish_due false (Due (next.Message m)) a e = ap (λ (b : Next Request). Due b) (s
 wish_due false (Due (next.Refused f)) a e = ap (λ (b : Next Request). Due b) (some_same e)
 wish_due false (Due next.End) a e = ap (λ (b : Next Request). Due b) (some_same e)
 
-pub due_at : (c : Connection) (a : Next Request) → wish_at (Some c) ≡ Some a → c.watch.look ≡ Due a
-due_at c a e = wish_due (is_busy c.gone false c.activity) c.watch.look a e
+pub due_at : (c : Connection) (a : Next Request) → wish_at (Some c) ≡ Some a → c.reader.ahead ≡ Due a
+due_at c a e = wish_due (is_busy c.gone false c.activity) c.reader.ahead a e
 
-known_by : (busy : Bool) (l : Look Request) → wish_load (cond busy None (wish_seen l)) ≤ known l
+known_by : (busy : Bool) (l : Lookahead Request) → wish_load (cond busy None (wish_seen l)) ≤ known l
 known_by true l = omega arith
 known_by false Unknown = omega arith
 known_by false Quiet = omega arith
@@ -155,5 +160,5 @@ known_by false (Due (next.Message m)) = omega arith
 known_by false (Due (next.Refused f)) = omega arith
 known_by false (Due next.End) = omega arith
 
-pub wish_known : (c : Connection) → wish_load (wish_at (Some c)) ≤ known c.watch.look
-wish_known c = known_by (is_busy c.gone false c.activity) c.watch.look
+pub wish_known : (c : Connection) → wish_load (wish_at (Some c)) ≤ known c.reader.ahead
+wish_known c = known_by (is_busy c.gone false c.activity) c.reader.ahead

@@ -17,16 +17,16 @@ use Rattle.proxy_core.specs.declared.fallback.Fallback.TheVariants.{Sends, Refus
 use Rattle.proxy_core.specs.Outcomes.{find_exchange, outcome_of, failed, fallback_for}
 use Rattle.proxy_core.specs.Leading.{is_forwarded}
 use Rattle.proxy_core.specs.Validating.{condition_at}
-use Rattle.proxy_core.specs.State.{State as CoreState, Steps, open_after, closed, left_open, goes_out, sent_out, woken_out, rule_of, named_by, invalidated_by}
+use Rattle.proxy_core.specs.State.{State as CoreState, Steps, open_after, closed, left_open, goes_out, woken_out, rule_of, named_by, invalidated_by}
 use Rattle.proxy_core.proofs.Waits.{is_wait, late_no_wait}
-use Rattle.proxy_engine.specs.Look.{Due}
+use Rattle.proxy_engine.specs.declared.lookahead.Lookahead.TheVariants.{Due}
 use Rattle.proxy_engine.specs.Due.{Finish, Gives, Breaks}
 use Rattle.proxy_engine.specs.State.{finish_seen, finish_at}
 use Rattle.proxy_engine.specs.Wishes.{IsFinishedBy, gives, goes_forward, outcome_load}
 use Rattle.proxy_engine.specs.declared.ends.Link.{Link}
 
 -- a link that shows a response
-pub given_seen : (k : Link) (m : Response) → k.watch.look ≡ Due (next.Message m) → finish_at (Some k) ≡ Some (Gives m)
+pub given_seen : (k : Link) (m : Response) → k.reader.ahead ≡ Due (next.Message m) → finish_at (Some k) ≡ Some (Gives m)
 given_seen k m shown = ap (λ l. finish_seen l k.failed) shown
 
 abbrev pub is_reply : Outcome → Bool

@@ -1,8 +1,7 @@
 -- Each answer that acts ask the core about is one that an origin's stream spells, and so has a final status.
-use Rattle.std.proofs.Common.{◌≡◌, ◌≤◌, inl, inr, ℕ, Bool, true, false, List, [], ◌∷◌, refl, sym, ap, ◌∙◌, subst}
+use Rattle.std.proofs.Common.{◌≡◌, ◌≤◌, inl, inr, ℕ, Bool, true, false, List, [], ◌∷◌, sym, subst}
 use Rattle.std.specs.Prelude.{Option, Some, None}
 use Rattle.std.specs.List.{AllByRecursion}
-use Rattle.hx_allow.specs.Lines.{Table}
 use Rattle.hx_framing.specs.declared.messages.Response.{Response}
 use Rattle.hx_framing.specs.declared.messages.Next.{Next}
 use Rattle.hx_framing.specs.declared.messages.Next.TheVariants as next
@@ -15,10 +14,9 @@ use Rattle.proxy_core.specs.declared.event.Event.{Event}
 use Rattle.proxy_core.specs.declared.event.Event.TheVariants as events
 use Rattle.proxy_core.specs.ReadAnswers.{IsRead, IsReadEvent}
 use Rattle.proxy_core.specs.Traces.{Item}
-use Rattle.proxy_script.specs.declared.effect_list.Effect.{Effect}
 use Rattle.proxy_engine.specs.Story.{Story, LinkStory, link_at}
 use Rattle.proxy_engine.specs.Due.{Act, Abandons, Finishes, Wakes, Serves, Gives, Breaks, IsDueFirst, FinishBy, finish_of}
-use Rattle.proxy_engine.specs.Lives.{Step, Took, Worked, IsEventOf, Tells}
+use Rattle.proxy_engine.specs.Lives.{Took, Worked, IsEventOf}
 use Rattle.proxy_engine.specs.FinalAnswers.{AnswersAreFinal, AnswersAreRead, HasFinalStatus}
 
 -- ---- a response that stands on a link was read

@@ -1,22 +1,21 @@
 -- What a search over the map of open ends has found, in the list of all.
-use Rattle.std.proofs.Common.{◌≡◌, ℕ, ◌<◌, List, length, get_or, sym, ap, ◌∙◌, subst, Contains, Option, None, Some, is_some, IfNone, IfSome, MatchOption, true}
+use Rattle.std.proofs.Common.{◌≡◌, ℕ, ◌<◌, List, length, get_or, sym, ap, ◌∙◌, subst, Contains, Bool, false, Option, None, Some, is_some, IfNone, IfSome, MatchOption, true}
 use Rattle.std.specs.Ordering.{nat_cmp}
 use Rattle.std.specs.BTreeMap.{BTreeMap, get}
 use Rattle.std.proofs.lemmas.List.{get_or-map}
-use Rattle.proxy_engine.specs.Story.{ConnStory, no_connection, no_link}
-use Rattle.proxy_engine.specs.Due.{IsFirst, Lost, Stood, Wanted}
-use Rattle.proxy_engine.specs.State.{Both, ConnStands, LinkStands, NoneLost, FoundLinks, FoundConnections, finish_at, wish_at, gone_at}
+use Rattle.proxy_engine.specs.Story.{ConnStory, no_connection}
+use Rattle.proxy_engine.specs.Due.{IsFirst, Lost}
+use Rattle.proxy_engine.specs.State.{Both, ConnStands, NoneLost, Found, gone_at}
 use Rattle.proxy_engine.specs.Activities.{link_of, has_exchange}
 use Rattle.proxy_engine.specs.Wiring.{activity_at, activity_of, activities_of}
 use Rattle.proxy_engine.specs.Places.{listed, AllBelow}
-use Rattle.proxy_engine.specs.Marked.{may_be_lost, may_want, may_stand, NoneBelow, NoneAtAll, lost_at, StandsThere, WantsThere}
+use Rattle.proxy_engine.specs.Marked.{may_be_lost, NoneBelow, NoneAtAll, lost_at, ShownThere}
 use Rattle.proxy_engine.specs.declared.activities.Activity.TheVariants.{Free}
 use Rattle.proxy_engine.specs.declared.ends.Connection.{Connection}
-use Rattle.proxy_engine.specs.declared.ends.Link.{Link}
 use Rattle.proxy_engine.proofs.Keeping.{listed_length, listed_at, seen_at, inside}
 use Rattle.proxy_engine.proofs.Shown.{lost, lost_link}
 use Rattle.proxy_engine.proofs.Searching.{found_first, none_first, some_from}
-use Rattle.proxy_engine.proofs.Marking.{unlost, unlost_over, unwanted, unwanted_over, unstood, unstood_over}
+use Rattle.proxy_engine.proofs.Marking.{unlost, unlost_over}
 
 -- what a search for a gone connection with an open exchange found
 abbrev pub LostThere : BTreeMap ℕ Connection → List ℕ → ℕ × Option ℕ → Type 0
@@ -59,26 +58,16 @@ module _ (m : BTreeMap ℕ Connection) (n : ℕ) (places : List ℕ) (below : Al
   lost_gone None some = tt
   lost_gone (Some p) some = ap gone_at (at_place p.0 (below p.0 some.2)) ∙ (lost_link (get nat_cmp m p.0) p.1 some.0).0
 
-pub due_found : (m : BTreeMap ℕ Connection) (n : ℕ) (places : List ℕ) (r : Option ℕ) → AllBelow n places
-    → MatchOption r (NoneAtAll may_want m) (λ i. WantsThere (get nat_cmp m i) × NoneBelow may_want m i × Contains places i) → FoundConnections (listed m n) r
-due_found m n places None below h = λ ss both. none_first ConnStands Wanted may_want no_connection m n unwanted unwanted_over h ss both
-due_found m n places (Some i) below h =
+-- what a search for the first end at which something is due found
+pub due_found : {A B C : Type 0} (R : Option A → B → Type 0) (P : B → Option C → Type 0) (flag : A → Bool) (d : B) (seen : Option A → Option C) (m : BTreeMap ℕ A) (n : ℕ) (places : List ℕ)
+    → ((x : A) (y : B) → flag x ≡ false → R (Some x) y → P y None) → ((y : B) → R None y → P y None) → (r : Option ℕ) → AllBelow n places
+    → MatchOption r (NoneAtAll flag m) (λ i. ShownThere R P seen (get nat_cmp m i) × NoneBelow flag m i × Contains places i) → Found R P d seen (listed m n) r
+due_found R P flag d seen m n places hidden over None below h = λ ys both. none_first R P flag d m n hidden over h ys both
+due_found R P flag d seen m n places hidden over (Some i) below h =
     let within : i < n = below i h.2 in
-    let some = some_from (wish_at (get nat_cmp m i)) (sym h.0.0) in
+    let some = some_from (seen (get nat_cmp m i)) (sym h.0.0) in
     record {
-      wish = some.0;
-      shown = ap wish_at (listed_at m n i None within) ∙ some.1;
-      first = λ ss both. found_first ConnStands Wanted may_want no_connection m n unwanted unwanted_over i some.0 within (λ s k. subst (λ o. Wanted s o) some.1 (h.0.1 s k)) h.1 ss both;
-    }
-
-pub finished_found : (m : BTreeMap ℕ Link) (n : ℕ) (places : List ℕ) (r : Option ℕ) → AllBelow n places
-    → MatchOption r (NoneAtAll may_stand m) (λ j. StandsThere (get nat_cmp m j) × NoneBelow may_stand m j × Contains places j) → FoundLinks (listed m n) r
-finished_found m n places None below h = λ ss both. none_first LinkStands Stood may_stand no_link m n unstood unstood_over h ss both
-finished_found m n places (Some j) below h =
-    let within : j < n = below j h.2 in
-    let some = some_from (finish_at (get nat_cmp m j)) (sym h.0.0) in
-    record {
-      finish = some.0;
-      shown = ap finish_at (listed_at m n j None within) ∙ some.1;
-      first = λ ss both. found_first LinkStands Stood may_stand no_link m n unstood unstood_over j some.0 within (λ s k. subst (λ o. Stood s o) some.1 (h.0.1 s k)) h.1 ss both;
+      due = some.0;
+      shown = ap seen (listed_at m n i None within) ∙ some.1;
+      first = λ ys both. found_first R P flag d m n hidden over i some.0 within (λ y k. subst (λ o. P y o) some.1 (h.0.1 y k)) h.1 ys both;
     }

@@ -1,5 +1,4 @@
-pub mod RequestWatching
-pub mod ResponseWatching
+pub mod Peeking
 pub mod Parts
 pub mod ActivityCases
 pub mod Keeping

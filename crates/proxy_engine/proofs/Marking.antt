@@ -11,13 +11,15 @@ use Rattle.hx_framing.specs.declared.messages.Next.{Next}
 use Rattle.hx_framing.specs.declared.messages.Next.TheVariants as next
 use Rattle.hx_status.specs.declared.cause.FailKind.{FailKind}
 use Rattle.proxy_engine.specs.Activities.{link_of, has_exchange}
-use Rattle.proxy_engine.specs.Look.{Look, Unknown, Quiet, Due, Shows, is_due, may_show}
+use Rattle.proxy_engine.specs.declared.lookahead.Lookahead.{Lookahead}
+use Rattle.proxy_engine.specs.declared.lookahead.Lookahead.TheVariants.{Unknown, Quiet, Due}
+use Rattle.proxy_engine.specs.Lookahead.{Shows, is_due, may_show}
 use Rattle.proxy_engine.specs.Story.{ConnStory, LinkStory}
 use Rattle.proxy_engine.specs.Due.{Breaks, Lost, Stood, Wanted, WishBy, FinishBy, is_busy}
 use Rattle.proxy_engine.specs.State.{ConnStands, LinkStands, wish_seen}
 use Rattle.proxy_engine.specs.Places.{Kept, Falls, AllBelow, IsLeast, IsMarked}
 use Rattle.proxy_engine.specs.Held.{GrowsConnection, GrowsLink}
-use Rattle.proxy_engine.specs.Marked.{ConnectionList, LinkList, may_be_lost, may_want, may_stand, LooksLikeConnection, LooksLikeLink, Alike, AtEach, NoneBelow, NoneAtAll, lost_at}
+use Rattle.proxy_engine.specs.Marked.{EndList, may_be_lost, may_want, may_stand, Alike, AtEach, NoneBelow, NoneAtAll, lost_at}
 use Rattle.proxy_engine.specs.declared.activities.Activity.{Activity}
 use Rattle.proxy_engine.specs.declared.ends.Connection.{Connection}
 use Rattle.proxy_engine.specs.declared.ends.Link.{Link}
@@ -206,11 +208,8 @@ below_more n places h q c = let less = h q c in omega (arith, less)
 pub below_same : (n : ℕ) (old new : List ℕ) → AllBelow n old → new ≡ old → AllBelow n new
 below_same n old new h same = subst (AllBelow n) (sym same) h
 
-pub same_list : (xs ys : List (Option Link)) (a b : Bool) → xs ≡ ys → a ≡ b → ◌≡◌ {A = LinkList} (record { items = xs; has_room = a }) (record { items = ys; has_room = b })
-same_list xs ys a b e f = ap {B = LinkList} (λ (zs : List (Option Link)). record { items = zs; has_room = a }) e ∙ ap {B = LinkList} (λ (c : Bool). record { items = ys; has_room = c }) f
-
-pub same_connections : (xs ys : List (Option Connection)) (a b : Bool) → xs ≡ ys → a ≡ b → ◌≡◌ {A = ConnectionList} (record { items = xs; has_room = a }) (record { items = ys; has_room = b })
-same_connections xs ys a b e f = ap {B = ConnectionList} (λ (zs : List (Option Connection)). record { items = zs; has_room = a }) e ∙ ap {B = ConnectionList} (λ (c : Bool). record { items = ys; has_room = c }) f
+pub same_list : {A : Type 0} (xs ys : List (Option A)) (a b : Bool) → xs ≡ ys → a ≡ b → ◌≡◌ {A = EndList A} (record { items = xs; has_room = a }) (record { items = ys; has_room = b })
+same_list {A} xs ys a b e f = ap {B = EndList A} (λ (zs : List (Option A)). record { items = zs; has_room = a }) e ∙ ap {B = EndList A} (λ (c : Bool). record { items = ys; has_room = c }) f
 
 -- room is made for bytes: what may be due is what might before
 pub grown_lost : (x y : Connection) → GrowsConnection x y → may_be_lost y ≡ true → may_be_lost x ≡ true
@@ -218,11 +217,11 @@ grown_lost x y r f = sym (ap (λ (b : Bool). b && has_exchange y.activity) r.ali
 
 pub grown_want : (x y : Connection) → GrowsConnection x y → may_want y ≡ true → may_want x ≡ true
 grown_want x y r f =
-    sym (ap (λ (b : Bool). not (is_busy b false y.activity) && may_show y.watch.look) r.alike.gone ∙ (ap (λ (a : Activity). not (is_busy x.gone false a) && may_show y.watch.look) r.alike.activity
-    ∙ ap (λ (l : Look Request). not (is_busy x.gone false x.activity) && may_show l) r.look)) ∙ f
+    sym (ap (λ (b : Bool). not (is_busy b false y.activity) && may_show y.reader.ahead) r.alike.gone ∙ (ap (λ (a : Activity). not (is_busy x.gone false a) && may_show y.reader.ahead) r.alike.activity
+    ∙ ap (λ (l : Lookahead Request). not (is_busy x.gone false x.activity) && may_show l) r.ahead)) ∙ f
 
 pub grown_stand : (x y : Link) → GrowsLink x y → may_stand y ≡ true → may_stand x ≡ true
-grown_stand x y r f = sym (ap (λ (l : Look Response). may_show l || is_some y.failed) r.look ∙ ap (λ (o : Option FailKind). may_show x.watch.look || is_some o) r.failed) ∙ f
+grown_stand x y r f = sym (ap (λ (l : Lookahead Response). may_show l || is_some y.failed) r.ahead ∙ ap (λ (o : Option FailKind). may_show x.reader.ahead || is_some o) r.failed) ∙ f
 
 -- one look after another
 pub alike_trans : {A : Type 0} (R : A → A → Type 0) → ((x y z : A) → R x y → R y z → R x z) → (m k l : BTreeMap ℕ A) → AtEach R m k → AtEach R k l → AtEach R m l
@@ -250,20 +249,8 @@ alike_at {A} R same m k i here others j = elim (cases_eq j i) [
   | inr other ↦ subst (λ (o : Option A). Alike R (get nat_cmp m j) o) (sym (others j other)) (alike_refl R same m j)
 ]
 
-pub same_connection : (c : Connection) → LooksLikeConnection c c
-same_connection c = record { stands = λ s h. h; gone = refl; activity = refl; load = omega arith }
-
-pub next_connection : (x y z : Connection) → LooksLikeConnection x y → LooksLikeConnection y z → LooksLikeConnection x z
-next_connection x y z r q = record { stands = λ s h. q.stands s (r.stands s h); gone = q.gone ∙ r.gone; activity = q.activity ∙ r.activity; load = omega (arith, r.load, q.load) }
-
-pub same_link : (k : Link) → LooksLikeLink k k
-same_link k = record { stands = λ s h. h; connection = refl; load = omega arith }
-
-pub next_link : (x y z : Link) → LooksLikeLink x y → LooksLikeLink y z → LooksLikeLink x z
-next_link x y z r q = record { stands = λ s h. q.stands s (r.stands s h); connection = q.connection ∙ r.connection; load = omega (arith, r.load, q.load) }
-
 -- a look that shows nothing
-quiet_shows : {M : Type 0} (l : Look M) → may_show l ≡ false → Shows l next.More
+quiet_shows : {M : Type 0} (l : Lookahead M) → may_show l ≡ false → Shows l next.More
 quiet_shows Unknown e = absurd cc
 quiet_shows Quiet e = refl
 quiet_shows (Due next.More) e = refl
@@ -273,7 +260,7 @@ quiet_shows (Due (next.Refused f)) e = absurd cc
 quiet_shows (Due next.End) e = absurd cc
 
 -- it was looked at, and nothing is due
-pub settled : {M : Type 0} (l : Look M) (a : Next M) → Shows l a → is_due l ≡ false → may_show l ≡ false
+pub settled : {M : Type 0} (l : Lookahead M) (a : Next M) → Shows l a → is_due l ≡ false → may_show l ≡ false
 settled Unknown a shows e = absurd shows
 settled Quiet a shows e = refl
 settled (Due b) a shows e = e
@@ -293,11 +280,11 @@ unlost_over s h = by_gone s.gone ∙ ap (λ (a : Activity). cond (s.gone && has_
 pub unwanted : (c : Connection) (s : ConnStory) → may_want c ≡ false → ConnStands (Some c) s → Wanted s None
 unwanted c s e h = by_busy (is_busy c.gone false c.activity) refl e
   where
-    by_busy : (b : Bool) → is_busy c.gone false c.activity ≡ b → not b && may_show c.watch.look ≡ false → Wanted s None
-    by_busy true busy e = subst (λ o. Wanted s o) (ap (λ (b : Bool). cond b None (wish_seen c.watch.look)) busy) (wanted_busy c s busy h)
+    by_busy : (b : Bool) → is_busy c.gone false c.activity ≡ b → not b && may_show c.reader.ahead ≡ false → Wanted s None
+    by_busy true busy e = subst (λ o. Wanted s o) (ap (λ (b : Bool). cond b None (wish_seen c.reader.ahead)) busy) (wanted_busy c s busy h)
     by_busy false idle e =
-        let shows = quiet_shows c.watch.look e in
-        subst (λ o. Wanted s o) (ap (λ (b : Bool). cond b None (wish_seen c.watch.look)) idle ∙ wish_by c.watch.look next.More shows) (wanted c s next.More idle h shows)
+        let shows = quiet_shows c.reader.ahead e in
+        subst (λ o. Wanted s o) (ap (λ (b : Bool). cond b None (wish_seen c.reader.ahead)) idle ∙ wish_by c.reader.ahead next.More shows) (wanted c s next.More idle h shows)
 
 pub unwanted_over : (s : ConnStory) → ConnStands None s → Wanted s None
 unwanted_over s h = subst (λ (b : Bool). WishBy b s None) (sym (by_over s.gone s.closed h.0)) refl
@@ -309,9 +296,9 @@ unwanted_over s h = subst (λ (b : Bool). WishBy b s None) (sym (by_over s.gone 
 
 pub unstood : (k : Link) (s : LinkStory) → may_stand k ≡ false → LinkStands (Some k) s → Stood s None
 unstood k s e h =
-    let none = no_failure (may_show k.watch.look) k.failed e in
-    let shows = quiet_shows k.watch.look none.0 in
-    subst (λ o. Stood s o) (finish_by k.watch.look k.failed next.More shows ∙ none.1) (stood k s next.More h shows)
+    let none = no_failure (may_show k.reader.ahead) k.failed e in
+    let shows = quiet_shows k.reader.ahead none.0 in
+    subst (λ o. Stood s o) (finish_by k.reader.ahead k.failed next.More shows ∙ none.1) (stood k s next.More h shows)
   where
     no_failure : (quiet : Bool) (o : Option FailKind) → quiet || is_some o ≡ false → (quiet ≡ false) × (option_map Breaks o ≡ None)
     no_failure true o e = absurd cc

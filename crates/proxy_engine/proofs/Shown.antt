@@ -4,9 +4,14 @@ use Rattle.hx_framing.specs.declared.messages.Request.{Request}
 use Rattle.hx_framing.specs.declared.messages.Response.{Response}
 use Rattle.hx_framing.specs.declared.messages.Next.{Next}
 use Rattle.hx_framing.specs.declared.messages.Next.TheVariants as next
-use Rattle.proxy_engine.specs.Look.{Look, Unknown, Quiet, Due, Shows, is_due}
-use Rattle.proxy_engine.proofs.RequestWatching.{answers_shown as request_shown}
-use Rattle.proxy_engine.proofs.ResponseWatching.{answers_shown as response_shown}
+use Rattle.proxy_engine.specs.declared.lookahead.Lookahead.{Lookahead}
+use Rattle.proxy_engine.specs.declared.lookahead.Lookahead.TheVariants.{Unknown, Quiet, Due}
+use Rattle.proxy_engine.specs.Lookahead.{Shows, is_due}
+use Rattle.hx_framing.specs.RequestState.{StandsFor as RequestStandsFor}
+use Rattle.hx_framing.specs.RequestStream.{Answers as RequestAnswers}
+use Rattle.hx_framing.specs.ResponseState.{StandsFor as ResponseStandsFor}
+use Rattle.hx_framing.specs.ResponseStream.{Answers as ResponseAnswers}
+use Rattle.proxy_engine.proofs.Peeking.{answers_shown}
 use Rattle.proxy_engine.specs.Story.{LinkStory, ConnStory}
 use Rattle.proxy_engine.specs.Due.{Stood, FinishBy, Wanted, WishBy, finish_of, wish_of, is_busy}
 use Rattle.proxy_engine.specs.State.{LinkStands, ConnStands, finish_seen, finish_at, wish_seen, wish_at, gone_at}
@@ -19,7 +24,7 @@ use Rattle.proxy_engine.specs.declared.ends.Link.{Link}
 use Rattle.hx_status.specs.declared.cause.FailKind.{FailKind}
 
 -- whether something is shown
-pub finish_variant : (l : Look Response) (k : Option FailKind) → is_due l || is_some k ≡ is_some (finish_seen l k)
+pub finish_variant : (l : Lookahead Response) (k : Option FailKind) → is_due l || is_some k ≡ is_some (finish_seen l k)
 finish_variant Unknown None = refl
 finish_variant Unknown (Some k) = refl
 finish_variant Quiet None = refl
@@ -31,7 +36,7 @@ finish_variant (Due (next.Refused f)) k = refl
 finish_variant (Due next.End) k = refl
 finish_variant (Due (next.Message m)) k = refl
 
-pub wish_variant : (l : Look Request) → is_due l ≡ is_some (wish_seen l)
+pub wish_variant : (l : Lookahead Request) → is_due l ≡ is_some (wish_seen l)
 wish_variant Unknown = refl
 wish_variant Quiet = refl
 wish_variant (Due next.More) = refl
@@ -40,39 +45,39 @@ wish_variant (Due (next.Refused f)) = refl
 wish_variant (Due next.End) = refl
 wish_variant (Due (next.Message m)) = refl
 
-pub finish_by : (l : Look Response) (k : Option FailKind) (a : Next Response) → Shows l a → finish_seen l k ≡ finish_of a k
+pub finish_by : (l : Lookahead Response) (k : Option FailKind) (a : Next Response) → Shows l a → finish_seen l k ≡ finish_of a k
 finish_by Unknown k a s = absurd s
 finish_by Quiet k a s = ap (λ (a : Next Response). finish_of a k) (sym s)
 finish_by (Due b) k a s = ap (λ (a : Next Response). finish_of a k) (sym s)
 
-pub wish_by : (l : Look Request) (a : Next Request) → Shows l a → wish_seen l ≡ wish_of a
+pub wish_by : (l : Lookahead Request) (a : Next Request) → Shows l a → wish_seen l ≡ wish_of a
 wish_by Unknown a s = absurd s
 wish_by Quiet a s = ap (λ (a : Next Request). wish_of a) (sym s)
 wish_by (Due b) a s = ap (λ (a : Next Request). wish_of a) (sym s)
 
 -- a link that was looked at
-pub stood : (k : Link) (s : LinkStory) (a : Next Response) → LinkStands (Some k) s → Shows k.watch.look a → Stood s (finish_at (Some k))
+pub stood : (k : Link) (s : LinkStory) (a : Next Response) → LinkStands (Some k) s → Shows k.reader.ahead a → Stood s (finish_at (Some k))
 stood k s a h shows =
     subst (λ (b : Bool). FinishBy b s (finish_at (Some k))) (sym h.still) (
       a,
-      response_shown k.watch s.progress a h.watch shows,
-      finish_by k.watch.look k.failed a shows ∙ ap (finish_of a) h.failed,
+      answers_shown ResponseStandsFor ResponseAnswers k.reader s.progress a h.reader shows,
+      finish_by k.reader.ahead k.failed a shows ∙ ap (finish_of a) h.failed,
     )
 
 busy_same : (c : Connection) (s : ConnStory) → ConnStands (Some c) s → is_busy c.gone false c.activity ≡ is_busy s.gone s.closed s.activity
 busy_same c s h = ap (λ (b : Bool). is_busy b false c.activity) h.gone ∙ (ap (λ (b : Bool). is_busy s.gone b c.activity) (sym h.still) ∙ ap (λ (a : Activity). is_busy s.gone s.closed a) h.activity)
 
-pub wanted : (c : Connection) (s : ConnStory) (a : Next Request) → is_busy c.gone false c.activity ≡ false → ConnStands (Some c) s → Shows c.watch.look a → Wanted s (wish_at (Some c))
+pub wanted : (c : Connection) (s : ConnStory) (a : Next Request) → is_busy c.gone false c.activity ≡ false → ConnStands (Some c) s → Shows c.reader.ahead a → Wanted s (wish_at (Some c))
 wanted c s a idle h shows =
     subst (λ (b : Bool). WishBy b s (wish_at (Some c))) (sym idle ∙ busy_same c s h) (
       a,
-      request_shown c.watch s.progress a h.watch shows,
-      ap (λ (b : Bool). cond b None (wish_seen c.watch.look)) idle ∙ wish_by c.watch.look a shows,
+      answers_shown RequestStandsFor RequestAnswers c.reader s.progress a h.reader shows,
+      ap (λ (b : Bool). cond b None (wish_seen c.reader.ahead)) idle ∙ wish_by c.reader.ahead a shows,
     )
 
 pub wanted_busy : (c : Connection) (s : ConnStory) → is_busy c.gone false c.activity ≡ true → ConnStands (Some c) s → Wanted s (wish_at (Some c))
 wanted_busy c s busy h =
-    subst (λ (b : Bool). WishBy b s (wish_at (Some c))) (sym busy ∙ busy_same c s h) (ap (λ (b : Bool). cond b None (wish_seen c.watch.look)) busy)
+    subst (λ (b : Bool). WishBy b s (wish_at (Some c))) (sym busy ∙ busy_same c s h) (ap (λ (b : Bool). cond b None (wish_seen c.reader.ahead)) busy)
 
 -- it isn't gone, and no exchange is open
 pub idle : (gone : Bool) (a : Activity) → gone ≡ false → has_exchange a ≡ false → is_busy gone false a ≡ false

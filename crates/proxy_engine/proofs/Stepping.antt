@@ -18,7 +18,8 @@ use Rattle.proxy_script.specs.declared.effect_list.Effect.{Effect}
 use Rattle.proxy_script.specs.declared.effect_list.Effect.TheVariants as effects
 use Rattle.hx_framing.specs.declared.messages.Response.{Response}
 use Rattle.hx_status.specs.declared.cause.FailKind.{FailKind}
-use Rattle.proxy_engine.specs.Look.{Look, Unknown, Quiet, Due}
+use Rattle.proxy_engine.specs.declared.lookahead.Lookahead.{Lookahead}
+use Rattle.proxy_engine.specs.declared.lookahead.Lookahead.TheVariants.{Unknown, Quiet, Due}
 use Rattle.proxy_engine.specs.declared.activities.Activity.TheVariants.{Free}
 use Rattle.proxy_engine.specs.Story.{Story, link_at, with_connection, with_core}
 use Rattle.proxy_engine.specs.Due.{Abandons, Finish, Gives, Breaks, Finishes, Wakes, Serves, IsDueFirst}
@@ -204,9 +205,9 @@ memory_told spent (Breaks kind) left = tt
 -- a link on which something stands counts two
 pub link_counts : (k : Option Link) (f : Finish) → finish_at k ≡ Some f → link_load k ≡ 2
 link_counts None f h = absurd (cc)
-link_counts (Some k) f h = ap (λ n. 1 + n) (by_look k.watch.look k.failed h)
+link_counts (Some k) f h = ap (λ n. 1 + n) (by_look k.reader.ahead k.failed h)
   where
-    by_look : (l : Look Response) (failed : Option FailKind) → finish_seen l failed ≡ Some f → finish_load l failed ≡ 1
+    by_look : (l : Lookahead Response) (failed : Option FailKind) → finish_seen l failed ≡ Some f → finish_load l failed ≡ 1
     by_look Unknown None h = absurd (cc)
     by_look Unknown (Some kind) h = refl
     by_look Quiet None h = absurd (cc)

@@ -5,7 +5,10 @@ use Rattle.hx_status.specs.declared.cause.FailKind.{FailKind}
 use Rattle.proxy_core.specs.State.{State as CoreState}
 use Rattle.proxy_engine.specs.Activities.{has_exchange}
 use Rattle.proxy_engine.specs.Happenings.{Accepts}
-use Rattle.proxy_engine.specs.RequestWatch.{Watched, Stands as WatchStands}
+use Rattle.hx_framing.specs.declared.messages.Request.{Request}
+use Rattle.hx_framing.specs.RequestState.{State as RequestState}
+use Rattle.proxy_engine.specs.declared.peeked.Peeked.{Peeked}
+use Rattle.proxy_engine.specs.Peeked.{RequestStands}
 use Rattle.proxy_engine.specs.Story.{Story, ConnStory, LinkStory, accepted, no_connection, no_link, connection_at, link_at, with_connection, with_link, connection_fault, link_fault, heard, fault_of, sent, ended, left, heard_by, shut, failed_by, keeps_bytes, keeps_answer}
 use Rattle.proxy_engine.specs.State.{ConnStands, LinkStands, Stands, state, IsRefusal}
 use Rattle.proxy_engine.specs.Wiring.{activity_of}
@@ -115,11 +118,11 @@ link_keeps cs ks core first s l j x place within e read h =
     (ap (λ (b : Bool). not (b || (is_some k.failed || k.progress.ended))) q.still ∙ (ap (λ o. not (is_some o || k.progress.ended)) (sym q.failed) ∙ (ap (λ (b : Bool). not (is_some x.failed || b)) (sym q.ended) ∙ ap not read)))
 
 -- a connection more
-pub accepted_more : (cs : List (Option Connection)) (ks : List (Option Link)) (core : CoreState) (first : ℕ) (s : Story) (max_body : ℕ) (w : Watched) → core.table.max_body ≡ max_body → WatchStands w (start max_body false) → Stands (state cs ks core first) s
-    → Stands (state (cs ++ Some (record { watch = w; ended = false; gone = false; activity = Free }) ∷ []) ks core first) (heard s (Accepts 0))
+pub accepted_more : (cs : List (Option Connection)) (ks : List (Option Link)) (core : CoreState) (first : ℕ) (s : Story) (max_body : ℕ) (w : Peeked RequestState Request) → core.table.max_body ≡ max_body → RequestStands w (start max_body false) → Stands (state cs ks core first) s
+    → Stands (state (cs ++ Some (record { reader = w; ended = false; gone = false; activity = Free }) ∷ []) ks core first) (heard s (Accepts 0))
 accepted_more cs ks core first s max_body w most fresh h = record {
-  connections = both_push ConnStands cs s.connections (Some (record { watch = w; ended = false; gone = false; activity = Free })) (accepted s.core.table.max_body) h.connections
-      record { watch = subst (λ (n : ℕ). WatchStands w (start n false)) (sym most ∙ ap (λ (k : CoreState). k.table.max_body) h.core) fresh; ended = refl; gone = refl; activity = refl; still = refl; used = λ e. absurd (cc) };
+  connections = both_push ConnStands cs s.connections (Some (record { reader = w; ended = false; gone = false; activity = Free })) (accepted s.core.table.max_body) h.connections
+      record { reader = subst (λ (n : ℕ). RequestStands w (start n false)) (sym most ∙ ap (λ (k : CoreState). k.table.max_body) h.core) fresh; ended = refl; gone = refl; activity = refl; still = refl; used = λ e. absurd (cc) };
   links = h.links;
   core = h.core;
   first = h.first;

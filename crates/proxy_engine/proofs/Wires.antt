@@ -26,6 +26,7 @@ use Rattle.hx_target.specs.Keys.{same_key}
 use Rattle.proxy_engine.proofs.Ending.{Remains, Renews, renewed}
 use Rattle.proxy_core.specs.State.{closed, release, opened, queued, line_of, open_after, overtake, left_open}
 use Rattle.proxy_core.specs.declared.outcome.Outcome.{Outcome}
+use Rattle.proxy_core.specs.declared.event.Event.{Event}
 use Rattle.proxy_core.specs.declared.event.Event.TheVariants.{Arrive, Answer, Fail, Wake}
 use Rattle.proxy_core.specs.declared.outcome.Outcome.TheVariants.{Reply, Forward, Waits, Ended}
 use Rattle.proxy_core.specs.declared.exchange.Exchange.{Exchange}
@@ -615,29 +616,25 @@ not_out s h = ap (λ (b : Bool). cond b None (Some NotForwarded)) h
 
 -- what stands on a link of an open exchange is refused for want of memory alone
 module _ (xs : List Exchange) (now id : ℕ) (fault : CoreFault) (out_now : forwarded_at id xs ≡ Some true) (early : now < END_OF_TIME) where
-  pub answer_refused : (r : Response) → (fault_by xs (Answer now id r) ≡ Some fault) ⊎ ((fault_by xs (Answer now id r) ≡ None) × (fault ≡ OutOfMemory)) → fault ≡ OutOfMemory
-  answer_refused r (inl stands) = refused_by (find_exchange id xs) out_now stands
+  -- so is any event that asks of its exchange to be at the origin
+  out_refused : (e : Event) → ((x : Exchange) → fault_of (Some x) e ≡ or_fault (too_late now) (not_forwarded x.stage))
+      → (fault_of (find_exchange id xs) e ≡ Some fault) ⊎ ((fault_of (find_exchange id xs) e ≡ None) × (fault ≡ OutOfMemory)) → fault ≡ OutOfMemory
+  out_refused e asks (inl stands) = refused_by (find_exchange id xs) out_now stands
     where
-      refused_by : (o : Option Exchange) → out o ≡ Some true → fault_of o (Answer now id r) ≡ Some fault → fault ≡ OutOfMemory
+      refused_by : (o : Option Exchange) → out o ≡ Some true → fault_of o e ≡ Some fault → fault ≡ OutOfMemory
       refused_by None h f = absurd (cc)
       refused_by (Some x) h f =
           let staged : is_forwarded x.stage ≡ true = cc in
-          let none : fault_of (Some x) (Answer now id r) ≡ None = ap (λ (a : Option CoreFault). or_fault a (not_forwarded x.stage)) (early_by now early) ∙ not_out x.stage staged in
+          let none : fault_of (Some x) e ≡ None = asks x ∙ (ap (λ (a : Option CoreFault). or_fault a (not_forwarded x.stage)) (early_by now early) ∙ not_out x.stage staged) in
           let no : None ≡ Some fault = sym none ∙ f in
           absurd (cc)
-  answer_refused r (inr memory) = memory.1
+  out_refused e asks (inr memory) = memory.1
+
+  pub answer_refused : (r : Response) → (fault_by xs (Answer now id r) ≡ Some fault) ⊎ ((fault_by xs (Answer now id r) ≡ None) × (fault ≡ OutOfMemory)) → fault ≡ OutOfMemory
+  answer_refused r h = out_refused (Answer now id r) (λ x. refl) h
 
   pub failure_refused : (kind : FailKind) → (fault_by xs (Fail now id kind) ≡ Some fault) ⊎ ((fault_by xs (Fail now id kind) ≡ None) × (fault ≡ OutOfMemory)) → fault ≡ OutOfMemory
-  failure_refused kind (inl stands) = refused_by (find_exchange id xs) out_now stands
-    where
-      refused_by : (o : Option Exchange) → out o ≡ Some true → fault_of o (Fail now id kind) ≡ Some fault → fault ≡ OutOfMemory
-      refused_by None h f = absurd (cc)
-      refused_by (Some x) h f =
-          let staged : is_forwarded x.stage ≡ true = cc in
-          let none : fault_of (Some x) (Fail now id kind) ≡ None = ap (λ (a : Option CoreFault). or_fault a (not_forwarded x.stage)) (early_by now early) ∙ not_out x.stage staged in
-          let no : None ≡ Some fault = sym none ∙ f in
-          absurd (cc)
-  failure_refused kind (inr memory) = memory.1
+  failure_refused kind h = out_refused (Fail now id kind) (λ x. refl) h
 
 -- and a wake of one that may be woken
 pub wake_refused : (xs : List Exchange) (now id : ℕ) (fault : CoreFault) → IsReady id xs → now < END_OF_TIME → (fault_by xs (Wake now id) ≡ Some fault) ⊎ ((fault_by xs (Wake now id) ≡ None) × (fault ≡ OutOfMemory)) → fault ≡ OutOfMemory

@@ -1,6 +1,6 @@
 -- What an engine hands to its core as an answer was read from an origin's stream, and so has a final status (RFC 9110, section 15):
 -- interim responses end no exchange.
-use Rattle.std.specs.Prelude.{ℕ, ◌≤◌, List}
+use Rattle.std.specs.Prelude.{◌≤◌, List}
 use Rattle.std.specs.List.{AllByRecursion}
 use Rattle.hx_allow.specs.Lines.{Table}
 use Rattle.proxy_core.specs.declared.event.Event.{Event}

@@ -31,9 +31,9 @@ flagged flag (Some x) = flag x
 -- it stands for the same stories, and as much is known of it
 pub record GrowsConnection (old new : Connection) : Type 0 where
   pub alike : LooksLikeConnection old new
-  pub look : new.watch.look ≡ old.watch.look
+  pub ahead : new.reader.ahead ≡ old.reader.ahead
 
 pub record GrowsLink (old new : Link) : Type 0 where
   pub alike : LooksLikeLink old new
-  pub look : new.watch.look ≡ old.watch.look
+  pub ahead : new.reader.ahead ≡ old.reader.ahead
   pub failed : new.failed ≡ old.failed

@@ -1,6 +1,5 @@
-pub mod Look
-pub mod RequestWatch
-pub mod ResponseWatch
+pub mod Lookahead
+pub mod Peeked
 pub mod Happenings
 pub mod FaultTexts
 pub mod Activities

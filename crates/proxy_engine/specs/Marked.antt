@@ -1,6 +1,6 @@
 -- What is kept of the proxy's ends, and at which of them something may be due.
 --
--- ConnectionList, LinkList: what contracts see of the connections and links
+-- EndList: what contracts see of the connections and links
 -- may_be_lost, may_want, may_stand: something may be due there
 -- LooksLikeConnection, LooksLikeLink, AtEach: what a look leaves
 -- NoneBelow, NoneAtAll: nothing may be due          lost_at, StandsThere, WantsThere: something is
@@ -8,22 +8,16 @@ use Rattle.std.specs.Prelude.{◌≡◌, ℕ, ◌<◌, ◌≤◌, List, Bool, tr
 use Rattle.std.specs.Ordering.{nat_cmp}
 use Rattle.std.specs.BTreeMap.{BTreeMap, get}
 use Rattle.proxy_engine.specs.Activities.{link_of, has_exchange}
-use Rattle.proxy_engine.specs.Look.{may_show}
+use Rattle.proxy_engine.specs.Lookahead.{may_show}
 use Rattle.proxy_engine.specs.Story.{ConnStory, LinkStory}
 use Rattle.proxy_engine.specs.Due.{is_busy, Stood, Wanted}
 use Rattle.proxy_engine.specs.State.{ConnStands, LinkStands, finish_at, wish_at, connection_load, link_load}
 use Rattle.proxy_engine.specs.declared.ends.Connection.{Connection}
 use Rattle.proxy_engine.specs.declared.ends.Link.{Link}
 
--- what is kept of each connection in the order of their numbers: nothing of one that is over; and whether there is room for
--- one more
-pub record ConnectionList : Type 0 where
-  pub items : List (Option Connection)
-  pub has_room : Bool
-
--- what is kept of each link, and whether there is room for one more
-pub record LinkList : Type 0 where
-  pub items : List (Option Link)
+-- what is kept of each end in the order of their numbers: nothing of one that is over; and whether there is room for one more
+pub record EndList (A : Type 0) : Type 0 where
+  pub items : List (Option A)
   pub has_room : Bool
 
 -- it is gone with an open exchange
@@ -32,11 +26,11 @@ may_be_lost c = c.gone && has_exchange c.activity
 
 -- no look has found that its stream asks for nothing
 abbrev pub may_want : Connection → Bool
-may_want c = not (is_busy c.gone false c.activity) && may_show c.watch.look
+may_want c = not (is_busy c.gone false c.activity) && may_show c.reader.ahead
 
 -- it has failed, or no look has found that no answer stands on it
 abbrev pub may_stand : Link → Bool
-may_stand k = may_show k.watch.look || is_some k.failed
+may_stand k = may_show k.reader.ahead || is_some k.failed
 
 -- after a look: it stands for the same stories, and no more is to come
 pub record LooksLikeConnection (old new : Connection) : Type 0 where
@@ -74,9 +68,12 @@ abbrev pub lost_at : Option Connection → Option (Option ℕ)
 lost_at None = None
 lost_at (Some c) = if may_be_lost c then Some (link_of c.activity) else None
 
--- a look has found something, and that is what stands there
+-- a look has found something, and that is what is due there
+abbrev pub ShownThere : {A B C : Type 0} → (Option A → B → Type 0) → (B → Option C → Type 0) → (Option A → Option C) → Option A → Type 0
+ShownThere {A} {B} R P seen o = (is_some (seen o) ≡ true) × ((s : B) → R o s → P s (seen o))
+
 abbrev pub StandsThere : Option Link → Type 0
-StandsThere k = (is_some (finish_at k) ≡ true) × ((s : LinkStory) → LinkStands k s → Stood s (finish_at k))
+StandsThere k = ShownThere LinkStands Stood finish_at k
 
 abbrev pub WantsThere : Option Connection → Type 0
-WantsThere c = (is_some (wish_at c) ≡ true) × ((s : ConnStory) → ConnStands c s → Wanted s (wish_at c))
+WantsThere c = ShownThere ConnStands Wanted wish_at c

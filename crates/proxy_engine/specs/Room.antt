@@ -1,6 +1,6 @@
 -- Which happenings find their memory.
 --
--- IsRoomy, IsRoomyLink: so many bytes of an end do     Finds: a happening does     HasRoom: the next one of an end does
+-- HasSpare, IsRoomy, IsRoomyLink: so many bytes of an end do     Finds: a happening does     HasRoom: the next one of an end does
 use Rattle.std.specs.Prelude.{◌≡◌, ℕ, ◌-◌, ◌+◌, ◌≤◌, ◌^◌, ◌⊎◌, length, true, Option, None, Some, slice_index_or}
 use Rattle.proxy_engine.specs.Happenings.{Said, Accepts, Sends, Hears, Ends, Leaves, Shuts, Fails}
 use Rattle.proxy_engine.specs.State.{State}
@@ -9,14 +9,16 @@ use Rattle.proxy_engine.specs.declared.ends.Link.{Link}
 use Rattle.proxy_engine.specs.declared.happening.End.{End}
 use Rattle.proxy_engine.specs.declared.happening.End.TheVariants as ends
 
--- nothing is kept of a connection that is over
+-- nothing is kept of an end that is over
+abbrev pub HasSpare : {A : Type 0} → (A → ℕ) → Option A → ℕ → Type 0
+HasSpare spare None n = Unit {0}
+HasSpare spare (Some x) n = n ≤ spare x
+
 abbrev pub IsRoomy : Option Connection → ℕ → Type 0
-IsRoomy None n = Unit {0}
-IsRoomy (Some c) n = n ≤ c.watch.reader.spare
+IsRoomy o n = HasSpare (λ (c : Connection). c.reader.inner.spare) o n
 
 abbrev pub IsRoomyLink : Option Link → ℕ → Type 0
-IsRoomyLink None n = Unit {0}
-IsRoomyLink (Some k) n = n ≤ k.watch.reader.spare
+IsRoomyLink o n = HasSpare (λ (k : Link). k.reader.inner.spare) o n
 
 -- a connection or bytes find their memory; marks take none
 abbrev pub Finds : State → Said → Type 0

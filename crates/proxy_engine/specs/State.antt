@@ -1,7 +1,7 @@
 -- What an engine keeps, and which stories it stands for.
 --
 -- State: what contracts see of an engine     Stands: the stories      Takes, TakeFault: a happening
--- finish_at, wish_at: what a look has found  FoundLinks, FoundConnections: the first place at which it found something
+-- finish_at, wish_at: what a look has found  Found, FoundLinks, FoundConnections: the first place at which it found something
 -- load_of: a bound on the acts still to come
 -- Did, Failed, Lessens: what a call of work did, or why it did nothing
 use Rattle.std.specs.Prelude.{◌≡◌, ℕ, ◌+◌, ◌*◌, ◌<◌, ◌≤◌, ◌^◌, List, [], ◌∷◌, length, sum_by, ◌&&◌, ◌||◌, not, Bool, true, false, Option, None, Some, slice_index_or, if◌then◌else◌}
@@ -14,9 +14,10 @@ use Rattle.hx_status.specs.declared.cause.FailKind.{FailKind}
 use Rattle.proxy_core.specs.State.{State as CoreState}
 use Rattle.proxy_engine.specs.Activities.{has_exchange}
 use Rattle.proxy_engine.specs.Happenings.{Said}
-use Rattle.proxy_engine.specs.Look.{Look, Unknown, Quiet, Due, unsettled}
-use Rattle.proxy_engine.specs.RequestWatch.{Stands as RequestStands, load}
-use Rattle.proxy_engine.specs.ResponseWatch.{Stands as ResponseStands}
+use Rattle.proxy_engine.specs.declared.lookahead.Lookahead.{Lookahead}
+use Rattle.proxy_engine.specs.declared.lookahead.Lookahead.TheVariants.{Unknown, Quiet, Due}
+use Rattle.proxy_engine.specs.Lookahead.{unsettled}
+use Rattle.proxy_engine.specs.Peeked.{RequestStands, ResponseStands, request_load}
 use Rattle.proxy_engine.specs.Story.{Story, ConnStory, LinkStory, no_connection, no_link, fault_of, heard}
 use Rattle.proxy_engine.specs.Due.{Finish, Breaks, finish_of, wish_of, is_busy, IsFirst, Stood, Wanted, Act, IsDueFirst}
 use Rattle.proxy_engine.specs.declared.activities.Activity.{Activity}
@@ -48,7 +49,7 @@ Both R (x ∷ xs) (y ∷ ys) = R x y × Both R xs ys
 
 -- a connection that isn't over
 pub record ConnHolds (c : Connection) (s : ConnStory) : Type 0 where
-  pub watch : RequestStands c.watch s.progress
+  pub reader : RequestStands c.reader s.progress
   pub ended : c.ended ≡ s.progress.ended
   pub gone : c.gone ≡ s.gone
   pub activity : c.activity ≡ s.activity
@@ -61,7 +62,7 @@ ConnStands None s = (s.gone || s.closed ≡ true) × (s.activity ≡ Free)
 ConnStands (Some c) s = ConnHolds c s
 
 pub record LinkHolds (k : Link) (s : LinkStory) : Type 0 where
-  pub watch : ResponseStands k.watch s.progress
+  pub reader : ResponseStands k.reader s.progress
   pub ended : k.ended ≡ s.progress.ended
   pub failed : k.failed ≡ s.failed
   pub still : s.dropped ≡ false
@@ -105,23 +106,23 @@ TakeFault s h e = IsRefusal (fault_of s h) e
 
 -- ---- what was looked at
 
-abbrev pub finish_seen : Look Response → Option FailKind → Option Finish
+abbrev pub finish_seen : Lookahead Response → Option FailKind → Option Finish
 finish_seen Unknown kind = option_map Breaks kind
 finish_seen Quiet kind = option_map Breaks kind
 finish_seen (Due a) kind = finish_of a kind
 
 abbrev pub finish_at : Option Link → Option Finish
 finish_at None = None
-finish_at (Some k) = finish_seen k.watch.look k.failed
+finish_at (Some k) = finish_seen k.reader.ahead k.failed
 
-abbrev pub wish_seen : Look Request → Option (Next Request)
+abbrev pub wish_seen : Lookahead Request → Option (Next Request)
 wish_seen Unknown = None
 wish_seen Quiet = None
 wish_seen (Due a) = wish_of a
 
 abbrev pub wish_at : Option Connection → Option (Next Request)
 wish_at None = None
-wish_at (Some c) = if is_busy c.gone false c.activity then None else wish_seen c.watch.look
+wish_at (Some c) = if is_busy c.gone false c.activity then None else wish_seen c.reader.ahead
 
 -- it isn't gone, and has no open exchange
 abbrev pub is_free : Option Connection → Bool
@@ -137,24 +138,23 @@ gone_at (Some c) = Some c.gone
 abbrev pub NoneLost : List (Option Connection) → Type 0
 NoneLost cs = (i : ℕ) (c : Connection) → slice_index_or cs i None ≡ Some c → c.gone && has_exchange c.activity ≡ false
 
--- something is shown at that place, and it is the first of what stands
-pub record FoundLink (ks : List (Option Link)) (j : ℕ) : Type 0 where
-  pub finish : Finish
-  pub shown : finish_at (slice_index_or ks j None) ≡ Some finish
-  pub first : (ss : List LinkStory) → Both LinkStands ks ss → IsFirst Stood no_link ss (Some (j, finish))
+-- R: what is kept of an end stands for it     P: what is due at it     seen: what a look has found
+-- something is seen at that place, and it is the first that is due, whatever the list stands for
+pub record FoundAt {A B C : Type 0} (R : Option A → B → Type 0) (P : B → Option C → Type 0) (d : B) (seen : Option A → Option C) (xs : List (Option A)) (i : ℕ) : Type 0 where
+  pub due : C
+  pub shown : seen (slice_index_or xs i None) ≡ Some due
+  pub first : (ys : List B) → Both R xs ys → IsFirst P d ys (Some (i, due))
+
+-- the first place at which something is due, or that there is none
+abbrev pub Found : {A B C : Type 0} → (Option A → B → Type 0) → (B → Option C → Type 0) → B → (Option A → Option C) → List (Option A) → Option ℕ → Type 0
+Found {A} {B} R P d seen xs None = (ys : List B) → Both R xs ys → IsFirst P d ys None
+Found R P d seen xs (Some i) = FoundAt R P d seen xs i
 
 abbrev pub FoundLinks : List (Option Link) → Option ℕ → Type 0
-FoundLinks ks None = (ss : List LinkStory) → Both LinkStands ks ss → IsFirst Stood no_link ss None
-FoundLinks ks (Some j) = FoundLink ks j
-
-pub record FoundConnection (cs : List (Option Connection)) (i : ℕ) : Type 0 where
-  pub wish : Next Request
-  pub shown : wish_at (slice_index_or cs i None) ≡ Some wish
-  pub first : (ss : List ConnStory) → Both ConnStands cs ss → IsFirst Wanted no_connection ss (Some (i, wish))
+FoundLinks ks r = Found LinkStands Stood no_link finish_at ks r
 
 abbrev pub FoundConnections : List (Option Connection) → Option ℕ → Type 0
-FoundConnections cs None = (ss : List ConnStory) → Both ConnStands cs ss → IsFirst Wanted no_connection ss None
-FoundConnections cs (Some i) = FoundConnection cs i
+FoundConnections cs r = Found ConnStands Wanted no_connection wish_at cs r
 
 -- ---- how much is still to come
 
@@ -176,17 +176,17 @@ wait_load Waiting = 2
 -- a message or a continue counts three, a connection that isn't over one, and one whose request waits two more
 abbrev pub connection_load : Option Connection → ℕ
 connection_load None = 0
-connection_load (Some c) = 3 * load c.watch + (1 + wait_load c.activity)
+connection_load (Some c) = 3 * request_load c.reader + (1 + wait_load c.activity)
 
 -- an answer that may stand there counts one, and so does a failure
-abbrev pub finish_load : Look Response → Option FailKind → ℕ
-finish_load look None = unsettled look
-finish_load look (Some kind) = 1
+abbrev pub finish_load : Lookahead Response → Option FailKind → ℕ
+finish_load ahead None = unsettled ahead
+finish_load ahead (Some kind) = 1
 
 -- a link that isn't dropped counts one, and what may stand on it one more: so a request that goes forward again leaves less
 abbrev pub link_load : Option Link → ℕ
 link_load None = 0
-link_load (Some k) = 1 + finish_load k.watch.look k.failed
+link_load (Some k) = 1 + finish_load k.reader.ahead k.failed
 
 -- no more acts than this are due, one after another, while nothing is taken
 abbrev pub load_of : List (Option Connection) → List (Option Link) → ℕ

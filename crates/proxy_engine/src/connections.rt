@@ -14,9 +14,10 @@ use crate::activities::Activity;
 use crate::ends::Connection;
 use crate::finds::{first_due, first_lost};
 use crate::happening::End;
+use crate::peeked::Peeked;
 use crate::places::Places;
 use crate::reading;
-use crate::request_watch::RequestWatch;
+use hx_framing::RequestReader;
 use std::alloc::{AllocError, Global};
 use std::collections::BTreeMap;
 use std::marker::Model;
@@ -37,9 +38,10 @@ impl Model for Connections {
     ghost use Rattle.std.specs.Ordering.{nat_cmp};
     ghost use Rattle.std.specs.BTreeMap.{get};
     ghost use Rattle.proxy_engine.specs.Places.{listed, AllBelow, IsMarked};
-    ghost use Rattle.proxy_engine.specs.Marked.{ConnectionList, may_be_lost, may_want};
+    ghost use Rattle.proxy_engine.specs.Marked.{EndList, may_be_lost, may_want};
+    ghost use Rattle.proxy_engine.specs.declared.ends.Connection.{Connection};
 
-    ghost Value = { ConnectionList };
+    ghost Value = { EndList Connection };
 
     ghost view = { λ c. record { items = listed c.ends c.count; has_room = nat_lt (c.count + 1) (2 ^ 64) && is_some (get nat_cmp c.ends c.count) } };
 
@@ -117,7 +119,7 @@ impl Connections {
         self.lost.reserve_for(open)?;
         self.waiting.reserve_for(open)?;
         let empty = Connection {
-            watch: RequestWatch::new(alloc, 0),
+            reader: Peeked::new(RequestReader::new(alloc, 0)),
             ended: false,
             gone: true,
             activity: Activity::Free,
@@ -181,7 +183,7 @@ impl Connections {
         if i >= self.count {
             return Ok(());
         }
-        reading::reserve_client_at(&mut self.ends, i)
+        reading::reserve_at(&mut self.ends, i)
     }
 
     /// Lets go of the connection at a place, which is over.

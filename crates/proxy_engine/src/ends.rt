@@ -1,13 +1,13 @@
 //! The proxy's ends: connections of clients, and links to origins. Only those that aren't over are kept.
 
 use crate::activities::Activity;
-use crate::request_watch::RequestWatch;
-use crate::response_watch::ResponseWatch;
+use crate::peeked::Peeked;
+use hx_framing::{RequestReader, ResponseReader};
 use hx_status::FailKind;
 
 /// A client's connection that isn't closed, and isn't gone without an open exchange.
 pub(crate) struct Connection {
-    pub(crate) watch: RequestWatch,
+    pub(crate) reader: Peeked<RequestReader>,
     /// The client sends no more.
     pub(crate) ended: bool,
     /// The client went away.
@@ -20,7 +20,7 @@ pub(crate) struct Connection {
 impl Drop for Connection {
     fn drop(self) {
         let Connection {
-            watch: _,
+            reader: _,
             ended: _,
             gone: _,
             activity: _,
@@ -30,7 +30,7 @@ impl Drop for Connection {
 
 /// A link to an origin that isn't dropped.
 pub(crate) struct Link {
-    pub(crate) watch: ResponseWatch,
+    pub(crate) reader: Peeked<ResponseReader>,
     /// The origin closed it.
     pub(crate) ended: bool,
     pub(crate) failed: Option<FailKind>,
@@ -42,7 +42,7 @@ pub(crate) struct Link {
 impl Drop for Link {
     fn drop(self) {
         let Link {
-            watch: _,
+            reader: _,
             ended: _,
             failed: _,
             connection: _,

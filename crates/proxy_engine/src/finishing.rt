@@ -85,7 +85,7 @@ fn end<S: Shelf>(
     ensures ok { IfOk result (λ outcome. (f : Finish) × (finish_at (Some link.now) ≡ Some f) × IsFinishedBy core.old now id f outcome core.new) }
     ensures err { OnErr result (core.new ≡ core.old) }
 {
-    match link.watch.due() {
+    match link.reader.peek() {
         Some(next) => match next {
             Next::Message(response) => match core.answer(alloc, now, id, response) {
                 Ok(outcome) => Ok(outcome),
@@ -108,7 +108,7 @@ fn is_answered(link: &Link) -> bool
     requires { is_some (finish_at (Some link.now)) ≡ true }
     ensures { (f : Finish) → finish_at (Some link.now) ≡ Some f → result ≡ gives f }
 {
-    match link.watch.due() {
+    match link.reader.peek() {
         Some(next) => match next {
             Next::Message(_) => true,
             Next::Refused(_) => false,

@@ -2,13 +2,14 @@
 //!
 //! `specs/Story.antt` says what an engine has lived through, `specs/Due.antt` which act is due first, and
 //! `specs/Acts.antt` what each act does.
-//! A watch is a reader that is asked ahead: what it answers is kept until it is used. `specs/RequestWatch.antt` and
-//! `specs/ResponseWatch.antt` say for which streams it stands. Nothing here opens a socket.
+//! Its readers are asked ahead: what one answers is kept until it is used. `specs/Peeked.antt` says for which streams such a
+//! reader stands. Nothing here opens a socket.
 #![tactic(auto)]
 
 mod activities;
 mod acts;
 mod connections;
+mod endpoint;
 mod ends;
 mod engine;
 mod finds;
@@ -16,13 +17,14 @@ mod finishing;
 mod happening;
 mod laws;
 mod links;
+mod lookahead;
 mod marks;
 mod open_ends;
 mod outcomes;
+mod peeked;
 mod places;
+mod readers;
 mod reading;
-mod request_watch;
-mod response_watch;
 mod serving;
 mod takes;
 mod waking;
@@ -35,6 +37,7 @@ pub use crate::laws::{
     answers_are_final, due_once, each_drop_is_told, effects_name_open_ends, lives_are_runs,
     what_ends_stays_ended,
 };
-pub use crate::request_watch::RequestWatch;
-pub use crate::response_watch::ResponseWatch;
+pub use crate::lookahead::Lookahead;
+pub use crate::peeked::Peeked;
+pub use crate::readers::Reader;
 pub use proxy_script::Happening;

@@ -9,11 +9,12 @@ ghost use Rattle.proxy_engine.specs.Wiring.{owners_of};
 ghost use Rattle.proxy_engine.specs.State.{Both, LinkStands, FoundLinks, link_load};
 
 use crate::ends::Link;
-use crate::finds::first_finished;
+use crate::finds::first_due;
 use crate::happening::End;
+use crate::peeked::Peeked;
 use crate::places::Places;
 use crate::reading;
-use crate::response_watch::ResponseWatch;
+use hx_framing::ResponseReader;
 use std::alloc::{AllocError, Global};
 use std::collections::BTreeMap;
 use std::marker::Model;
@@ -32,9 +33,10 @@ impl Model for Links {
     ghost use Rattle.std.specs.Ordering.{nat_cmp};
     ghost use Rattle.std.specs.BTreeMap.{get};
     ghost use Rattle.proxy_engine.specs.Places.{listed, AllBelow, IsMarked};
-    ghost use Rattle.proxy_engine.specs.Marked.{LinkList, may_stand};
+    ghost use Rattle.proxy_engine.specs.Marked.{EndList, may_stand};
+    ghost use Rattle.proxy_engine.specs.declared.ends.Link.{Link};
 
-    ghost Value = { LinkList };
+    ghost Value = { EndList Link };
 
     ghost view = { λ k. record { items = listed k.ends k.count; has_room = nat_lt (k.count + 1) (2 ^ 64) && is_some (get nat_cmp k.ends k.count) } };
 
@@ -97,7 +99,7 @@ impl Links {
         }
         self.stirred.reserve_for(self.ends.len() + 1)?;
         let empty = Link {
-            watch: ResponseWatch::new(alloc, 0, false),
+            reader: Peeked::new(ResponseReader::new(alloc, 0, false)),
             ended: false,
             failed: None,
             connection: 0,
@@ -141,7 +143,7 @@ impl Links {
         if j >= self.count {
             return Ok(());
         }
-        reading::reserve_link_at(&mut self.ends, j)
+        reading::reserve_at(&mut self.ends, j)
     }
 
     /// Lets go of the link at a place, which is dropped.
@@ -161,6 +163,6 @@ impl Links {
         ensures owners { owners_of self.new.items ≡ owners_of self.old.items }
         ensures load { sum_by link_load self.new.items ≤ sum_by link_load self.old.items }
     {
-        first_finished(&mut self.ends, &mut self.stirred, alloc)
+        first_due(&mut self.ends, &mut self.stirred, alloc)
     }
 }

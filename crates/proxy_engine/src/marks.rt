@@ -3,7 +3,8 @@ ghost use Rattle.std.specs.Prelude.{◌≡◌, ℕ, ◌+◌, ◌*◌, ◌<◌, �
 ghost use Rattle.hx_framing.specs.declared.messages.Request.{Request};
 ghost use Rattle.hx_framing.specs.declared.messages.Next.{Next};
 ghost use Rattle.proxy_core.specs.State.{State as CoreState};
-ghost use Rattle.proxy_engine.specs.Look.{Due, known};
+ghost use Rattle.proxy_engine.specs.declared.lookahead.Lookahead.TheVariants.{Due};
+ghost use Rattle.proxy_engine.specs.Lookahead.{known};
 ghost use Rattle.proxy_engine.specs.Story.{Story, ConnStory, with_connection};
 ghost use Rattle.proxy_engine.specs.Acts.{closing, doing, passing};
 ghost use Rattle.proxy_engine.specs.Wiring.{activity_of, activities_of};
@@ -47,12 +48,12 @@ fn link_to(connection: &mut Connection, place: u64)
 
 /// What was due on the connection is done.
 fn pass(connection: &mut Connection)
-    ensures stands { (c : ConnStory) → (a : Next Request) → connection.old.watch.look ≡ Due a → ConnStands (Some connection.old) c → ConnStands (Some connection.new) (passing a c) }
+    ensures stands { (c : ConnStory) → (a : Next Request) → connection.old.reader.ahead ≡ Due a → ConnStands (Some connection.old) c → ConnStands (Some connection.new) (passing a c) }
     ensures activity { connection.new.activity ≡ connection.old.activity }
     ensures gone { connection.new.gone ≡ connection.old.gone }
-    ensures load { connection_load (Some connection.new) + 3 * known connection.old.watch.look ≤ connection_load (Some connection.old) }
+    ensures load { connection_load (Some connection.new) + 3 * known connection.old.reader.ahead ≤ connection_load (Some connection.old) }
 {
-    connection.watch.pass();
+    connection.reader.pass();
 }
 
 /// What was due on the connection at a place is done.

@@ -17,9 +17,10 @@ use crate::ends::Link;
 use crate::links::Links;
 use crate::marks;
 use crate::open_ends::Ends;
-use crate::response_watch::ResponseWatch;
+use crate::peeked::Peeked;
 use hx_allow::Config;
 use hx_fields::Bytes;
+use hx_framing::ResponseReader;
 use hx_hop::Asked;
 use proxy_core::{CoreFault, Outcome};
 use proxy_script::Effect;
@@ -102,7 +103,7 @@ fn open_link(
 {
     marks::link_at(connections, i, links.len());
     links.put(Link {
-        watch: ResponseWatch::new(alloc, max_body, to_head),
+        reader: Peeked::new(ResponseReader::new(alloc, max_body, to_head)),
         ended: false,
         failed: None,
         connection: i,

@@ -2,12 +2,13 @@
 ghost use Rattle.std.specs.Prelude.{◌≡◌, ◌≢◌, ℕ, ◌+◌, ◌≤◌, ◌^◌, ◌++◌, length, map, OnOk, OnErr};
 ghost use Rattle.std.specs.Ordering.{nat_cmp};
 ghost use Rattle.std.specs.BTreeMap.{get};
-ghost use Rattle.proxy_engine.specs.Held.{flagged, connection_reads, connection_is_open, link_reads, link_failed, GrowsConnection, GrowsLink};
+ghost use Rattle.proxy_engine.specs.Held.{flagged, connection_reads, connection_is_open, link_reads, link_failed};
 ghost use Rattle.proxy_engine.specs.Marked.{AtEach};
 ghost use Rattle.proxy_engine.specs.Places.{listed};
 ghost use Rattle.proxy_engine.specs.Reading.{places_with, client_end, link_end};
-ghost use Rattle.proxy_engine.specs.Room.{IsRoomy, IsRoomyLink, piece};
+ghost use Rattle.proxy_engine.specs.Room.{HasSpare, piece};
 
+use crate::endpoint::Endpoint;
 use crate::ends::{Connection, Link};
 use crate::happening::End;
 use std::alloc::{AllocError, Global};
@@ -93,49 +94,19 @@ pub(crate) fn push_failed(
     Ok(())
 }
 
-fn reserve_client(connection: &mut Connection) -> Result<(), AllocError>
-    ensures grows { GrowsConnection connection.old connection.new }
-    ensures ok { OnOk result (piece ≤ connection.new.watch.reader.spare) }
-    ensures err { OnErr result (connection.new ≡ connection.old) }
-{
-    connection.watch.reserve(PIECE)
-}
-
-fn reserve_link(link: &mut Link) -> Result<(), AllocError>
-    ensures grows { GrowsLink link.old link.new }
-    ensures ok { OnOk result (piece ≤ link.new.watch.reader.spare) }
-    ensures err { OnErr result (link.new ≡ link.old) }
-{
-    link.watch.reserve(PIECE)
-}
-
-/// Makes room for one piece of the client's bytes at a place, if a connection is there.
-pub(crate) fn reserve_client_at(
-    ends: &mut BTreeMap<u64, Connection>,
-    i: u64,
+/// Makes room for one piece at a place, if an end is there.
+pub(crate) fn reserve_at<E: Endpoint>(
+    ends: &mut BTreeMap<u64, E>,
+    place: u64,
 ) -> Result<(), AllocError>
-    ensures grows { AtEach GrowsConnection ends.old ends.new }
-    ensures others { (q : ℕ) → q ≢ i → get nat_cmp ends.new q ≡ get nat_cmp ends.old q }
+    ensures grows { AtEach E.Grows ends.old ends.new }
+    ensures others { (q : ℕ) → q ≢ place → get nat_cmp ends.new q ≡ get nat_cmp ends.old q }
     ensures size { length ends.new.entries ≡ length ends.old.entries }
-    ensures ok { OnOk result (IsRoomy (get nat_cmp ends.new i) piece) }
-    ensures err { OnErr result (get nat_cmp ends.new i ≡ get nat_cmp ends.old i) }
+    ensures ok { OnOk result (HasSpare E.spare (get nat_cmp ends.new place) piece) }
+    ensures err { OnErr result (get nat_cmp ends.new place ≡ get nat_cmp ends.old place) }
 {
-    match ends.get_mut(&i) {
-        Some(connection) => reserve_client(connection),
-        None => Ok(()),
-    }
-}
-
-/// Makes room for one piece of the origin's bytes at a place, if a link is there.
-pub(crate) fn reserve_link_at(ends: &mut BTreeMap<u64, Link>, j: u64) -> Result<(), AllocError>
-    ensures grows { AtEach GrowsLink ends.old ends.new }
-    ensures others { (q : ℕ) → q ≢ j → get nat_cmp ends.new q ≡ get nat_cmp ends.old q }
-    ensures size { length ends.new.entries ≡ length ends.old.entries }
-    ensures ok { OnOk result (IsRoomyLink (get nat_cmp ends.new j) piece) }
-    ensures err { OnErr result (get nat_cmp ends.new j ≡ get nat_cmp ends.old j) }
-{
-    match ends.get_mut(&j) {
-        Some(link) => reserve_link(link),
+    match ends.get_mut(&place) {
+        Some(end) => end.reserve(PIECE),
         None => Ok(()),
     }
 }

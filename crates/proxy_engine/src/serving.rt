@@ -8,7 +8,7 @@ ghost use Rattle.proxy_engine.specs.Admitted.{IsAdmitted};
 ghost use Rattle.hx_hop.specs.Moments.{date_text_of};
 ghost use Rattle.proxy_core.specs.Replies.{refused_text, is_head};
 ghost use Rattle.proxy_core.specs.State.{State as CoreState};
-ghost use Rattle.proxy_engine.specs.Look.{Due};
+ghost use Rattle.proxy_engine.specs.declared.lookahead.Lookahead.TheVariants.{Due};
 ghost use Rattle.proxy_engine.specs.Story.{Story};
 ghost use Rattle.proxy_engine.specs.Due.{Serves, IsDueFirst};
 ghost use Rattle.proxy_engine.specs.State.{Stands, state, wish_at, is_free, connection_load, load_at, Done, Failed};

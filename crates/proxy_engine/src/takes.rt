@@ -13,7 +13,8 @@ use crate::connections::Connections;
 use crate::ends::{Connection, Link};
 use crate::happening::EngineFault;
 use crate::links::Links;
-use crate::request_watch::RequestWatch;
+use crate::peeked::Peeked;
+use hx_framing::RequestReader;
 use hx_status::FailKind;
 use std::alloc::{AllocError, Global};
 
@@ -45,26 +46,26 @@ fn send(connection: &mut Connection, bytes: &[u8]) -> Result<(), AllocError>
     ensures stands { OnOk result ((s : ConnStory) → ConnStands (Some connection.old) s → ConnStands (Some connection.new) (sent bytes.now s)) }
     ensures err { OnErr result (connection.new ≡ connection.old) }
     ensures kept { OnErr result (connection.old.gone || connection.old.ended ≡ false) }
-    ensures reserved { length bytes.now ≤ connection.old.watch.reader.spare → IsOk result }
+    ensures reserved { length bytes.now ≤ connection.old.reader.inner.spare → IsOk result }
     ensures activity { connection.new.activity ≡ connection.old.activity }
 {
     if connection.gone || connection.ended {
         return Ok(());
     }
-    connection.watch.feed(bytes)
+    connection.reader.feed(bytes)
 }
 
 fn hear(link: &mut Link, bytes: &[u8]) -> Result<(), AllocError>
     ensures stands { OnOk result ((s : LinkStory) → LinkStands (Some link.old) s → LinkStands (Some link.new) (heard_by bytes.now s)) }
     ensures err { OnErr result (link.new ≡ link.old) }
     ensures kept { OnErr result (is_some link.old.failed || link.old.ended ≡ false) }
-    ensures reserved { length bytes.now ≤ link.old.watch.reader.spare → IsOk result }
+    ensures reserved { length bytes.now ≤ link.old.reader.inner.spare → IsOk result }
     ensures connection { link.new.connection ≡ link.old.connection }
 {
     if link.failed.is_some() || link.ended {
         return Ok(());
     }
-    link.watch.feed(bytes)
+    link.reader.feed(bytes)
 }
 
 fn end(connection: &mut Connection)
@@ -72,7 +73,7 @@ fn end(connection: &mut Connection)
     ensures activity { connection.new.activity ≡ connection.old.activity }
 {
     if !connection.gone {
-        connection.watch.finish();
+        connection.reader.finish();
         connection.ended = true;
     }
 }
@@ -90,7 +91,7 @@ fn close_link(link: &mut Link)
     ensures connection { link.new.connection ≡ link.old.connection }
 {
     if link.failed.is_none() {
-        link.watch.finish();
+        link.reader.finish();
         link.ended = true;
     }
 }
@@ -127,9 +128,9 @@ pub(crate) fn accept(
     if !is_next(connections, n) {
         return Err(EngineFault::WrongNumber);
     }
-    let watch = RequestWatch::new(alloc, max_body);
+    let reader = Peeked::new(RequestReader::new(alloc, max_body));
     let connection = Connection {
-        watch,
+        reader,
         ended: false,
         gone: false,
         activity: Activity::Free,

@@ -3,7 +3,7 @@ ghost use Rattle.std.specs.Prelude.{◌≡◌, true, IfOk, Some, is_some, codes,
 ghost use Rattle.hx_framing.specs.declared.messages.Request.{Request as Spelled};
 ghost use Rattle.hx_framing.specs.declared.messages.Next.{Next as Told};
 ghost use Rattle.hx_framing.specs.declared.messages.Next.TheVariants as next;
-ghost use Rattle.proxy_engine.specs.Look.{Due};
+ghost use Rattle.proxy_engine.specs.declared.lookahead.Lookahead.TheVariants.{Due};
 ghost use Rattle.proxy_engine.specs.State.{wish_at};
 ghost use Rattle.proxy_engine.specs.Wishes.{IsMessageWish, IsWish, wish_by};
 
@@ -57,9 +57,9 @@ fn fault_wish(fault: FrameFault) -> Wish
 /// What is to be done on a connection on which something is due.
 pub(crate) fn wish_of(connection: &Connection, alloc: Global) -> Result<Wish, AllocError>
     requires { is_some (wish_at (Some connection.now)) ≡ true }
-    ensures { IfOk result (λ wish. (a : Told Spelled) × (wish_at (Some connection.now) ≡ Some a) × (connection.now.watch.look ≡ Due a) × IsWish a wish) }
+    ensures { IfOk result (λ wish. (a : Told Spelled) × (wish_at (Some connection.now) ≡ Some a) × (connection.now.reader.ahead ≡ Due a) × IsWish a wish) }
 {
-    match connection.watch.due() {
+    match connection.reader.peek() {
         Some(next) => match next {
             Next::NeedsContinue => Ok(Wish::Continue),
             Next::Message(request) => message_wish(alloc, request),

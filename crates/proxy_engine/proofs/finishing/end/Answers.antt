@@ -1,7 +1,7 @@
 use Rattle.std.proofs.Common.{ap, ◌∙◌}
 use Rattle.hx_framing.specs.declared.messages.Response.{Response}
 use Rattle.hx_framing.specs.declared.messages.Next.{Next}
-use Rattle.proxy_engine.specs.Look.{Due}
+use Rattle.proxy_engine.specs.declared.lookahead.Lookahead.TheVariants.{Due}
 use Rattle.proxy_engine.specs.Due.{Gives}
 use Rattle.proxy_engine.proofs.Ending.{given_seen}
 use Rattle.proxy_engine.proofs.finishing.end.Goals as goal

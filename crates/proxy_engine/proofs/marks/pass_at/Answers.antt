@@ -10,9 +10,9 @@ use Rattle.proxy_engine.proofs.marks.pass_at.Goals as goal
 
 pub returns-clause-stands : goal.returns-clause-stands
 returns-clause-stands c = λ s a links core first due h.
-    let look = due_at c.in-Some.connection.now a (ap wish_at c.in-Some.ensures.value ∙ due) in
+    let ahead = due_at c.in-Some.connection.now a (ap wish_at c.in-Some.ensures.value ∙ due) in
     changed_connection (passing a) c.args.connections.now.items links core first s c.args.i (Some c.pass.new.connection) (inside c.args.connections.now.items c.args.i (ap is_some (sym c.in-Some.ensures.value)))
-    (λ k q. c.pass.ensures.stands k a look (subst (λ (o : Option Connection). ConnStands o k) (sym c.in-Some.ensures.value) q)) h
+    (λ k q. c.pass.ensures.stands k a ahead (subst (λ (o : Option Connection). ConnStands o k) (sym c.in-Some.ensures.value) q)) h
 
 pub returns-clause-activities : goal.returns-clause-activities
 returns-clause-activities c = map_kept activity_of c.args.connections.now.items c.args.i None (Some c.pass.new.connection) (c.pass.ensures.activity ∙ ap activity_of c.in-Some.ensures.value)

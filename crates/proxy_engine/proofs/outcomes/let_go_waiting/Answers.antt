@@ -1,4 +1,4 @@
-use Rattle.std.proofs.Common.{List, Option, None, true, sym, ap, subst, ◌∙◌, set}
+use Rattle.std.proofs.Common.{List, Option, None, true, sym, ap, subst, ◌∙◌}
 use Rattle.std.proofs.lemmas.List.{map-set}
 use Rattle.proxy_engine.specs.Story.{with_connection}
 use Rattle.proxy_engine.specs.Acts.{doing}

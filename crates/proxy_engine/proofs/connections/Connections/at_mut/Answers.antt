@@ -2,11 +2,11 @@ use Rattle.std.proofs.Common.{◌≡◌, ◌≢◌, ◌+◌, ◌^◌, ◌&&◌, 
 use Rattle.std.specs.Ordering.{nat_cmp}
 use Rattle.std.specs.BTreeMap.{BTreeMap, get}
 use Rattle.proxy_engine.specs.Places.{listed, IsMarked}
-use Rattle.proxy_engine.specs.Marked.{ConnectionList, may_be_lost, may_want}
+use Rattle.proxy_engine.specs.Marked.{EndList, may_be_lost, may_want}
 use Rattle.proxy_engine.specs.declared.ends.Connection.{Connection}
 use Rattle.proxy_engine.proofs.Shown.{none_from}
 use Rattle.proxy_engine.proofs.Keeping.{seen_at, listed_set, lent_if, elsewhere}
-use Rattle.proxy_engine.proofs.Marking.{has_room, marked_put, below_put, same_connections}
+use Rattle.proxy_engine.proofs.Marking.{has_room, marked_put, below_put, same_list}
 use Rattle.proxy_engine.proofs.connections.Connections.at_mut.Goals as goal
 
 pub put-requires : goal.put-requires
@@ -20,7 +20,7 @@ invariant_of-self-lent c = λ r.
     let m = c.self.inside.ends in
     let i = c.args.i in
     let here = sym c.contains_key.ensures ∙ c.if-not-contains_key.false in
-    let seen = seen_at m c.self.inside.count i c.args.self.now.items (ap (λ (v : ConnectionList). v.items) c.self.view_is) c.requires in
+    let seen = seen_at m c.self.inside.count i c.args.self.now.items (ap (λ (v : EndList Connection). v.items) c.self.view_is) c.requires in
     let within = seen.0 in (
       (λ w.
           let held = c.get_mut.follows.holds w in
@@ -45,7 +45,7 @@ invariant_of-self-lent c = λ r.
 
 pub returns-then-not-contains_key : goal.returns-then-not-contains_key
 returns-then-not-contains_key c =
-    let seen = seen_at c.self.inside.ends c.self.inside.count c.args.i c.args.self.now.items (ap (λ (v : ConnectionList). v.items) c.self.view_is) c.requires in (
+    let seen = seen_at c.self.inside.ends c.self.inside.count c.args.i c.args.self.now.items (ap (λ (v : EndList Connection). v.items) c.self.view_is) c.requires in (
       ap inr c.self.view_is,
       record { writes_back = tt; value = sym (none_from _ (sym c.if-not-contains_key.true ∙ c.contains_key.ensures)) ∙ seen.1 },
     )
@@ -55,7 +55,7 @@ returns c =
     let m = c.self.inside.ends in
     let n = c.self.inside.count in
     let i = c.args.i in
-    let old : listed m n ≡ c.args.self.now.items = ap (λ (v : ConnectionList). v.items) c.self.view_is in
+    let old : listed m n ≡ c.args.self.now.items = ap (λ (v : EndList Connection). v.items) c.self.view_is in
     let seen = seen_at m n i c.args.self.now.items old c.requires in
     let here = sym c.contains_key.ensures ∙ c.if-not-contains_key.false in
     let within = seen.0 in
@@ -63,8 +63,8 @@ returns c =
       lent_if c.get_mut.result _ _ _ _
           (λ e w.
           let updates = (c.get_mut.follows.holds w).3 here in
-          same_connections _ _ _ _ (listed_set m (c.get_mut.follows.lender w) n i (Some w) updates.1 (λ q other. updates.2 q (elsewhere i q other)) ∙ ap (λ (xs : List (Option Connection)). set xs i (Some w)) old)
-          (ap (λ (o : Option Connection). nat_lt (n + 1) (2 ^ 64) && is_some o) (updates.2 n (elsewhere i n apart)) ∙ ap (λ (v : ConnectionList). v.has_room) c.self.view_is))
-          (ap {B = ConnectionList} (λ (k : BTreeMap ℕ Connection). record { items = listed k n; has_room = nat_lt (n + 1) (2 ^ 64) && is_some (get nat_cmp k n) }) c.get_mut.follows.holds-at-none ∙ c.self.view_is),
+          same_list _ _ _ _ (listed_set m (c.get_mut.follows.lender w) n i (Some w) updates.1 (λ q other. updates.2 q (elsewhere i q other)) ∙ ap (λ (xs : List (Option Connection)). set xs i (Some w)) old)
+          (ap (λ (o : Option Connection). nat_lt (n + 1) (2 ^ 64) && is_some o) (updates.2 n (elsewhere i n apart)) ∙ ap (λ (v : EndList Connection). v.has_room) c.self.view_is))
+          (ap {B = EndList Connection} (λ (k : BTreeMap ℕ Connection). record { items = listed k n; has_room = nat_lt (n + 1) (2 ^ 64) && is_some (get nat_cmp k n) }) c.get_mut.follows.holds-at-none ∙ c.self.view_is),
       record { writes_back = tt; value = c.get_mut.ensures.value ∙ seen.1 },
     )

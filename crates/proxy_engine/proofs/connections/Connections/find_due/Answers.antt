@@ -1,11 +1,14 @@
 use Rattle.std.proofs.Common.{sym, ap, ◌∙◌, subst, arith, sum_by, Bool, ◌&&◌}
 use Rattle.proxy_engine.specs.Activities.{has_exchange}
 use Rattle.proxy_engine.specs.Wiring.{activity_of, activities_of}
-use Rattle.proxy_engine.specs.State.{Both, ConnStands, connection_load}
-use Rattle.proxy_engine.specs.Marked.{ConnectionList, LooksLikeConnection, may_be_lost}
+use Rattle.proxy_engine.specs.Story.{no_connection}
+use Rattle.proxy_engine.specs.Due.{Wanted}
+use Rattle.proxy_engine.specs.State.{Both, ConnStands, wish_at, connection_load}
+use Rattle.proxy_engine.specs.Marked.{EndList, LooksLikeConnection, may_be_lost, may_want}
+use Rattle.proxy_engine.specs.declared.ends.Connection.{Connection}
 use Rattle.proxy_engine.specs.declared.activities.Activity.{Activity}
 use Rattle.proxy_engine.proofs.Searching.{both_listed, map_listed, sum_listed}
-use Rattle.proxy_engine.proofs.Marking.{marked_alike}
+use Rattle.proxy_engine.proofs.Marking.{marked_alike, unwanted, unwanted_over}
 use Rattle.proxy_engine.proofs.Finding.{due_found}
 use Rattle.proxy_engine.proofs.Wishing.{on_ok}
 use Rattle.proxy_engine.proofs.connections.Connections.find_due.Goals as goal
@@ -22,16 +25,16 @@ invariant_of-self c = (
 pub returns-clause-stands : goal.returns-clause-stands
 returns-clause-stands c = λ ss both.
     both_listed LooksLikeConnection ConnStands (λ x y r s h. r.stands s h) c.self.inside.ends c.first_due.new.ends c.self.inside.count c.first_due.ensures.alike ss
-    (subst (λ (v : ConnectionList). Both ConnStands v.items ss) (sym c.self.view_is) both)
+    (subst (λ (v : EndList Connection). Both ConnStands v.items ss) (sym c.self.view_is) both)
 
 pub returns-clause-found : goal.returns-clause-found
-returns-clause-found c = on_ok c.first_due.result _ _ (λ r h. due_found c.first_due.new.ends c.self.inside.count c.self.inside.waiting.places r c.self.invariant.3 h) c.first_due.ensures.found
+returns-clause-found c = on_ok c.first_due.result _ _ (λ r h. due_found ConnStands Wanted may_want no_connection wish_at c.first_due.new.ends c.self.inside.count c.self.inside.waiting.places unwanted unwanted_over r c.self.invariant.3 h) c.first_due.ensures.found
 
 pub returns-clause-activities : goal.returns-clause-activities
 returns-clause-activities c =
-    map_listed LooksLikeConnection activity_of (λ x y r. r.activity) c.self.inside.ends c.first_due.new.ends c.self.inside.count c.first_due.ensures.alike ∙ ap (λ (v : ConnectionList). activities_of v.items) c.self.view_is
+    map_listed LooksLikeConnection activity_of (λ x y r. r.activity) c.self.inside.ends c.first_due.new.ends c.self.inside.count c.first_due.ensures.alike ∙ ap (λ (v : EndList Connection). activities_of v.items) c.self.view_is
 
 pub returns-clause-load : goal.returns-clause-load
 returns-clause-load c =
     let less = sum_listed LooksLikeConnection connection_load (λ x y r. r.load) c.self.inside.ends c.first_due.new.ends c.self.inside.count c.first_due.ensures.alike in
-    omega (arith, less, ap (λ (v : ConnectionList). sum_by connection_load v.items) c.self.view_is)
+    omega (arith, less, ap (λ (v : EndList Connection). sum_by connection_load v.items) c.self.view_is)

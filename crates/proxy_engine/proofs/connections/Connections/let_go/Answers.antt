@@ -1,5 +1,6 @@
 use Rattle.std.proofs.Common.{◌≢◌, ℕ, set, ap, ◌∙◌, None}
-use Rattle.proxy_engine.specs.Marked.{ConnectionList, may_be_lost, may_want}
+use Rattle.proxy_engine.specs.Marked.{EndList, may_be_lost, may_want}
+use Rattle.proxy_engine.specs.declared.ends.Connection.{Connection}
 use Rattle.proxy_engine.proofs.Keeping.{elsewhere, listed_set, one_less}
 use Rattle.proxy_engine.proofs.Marking.{marked_gone}
 use Rattle.proxy_engine.proofs.connections.Connections.let_go.Goals as goal
@@ -23,4 +24,4 @@ returns c =
     let i = c.args.i in
     let updates = c.remove.ensures.updates in
     listed_set c.self.inside.ends c.remove.new.self c.self.inside.count i None updates.1 (λ q other. updates.2 q (elsewhere i q other))
-    ∙ ap (λ (v : ConnectionList). set v.items i None) c.self.view_is
+    ∙ ap (λ (v : EndList Connection). set v.items i None) c.self.view_is

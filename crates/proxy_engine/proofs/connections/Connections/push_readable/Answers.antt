@@ -2,7 +2,8 @@ use Rattle.std.proofs.Common.{◌++◌, List, ℕ, map, sym, ap, ◌∙◌, subs
 use Rattle.proxy_engine.specs.State.{Both, ConnStands}
 use Rattle.proxy_engine.specs.Reading.{client_end}
 use Rattle.proxy_engine.specs.Places.{listed}
-use Rattle.proxy_engine.specs.Marked.{ConnectionList}
+use Rattle.proxy_engine.specs.Marked.{EndList}
+use Rattle.proxy_engine.specs.declared.ends.Connection.{Connection}
 use Rattle.proxy_engine.proofs.Readable.{read_places}
 use Rattle.proxy_engine.proofs.Wishing.{does_ok}
 use Rattle.proxy_engine.proofs.connections.Connections.push_readable.Goals as goal
@@ -10,5 +11,5 @@ use Rattle.proxy_engine.proofs.connections.Connections.push_readable.Goals as go
 pub returns : goal.returns
 returns c =
     does_ok c.push_clients.result _ _
-    (λ is ss both. is ∙ ap (λ (ps : List ℕ). c.args.ends.now.items ++ map client_end ps) (read_places (listed c.self.inside.ends c.self.inside.count) ss (subst (λ (v : ConnectionList). Both ConnStands v.items ss) (sym c.self.view_is) both)))
+    (λ is ss both. is ∙ ap (λ (ps : List ℕ). c.args.ends.now.items ++ map client_end ps) (read_places (listed c.self.inside.ends c.self.inside.count) ss (subst (λ (v : EndList Connection). Both ConnStands v.items ss) (sym c.self.view_is) both)))
     c.push_clients.ensures

@@ -1,5 +1,6 @@
 use Rattle.std.proofs.Common.{length, sym, ◌+◌, ◌^◌, refl, ap, ◌∙◌, arith, is_some}
-use Rattle.proxy_engine.specs.Marked.{ConnectionList, may_be_lost, may_want}
+use Rattle.proxy_engine.specs.Marked.{EndList, may_be_lost, may_want}
+use Rattle.proxy_engine.specs.declared.ends.Connection.{Connection}
 use Rattle.proxy_engine.proofs.Keeping.{elsewhere, listed_same, listed_length, one_more}
 use Rattle.proxy_engine.proofs.Marking.{marked_room, marked_spare, below_same}
 use Rattle.proxy_engine.proofs.Readable.{below, both_so}
@@ -46,18 +47,18 @@ pub returns-clause-items : goal.returns-clause-items
 returns-clause-items c =
     let n = c.self.inside.count in
     let updates = c.in_ok-insert.ensures.updates in
-    listed_same c.self.inside.ends c.insert.new.self n (λ q l. updates.2 q (elsewhere n q (λ e. absurd (omega (arith, e, l))))) ∙ ap (λ (v : ConnectionList). v.items) c.self.view_is
+    listed_same c.self.inside.ends c.insert.new.self n (λ q l. updates.2 q (elsewhere n q (λ e. absurd (omega (arith, e, l))))) ∙ ap (λ (v : EndList Connection). v.items) c.self.view_is
 
 pub returns-then-contains_key-clause-ok : goal.returns-then-contains_key-clause-ok
 returns-then-contains_key-clause-ok c =
     let n = c.self.inside.count in
-    let len = ap (λ (v : ConnectionList). length v.items) c.self.view_is in
+    let len = ap (λ (v : EndList Connection). length v.items) c.self.view_is in
     let low = below (n + 1) (2 ^ 64) (omega (arith, len, listed_length c.self.inside.ends n, c.requires)) in
-    sym (ap (λ (v : ConnectionList). v.has_room) c.self.view_is) ∙ both_so _ _ low (sym c.contains_key.ensures ∙ c.if-contains_key.true)
+    sym (ap (λ (v : EndList Connection). v.has_room) c.self.view_is) ∙ both_so _ _ low (sym c.contains_key.ensures ∙ c.if-contains_key.true)
 
 pub returns-clause-ok : goal.returns-clause-ok
 returns-clause-ok c =
     let n = c.self.inside.count in
-    let len = ap (λ (v : ConnectionList). length v.items) c.self.view_is in
+    let len = ap (λ (v : EndList Connection). length v.items) c.self.view_is in
     let low = below (n + 1) (2 ^ 64) (omega (arith, len, listed_length c.self.inside.ends n, c.requires)) in
     both_so _ _ low (ap is_some c.in_ok-insert.ensures.updates.1)

@@ -3,10 +3,10 @@ use Rattle.proxy_engine.specs.Wiring.{activity_of, activities_of}
 use Rattle.proxy_engine.specs.State.{Both, ConnStands}
 use Rattle.proxy_engine.specs.Room.{IsRoomy, piece}
 use Rattle.proxy_engine.specs.Held.{GrowsConnection}
-use Rattle.proxy_engine.specs.Marked.{ConnectionList, may_be_lost, may_want}
+use Rattle.proxy_engine.specs.Marked.{EndList, may_be_lost, may_want}
 use Rattle.proxy_engine.specs.declared.ends.Connection.{Connection}
 use Rattle.proxy_engine.proofs.Keeping.{listed_at, listed_same, listed_length}
-use Rattle.proxy_engine.proofs.Marking.{marked_alike, grown_lost, grown_want, same_connections}
+use Rattle.proxy_engine.proofs.Marking.{marked_alike, grown_lost, grown_want, same_list}
 use Rattle.proxy_engine.proofs.Searching.{both_listed, map_listed}
 use Rattle.proxy_engine.proofs.Readable.{beyond, by_place}
 use Rattle.proxy_engine.proofs.Wishing.{does_ok, stays_err}
@@ -15,41 +15,41 @@ use Rattle.proxy_engine.proofs.connections.Connections.reserve_piece.Goals as go
 pub invariant_of-self : goal.invariant_of-self
 invariant_of-self c =
     let m = c.self.inside.ends in
-    let k = c.reserve_client_at.new.ends in (
-      marked_alike may_be_lost GrowsConnection m k c.self.inside.lost grown_lost c.self.invariant.0 c.reserve_client_at.ensures.grows c.reserve_client_at.ensures.size,
+    let k = c.reserve_at.new.ends in (
+      marked_alike may_be_lost GrowsConnection m k c.self.inside.lost grown_lost c.self.invariant.0 c.reserve_at.ensures.grows c.reserve_at.ensures.size,
       c.self.invariant.1,
-      marked_alike may_want GrowsConnection m k c.self.inside.waiting grown_want c.self.invariant.2 c.reserve_client_at.ensures.grows c.reserve_client_at.ensures.size,
+      marked_alike may_want GrowsConnection m k c.self.inside.waiting grown_want c.self.invariant.2 c.reserve_at.ensures.grows c.reserve_at.ensures.size,
       c.self.invariant.3,
     )
 
 pub returns-then-i-self-clause-ok : goal.returns-then-i-self-clause-ok
 returns-then-i-self-clause-ok c =
-    let len = ap (λ (v : ConnectionList). length v.items) c.self.view_is in
+    let len = ap (λ (v : EndList Connection). length v.items) c.self.view_is in
     subst (λ (o : Option Connection). IsRoomy o piece) (sym (beyond c.args.self.now.items c.args.i (omega (arith, len, listed_length c.self.inside.ends c.self.inside.count, c.if-i-self.true)))) tt
 
 pub returns-clause-ok : goal.returns-clause-ok
 returns-clause-ok c =
-    does_ok c.reserve_client_at.result _ _
-    (λ roomy. subst (λ (o : Option Connection). IsRoomy o piece) (sym (listed_at c.reserve_client_at.new.ends c.self.inside.count c.args.i None c.if-i-self.false)) roomy)
-    c.reserve_client_at.ensures.ok
+    does_ok c.reserve_at.result _ _
+    (λ roomy. subst (λ (o : Option Connection). IsRoomy o piece) (sym (listed_at c.reserve_at.new.ends c.self.inside.count c.args.i None c.if-i-self.false)) roomy)
+    c.reserve_at.ensures.ok
 
 pub returns-clause-stands : goal.returns-clause-stands
 returns-clause-stands c = λ ss both.
-    both_listed GrowsConnection ConnStands (λ x y r s h. r.alike.stands s h) c.self.inside.ends c.reserve_client_at.new.ends c.self.inside.count c.reserve_client_at.ensures.grows ss
-    (subst (λ (v : ConnectionList). Both ConnStands v.items ss) (sym c.self.view_is) both)
+    both_listed GrowsConnection ConnStands (λ x y r s h. r.alike.stands s h) c.self.inside.ends c.reserve_at.new.ends c.self.inside.count c.reserve_at.ensures.grows ss
+    (subst (λ (v : EndList Connection). Both ConnStands v.items ss) (sym c.self.view_is) both)
 
 pub returns-clause-activities : goal.returns-clause-activities
 returns-clause-activities c =
-    map_listed GrowsConnection activity_of (λ x y r. r.alike.activity) c.self.inside.ends c.reserve_client_at.new.ends c.self.inside.count c.reserve_client_at.ensures.grows ∙ ap (λ (v : ConnectionList). activities_of v.items) c.self.view_is
+    map_listed GrowsConnection activity_of (λ x y r. r.alike.activity) c.self.inside.ends c.reserve_at.new.ends c.self.inside.count c.reserve_at.ensures.grows ∙ ap (λ (v : EndList Connection). activities_of v.items) c.self.view_is
 
 pub returns-clause-err : goal.returns-clause-err
 returns-clause-err c =
     let m = c.self.inside.ends in
-    let k = c.reserve_client_at.new.ends in
+    let k = c.reserve_at.new.ends in
     let n = c.self.inside.count in
     let i = c.args.i in
     let apart : n ≢ i = λ e. absurd (omega (arith, e, c.if-i-self.false)) in
-    stays_err c.reserve_client_at.result _ _
-    (λ same. same_connections _ _ _ _ (listed_same m k n (λ q l. by_place m k i same c.reserve_client_at.ensures.others q))
-    (ap (λ (o : Option Connection). nat_lt (n + 1) (2 ^ 64) && is_some o) (c.reserve_client_at.ensures.others n apart)) ∙ c.self.view_is)
-    c.reserve_client_at.ensures.err
+    stays_err c.reserve_at.result _ _
+    (λ same. same_list _ _ _ _ (listed_same m k n (λ q l. by_place m k i same c.reserve_at.ensures.others q))
+    (ap (λ (o : Option Connection). nat_lt (n + 1) (2 ^ 64) && is_some o) (c.reserve_at.ensures.others n apart)) ∙ c.self.view_is)
+    c.reserve_at.ensures.err

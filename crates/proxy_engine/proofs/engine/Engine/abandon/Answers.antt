@@ -1,4 +1,4 @@
-use Rattle.std.proofs.Common.{◌∙◌, sym, ap}
+use Rattle.std.proofs.Common.{◌∙◌}
 use Rattle.proxy_engine.proofs.ActivityCases.{waiting_from}
 use Rattle.proxy_engine.proofs.engine.Engine.abandon.Goals as goal
 

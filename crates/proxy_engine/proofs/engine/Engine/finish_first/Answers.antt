@@ -15,7 +15,7 @@ returns-in-Ok-clause-ok g c = rw (← c.self.view_is) (
     let found = subst (λ (o : Option ℕ). FoundLinks ks o) c.in-Ok-Some.field-0-is c.in-Ok-Some.ensures.found in
     let looked = c.in-Ok-Some.ensures.stands s.links h.links in
     let here = looked_links c.self.inside.ends.connections.items c.self.inside.ends.links.items ks c.self.inside.core c.self.inside.ends.first_link s looked h in
-    (Finishes c.in-Ok-Some.j found.finish, (lost, found.first s.links looked), c.in-Ok.ensures.ok s found.finish found.shown here)
+    (Finishes c.in-Ok-Some.j found.due, (lost, found.first s.links looked), c.in-Ok.ensures.ok s found.due found.shown here)
     )
 
 pub returns-in-Err-finish-clause-fault : goal.returns-in-Err-finish-clause-fault
@@ -25,7 +25,7 @@ returns-in-Err-finish-clause-fault g c = rw (← c.self.view_is) (
     let found = subst (λ (o : Option ℕ). FoundLinks ks o) c.in-Ok-Some.field-0-is c.in-Ok-Some.ensures.found in
     let looked = c.in-Ok-Some.ensures.stands s.links h.links in
     let here = looked_links c.self.inside.ends.connections.items c.self.inside.ends.links.items ks c.self.inside.core c.self.inside.ends.first_link s looked h in
-    c.in-Err-finish.ensures.fault s found.finish found.shown (lost, found.first s.links looked) here
+    c.in-Err-finish.ensures.fault s found.due found.shown (lost, found.first s.links looked) here
     )
 
 pub returns-in-Ok-None-clause-ok : goal.returns-in-Ok-None-clause-ok

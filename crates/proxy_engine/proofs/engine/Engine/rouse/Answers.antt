@@ -1,8 +1,7 @@
-use Rattle.std.proofs.Common.{◌≡◌, ◌+◌, ℕ, List, Option, None, Some, is_some, length, sum_by, ap, sym, subst, ◌∙◌, ◌++◌, get_or, arith}
+use Rattle.std.proofs.Common.{◌≡◌, ◌+◌, ℕ, List, Option, None, is_some, length, sum_by, ap, sym, subst, ◌∙◌, ◌++◌, get_or, arith}
 use Rattle.hx_allow.specs.Lines.{Table}
 use Rattle.proxy_script.specs.declared.effect_list.Effect.{Effect}
 use Rattle.proxy_core.specs.State.{State as CoreState}
-use Rattle.proxy_core.specs.declared.exchange.Exchange.{Exchange}
 use Rattle.proxy_engine.specs.Acts.{effects_on, came_at, came, after_on}
 use Rattle.proxy_engine.specs.Due.{Wakes}
 use Rattle.proxy_engine.specs.State.{Stands, Done, state, link_load, wait_load}

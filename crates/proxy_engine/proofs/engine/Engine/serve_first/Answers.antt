@@ -14,7 +14,7 @@ returns-in-Ok-clause-ok g c = rw (← c.self.view_is) (
     let found = subst (λ (o : Option ℕ). FoundConnections cs o) c.in-Ok-Some.field-0-is c.in-Ok-Some.ensures.found in
     let looked = c.in-Ok-Some.ensures.stands s.connections h.connections in
     let here = looked_connections c.self.inside.ends.connections.items cs c.self.inside.ends.links.items c.self.inside.core c.self.inside.ends.first_link s looked h in
-    (Serves c.in-Ok-Some.i found.wish, (lost, stood, ready, found.first s.connections looked), c.in-Ok.ensures.ok s found.wish found.shown here)
+    (Serves c.in-Ok-Some.i found.due, (lost, stood, ready, found.first s.connections looked), c.in-Ok.ensures.ok s found.due found.shown here)
     )
 
 pub returns-in-Err-serve-clause-fault : goal.returns-in-Err-serve-clause-fault
@@ -24,5 +24,5 @@ returns-in-Err-serve-clause-fault g c = rw (← c.self.view_is) (
     let found = subst (λ (o : Option ℕ). FoundConnections cs o) c.in-Ok-Some.field-0-is c.in-Ok-Some.ensures.found in
     let looked = c.in-Ok-Some.ensures.stands s.connections h.connections in
     let here = looked_connections c.self.inside.ends.connections.items cs c.self.inside.ends.links.items c.self.inside.core c.self.inside.ends.first_link s looked h in
-    c.in-Err-serve.ensures.fault s found.wish found.shown (lost, stood, ready, found.first s.connections looked) here
+    c.in-Err-serve.ensures.fault s found.due found.shown (lost, stood, ready, found.first s.connections looked) here
     )

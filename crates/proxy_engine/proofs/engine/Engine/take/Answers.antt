@@ -7,7 +7,8 @@ use Rattle.proxy_script.specs.declared.happening.Happening.{Happening}
 use Rattle.proxy_engine.specs.Wiring.{owners_of}
 use Rattle.proxy_engine.proofs.Wires.{wired_accepted}
 use Rattle.proxy_engine.proofs.Taking.{on_ok}
-use Rattle.proxy_engine.specs.Marked.{ConnectionList}
+use Rattle.proxy_engine.specs.Marked.{EndList}
+use Rattle.proxy_engine.specs.declared.ends.Connection.{Connection}
 use Rattle.proxy_engine.proofs.Wishing.{on_err, stays_err}
 use Rattle.proxy_engine.proofs.Readable.{found_in}
 use Rattle.proxy_engine.proofs.engine.Engine.take.Goals as goal
@@ -54,7 +55,7 @@ pub returns-in-Link-clause-kept : goal.returns-in-Link-clause-kept
 returns-in-Link-clause-kept g c = λ e s h. subst (λ (x : Happening). keeps s (said x) ≡ true) (sym c.in-Link.is) (c.answer.ensures.kept e s c.self.inside.ends.connections.items c.self.inside.core (subst (λ (e : State). Stands e s) (sym c.self.view_is) h))
 
 pub invariant_of-self : goal.invariant_of-self
-invariant_of-self g c = wired_accepted c.accept.result c.self.inside.ends.connections.items c.accept.new.connections.items (owners_of c.self.inside.ends.links.items) c.self.inside.core.exchanges c.accept.ensures.activities (stays_err c.accept.result _ _ (λ same. ap (λ (v : ConnectionList). v.items) same) c.accept.ensures.err) c.self.invariant
+invariant_of-self g c = wired_accepted c.accept.result c.self.inside.ends.connections.items c.accept.new.connections.items (owners_of c.self.inside.ends.links.items) c.self.inside.core.exchanges c.accept.ensures.activities (stays_err c.accept.result _ _ (λ same. ap (λ (v : EndList Connection). v.items) same) c.accept.ensures.err) c.self.invariant
 
 pub returns-in-Client-clause-fault : goal.returns-in-Client-clause-fault
 returns-in-Client-clause-fault g c = on_err c.client.result _ _

@@ -1,4 +1,4 @@
-use Rattle.std.proofs.Common.{◌≡◌, ◌+◌, ◌-◌, ◌<◌, ℕ, Some, ap, sym, ◌∙◌, arith}
+use Rattle.std.proofs.Common.{◌≡◌, ◌+◌, ◌-◌, ℕ, Some, ap, sym, ◌∙◌, arith}
 use Rattle.proxy_core.specs.Waiting.{IsReady}
 use Rattle.proxy_core.specs.declared.exchange.Exchange.{Exchange}
 use Rattle.std.proofs.Common.{List, Option}

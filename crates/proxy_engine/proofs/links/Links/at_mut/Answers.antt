@@ -2,7 +2,7 @@ use Rattle.std.proofs.Common.{◌≡◌, ◌≢◌, ◌+◌, ◌^◌, ◌&&◌, 
 use Rattle.std.specs.Ordering.{nat_cmp}
 use Rattle.std.specs.BTreeMap.{BTreeMap, get}
 use Rattle.proxy_engine.specs.Places.{listed, IsMarked}
-use Rattle.proxy_engine.specs.Marked.{LinkList, may_stand}
+use Rattle.proxy_engine.specs.Marked.{EndList, may_stand}
 use Rattle.proxy_engine.specs.declared.ends.Link.{Link}
 use Rattle.proxy_engine.proofs.Shown.{none_from}
 use Rattle.proxy_engine.proofs.Keeping.{seen_at, listed_set, lent_if, elsewhere}
@@ -17,7 +17,7 @@ invariant_of-self-lent c = λ r.
     let m = c.self.inside.ends in
     let j = c.args.j in
     let here = sym c.contains_key.ensures ∙ c.if-not-contains_key.false in
-    let seen = seen_at m c.self.inside.count j c.args.self.now.items (ap (λ (v : LinkList). v.items) c.self.view_is) c.requires in
+    let seen = seen_at m c.self.inside.count j c.args.self.now.items (ap (λ (v : EndList Link). v.items) c.self.view_is) c.requires in
     let below = below_put c.self.inside.count c.self.inside.stirred.places c.put.new.self.places j c.self.invariant.1 seen.0 c.put.ensures.only in (
       (λ w.
           let held = c.get_mut.follows.holds w in
@@ -35,7 +35,7 @@ invariant_of-self-lent c = λ r.
 
 pub returns-then-not-contains_key : goal.returns-then-not-contains_key
 returns-then-not-contains_key c =
-    let seen = seen_at c.self.inside.ends c.self.inside.count c.args.j c.args.self.now.items (ap (λ (v : LinkList). v.items) c.self.view_is) c.requires in (
+    let seen = seen_at c.self.inside.ends c.self.inside.count c.args.j c.args.self.now.items (ap (λ (v : EndList Link). v.items) c.self.view_is) c.requires in (
       ap inr c.self.view_is,
       record { writes_back = tt; value = sym (none_from _ (sym c.if-not-contains_key.true ∙ c.contains_key.ensures)) ∙ seen.1 },
     )
@@ -45,7 +45,7 @@ returns c =
     let m = c.self.inside.ends in
     let n = c.self.inside.count in
     let j = c.args.j in
-    let old : listed m n ≡ c.args.self.now.items = ap (λ (v : LinkList). v.items) c.self.view_is in
+    let old : listed m n ≡ c.args.self.now.items = ap (λ (v : EndList Link). v.items) c.self.view_is in
     let seen = seen_at m n j c.args.self.now.items old c.requires in
     let here = sym c.contains_key.ensures ∙ c.if-not-contains_key.false in
     let within = seen.0 in
@@ -54,7 +54,7 @@ returns c =
           (λ e w.
           let updates = (c.get_mut.follows.holds w).3 here in
           same_list _ _ _ _ (listed_set m (c.get_mut.follows.lender w) n j (Some w) updates.1 (λ q other. updates.2 q (elsewhere j q other)) ∙ ap (λ (xs : List (Option Link)). set xs j (Some w)) old)
-          (ap (λ (o : Option Link). nat_lt (n + 1) (2 ^ 64) && is_some o) (updates.2 n (elsewhere j n apart)) ∙ ap (λ (v : LinkList). v.has_room) c.self.view_is))
-          (ap {B = LinkList} (λ (k : BTreeMap ℕ Link). record { items = listed k n; has_room = nat_lt (n + 1) (2 ^ 64) && is_some (get nat_cmp k n) }) c.get_mut.follows.holds-at-none ∙ c.self.view_is),
+          (ap (λ (o : Option Link). nat_lt (n + 1) (2 ^ 64) && is_some o) (updates.2 n (elsewhere j n apart)) ∙ ap (λ (v : EndList Link). v.has_room) c.self.view_is))
+          (ap {B = EndList Link} (λ (k : BTreeMap ℕ Link). record { items = listed k n; has_room = nat_lt (n + 1) (2 ^ 64) && is_some (get nat_cmp k n) }) c.get_mut.follows.holds-at-none ∙ c.self.view_is),
       record { writes_back = tt; value = c.get_mut.ensures.value ∙ seen.1 },
     )

@@ -2,7 +2,8 @@ use Rattle.std.proofs.Common.{◌+◌, ◌≤◌, ◌^◌, ◌++◌, List, ℕ, 
 use Rattle.proxy_engine.specs.State.{Both, LinkStands}
 use Rattle.proxy_engine.specs.Reading.{link_end}
 use Rattle.proxy_engine.specs.Places.{listed}
-use Rattle.proxy_engine.specs.Marked.{LinkList}
+use Rattle.proxy_engine.specs.Marked.{EndList}
+use Rattle.proxy_engine.specs.declared.ends.Link.{Link}
 use Rattle.proxy_engine.proofs.Parts.{both_length}
 use Rattle.proxy_engine.proofs.Keeping.{listed_length}
 use Rattle.proxy_engine.proofs.Readable.{failed_places}
@@ -15,7 +16,7 @@ returns c =
     let n = c.self.inside.count in
     does_ok c.push_failed.result _ _
     (λ is ss both fits.
-    let there = subst (λ (v : LinkList). Both LinkStands v.items ss) (sym c.self.view_is) both in
+    let there = subst (λ (v : EndList Link). Both LinkStands v.items ss) (sym c.self.view_is) both in
     is (subst (λ (k : ℕ). c.args.first + k ≤ 2 ^ 64) (sym (both_length LinkStands (listed m n) ss there) ∙ listed_length m n) fits)
     ∙ ap (λ (ps : List ℕ). c.args.ends.now.items ++ map (link_end c.args.first) ps) (failed_places (listed m n) ss there))
     c.push_failed.ensures

@@ -1,7 +1,9 @@
 use Rattle.std.proofs.Common.{◌||◌, refl, ap, ◌∙◌, arith, false}
-use Rattle.proxy_engine.specs.Look.{Look, may_show}
+use Rattle.proxy_engine.specs.declared.lookahead.Lookahead.{Lookahead}
+use Rattle.proxy_engine.specs.Lookahead.{may_show}
 use Rattle.hx_framing.specs.declared.messages.Response.{Response}
-use Rattle.proxy_engine.specs.Marked.{LinkList, may_stand}
+use Rattle.proxy_engine.specs.Marked.{EndList, may_stand}
+use Rattle.proxy_engine.specs.declared.ends.Link.{Link}
 use Rattle.proxy_engine.proofs.Keeping.{elsewhere, listed_same, one_more}
 use Rattle.proxy_engine.proofs.Marking.{marked_room, marked_spare, below_same}
 use Rattle.proxy_engine.proofs.links.Links.reserve_one.Goals as goal
@@ -23,7 +25,7 @@ invariant_of-self-2 c =
     let n = c.self.inside.count in
     let updates = c.in_ok-insert.ensures.updates in
     let size = one_more _ _ _ c.in_ok-insert.ensures.len in (
-      marked_spare may_stand c.self.inside.ends c.insert.new.self c.self.inside.stirred c.reserve_for.new.self n _ c.self.invariant.0 (λ q other. updates.2 q (elsewhere n q other)) updates.1 (ap (λ (l : Look Response). may_show l || false) c.new.ensures.quiet)
+      marked_spare may_stand c.self.inside.ends c.insert.new.self c.self.inside.stirred c.reserve_for.new.self n _ c.self.invariant.0 (λ q other. updates.2 q (elsewhere n q other)) updates.1 (ap (λ (l : Lookahead Response). may_show l || false) c.new-2.ensures.quiet)
           (omega (arith, size, c.in_ok-reserve_for.ensures.ok, c.len.ensures.len)) c.reserve_for.ensures.places,
       below_same n _ _ c.self.invariant.1 c.reserve_for.ensures.places,
     )
@@ -32,4 +34,4 @@ pub returns-clause-items : goal.returns-clause-items
 returns-clause-items c =
     let n = c.self.inside.count in
     let updates = c.in_ok-insert.ensures.updates in
-    listed_same c.self.inside.ends c.insert.new.self n (λ q l. updates.2 q (elsewhere n q (λ e. absurd (omega (arith, e, l))))) ∙ ap (λ (v : LinkList). v.items) c.self.view_is
+    listed_same c.self.inside.ends c.insert.new.self n (λ q l. updates.2 q (elsewhere n q (λ e. absurd (omega (arith, e, l))))) ∙ ap (λ (v : EndList Link). v.items) c.self.view_is

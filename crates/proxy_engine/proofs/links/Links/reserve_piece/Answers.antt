@@ -3,7 +3,7 @@ use Rattle.proxy_engine.specs.Wiring.{owner_of, owners_of}
 use Rattle.proxy_engine.specs.State.{Both, LinkStands}
 use Rattle.proxy_engine.specs.Room.{IsRoomyLink, piece}
 use Rattle.proxy_engine.specs.Held.{GrowsLink}
-use Rattle.proxy_engine.specs.Marked.{LinkList, may_stand}
+use Rattle.proxy_engine.specs.Marked.{EndList, may_stand}
 use Rattle.proxy_engine.specs.declared.ends.Link.{Link}
 use Rattle.proxy_engine.proofs.Keeping.{listed_at, listed_same, listed_length}
 use Rattle.proxy_engine.proofs.Marking.{marked_alike, grown_stand, same_list}
@@ -14,38 +14,38 @@ use Rattle.proxy_engine.proofs.links.Links.reserve_piece.Goals as goal
 
 pub invariant_of-self : goal.invariant_of-self
 invariant_of-self c = (
-  marked_alike may_stand GrowsLink c.self.inside.ends c.reserve_link_at.new.ends c.self.inside.stirred grown_stand c.self.invariant.0 c.reserve_link_at.ensures.grows c.reserve_link_at.ensures.size,
+  marked_alike may_stand GrowsLink c.self.inside.ends c.reserve_at.new.ends c.self.inside.stirred grown_stand c.self.invariant.0 c.reserve_at.ensures.grows c.reserve_at.ensures.size,
   c.self.invariant.1,
 )
 
 pub returns-then-j-self-clause-ok : goal.returns-then-j-self-clause-ok
 returns-then-j-self-clause-ok c =
-    let len = ap (λ (v : LinkList). length v.items) c.self.view_is in
+    let len = ap (λ (v : EndList Link). length v.items) c.self.view_is in
     subst (λ (o : Option Link). IsRoomyLink o piece) (sym (beyond c.args.self.now.items c.args.j (omega (arith, len, listed_length c.self.inside.ends c.self.inside.count, c.if-j-self.true)))) tt
 
 pub returns-clause-ok : goal.returns-clause-ok
 returns-clause-ok c =
-    does_ok c.reserve_link_at.result _ _
-    (λ roomy. subst (λ (o : Option Link). IsRoomyLink o piece) (sym (listed_at c.reserve_link_at.new.ends c.self.inside.count c.args.j None c.if-j-self.false)) roomy)
-    c.reserve_link_at.ensures.ok
+    does_ok c.reserve_at.result _ _
+    (λ roomy. subst (λ (o : Option Link). IsRoomyLink o piece) (sym (listed_at c.reserve_at.new.ends c.self.inside.count c.args.j None c.if-j-self.false)) roomy)
+    c.reserve_at.ensures.ok
 
 pub returns-clause-stands : goal.returns-clause-stands
 returns-clause-stands c = λ ss both.
-    both_listed GrowsLink LinkStands (λ x y r s h. r.alike.stands s h) c.self.inside.ends c.reserve_link_at.new.ends c.self.inside.count c.reserve_link_at.ensures.grows ss
-    (subst (λ (v : LinkList). Both LinkStands v.items ss) (sym c.self.view_is) both)
+    both_listed GrowsLink LinkStands (λ x y r s h. r.alike.stands s h) c.self.inside.ends c.reserve_at.new.ends c.self.inside.count c.reserve_at.ensures.grows ss
+    (subst (λ (v : EndList Link). Both LinkStands v.items ss) (sym c.self.view_is) both)
 
 pub returns-clause-owners : goal.returns-clause-owners
 returns-clause-owners c =
-    map_listed GrowsLink owner_of (λ x y r. ap Some r.alike.connection) c.self.inside.ends c.reserve_link_at.new.ends c.self.inside.count c.reserve_link_at.ensures.grows ∙ ap (λ (v : LinkList). owners_of v.items) c.self.view_is
+    map_listed GrowsLink owner_of (λ x y r. ap Some r.alike.connection) c.self.inside.ends c.reserve_at.new.ends c.self.inside.count c.reserve_at.ensures.grows ∙ ap (λ (v : EndList Link). owners_of v.items) c.self.view_is
 
 pub returns-clause-err : goal.returns-clause-err
 returns-clause-err c =
     let m = c.self.inside.ends in
-    let k = c.reserve_link_at.new.ends in
+    let k = c.reserve_at.new.ends in
     let n = c.self.inside.count in
     let i = c.args.j in
     let apart : n ≢ i = λ e. absurd (omega (arith, e, c.if-j-self.false)) in
-    stays_err c.reserve_link_at.result _ _
-    (λ same. same_list _ _ _ _ (listed_same m k n (λ q l. by_place m k i same c.reserve_link_at.ensures.others q))
-    (ap (λ (o : Option Link). nat_lt (n + 1) (2 ^ 64) && is_some o) (c.reserve_link_at.ensures.others n apart)) ∙ c.self.view_is)
-    c.reserve_link_at.ensures.err
+    stays_err c.reserve_at.result _ _
+    (λ same. same_list _ _ _ _ (listed_same m k n (λ q l. by_place m k i same c.reserve_at.ensures.others q))
+    (ap (λ (o : Option Link). nat_lt (n + 1) (2 ^ 64) && is_some o) (c.reserve_at.ensures.others n apart)) ∙ c.self.view_is)
+    c.reserve_at.ensures.err

@@ -2,25 +2,30 @@
 use Rattle.std.specs.Prelude.{◌≡◌, ℕ, Bool, true, false}
 use Rattle.hx_framing.specs.declared.messages.Next.{Next}
 use Rattle.hx_framing.specs.declared.messages.Next.TheVariants as next
-
-pub data Look (M : Type 0) : Type 0 where
-  Unknown Quiet : Look M
-  Due : (answer : Next M) → Look M
+use Rattle.proxy_engine.specs.declared.lookahead.Lookahead.{Lookahead}
+use Rattle.proxy_engine.specs.declared.lookahead.Lookahead.TheVariants.{Unknown, Quiet, Due}
 
 -- the next answer is this
-abbrev pub Shows : {M : Type 0} → Look M → Next M → Type 0
+abbrev pub Shows : {M : Type 0} → Lookahead M → Next M → Type 0
 Shows Unknown a = ⊥
 Shows Quiet a = a ≡ next.More
 Shows (Due b) a = a ≡ b
 
-abbrev pub look_by : {M : Type 0} → Next M → Look M
-look_by next.More = Quiet
-look_by next.NeedsContinue = Due next.NeedsContinue
-look_by (next.Message m) = Due (next.Message m)
-look_by (next.Refused f) = Due (next.Refused f)
-look_by next.End = Due next.End
+-- what an answer tells
+abbrev pub ahead_by : {M : Type 0} → Next M → Lookahead M
+ahead_by next.More = Quiet
+ahead_by next.NeedsContinue = Due next.NeedsContinue
+ahead_by (next.Message m) = Due (next.Message m)
+ahead_by (next.Refused f) = Due (next.Refused f)
+ahead_by next.End = Due next.End
 
-abbrev pub is_due : {M : Type 0} → Look M → Bool
+-- more has come, or the end: what is due stays due
+abbrev pub asked_again : {M : Type 0} → Lookahead M → Lookahead M
+asked_again Unknown = Unknown
+asked_again Quiet = Unknown
+asked_again (Due a) = Due a
+
+abbrev pub is_due : {M : Type 0} → Lookahead M → Bool
 is_due Unknown = false
 is_due Quiet = false
 is_due (Due next.More) = false
@@ -30,19 +35,19 @@ is_due (Due (next.Refused f)) = true
 is_due (Due next.End) = true
 
 -- something may be due: it wasn't looked at, or the look has found something
-abbrev pub may_show : {M : Type 0} → Look M → Bool
+abbrev pub may_show : {M : Type 0} → Lookahead M → Bool
 may_show Unknown = true
 may_show Quiet = false
 may_show (Due a) = is_due (Due a)
 
 -- something may stand there: it wasn't looked at, or the look has found something
-abbrev pub unsettled : {M : Type 0} → Look M → ℕ
+abbrev pub unsettled : {M : Type 0} → Lookahead M → ℕ
 unsettled Unknown = 1
 unsettled Quiet = 0
 unsettled (Due a) = 1
 
 -- a message or a continue that is known counts as one that is still to come
-abbrev pub known : {M : Type 0} → Look M → ℕ
+abbrev pub known : {M : Type 0} → Lookahead M → ℕ
 known Unknown = 0
 known Quiet = 0
 known (Due next.More) = 0

@@ -1,0 +1,51 @@
+-- A reader that is asked ahead: what is known of the next answer.
+use Rattle.std.proofs.Common.{◌≡◌, ℕ, Bool, false, List, [], ◌∷◌, refl, sym, subst}
+use Rattle.hx_framing.specs.declared.messages.Response.{Response}
+use Rattle.hx_framing.specs.declared.messages.Next.{Next}
+use Rattle.hx_framing.specs.declared.messages.Next.TheVariants as next
+use Rattle.hx_framing.specs.declared.readers.response_reader.ResponsePhase.{ResponsePhase}
+use Rattle.hx_framing.specs.declared.readers.response_reader.ResponsePhase.TheVariants as phase
+use Rattle.hx_framing.specs.Progress.{Progress, start}
+use Rattle.hx_framing.specs.Reading.{Incomplete}
+use Rattle.hx_framing.specs.RequestStream.{Answers as RequestAnswers}
+use Rattle.hx_framing.specs.ResponseState.{State, StandsFor, KeepsBy}
+use Rattle.hx_framing.specs.ResponseStream.{Answers as ResponseAnswers}
+use Rattle.proxy_engine.specs.declared.lookahead.Lookahead.{Lookahead}
+use Rattle.proxy_engine.specs.declared.lookahead.Lookahead.TheVariants.{Unknown, Quiet, Due}
+use Rattle.proxy_engine.specs.declared.peeked.Peeked.{Peeked}
+use Rattle.proxy_engine.specs.Lookahead.{Shows}
+use Rattle.proxy_engine.specs.Peeked.{StandsBy, Stands}
+
+-- what is shown is the answer of each stream that it stands for
+pub answers_shown : {S M : Type 0} (StandsFor : S → Progress M → Type 0) (Answers : Progress M → Next M → Type 0) (w : Peeked S M) (p : Progress M) (a : Next M) → Stands StandsFor Answers w p → Shows w.ahead a → Answers p a
+answers_shown {S} {M} StandsFor Answers w p a h s = shown w.ahead h s
+  where
+    shown : (l : Lookahead M) → StandsBy StandsFor Answers w.inner l p → Shows l a → Answers p a
+    shown Unknown h s = absurd s
+    shown Quiet h s = subst (λ (x : Next M). Answers p x) (sym s) h.1
+    shown (Due b) h s = subst (λ (x : Next M). Answers p x) (sym s) h.1
+
+-- ---- nothing is due on a stream of which nothing has come
+
+pub no_request_yet : (max_body : ℕ) → RequestAnswers (start max_body false) next.More
+no_request_yet max_body = record { rest = []; reading = Incomplete; spells = refl; reads = refl; answer_is = refl }
+
+pub no_response_yet : (max_body : ℕ) (to_head : Bool) → ResponseAnswers (start max_body to_head) next.More
+no_response_yet max_body to_head = record { spells = tt; by = (Incomplete, ([], [], refl, refl), refl) }
+
+-- ---- a reader with more room stands for the same streams
+
+spare_keeps : (r : State) (k : ℕ) (p : Progress Response) (ph : ResponsePhase) (given : List Response) → KeepsBy r p ph given → KeepsBy (record r { spare = k }) p ph given
+spare_keeps r k p phase.BeforeHead [] h = h
+spare_keeps r k p phase.BeforeHead (message ∷ more) h = h
+spare_keeps r k p (phase.InContent head content) [] h = h
+spare_keeps r k p (phase.InContent head content) (message ∷ more) h = h
+spare_keeps r k p phase.Given [] h = h
+spare_keeps r k p phase.Given (message ∷ more) h = h
+spare_keeps r k p (phase.Faulty f) [] h = h
+spare_keeps r k p (phase.Faulty f) (message ∷ more) h = h
+
+pub spare_stands : (r s : State) (p : Progress Response) → s ≡ record r { spare = s.spare } → StandsFor r p → StandsFor s p
+spare_stands r s p same h =
+    subst (λ (t : State). StandsFor t p) (sym same)
+    (record { max_body = h.max_body; to_head = h.to_head; ended = h.ended; spells = h.spells; keeps = spare_keeps r s.spare p r.phase p.given h.keeps })
