@@ -28,9 +28,9 @@
 //! | `Text` | the bytes of messages that are sent | 9112, 3 to 7 |
 //!
 //! The laws' own words are in `ChunkGrammar` (chunks as trees), `HeadLines`, `Written`, `WrittenResponse`, `Examples` and
-//! `LengthExamples`. The rest serves the proofs alone and needs no trust: `RequestHeadProgress`, `ResponseHeadProgress`, `ContentReading`, `Decoding`,
-//! `PlainContent`, `Queue`, `Searching`, what else is in `ChunkTokens`; and so does `StandsFor`, which may be any relation that
-//! holds of a new reader and that each call keeps.
+//! `LengthExamples`. The rest serves the proofs alone and needs no trust: `RequestHeadProgress`, `ResponseHeadProgress`,
+//! `ContentReading`, `Decoding`, `PlainContent`, `Queue`, `Searching`, what else is in `ChunkTokens`; and so does
+//! `StandsFor`, which may be any relation that holds of a new reader and that each call keeps.
 #![tactic(auto)]
 
 mod contents;
