@@ -3,8 +3,8 @@ ghost use Rattle.std.specs.Prelude.{◌≡◌, ◌∷◌, [], true, false, codes
 ghost use Rattle.hx_framing.specs.declared.answer.Next.TheVariants as next;
 ghost use Rattle.hx_framing.specs.declared.fault.FrameFault.TheVariants as fault;
 ghost use Rattle.hx_framing.specs.declared.requests.Request.{Request};
-ghost use Rattle.hx_framing.specs.Progress.{fed, finished, moved, next_of, start};
-ghost use Rattle.hx_framing.specs.Reading.{Continue, Faulty, Incomplete, Over, Spelled};
+ghost use Rattle.hx_framing.specs.Progress.{IsDue, cost, fed, finished, moved, needs_memory, next_of, start};
+ghost use Rattle.hx_framing.specs.Reading.{Continue, Faulty, Incomplete, IsSettled, Over, Spelled};
 ghost use Rattle.hx_framing.specs.ReadingExamples.{behind, hello_answered, hello_behind, hi, in_a_row, put_with, waiting};
 ghost use Rattle.hx_framing.specs.RequestStream as request;
 ghost use Rattle.hx_framing.specs.ResponseStream as response;
@@ -50,4 +50,46 @@ pub fn readings_are_answered()
     ensures over { next_of {M = Request} Over ≡ next.End }
     ensures spelled { next_of (Spelled hi (codes "x")) ≡ next.Message hi }
     ensures faulty { next_of {M = Request} (Faulty fault.Length) ≡ next.Refused fault.Length }
+{}
+
+/// Something is due but where more has to come. Whatever follows, it stays so, but for the end of requests that may go on.
+pub fn what_is_due()
+    ensures more { ¬ (IsDue {M = Request} next.More) }
+    ensures told { IsDue {M = Request} next.NeedsContinue }
+    ensures message { IsDue (next.Message hi) }
+    ensures refused { IsDue {M = Request} (next.Refused fault.Head) }
+    ensures over { IsDue {M = Request} next.End }
+    ensures open { ¬ (IsSettled {M = Request} Incomplete) }
+    ensures end_may_pass { ¬ (IsSettled {M = Request} Over) }
+    ensures continue_stays { IsSettled {M = Request} Continue }
+    ensures message_stays { IsSettled (Spelled hi []) }
+    ensures fault_stays { IsSettled {M = Request} (Faulty fault.Head) }
+{}
+
+/// A continue and a message are of what is still to come; the end and a refusal may be answered again and again.
+pub fn what_answers_cost()
+    ensures more { cost {M = Request} next.More ≡ 0 }
+    ensures told { cost {M = Request} next.NeedsContinue ≡ 1 }
+    ensures message { cost (next.Message hi) ≡ 1 }
+    ensures refused { cost {M = Request} (next.Refused fault.Head) ≡ 0 }
+    ensures over { cost {M = Request} next.End ≡ 0 }
+{}
+
+/// Want of memory may stand in place of what is behind a head, which is copied; neither of the end nor of the refusal of bytes
+/// that are no head.
+pub fn what_needs_memory()
+    ensures more { needs_memory {M = Request} next.More ≡ true }
+    ensures told { needs_memory {M = Request} next.NeedsContinue ≡ true }
+    ensures message { needs_memory (next.Message hi) ≡ true }
+    ensures over { needs_memory {M = Request} next.End ≡ false }
+    ensures head { needs_memory {M = Request} (next.Refused fault.Head) ≡ false }
+    ensures version { needs_memory {M = Request} (next.Refused fault.Version) ≡ false }
+    ensures both_lengths { needs_memory {M = Request} (next.Refused fault.BothLengths) ≡ true }
+    ensures length { needs_memory {M = Request} (next.Refused fault.Length) ≡ true }
+    ensures coding { needs_memory {M = Request} (next.Refused fault.Coding) ≡ true }
+    ensures chunk { needs_memory {M = Request} (next.Refused fault.Chunk) ≡ true }
+    ensures too_large { needs_memory {M = Request} (next.Refused fault.TooLarge) ≡ true }
+    ensures expect { needs_memory {M = Request} (next.Refused fault.Expect) ≡ true }
+    ensures truncated { needs_memory {M = Request} (next.Refused fault.Truncated) ≡ true }
+    ensures status { needs_memory {M = Request} (next.Refused fault.Status) ≡ true }
 {}
