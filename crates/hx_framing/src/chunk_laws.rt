@@ -42,6 +42,7 @@ pub fn chunks_read()
     ensures extension { chunks 3 (codes "3 ; a = \"b;c\"\t\r\nabc\r\n0;\r\n\r\n") ≡ Whole (Some (codes "abc")) [] }
     ensures trailers { chunks 0 (codes "0\r\nA: 1\r\nno field\r\n b\r\n\r\n") ≡ Whole (Some []) [] }
     ensures trailer_of_return { chunks 0 (codes "0\r\n\r\r\n\r\n") ≡ Whole (Some []) [] }
+    ensures high_bytes { chunks 1 (codes "1;" ++ 128 ∷ 255 ∷ codes "\r\nz\r\n0\r\n\r\n") ≡ Whole (Some (codes "z")) [] }
     ensures longest_extension { chunks 1 (codes "1;" ++ replicate 255 120 ++ codes "\r\nz\r\n0\r\n\r\n") ≡ Whole (Some (codes "z")) [] }
 {}
 
@@ -75,6 +76,7 @@ pub fn chunks_refused()
     ensures lone_feed { chunks 1000 (codes "5\nhello") ≡ Bad fault.Chunk }
     ensures lone_return { chunks 1000 (codes "3;a\rb\r\n") ≡ Bad fault.Chunk }
     ensures control { chunks 1000 (codes "3;" ++ 0 ∷ codes "\r\n") ≡ Bad fault.Chunk }
+    ensures last_control { chunks 1000 (codes "3;" ++ 31 ∷ codes "\r\n") ≡ Bad fault.Chunk }
     ensures delete { chunks 1000 (codes "3;" ++ 127 ∷ codes "\r\n") ≡ Bad fault.Chunk }
     ensures sixteen_digits { chunks 1000 (codes "0000000000000001\r\n") ≡ Bad fault.Chunk }
     ensures long_extension { chunks 1000 (codes "1;" ++ replicate 256 120 ++ codes "\r\n") ≡ Bad fault.Chunk }
