@@ -4,7 +4,7 @@ ghost use Rattle.hx_framing.specs.declared.answer.Next.TheVariants as next;
 ghost use Rattle.hx_framing.specs.declared.fault.FrameFault.TheVariants as fault;
 ghost use Rattle.hx_framing.specs.declared.requests.Request.{Request};
 ghost use Rattle.hx_framing.specs.Progress.{IsDue, cost, fed, finished, moved, needs_memory, next_of, start};
-ghost use Rattle.hx_framing.specs.Reading.{Continue, Faulty, Incomplete, IsSettled, Over, Spelled};
+ghost use Rattle.hx_framing.specs.Reading.{Continue, Faulty, Incomplete, IsSettled, Over, Spelled, extended};
 ghost use Rattle.hx_framing.specs.ReadingExamples.{behind, hello_answered, hello_behind, hi, in_a_row, put_with, waiting};
 ghost use Rattle.hx_framing.specs.RequestStream as request;
 ghost use Rattle.hx_framing.specs.ResponseStream as response;
@@ -38,6 +38,7 @@ pub fn streams_go_on()
     ensures message { moved (waiting false [] false (hi ∷ []) true) (next.Message (put_with [] (Some [])))
         ≡ waiting false [] false (hi ∷ put_with [] (Some []) ∷ []) false }
     ensures nothing { moved (waiting false [] false (hi ∷ []) true) next.More ≡ waiting false [] false (hi ∷ []) true }
+    ensures still_nothing { moved (waiting false [] false (hi ∷ []) false) next.More ≡ waiting false [] false (hi ∷ []) false }
     ensures refused { moved (waiting false [] false (hi ∷ []) true) (next.Refused fault.Chunk)
         ≡ waiting false [] false (hi ∷ []) true }
     ensures over { moved (waiting false [] true (hi ∷ []) true) next.End ≡ waiting false [] true (hi ∷ []) true }
@@ -64,6 +65,15 @@ pub fn what_is_due()
     ensures continue_stays { IsSettled {M = Request} Continue }
     ensures message_stays { IsSettled (Spelled hi []) }
     ensures fault_stays { IsSettled {M = Request} (Faulty fault.Head) }
+{}
+
+/// What comes later stands behind what came.
+pub fn readings_go_on()
+    ensures incomplete { extended {M = Request} Incomplete (codes "b") ≡ Incomplete }
+    ensures told { extended {M = Request} Continue (codes "b") ≡ Continue }
+    ensures over { extended {M = Request} Over (codes "b") ≡ Over }
+    ensures spelled { extended (Spelled hi (codes "a")) (codes "b") ≡ Spelled hi (codes "ab") }
+    ensures faulty { extended {M = Request} (Faulty fault.Chunk) (codes "b") ≡ Faulty fault.Chunk }
 {}
 
 /// A continue and a message are of what is still to come; the end and a refusal may be answered again and again.

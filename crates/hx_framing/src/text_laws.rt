@@ -13,6 +13,8 @@ pub fn forwarded_text()
     ensures text { request_text first_forward
         ≡ codes "GET /a HTTP/1.1\r\nHost: h\r\nVia: 1.1 edge\r\nConnection: close\r\n\r\n" }
     ensures size { length (request_text first_forward) ≡ 62 }
+    ensures content { request_text (record first_forward { content = Some (codes "hi") })
+        ≡ codes "GET /a HTTP/1.1\r\nHost: h\r\nVia: 1.1 edge\r\nContent-Length: 2\r\nConnection: close\r\n\r\nhi" }
 {}
 
 /// The two replies of the first run.
