@@ -73,8 +73,10 @@ pub fn chunks_refused()
     ensures prefix { chunks 1000 (codes "0x5\r\n") ≡ Bad fault.Chunk }
     ensures space_before { chunks 1000 (codes " 5\r\n") ≡ Bad fault.Chunk }
     ensures letter { chunks 1000 (codes "3x\r\n") ≡ Bad fault.Chunk }
+    ensures comma { chunks 1000 (codes "3,x\r\n") ≡ Bad fault.Chunk }
     ensures after_blank { chunks 1000 (codes "3 3\r\n") ≡ Bad fault.Chunk }
     ensures lone_feed { chunks 1000 (codes "5\nhello") ≡ Bad fault.Chunk }
+    ensures lone_feed_behind_a_byte { chunks 1000 (codes "5;\nhello") ≡ Bad fault.Chunk }
     ensures lone_return { chunks 1000 (codes "3;a\rb\r\n") ≡ Bad fault.Chunk }
     ensures control { chunks 1000 (codes "3;" ++ 0 ∷ codes "\r\n") ≡ Bad fault.Chunk }
     ensures last_control { chunks 1000 (codes "3;" ++ 31 ∷ codes "\r\n") ≡ Bad fault.Chunk }

@@ -88,5 +88,7 @@ pub use crate::request_reader::RequestReader;
 pub use crate::requests::Request;
 pub use crate::response_reader::ResponseReader;
 pub use crate::responses::Response;
-pub use crate::text_laws::{added_lines, fault_texts, forwarded_text, head_lengths, reply_texts};
+pub use crate::text_laws::{
+    added_lines, empty_lines_in_front, fault_texts, forwarded_text, head_lengths, reply_texts,
+};
 pub use crate::writing::{AddedLine, write_request, write_response, write_response_with};

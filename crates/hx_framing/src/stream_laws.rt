@@ -3,7 +3,8 @@ ghost use Rattle.std.specs.Prelude.{◌≡◌, ◌∷◌, [], true, false, codes
 ghost use Rattle.hx_framing.specs.declared.answer.Next.TheVariants as next;
 ghost use Rattle.hx_framing.specs.declared.fault.FrameFault.TheVariants as fault;
 ghost use Rattle.hx_framing.specs.declared.requests.Request.{Request};
-ghost use Rattle.hx_framing.specs.Progress.{IsDue, cost, fed, finished, moved, needs_memory, next_of, start};
+ghost use Rattle.hx_framing.specs.declared.responses.Response.{Response};
+ghost use Rattle.hx_framing.specs.Progress.{Progress, IsDue, cost, fed, finished, moved, needs_memory, next_of, start};
 ghost use Rattle.hx_framing.specs.Reading.{Continue, Faulty, Incomplete, IsSettled, Over, Spelled, extended};
 ghost use Rattle.hx_framing.specs.ReadingExamples.{behind, hello_answered, hello_behind, hi, in_a_row, put_with, waiting};
 ghost use Rattle.hx_framing.specs.RequestStream as request;
@@ -102,4 +103,14 @@ pub fn what_needs_memory()
     ensures expect { needs_memory {M = Request} (next.Refused fault.Expect) ≡ true }
     ensures truncated { needs_memory {M = Request} (next.Refused fault.Truncated) ≡ true }
     ensures status { needs_memory {M = Request} (next.Refused fault.Status) ≡ true }
+{}
+
+/// So no want of memory hides the end of a stream, nor that what stands there is no head.
+pub fn no_want_of_memory_hides_an_end()
+    ensures requests { (p : Progress Request) → request.Answers p next.End → ¬ (request.NeedsMemory p) }
+    ensures no_request { (p : Progress Request) → request.Answers p (next.Refused fault.Head) → ¬ (request.NeedsMemory p) }
+    ensures other_request { (p : Progress Request) → request.Answers p (next.Refused fault.Version) → ¬ (request.NeedsMemory p) }
+    ensures response { (p : Progress Response) → response.Answers p next.End → ¬ (response.NeedsMemory p) }
+    ensures no_response { (p : Progress Response) → response.Answers p (next.Refused fault.Head) → ¬ (response.NeedsMemory p) }
+    ensures other_response { (p : Progress Response) → response.Answers p (next.Refused fault.Version) → ¬ (response.NeedsMemory p) }
 {}

@@ -5,7 +5,7 @@ ghost use Rattle.hx_framing.specs.declared.fault.FrameFault.TheVariants as fault
 ghost use Rattle.hx_framing.specs.declared.writing.AddedLine.{AddedLine};
 ghost use Rattle.hx_framing.specs.Examples.{get_request, first_forward, stored_fields, hit_fields};
 ghost use Rattle.hx_framing.specs.FaultTexts.{fault_text};
-ghost use Rattle.hx_framing.specs.Places.{head_length};
+ghost use Rattle.hx_framing.specs.Places.{blank_length, head_length};
 ghost use Rattle.hx_framing.specs.Text.{line_of, request_text, response_text};
 
 /// The request that goes to the origin in the first run.
@@ -39,6 +39,17 @@ pub fn head_lengths()
     ensures blank { head_length (codes "\r\n\nA\r\n\r\nB") ≡ Some 8 }
     ensures lone_return { head_length (codes "A\r\n\r\r\n") ≡ None }
     ensures open { head_length (codes "A\r\n\r") ≡ None }
+{}
+
+/// Empty lines in front of a head are dropped: each CRLF or LF, and no CR alone.
+pub fn empty_lines_in_front()
+    ensures nothing { blank_length [] ≡ 0 }
+    ensures none { blank_length (codes "A\n") ≡ 0 }
+    ensures lone_byte { blank_length (codes "A") ≡ 0 }
+    ensures line_feed { blank_length (codes "\n") ≡ 1 }
+    ensures lone_return { blank_length (codes "\r") ≡ 0 }
+    ensures return_in_front { blank_length (codes "\rA") ≡ 0 }
+    ensures several { blank_length (codes "\r\n\r\n\n\nA") ≡ 6 }
 {}
 
 /// A line that is added has its name and its value.
