@@ -77,8 +77,8 @@ pub mod writing_laws;
 pub use crate::answer::Next;
 pub use crate::fault::FrameFault;
 pub use crate::head_laws::{
-    field_lines_of_heads, request_heads_are_lines, response_heads_are_lines, versions_of_requests,
-    versions_of_responses,
+    field_lines_of_heads, request_heads_are_lines, response_heads_are_lines,
+    versions_have_two_digits, versions_of_requests, versions_of_responses,
 };
 pub use crate::length_laws::{
     announced_lengths_to_head, codings_of_requests, expectations, large_lengths,
