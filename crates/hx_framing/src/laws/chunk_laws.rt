@@ -1,10 +1,11 @@
 //! Laws of content in chunks: the definition by bytes and the grammar say the same.
-ghost use Rattle.std.specs.Prelude.{◌≡◌, ◌≤◌, ◌++◌, ◌∷◌, [], ℕ, List, Some, codes, length, replicate};
+ghost use Rattle.std.specs.Prelude.{◌≡◌, ◌≤◌, ◌++◌, ◌∷◌, [], ℕ, List, None, Some, codes, length, replicate};
+ghost use Rattle.hx_framing.specs.declared.contents.tokens.Phase.TheVariants as phase;
 ghost use Rattle.hx_framing.specs.declared.fault.FrameFault.TheVariants as fault;
 ghost use Rattle.hx_framing.specs.Body.{Short, Bad, Whole, IsDecided, extended_body};
 ghost use Rattle.hx_framing.specs.ChunkGrammar.{Chunked, IsChunked, print, content};
 ghost use Rattle.hx_framing.specs.Chunking.{Chunking};
-ghost use Rattle.hx_framing.specs.Chunks.{chunks, chunks_from, start, state_after, most_trailer_bytes};
+ghost use Rattle.hx_framing.specs.Chunks.{Fail, Go, chunks, chunks_from, start, state_after, trailer_step, most_trailer_bytes};
 
 /// What spells content in chunks is read, whatever follows it.
 pub fn printed_is_read()
@@ -42,6 +43,7 @@ pub fn chunks_read()
     ensures extension { chunks 3 (codes "3 ; a = \"b;c\"\t\r\nabc\r\n0;\r\n\r\n") ≡ Whole (Some (codes "abc")) [] }
     ensures trailers { chunks 0 (codes "0\r\nA: 1\r\nno field\r\n b\r\n\r\n") ≡ Whole (Some []) [] }
     ensures trailer_of_return { chunks 0 (codes "0\r\n\r\r\n\r\n") ≡ Whole (Some []) [] }
+    ensures high_bytes { chunks 1 (codes "1;" ++ 128 ∷ 255 ∷ codes "\r\nz\r\n0\r\n\r\n") ≡ Whole (Some (codes "z")) [] }
     ensures longest_extension { chunks 1 (codes "1;" ++ replicate 255 120 ++ codes "\r\nz\r\n0\r\n\r\n") ≡ Whole (Some (codes "z")) [] }
 {}
 
@@ -71,10 +73,13 @@ pub fn chunks_refused()
     ensures prefix { chunks 1000 (codes "0x5\r\n") ≡ Bad fault.Chunk }
     ensures space_before { chunks 1000 (codes " 5\r\n") ≡ Bad fault.Chunk }
     ensures letter { chunks 1000 (codes "3x\r\n") ≡ Bad fault.Chunk }
+    ensures comma { chunks 1000 (codes "3,x\r\n") ≡ Bad fault.Chunk }
     ensures after_blank { chunks 1000 (codes "3 3\r\n") ≡ Bad fault.Chunk }
     ensures lone_feed { chunks 1000 (codes "5\nhello") ≡ Bad fault.Chunk }
+    ensures lone_feed_behind_a_byte { chunks 1000 (codes "5;\nhello") ≡ Bad fault.Chunk }
     ensures lone_return { chunks 1000 (codes "3;a\rb\r\n") ≡ Bad fault.Chunk }
     ensures control { chunks 1000 (codes "3;" ++ 0 ∷ codes "\r\n") ≡ Bad fault.Chunk }
+    ensures last_control { chunks 1000 (codes "3;" ++ 31 ∷ codes "\r\n") ≡ Bad fault.Chunk }
     ensures delete { chunks 1000 (codes "3;" ++ 127 ∷ codes "\r\n") ≡ Bad fault.Chunk }
     ensures sixteen_digits { chunks 1000 (codes "0000000000000001\r\n") ≡ Bad fault.Chunk }
     ensures long_extension { chunks 1000 (codes "1;" ++ replicate 256 120 ++ codes "\r\n") ≡ Bad fault.Chunk }
@@ -89,4 +94,25 @@ pub fn chunks_limited()
     ensures sum { chunks 9 (codes "5\r\nhello\r\n5\r\n") ≡ Bad fault.TooLarge }
     ensures just { chunks 10 (codes "5\r\nhello\r\n5\r\nworld\r\n0\r\n\r\n") ≡ Whole (Some (codes "helloworld")) [] }
     ensures fifteen_digits { chunks 1000 (codes "FFFFFFFFFFFFFFF\r\n") ≡ Bad fault.TooLarge }
+{}
+
+/// The state behind bytes that neither end the content nor are at fault: what comes next, and what the limits leave.
+pub fn chunks_go_on()
+    ensures nothing { state_after [] (start 9) ≡ Some (start 9) }
+    ensures size { state_after (codes "5\r") (start 9)
+        ≡ Some (record { phase = phase.Size; need = 0; left = 9; used = 0; content = []; line = codes "5\r" }) }
+    ensures data { state_after (codes "5\r\nhell") (start 9)
+        ≡ Some (record { phase = phase.Data; need = 1; left = 4; used = 0; content = codes "hell"; line = [] }) }
+    ensures end { state_after (codes "5\r\nhello\r") (start 9)
+        ≡ Some (record { phase = phase.DataEnd; need = 0; left = 4; used = 0; content = codes "hello"; line = codes "\r" }) }
+    ensures second { state_after (codes "5\r\nhello\r\n4") (start 9)
+        ≡ Some (record { phase = phase.Size; need = 0; left = 4; used = 0; content = codes "hello"; line = codes "4" }) }
+    ensures trailers { state_after (codes "0\r\nA: 1\r\nB") (start 9)
+        ≡ Some (record { phase = phase.Trailers; need = 0; left = 9; used = 6; content = []; line = codes "B" }) }
+    ensures last_trailer_byte { trailer_step (record (start 9) { phase = phase.Trailers; used = 32766; line = codes "a" }) 98
+        ≡ Go (record (start 9) { phase = phase.Trailers; used = 32766; line = codes "ab" }) }
+    ensures trailer_past_the_limit { trailer_step (record (start 9) { phase = phase.Trailers; used = 32766; line = codes "ab" }) 99
+        ≡ Fail fault.Chunk }
+    ensures whole { state_after (codes "0\r\n\r\n") (start 9) ≡ None }
+    ensures fault { state_after (codes "x\r\n") (start 9) ≡ None }
 {}

@@ -1,5 +1,5 @@
 //! What is true of each head that is taken, and the faults of bytes that are none.
-ghost use Rattle.std.specs.Prelude.{◌≡◌, ℕ, List, true, false, Ok, codes};
+ghost use Rattle.std.specs.Prelude.{◌≡◌, ℕ, ◌+◌, ◌≤◌, ◌∷◌, ◌++◌, [], List, true, false, Ok, codes};
 ghost use Rattle.std.specs.List.{list_all};
 ghost use Rattle.hx_framing.specs.declared.fault.FrameFault.TheVariants as fault;
 ghost use Rattle.hx_framing.specs.declared.heads.request_head.Head.{Head};
@@ -8,6 +8,7 @@ ghost use Rattle.hx_framing.specs.Head as requests;
 ghost use Rattle.hx_framing.specs.Head.{head_fault};
 ghost use Rattle.hx_framing.specs.StatusHead as responses;
 ghost use Rattle.hx_framing.specs.StatusHead.{status_head_fault};
+ghost use Rattle.hx_framing.specs.Version.{is_other_version};
 ghost use Rattle.hx_framing.specs.HeadLines.{is_field_line, HasFieldLines, is_sound};
 
 /// Version takes the place of Head where the request line ends with another version.
@@ -29,6 +30,16 @@ pub fn versions_of_requests()
     ensures known_old { head_fault (codes "GET  / HTTP/1.0\n\n") ≡ fault.Head }
     ensures second_line { head_fault (codes "GET\r\nHTTP/2.0\r\n\r\n") ≡ fault.Head }
     ensures empty { head_fault (codes "\r\n") ≡ fault.Head }
+{}
+
+/// HTTP-version = "HTTP/" DIGIT "." DIGIT (RFC 9112, section 2.3): what is another version than 1.0 and 1.1 has this form, and
+/// each two digits but theirs are one.
+pub fn versions_have_two_digits()
+    ensures form { (text : List ℕ) → is_other_version text ≡ true → (major : ℕ) × (minor : ℕ) × (major ≤ 9) × (minor ≤ 9)
+        × (text ≡ codes "HTTP/" ++ (48 + major) ∷ 46 ∷ (48 + minor) ∷ []) }
+    ensures others { (major : ℕ) → (minor : ℕ) → major ≤ 9 → minor ≤ 9 → ¬ ((major ≡ 1) × (minor ≤ 1))
+        → is_other_version (codes "HTTP/" ++ (48 + major) ∷ 46 ∷ (48 + minor) ∷ []) ≡ true }
+    ensures known { (minor : ℕ) → minor ≤ 1 → is_other_version (codes "HTTP/1." ++ (48 + minor) ∷ []) ≡ false }
 {}
 
 /// Version takes the place of Head where the status line begins with another version.

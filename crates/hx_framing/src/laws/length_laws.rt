@@ -3,7 +3,7 @@ ghost use Rattle.std.specs.Prelude.{◌≡◌, ◌∷◌, [], codes, Some, None,
 ghost use Rattle.hx_fields.specs.Examples.{line};
 ghost use Rattle.hx_framing.specs.declared.fault.FrameFault.TheVariants as fault;
 ghost use Rattle.hx_framing.specs.declared.lengths.framing.Framing.TheVariants as framing;
-ghost use Rattle.hx_framing.specs.Lengths.{announced_of, without_lengths};
+ghost use Rattle.hx_framing.specs.Lengths.{announced_of, is_interim, without_lengths};
 ghost use Rattle.hx_framing.specs.LengthExamples.{length_line, coding_line, expect_line, response_head, asks, answers, answers_head, plain, of_length, waiting};
 
 /// A length may be listed more than once, with zeros in front, but with nothing beside the digits.
@@ -17,7 +17,9 @@ pub fn listed_lengths()
     ensures other_line { asks 1 (length_line (codes "5") ∷ length_line (codes "6") ∷ [])
         ≡ Err fault.Length }
     ensures empty_piece { asks 1 (length_line (codes "5,") ∷ []) ≡ Err fault.Length }
+    ensures empty_piece_of_0 { asks 1 (length_line (codes "0,") ∷ []) ≡ Err fault.Length }
     ensures space { asks 1 (length_line (codes "5, 5") ∷ []) ≡ Err fault.Length }
+    ensures letter { asks 1 (length_line (codes "a5") ∷ []) ≡ Err fault.Length }
     ensures plus { asks 1 (length_line (codes "+5") ∷ []) ≡ Err fault.Length }
     ensures hex { asks 1 (length_line (codes "0x5") ∷ []) ≡ Err fault.Length }
     ensures empty { asks 1 (length_line [] ∷ []) ≡ Err fault.Length }
@@ -59,6 +61,8 @@ pub fn expectations()
         ≡ waiting (framing.Announced 5) }
     ensures chunks { asks 1 (expect_line (codes "100-continue") ∷ coding_line (codes "chunked") ∷ [])
         ≡ waiting framing.Chunked }
+    ensures one_byte { asks 1 (expect_line (codes "100-continue") ∷ length_line (codes "1") ∷ [])
+        ≡ waiting (framing.Announced 1) }
     ensures no_bytes { asks 1 (expect_line (codes "100-continue") ∷ length_line (codes "0") ∷ [])
         ≡ of_length 0 }
     ensures no_content { asks 1 (expect_line (codes "100-continue") ∷ []) ≡ plain framing.Nothing }
@@ -95,6 +99,14 @@ pub fn lengths_of_responses()
 
 /// Without content a response's length fields aren't judged. A refused status is the last fault.
 pub fn statuses()
+    ensures no_interim { is_interim 99 ≡ false }
+    ensures first_interim { is_interim 100 ≡ true }
+    ensures switch_is_none { is_interim 101 ≡ false }
+    ensures second_interim { is_interim 102 ≡ true }
+    ensures last_interim { is_interim 199 ≡ true }
+    ensures first_final { is_interim 200 ≡ false }
+    ensures continue_is_taken { answers 100 1 (length_line (codes "x") ∷ []) ≡ Ok framing.Nothing }
+    ensures reset { answers 205 1 (length_line (codes "5") ∷ []) ≡ Ok (framing.Announced 5) }
     ensures interim { answers 103 1 (length_line (codes "x") ∷ []) ≡ Ok framing.Nothing }
     ensures no_content { answers 204 1 (length_line (codes "5") ∷ coding_line (codes "x") ∷ [])
         ≡ Ok framing.Nothing }
@@ -128,7 +140,8 @@ pub fn announced_lengths_to_head()
 
 /// The length fields are taken out, and the other lines stay in order.
 pub fn lines_without_lengths()
-    ensures { without_lengths (line (codes "a") (codes "1") ∷ line (codes "content-length") (codes "2")
+    ensures expectation { without_lengths (expect_line (codes "x") ∷ []) ≡ expect_line (codes "x") ∷ [] }
+    ensures lengths { without_lengths (line (codes "a") (codes "1") ∷ line (codes "content-length") (codes "2")
         ∷ line (codes "b") (codes "2") ∷ line (codes "TRANSFER-ENCODING") (codes "chunked")
         ∷ length_line (codes "x") ∷ [])
         ≡ line (codes "a") (codes "1") ∷ line (codes "b") (codes "2") ∷ [] }

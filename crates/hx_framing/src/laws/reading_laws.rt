@@ -1,7 +1,13 @@
 //! What whole streams read as, on messages of the RFCs and on what those leave open, computed from the definitions.
-ghost use Rattle.std.specs.Prelude.{◌≡◌, ◌++◌, ◌∷◌, [], codes, replicate, Some, None};
+ghost use Rattle.std.specs.Prelude.{◌≡◌, ◌++◌, ◌∷◌, [], codes, replicate, Some, None, Ok, Err, true, false};
 ghost use Rattle.hx_fields.specs.Examples.{line};
 ghost use Rattle.hx_framing.specs.declared.fault.FrameFault.TheVariants as fault;
+ghost use Rattle.hx_framing.specs.declared.lengths.framing.Framing.TheVariants as framing;
+ghost use Rattle.hx_framing.specs.Body.{Bad, Short, Whole};
+ghost use Rattle.hx_framing.specs.Contents.{body_at};
+ghost use Rattle.hx_framing.specs.LengthExamples.{coding_line, expect_line, length_line, request_head, response_head};
+ghost use Rattle.hx_framing.specs.RequestReading as request;
+ghost use Rattle.hx_framing.specs.ResponseReading as response;
 ghost use Rattle.hx_framing.specs.Reading.{Incomplete, Continue, Over, Spelled, Faulty};
 ghost use Rattle.hx_framing.specs.ReadingExamples.{asks, asks_last, asks_told, answers, answers_last, answers_head, hello_request, hello_asked, hello_response, hello_answered, put, put_with, ok, response_with};
 
@@ -142,4 +148,60 @@ pub fn ends_of_streams_are_read()
     ensures begun { asks_last (codes "\r\nG") (Faulty fault.Truncated) }
     ensures no_response { answers_last [] (Faulty fault.Truncated) }
     ensures no_response_yet { answers (codes "\r\n") Incomplete }
+{}
+
+/// The content that bytes spell, by its framing, and what follows it (RFC 9112, section 6.3).
+pub fn contents_are_taken()
+    ensures none { body_at 9 framing.Nothing false (codes "hi") ≡ Whole None (codes "hi") }
+    ensures announced { body_at 9 (framing.Announced 3) false (codes "hi!x") ≡ Whole (Some (codes "hi!")) (codes "x") }
+    ensures announced_short { body_at 9 (framing.Announced 3) true (codes "hi") ≡ Short }
+    ensures chunks { body_at 2 framing.Chunked false (codes "2\r\nhi\r\n0\r\n\r\nx") ≡ Whole (Some (codes "hi")) (codes "x") }
+    ensures large_chunk { body_at 1 framing.Chunked false (codes "2\r\n") ≡ Bad fault.TooLarge }
+    ensures open { body_at 2 framing.UntilClose false (codes "hi") ≡ Short }
+    ensures closed { body_at 2 framing.UntilClose true (codes "hi") ≡ Whole (Some (codes "hi")) [] }
+    ensures large { body_at 2 framing.UntilClose true (codes "hi!") ≡ Bad fault.TooLarge }
+{}
+
+/// What stands behind a request's head that was judged, and where no head ends.
+pub fn judged_requests_are_read()
+    ensures whole { request.with_head 9 false false (codes "hi!") (Ok (request_head 1 (length_line (codes "2") ∷ [])))
+        ≡ Spelled (put_with [] (Some (codes "hi"))) (codes "!") }
+    ensures old { request.with_head 9 false false (codes "x") (Ok (request_head 0 []))
+        ≡ Spelled (record (put_with [] None) { minor = 0 }) (codes "x") }
+    ensures chunks { request.with_head 9 false false (codes "2\r\nhi\r\n0\r\n\r\n") (Ok (request_head 1 (coding_line (codes "chunked") ∷ [])))
+        ≡ Spelled (put_with [] (Some (codes "hi"))) [] }
+    ensures bad_chunks { request.with_head 9 false false (codes "x\r\n") (Ok (request_head 1 (coding_line (codes "chunked") ∷ [])))
+        ≡ Faulty fault.Chunk }
+    ensures large_chunk { request.with_head 1 false false (codes "2\r\n") (Ok (request_head 1 (coding_line (codes "chunked") ∷ [])))
+        ≡ Faulty fault.TooLarge }
+    ensures open { request.with_head 9 false false (codes "h") (Ok (request_head 1 (length_line (codes "2") ∷ []))) ≡ Incomplete }
+    ensures cut { request.with_head 9 true false (codes "h") (Ok (request_head 1 (length_line (codes "2") ∷ []))) ≡ Faulty fault.Truncated }
+    ensures waits { request.with_head 9 false false (codes "hi") (Ok (request_head 1 (expect_line (codes "100-continue") ∷ length_line (codes "2") ∷ [])))
+        ≡ Continue }
+    ensures told { request.with_head 9 false true (codes "hi") (Ok (request_head 1 (expect_line (codes "100-continue") ∷ length_line (codes "2") ∷ [])))
+        ≡ Spelled (put_with (expect_line (codes "100-continue") ∷ []) (Some (codes "hi"))) [] }
+    ensures bad_length { request.with_head 9 false false [] (Ok (request_head 1 (length_line (codes "x") ∷ []))) ≡ Faulty fault.Length }
+    ensures large { request.with_head 9 false false [] (Ok (request_head 1 (length_line (codes "10") ∷ []))) ≡ Faulty fault.TooLarge }
+    ensures bad_head { request.with_head 9 false false [] (Err fault.Version) ≡ Faulty fault.Version }
+    ensures nothing { request.without_head false [] ≡ Incomplete }
+    ensures end { request.without_head true [] ≡ Over }
+    ensures empty_lines { request.without_head true (codes "\r\n\n") ≡ Over }
+    ensures empty_lines_wait { request.without_head false (codes "\r\n\n") ≡ Incomplete }
+    ensures begun { request.without_head true (codes "\nG") ≡ Faulty fault.Truncated }
+{}
+
+/// The same of a response.
+pub fn judged_responses_are_read()
+    ensures whole { response.with_head 9 false false (codes "hi!") (Ok (response_head 404 1 (length_line (codes "2") ∷ [])))
+        ≡ Spelled (response_with 404 [] (codes "hi") None) (codes "!") }
+    ensures to_head { response.with_head 9 true false (codes "hi") (Ok (response_head 404 1 (length_line (codes "2") ∷ [])))
+        ≡ Spelled (response_with 404 [] [] (Some 2)) (codes "hi") }
+    ensures open { response.with_head 2 false false (codes "hi") (Ok (response_head 200 1 [])) ≡ Incomplete }
+    ensures closed { response.with_head 2 false true (codes "hi") (Ok (response_head 200 1 [])) ≡ Spelled (response_with 200 [] (codes "hi") None) [] }
+    ensures large { response.with_head 2 false false (codes "hi!") (Ok (response_head 200 1 [])) ≡ Faulty fault.TooLarge }
+    ensures cut { response.with_head 9 false true (codes "h") (Ok (response_head 200 1 (length_line (codes "2") ∷ []))) ≡ Faulty fault.Truncated }
+    ensures bad_status { response.with_head 9 false false [] (Ok (response_head 600 1 (length_line (codes "0") ∷ []))) ≡ Faulty fault.Status }
+    ensures bad_head { response.with_head 9 false false [] (Err fault.Version) ≡ Faulty fault.Version }
+    ensures begun { response.without_head false (codes "H") ≡ Incomplete }
+    ensures cut_head { response.without_head true (codes "H") ≡ Faulty fault.Truncated }
 {}

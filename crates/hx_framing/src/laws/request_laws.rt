@@ -1,13 +1,22 @@
 //! Laws on what a request stream spells. They hold of the definitions, so each body is empty.
-ghost use Rattle.std.specs.Prelude.{◌≡◌, ◌++◌, ℕ, Bool, List, length, false};
+ghost use Rattle.std.specs.Prelude.{◌≡◌, ◌≤◌, ◌+◌, ◌*◌, ◌++◌, [], ℕ, Bool, List, None, Some, length, true, false};
+ghost use Rattle.hx_framing.specs.declared.contents.content.Content.{Content};
+ghost use Rattle.hx_framing.specs.declared.contents.content.Content.TheVariants as content;
+ghost use Rattle.hx_framing.specs.declared.heads.request_head.Head.{Head};
+ghost use Rattle.hx_framing.specs.declared.readers.request_reader.RequestPhase.TheVariants as phase;
 ghost use Rattle.hx_framing.specs.declared.messages.Request.{Request};
 ghost use Rattle.hx_framing.specs.declared.messages.Next.{Next};
 ghost use Rattle.hx_framing.specs.declared.fault.FrameFault.{FrameFault};
+ghost use Rattle.hx_framing.specs.ChunkGrammar.{has_no_lf};
+ghost use Rattle.hx_framing.specs.Chunking.{Chunking};
+ghost use Rattle.hx_framing.specs.Chunks.{state_after};
+ghost use Rattle.hx_framing.specs.Places.{head_length};
+ghost use Rattle.hx_framing.specs.PlainContent.{PlainContent};
 ghost use Rattle.hx_framing.specs.Reading.{Reading, Faulty, IsSettled, extended};
 ghost use Rattle.hx_framing.specs.RequestReading.{Reads};
 ghost use Rattle.hx_framing.specs.RequestStream.{StreamSpells, Answers};
 ghost use Rattle.hx_framing.specs.Progress.{Progress, IsDue, fed, finished};
-ghost use Rattle.hx_framing.specs.RequestState.{State, StandsFor};
+ghost use Rattle.hx_framing.specs.RequestState.{State, StandsFor, IsUnfinished, weight};
 
 /// One thing stands at the front of the unread bytes.
 pub fn read_once()
@@ -61,4 +70,31 @@ pub fn due_stays()
         → p.ended ≡ false → IsDue answer → Answers p answer → Answers (fed p piece) answer }
     ensures end { (p : Progress Request) → (answer : Next Request) → IsDue answer → Answers p answer
         → Answers (finished p) answer }
+{}
+
+/// What a reader keeps where nothing is due is begun and not whole: at most 32,768 bytes, in which no head ends; of a content in
+/// chunks the begun line, and nothing of another content.
+pub fn no_reader_keeps_what_is_whole()
+    ensures bounded { (s : State) → IsUnfinished s → length s.unread ≤ 32768 }
+    ensures head { (s : State) → s.phase ≡ phase.BeforeHead → IsUnfinished s → head_length s.unread ≡ None }
+    ensures announced { (s : State) → (head : Head) → (c : PlainContent)
+        → s.phase ≡ phase.InContent head (content.Announced c) → IsUnfinished s → s.unread ≡ [] }
+    ensures closed { (s : State) → (head : Head) → (c : PlainContent)
+        → s.phase ≡ phase.InContent head (content.UntilClose c) → IsUnfinished s → s.unread ≡ [] }
+    ensures nothing { (s : State) → (head : Head)
+        → s.phase ≡ phase.InContent head content.Nothing → IsUnfinished s → s.unread ≡ [] }
+    ensures line { (s : State) → (head : Head) → (c : Chunking)
+        → s.phase ≡ phase.InContent head (content.Chunked c) → IsUnfinished s → has_no_lf s.unread ≡ true }
+    ensures begun { (s : State) → (head : Head) → (c : Chunking) → s.phase ≡ phase.InContent head (content.Chunked c)
+        → IsUnfinished s → state_after s.unread c ≡ Some (record c { line = s.unread }) }
+    ensures fault { (s : State) → (f : FrameFault) → s.phase ≡ phase.Faulty f → ¬ (IsUnfinished s) }
+{}
+
+/// A reader weighs two for each byte that it keeps, for a message and its continue have one at least, and one for a message that
+/// was begun.
+pub fn readers_have_weights()
+    ensures before { (s : State) → s.phase ≡ phase.BeforeHead → weight s ≡ 2 * length s.unread }
+    ensures begun { (s : State) → (head : Head) → (content : Content) → s.phase ≡ phase.InContent head content
+        → weight s ≡ 2 * length s.unread + 1 }
+    ensures fault { (s : State) → (f : FrameFault) → s.phase ≡ phase.Faulty f → weight s ≡ 2 * length s.unread }
 {}

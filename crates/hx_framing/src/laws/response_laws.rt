@@ -1,15 +1,24 @@
 //! Laws on what a response stream spells. They hold of the definitions, so each body is empty.
-ghost use Rattle.std.specs.Prelude.{◌≡◌, ◌≤◌, ◌++◌, ◌∷◌, [], ℕ, Bool, List, None, false};
+ghost use Rattle.std.specs.Prelude.{◌≡◌, ◌≤◌, ◌+◌, ◌*◌, ◌++◌, ◌∷◌, [], ℕ, Bool, List, None, Some, length, true, false};
 ghost use Rattle.hx_fields.specs.declared.field_line.Field.{Field};
+ghost use Rattle.hx_framing.specs.declared.contents.content.Content.{Content};
+ghost use Rattle.hx_framing.specs.declared.contents.content.Content.TheVariants as content;
+ghost use Rattle.hx_framing.specs.declared.readers.response_reader.ResponsePhase.TheVariants as phase;
 ghost use Rattle.hx_framing.specs.declared.messages.Response.{Response};
+ghost use Rattle.hx_framing.specs.declared.heads.status_head.StatusHead.{StatusHead};
 ghost use Rattle.hx_framing.specs.declared.messages.Next.{Next};
 ghost use Rattle.hx_framing.specs.declared.fault.FrameFault.{FrameFault};
+ghost use Rattle.hx_framing.specs.ChunkGrammar.{has_no_lf};
+ghost use Rattle.hx_framing.specs.Chunking.{Chunking};
+ghost use Rattle.hx_framing.specs.Chunks.{state_after};
 ghost use Rattle.hx_framing.specs.Lengths.{without_lengths};
+ghost use Rattle.hx_framing.specs.Places.{head_length};
+ghost use Rattle.hx_framing.specs.PlainContent.{PlainContent};
 ghost use Rattle.hx_framing.specs.Reading.{Reading, Faulty, IsSettled, Spelled, extended};
 ghost use Rattle.hx_framing.specs.ResponseReading.{Reads};
 ghost use Rattle.hx_framing.specs.ResponseStream.{SpellsResponse, IsGiven, Answers};
 ghost use Rattle.hx_framing.specs.Progress.{Progress, IsDue, fed, finished};
-ghost use Rattle.hx_framing.specs.ResponseState.{State, StandsFor};
+ghost use Rattle.hx_framing.specs.ResponseState.{State, StandsFor, IsUnfinished, weight};
 
 /// One thing stands at the front of the stream.
 pub fn read_once()
@@ -66,4 +75,36 @@ pub fn what_is_read_is_final()
         → Reads max_body to_head ended bytes (Spelled response rest) → (fields : List Field) × (response.fields ≡ without_lengths fields) }
     ensures announced { (max_body : ℕ) → (ended : Bool) → (bytes : List ℕ) → (response : Response) → (rest : List ℕ)
         → Reads max_body false ended bytes (Spelled response rest) → response.announced ≡ None }
+{}
+
+/// What a reader keeps where nothing is due is begun and not whole: at most 32,768 bytes, in which no head ends, interim or final;
+/// of a content in chunks the begun line, and nothing of another content.
+pub fn no_reader_keeps_what_is_whole()
+    ensures bounded { (s : State) → IsUnfinished s → length s.unread ≤ 32768 }
+    ensures head { (s : State) → s.phase ≡ phase.BeforeHead → IsUnfinished s → head_length s.unread ≡ None }
+    ensures announced { (s : State) → (head : StatusHead) → (c : PlainContent)
+        → s.phase ≡ phase.InContent head (content.Announced c) → IsUnfinished s → s.unread ≡ [] }
+    ensures closed { (s : State) → (head : StatusHead) → (c : PlainContent)
+        → s.phase ≡ phase.InContent head (content.UntilClose c) → IsUnfinished s → s.unread ≡ [] }
+    ensures nothing { (s : State) → (head : StatusHead)
+        → s.phase ≡ phase.InContent head content.Nothing → IsUnfinished s → s.unread ≡ [] }
+    ensures line { (s : State) → (head : StatusHead) → (c : Chunking)
+        → s.phase ≡ phase.InContent head (content.Chunked c) → IsUnfinished s → has_no_lf s.unread ≡ true }
+    ensures begun { (s : State) → (head : StatusHead) → (c : Chunking) → s.phase ≡ phase.InContent head (content.Chunked c)
+        → IsUnfinished s → state_after s.unread c ≡ Some (record c { line = s.unread }) }
+    ensures given { (s : State) → s.phase ≡ phase.Given → ¬ (IsUnfinished s) }
+    ensures fault { (s : State) → (f : FrameFault) → s.phase ≡ phase.Faulty f → ¬ (IsUnfinished s) }
+{}
+
+/// A reader weighs two for each byte before or in its response, two more in it, and one where the stream has ended before it was
+/// given; behind it or a fault it weighs one.
+pub fn readers_have_weights()
+    ensures before { (s : State) → s.phase ≡ phase.BeforeHead → s.ended ≡ false → weight s ≡ 2 * length s.unread }
+    ensures before_the_end { (s : State) → s.phase ≡ phase.BeforeHead → s.ended ≡ true → weight s ≡ 2 * length s.unread + 1 }
+    ensures begun { (s : State) → (head : StatusHead) → (content : Content) → s.phase ≡ phase.InContent head content
+        → s.ended ≡ false → weight s ≡ 2 * length s.unread + 2 }
+    ensures begun_at_the_end { (s : State) → (head : StatusHead) → (content : Content)
+        → s.phase ≡ phase.InContent head content → s.ended ≡ true → weight s ≡ 2 * length s.unread + 3 }
+    ensures given { (s : State) → s.phase ≡ phase.Given → weight s ≡ 1 }
+    ensures fault { (s : State) → (f : FrameFault) → s.phase ≡ phase.Faulty f → weight s ≡ 1 }
 {}
