@@ -13,6 +13,7 @@ mod items;
 mod laws;
 mod line_parser;
 mod parser;
+mod script_cases;
 mod spelling;
 mod words;
 
@@ -21,4 +22,5 @@ pub use happening::Happening;
 pub use items::Item;
 pub use laws::items_are_found_as_they_are_spelled;
 pub use parser::{Front, read_item};
+pub use script_cases::{effects_are_told, items_are_spelled};
 pub use spelling::item_text;
