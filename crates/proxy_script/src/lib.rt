@@ -14,6 +14,7 @@ mod laws;
 mod limits;
 mod line_parser;
 mod parser;
+mod script_cases;
 mod spelling;
 mod words;
 
@@ -23,4 +24,7 @@ pub use items::Item;
 pub use laws::items_are_found_as_they_are_spelled;
 pub use limits::MOST_SCRIPT_BYTES;
 pub use parser::{Front, read_item};
+pub use script_cases::{
+    effects_are_told, items_are_read, items_are_spelled, items_wait, wrong_items_are_refused,
+};
 pub use spelling::item_text;
