@@ -6,8 +6,8 @@ compiler starts once for some dozen mutants, and only the laws are proved, each 
 set number 0 changes nothing: if a law of it isn't proved, the others tell nothing.
 
 A law that is computed, as worked cases are, takes a second or two, and one whose proof rests on the crate's lemmas takes these
-with it. So the computed ones come first, then those that rest on few files of lemmas, and the others are asked only of mutants
-that none of these refuses.
+with it. So the computed ones come first, of these those that name the definition itself or what rests on it at once, then those
+that rest on few files of lemmas, and the others are asked only of mutants that none of these refuses.
 """
 import glob
 import os
@@ -23,9 +23,9 @@ BEGIN, END = "<!-- tools/mutants --definitions writes from here -->", "<!-- to h
 AT_ONCE = 40
 # What the prover said is written by one lane at a time.
 WRITING = threading.Lock()
-# The laws are asked in these steps: those on no file of lemmas, on at most so many, and on any number.
-COMPUTED, ON_FEW, ON_MANY = STEPS = range(3)
-FEW = 1
+# The laws are asked in these steps: those on no file of lemmas, first the nearest to the change, on at most so many, and on any number.
+NEAREST, COMPUTED, ON_FEW, ON_MANY = STEPS = range(4)
+LAYERS, FEW = 2, 1
 
 
 class Mutant:
@@ -51,7 +51,7 @@ class Copy:
     """The sources of a crate, and the sets of files that mutants of it have in one copy, with the laws of one step."""
 
     def __init__(self, rt, crate, step):
-        self.crate, self.files, self.step = crate, {}, step
+        self.crate, self.files, self.step, self.names = crate, {}, step, {}
         for at, _folders, names in os.walk(crate.folder):
             part = os.path.relpath(at, crate.folder).split("/")[0]
             if part in ("src", "specs", "proofs"):
@@ -77,18 +77,26 @@ class Copy:
 
     def resting_on(self, changed):
         """The modules of definitions and lemmas that rest on these."""
-        found, grows = set(changed), True
-        while grows:
-            more = [it for path in self.files if (it := self.module(path)) and it not in found and self.names_one_of(self.files[path], found)]
-            grows = bool(more)
-            found.update(more)
-        return found
+        return {it for layer in self.layers(changed) for it in layer}
+
+    def layers(self, changed):
+        """These modules, those that name one of them, those that name one of these, and so on."""
+        found, layers = set(changed), [set(changed)]
+        while more := {it for path in self.files if (it := self.module(path)) and it not in found and self.names_one_of(self.files[path], layers[-1])}:
+            found |= more
+            layers.append(more)
+        return layers
 
     def names_one_of(self, text, modules):
         return any(it in modules for it in self.named(text))
 
     def named(self, text):
         """The modules of this crate that a text names."""
+        if text not in self.names:
+            self.names[text] = self.named_in(text)
+        return self.names[text]
+
+    def named_in(self, text):
         by_dots = re.findall(rf"\bRattle\.{self.crate.name}\.((?:specs|proofs)\.\w+)", text)
         by_colons = re.findall(rf"\b(?:crate|{self.crate.name})::(specs|proofs)::(\w+)", text)
         return {*by_dots, *(".".join(it) for it in by_colons)}
@@ -117,22 +125,50 @@ class Copy:
         text, found = self.files[f"src/{law}.rt"], []
         imports = re.findall(rf"ghost use Rattle\.{self.crate.name}\.(specs\.\w+)\.\{{(.*?)\}};", text, re.S)
         changed = {it.split(" as ")[-1].strip() for module, names in imports if module in modules for it in names.split(",")}
+        whole = re.findall(rf"ghost use Rattle\.{self.crate.name}\.(specs\.\w+) as (\w+);", text)
+        changed |= {name for module, name in whole if module in modules}
         for above, name, statement in re.findall(r"((?:^#\[[^\n]*\n)*)^pub fn (\w+)(.*?)^(?:\{\}|\})$", text, re.M | re.S):
             proofs = [it for path, it in self.files.items() if path.startswith(f"proofs/{law}/{name}/")]
             is_named = changed & set(re.findall(r"\w+", statement)) or any(self.names_one_of(it, modules) for it in [above, *proofs])
             own = f"proofs.{law.partition('/')[0]}"
-            found += [name] * bool(is_named and self.step_of([above, *proofs], own) == self.step)
+            found += [name] * bool(is_named and self.step_of([above, *proofs], own) == max(self.step, COMPUTED))
+        return found
+
+    def asked(self, changed):
+        """The laws of this step over changed modules, as functions by their files."""
+        every = self.functions_of(self.moved(changed))
+        if self.step > COMPUTED:
+            return every
+        by_layer = [self.functions_of(it & self.moved(changed)) for it in self.layers(changed)]
+        near = [it for it in by_layer if any(it.values())][:LAYERS]
+        is_near = lambda law, name: any(name in it[law] for it in near)
+        return {law: [it for it in names if is_near(law, it) == (self.step == NEAREST)] for law, names in every.items()}
+
+    def moved(self, changed):
+        """What rests on these, as far as the laws of this step may name it."""
+        return {it for it in self.resting_on(changed) if self.step > COMPUTED or it.startswith("specs.")}
+
+    def functions_of(self, modules):
+        return {law: self.functions_on(law, modules) for law in self.laws}
+
+    def needed(self, laws, modules):
+        """Those of these modules that the files of these laws name, at once or by others."""
+        texts = lambda law: [text for path, text in self.files.items() if path == f"src/{law}.rt" or path.startswith(f"proofs/{law}/")]
+        by_module = {self.module(path): text for path, text in self.files.items() if self.module(path)}
+        found, new = set(), {it for law in laws for text in texts(law) for it in self.named(text)}
+        while new := (new & modules) - found:
+            found |= new
+            new = {it for module in new for it in self.named(by_module[module])}
         return found
 
     def texts_of(self, number, texts):
         """The files of the set with that number, in which these texts replace the crate's, and the laws that rest on them."""
         mark, files = f"_m{number}", {}
-        modules = self.resting_on({self.module(it) for it in texts} - {None})
-        if self.step == COMPUTED:
-            modules = {it for it in modules if it.startswith("specs.")}
-        with_proofs = lambda law: [it for it in self.files if it == f"src/{law}.rt" or it.startswith(f"proofs/{law}/")]
-        functions = {law: self.functions_on(law, modules) for law in self.laws}
+        changed = {self.module(it) for it in texts} - {None}
+        functions = self.asked(changed)
         laws = [it for it in self.laws if functions[it]]
+        modules = self.needed(laws, self.moved(changed)) | changed
+        with_proofs = lambda law: [it for it in self.files if it == f"src/{law}.rt" or it.startswith(f"proofs/{law}/")]
         for path in self.files:
             if self.module(path) in modules:
                 files[path.replace(".antt", f"{mark}.antt")] = self.renamed(texts.get(path, self.files[path]), modules, laws, mark)
