@@ -21,7 +21,7 @@ pub record IsOpenLine (s : Chunking) (bytes : List ℕ) : Type 0 where
   pub one_line : has_no_lf bytes ≡ true
   pub bounded : length bytes ≤ most_trailer_bytes
 
--- at a place, with the content old; new is the content behind the token
+-- in a state, with the content old; new is the content behind the token
 abbrev pub Takes : ChunkState → List ℕ → List ℕ → List ℕ → ChunkToken → Type 0
 Takes place old bytes new token.Incomplete =
     (new ≡ old) × IsOpenLine (chunking_of place old) bytes

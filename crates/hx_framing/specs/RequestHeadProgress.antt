@@ -16,7 +16,7 @@ abbrev pub Resumes : ℕ → Bool → Head → Content → List ℕ → List ℕ
 Resumes max_body told head content bytes unread = (more : List ℕ) (ended : Bool)
     → Reads max_body ended told (bytes ++ more) (with_body ended (request_of head) (body_from content false (unread ++ more)))
 
--- a place behind some of the bytes
+-- an index behind at least one of the bytes, and within them
 abbrev pub IsBehind : List ℕ → ℕ → Type 0
 IsBehind bytes n = (0 < n) × (n ≤ length bytes)
 

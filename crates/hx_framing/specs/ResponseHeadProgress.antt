@@ -19,7 +19,7 @@ abbrev pub Resumes : ℕ → Bool → StatusHead → Content → List ℕ → Li
 Resumes max_body to_head head content bytes unread = (more : List ℕ) (ended : Bool)
     → Reads max_body to_head ended (bytes ++ more) (with_body ended (response_of to_head head) (body_from content ended (unread ++ more)))
 
--- a place behind some of the bytes
+-- an index behind at least one of the bytes, and within them
 abbrev pub IsBehind : List ℕ → ℕ → Type 0
 IsBehind bytes n = (0 < n) × (n ≤ length bytes)
 

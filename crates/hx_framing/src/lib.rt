@@ -24,11 +24,11 @@
 //! | `Chunks`, `Chunking` | content in chunks, a byte at a time, each fault at its byte | 9112, 7.1 |
 //! | `SizeLine` | which lines are sizes of chunks, and their limits | 9112, 7.1 and 7.1.1 |
 //! | `Fault`, `FaultTexts` | the faults' numbers and texts | |
-//! | `RequestState`, `ResponseState` | what `kept`, `weight` and `unfinished` count, the last by `IsOpen` of `Contents` and `IsOpenLine` of `ChunkTokens` | |
+//! | `RequestState`, `ResponseState` | what `kept` and `weight` count, and what is unfinished (`IsUnfinished`), by `IsOpen` of `Contents` and `IsOpenLine` of `ChunkTokens` | |
 //! | `Text` | the bytes of messages that are sent | 9112, 3 to 7 |
 //!
-//! The laws' own words are in `ChunkGrammar` (chunks as trees), `HeadLines`, `Written`, `WrittenResponse`, `Examples` and
-//! `LengthExamples`. The rest serves the proofs alone and needs no trust: `RequestHeadProgress`, `ResponseHeadProgress`,
+//! The laws' own words are in `ChunkGrammar` (chunks as trees), `ChunkFaults`, `HeadLines`, `GivenFields`, `FaultOrder`, `Written`, `WrittenResponse`, `Examples`,
+//! `LengthExamples` and `ReadingExamples`. The rest serves the proofs alone and needs no trust: `RequestHeadProgress`, `ResponseHeadProgress`,
 //! `ContentReading`, `Decoding`, `PlainContent`, `Queue`, `Searching`, what else is in `ChunkTokens`; and so does
 //! `StandsFor`, which may be any relation that holds of a new reader and that each call keeps.
 #![tactic(auto)]

@@ -2,7 +2,7 @@
 --
 -- nominated_of: what is kept of the earlier request
 -- vary_matches: a later request's values are those that were kept
--- SelectsBoth: the same question, asked of the whole earlier request
+-- selects_both: the same question, asked of the whole earlier request
 use Rattle.std.specs.Prelude.{◌≡◌, ℕ, Bool, true, false, if◌then◌else◌, ◌||◌, not, List, map, codes, bytes_eq, Option, Some, None}
 use Rattle.std.specs.List.{list_all, list_any}
 use Rattle.hx_fields.specs.Lines.{combined_of, members_of}

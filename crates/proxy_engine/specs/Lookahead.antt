@@ -40,7 +40,7 @@ may_show Unknown = true
 may_show Quiet = false
 may_show (Due a) = is_due (Due a)
 
--- something may stand there: it wasn't looked at, or the look has found something
+-- 1 where something may stand there, since the reader wasn't asked or has answered: counted among the acts still to come
 abbrev pub unsettled : {M : Type 0} → Lookahead M → ℕ
 unsettled Unknown = 1
 unsettled Quiet = 0

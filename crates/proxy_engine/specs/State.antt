@@ -104,7 +104,7 @@ IsRefusal (Some f) e = e ≡ f
 abbrev pub TakeFault : Story → Said → EngineFault → Type 0
 TakeFault s h e = IsRefusal (fault_of s h) e
 
--- ---- what was looked at
+-- ---- what is known of what is due, by the lookahead of a reader
 
 abbrev pub finish_seen : Lookahead Response → Option FailKind → Option Finish
 finish_seen Unknown kind = option_map Breaks kind

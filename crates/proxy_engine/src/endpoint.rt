@@ -9,10 +9,10 @@ pub(crate) trait Endpoint: Drop {
     /// Something may be due there.
     ghost may_show: { Self → Bool };
 
-    /// Something is due there, since a look has found it.
+    /// Something is due there, and `poll` has found it.
     ghost IsShown: { Option Self → Type 0 };
 
-    /// What a look leaves.
+    /// What `poll` may change: the new one stands for the same stories, and no more is to come of it.
     ghost LooksLike: { Self → Self → Type 0 };
 
     /// What is left where room for bytes is made.
@@ -21,7 +21,7 @@ pub(crate) trait Endpoint: Drop {
     /// For how many bytes there is room.
     ghost spare: { Self → ℕ };
 
-    /// Whether something is due there. A look keeps what it finds, so nothing is read twice.
+    /// Whether something is due there. What is found is kept, so nothing is read twice.
     fn poll(&mut self, alloc: Global) -> Result<bool, AllocError>
         ensures alike { LooksLike self.old self.new }
         ensures yes { IfOk result (λ b. b ≡ true → IsShown (Some self.new)) }

@@ -1,4 +1,4 @@
-//! The first place at which something is due. A look keeps what it finds, so nothing is read twice.
+//! The first place at which something is due. What `poll` finds is kept, so nothing is read twice.
 ghost use Rattle.std.specs.Prelude.{◌≡◌, ◌≢◌, ℕ, length, true, false, is_some, IfOk, IfSome, IfNone, OnOk, MatchOption, Contains, Some};
 ghost use Rattle.std.specs.Ordering.{nat_cmp};
 ghost use Rattle.std.specs.BTreeMap.{get};

@@ -88,7 +88,7 @@ impl<R: Reader> Peeked<R> {
         }
     }
 
-    /// What is due next, if a look ahead has found that something is.
+    /// What is due next, if `look_ahead` has found something.
     pub fn peek(&self) -> Option<&Next<R::Message>>
         ensures variant { is_some result ≡ is_due self.now.ahead }
         ensures value { IfSome result (λ next. self.now.ahead ≡ Lookahead.Due next.now) }

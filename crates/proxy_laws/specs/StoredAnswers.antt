@@ -1,7 +1,7 @@
 -- When an answer of an origin is stored: in the words of RFC 9111, section 3, over the exchange that is open and the answer that
 -- came for it. So the facts that the storing rules are handed are said here in the field's terms.
 --
--- Nominates, KeepsItsFields, CanBeReused: what the answer's fields have to say     MayBeStoredAt: all that is asked
+-- NamesFields, KeepsItsFields, CanBeReused: what the answer's fields have to say     MayBeStoredAt: all that is asked
 use Rattle.std.specs.Prelude.{◌≡◌, ◌⊎◌, ℕ, ◌≤◌, true, false, bytes_eq, List, ◌∷◌, length, codes, is_some, All, Option, Some, None}
 use Rattle.hx_fields.specs.declared.field_line.Field.{Field}
 use Rattle.hx_fields.specs.Lines.{has as has_line}

@@ -1,8 +1,8 @@
 //! Scripts and effects as bytes: what a proxy is told happens, and what it does.
 //!
 //! A script is lines ended by LF, some with a block of bytes behind them; `read_item` finds the item at its
-//! front. What an item is spelled as is in `specs/Script.antt`, and that what is found is spelled there, and
-//! what is spelled is found, is a law. The text of effects is in `specs/Effects.antt`. Nothing here knows
+//! front. `specs/Script.antt` says how an item is spelled. A law says that each item found is spelled there, and
+//! each one spelled is found. The text of effects is in `specs/Effects.antt`. Nothing here knows
 //! connections or links.
 #![tactic(auto)]
 

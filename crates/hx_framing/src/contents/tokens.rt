@@ -45,7 +45,7 @@ pub(crate) struct ChunkState {
 pub(crate) enum ChunkToken {
     /// Nothing, or a part of a token.
     Incomplete,
-    /// A token of so many bytes, and the place behind it.
+    /// A token of so many bytes, and the state behind it.
     Whole(usize, ChunkState),
     /// The last token, of so many bytes.
     Last(usize),

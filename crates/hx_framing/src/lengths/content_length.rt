@@ -43,7 +43,7 @@ fn is_number(digits: &[u8], text: &[u8]) -> bool
     is_digits(text) && significant(text) == digits
 }
 
-/// Whether each piece of a value is the number of these digits.
+/// Whether each part of a value between commas is the number of these digits.
 fn are_pieces(digits: &[u8], value: &[u8]) -> bool
     ensures { result ≡ list_all (is_number digits.now) (comma_pieces value.now) }
 {
@@ -52,7 +52,7 @@ fn are_pieces(digits: &[u8], value: &[u8]) -> bool
         .all(|piece| is_number(digits, piece))
 }
 
-/// Whether each piece of each Content-Length line is the number of these digits.
+/// Whether each part between commas of each Content-Length line is the number of these digits.
 fn are_all_pieces(digits: &[u8], lines: &[Field]) -> bool
     ensures { result ≡ list_all (λ (line : Field). list_all (is_number digits.now) (comma_pieces line.value))
         (filter (is_named content_length) lines.now) }

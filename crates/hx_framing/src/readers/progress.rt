@@ -17,7 +17,7 @@ pub(crate) struct Rest<'a> {
 /// M a message.
 #[derive(Drop)]
 pub(crate) enum HeadProgress<H, M> {
-    /// Nothing yet.
+    /// Nothing yet; so many bytes of interim responses stand in front.
     Incomplete(usize),
     /// A continue is due, before the content.
     NeedsContinue(H, Content, usize),
