@@ -20,6 +20,11 @@ ghost use Rattle.hx_framing.specs.ResponseStream.{SpellsResponse, IsGiven, Answe
 ghost use Rattle.hx_framing.specs.Progress.{Progress, IsDue, fed, finished};
 ghost use Rattle.hx_framing.specs.ResponseState.{State, StandsFor, IsUnfinished, weight};
 
+/// A stream has one response: behind it nothing is given but the end.
+pub fn one_response_is_given()
+    ensures { (p : Progress Response) → (answer : Next Response) → Answers p answer → length p.given ≤ 1 }
+{}
+
 /// One thing stands at the front of the stream.
 pub fn read_once()
     ensures { (max_body : ℕ) → (to_head ended : Bool) → (bytes : List ℕ) → (a b : Reading Response)
