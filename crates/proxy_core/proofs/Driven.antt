@@ -4,7 +4,7 @@ use Rattle.hx_allow.specs.Lines.{Table}
 use Rattle.proxy_core.specs.State.{State, Steps, after}
 use Rattle.proxy_core.specs.Traces.{Item, begun, left, Accepts, IsGood}
 use Rattle.proxy_core.specs.Driving.{HasRun, PromisesOfADrivenCore}
-use Rattle.proxy_core.proofs.Tracing.{same_table}
+use Rattle.proxy_core.proofs.Tracing.{same_table, same_limit}
 use Rattle.proxy_core.proofs.HeldLaw.{good_held, entries_are_held, exchanges_are_open, next_is_counted}
 use Rattle.proxy_core.proofs.Headlines.{headline}
 
@@ -32,6 +32,8 @@ promises_of_a_driven_core table limit first trace core h =
     let d = driven table limit first trace core h in
     let good = good_held table limit first trace d.good in
     record {
+      table_is = ap (λ (s : State). s.table) d.leaves ∙ same_table (begun table limit first) trace;
+      limit_is = ap (λ (s : State). s.limit) d.leaves ∙ same_limit (begun table limit first) trace;
       good = good;
       headline = headline table limit first trace good;
       entries_are = ap (λ (s : State). s.entries) d.leaves ∙ entries_are_held table limit first trace d.good;

@@ -17,10 +17,15 @@ pub mod Counting
 pub mod Carries
 pub mod InOrder
 pub mod FirstRules
+pub mod Leads
 pub mod SendLaws
 pub mod SentResponses
 pub mod Uncached
+pub mod StoringWords
+pub mod StoredAnswers
 pub mod Headlines
+pub mod OneOutcome
+pub mod Refusals
 pub mod Driven
 pub mod Waits
 pub mod Waiters

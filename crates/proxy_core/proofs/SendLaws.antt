@@ -48,6 +48,7 @@ use Rattle.proxy_core.specs.Traces.{Item}
 use Rattle.proxy_core.specs.Histories.{IsGoodHistory, held_entries, open_exchanges, next_serial}
 use Rattle.proxy_core.specs.Sending.{IsReusable, MayBeSentInstead, IsFallback, MayBeSentAt, IsReached, IsTurnedAway, SendsStoredWhereItMay, SendsStoredNowhereElse, ForwardsWhereAllowed, ForwardsNowhereElse, ReachesWhereAllowed, RefusesWhereNotAllowed}
 use Rattle.proxy_core.proofs.Leaving.{serial_stays}
+use Rattle.proxy_core.proofs.Leads.{nobody_leads, is_led}
 use Rattle.proxy_core.proofs.FirstRules.{held_distinct}
 
 never_one : (s : ℕ) → ◌≡◌ {A = Option ℕ} None (Some s) → ⊥
@@ -171,7 +172,7 @@ module _ (caches : Bool) (es : List Stored) (distinct : Distinct (serials es)) (
     detail : Detail
     fallback : fallback_for es asked now (decision_of caches es asked now) ≡ Sends s detail
 
-  reusable_hit : (s : ℕ) → IsReusable caches es asked now s → decision_of caches es asked now ≡ decision.Hit s
+  pub reusable_hit : (s : ℕ) → IsReusable caches es asked now s → decision_of caches es asked now ≡ decision.Hit s
   reusable_hit s may = allowed_is_reused caches es asked now may.0 distinct may.1 ∙ ap (λ n. decision.Hit n) may.2
 
   instead_sent : (s : ℕ) (response : Stored) → MayBeSentInstead caches es asked now response → response.serial ≡ s → (d : Decision) → decision_of caches es asked now ≡ d → IsSent s
@@ -405,16 +406,29 @@ forwards_nothing_else table limit first now id line asked bytes item past g e h 
 -- ---- reaching cache or origin
 
 module _ (table : Table) (es : List Stored) (xs : List Exchange) (now : ℕ) (asked : Asked) where
-  reach_on : (line : ℕ) (condition : Option Condition) (leader : Option ℕ) → IsReached table es now asked line (sent_on table line asked condition leader)
-  reach_on line condition None = inr (inl (forward_text table asked condition, refl))
-  reach_on line condition (Some leader) = inr (inr (inl (leader, refl)))
+  reach_on : (line : ℕ) (rule : ReuseRule) (against leader : Option ℕ) → is_only_if_cached asked ≡ false → leader_for xs asked rule ≡ leader →
+      decision_of (caches_of table.lines line) es asked now ≡ decision.Forward rule against → IsReached table es xs now asked line (sent_on table line asked (condition_at es against) leader)
+  reach_on line rule against None k l d =
+      let named = names_the_least (caches_of table.lines line) es asked now rule against d in
+      inr (inl (rule, record { is_least = named.0; against = against; names = named.1; outcome_is = refl }, k, nobody_leads xs asked rule l))
+  reach_on line rule against (Some leader) k l d =
+      let named = names_the_least (caches_of table.lines line) es asked now rule against d in
+      let led = is_led xs asked rule leader l in
+      inr (inr (inl (record {
+        leader = leader;
+        takes_others = k;
+        gets = led.0;
+        nothing_held = subst (IsLeast (caches_of table.lines line) es asked now) led.1 named.0;
+        first_leads = led.2;
+        outcome_is = refl;
+      })))
 
   reach_unless : (line : ℕ) (rule : ReuseRule) (against : Option ℕ) (b : Bool) → is_only_if_cached asked ≡ b → decision_of (caches_of table.lines line) es asked now ≡ decision.Forward rule against →
-      IsReached table es now asked line (unanswered table xs line now asked rule (condition_at es against) b)
+      IsReached table es xs now asked line (unanswered table xs line now asked rule (condition_at es against) b)
   reach_unless line rule against true k d = inr (inr (inr (rule, k, (names_the_least (caches_of table.lines line) es asked now rule against d).0, refl)))
-  reach_unless line rule against false k d = reach_on line (condition_at es against) (leader_for xs asked rule)
+  reach_unless line rule against false k d = reach_on line rule against (leader_for xs asked rule) k refl d
 
-  reach : (line : ℕ) (d : Decision) → decision_of (caches_of table.lines line) es asked now ≡ d → IsReached table es now asked line (allowed table es xs line now asked d)
+  reach : (line : ℕ) (d : Decision) → decision_of (caches_of table.lines line) es asked now ≡ d → IsReached table es xs now asked line (allowed table es xs line now asked d)
   reach line (decision.Hit s) d = inl (s, refl)
   reach line (decision.Forward rule against) d = reach_unless line rule against (is_only_if_cached asked) refl d
 
@@ -428,7 +442,7 @@ pub reaches_where_allowed : ReachesWhereAllowed
 reaches_where_allowed table limit first now id line asked item past g e v =
     let es = held_entries table limit past in
     let xs = open_exchanges table limit past in
-    subst (IsReached table es now asked line)
+    subst (IsReached table es xs now asked line)
     (sym (arrival_is table limit first now id asked item past g e ∙ ap (λ (v : Verdict). arrived table es xs now asked v) v))
     (reach table es xs now asked line (decision_of (caches_of table.lines line) es asked now) refl)
 

@@ -1,5 +1,7 @@
 -- What is sent is the held response of its serial, freshened where the 304 answers it.
 use Rattle.std.proofs.Common.{◌≡◌, ℕ, Bool, true, false, cond, Option, None, Some, List, refl, sym, ◌∙◌, ap, subst}
+use Rattle.std.specs.Prelude.{is_some}
+use Rattle.std.proofs.lemmas.Bool.{false≢true}
 use Rattle.std.proofs.lemmas.Option.{same_Some}
 use Rattle.hx_framing.specs.declared.messages.Response.{Response}
 use Rattle.hx_hop.specs.declared.request_view.Asked.{Asked}
@@ -17,8 +19,9 @@ use Rattle.hx_reuse.specs.declared.decision.Decision.{Decision}
 use Rattle.hx_reuse.specs.declared.decision.Decision.TheVariants as decision
 use Rattle.hx_reuse.proofs.Choice.{chosen_is_held, latest_is_the_chosen, found_by_serial}
 use Rattle.hx_reuse.proofs.MeaningLemmas.{is_held}
+use Rattle.hx_reuse.proofs.ReusableLemmas.{reused_is_allowed}
 use Rattle.hx_status.specs.declared.status.Detail.{Detail}
-use Rattle.hx_status.specs.declared.status.Detail.TheVariants.{ReuseAfter304}
+use Rattle.hx_status.specs.declared.status.Detail.TheVariants.{StaleIfError, ReuseAfterError, ReuseAfter304}
 use Rattle.hx_status.specs.declared.cause.FailKind.{FailKind}
 use Rattle.hx_status.specs.declared.cause.FailKind.TheVariants.{BadAnswer}
 use Rattle.proxy_core.specs.declared.condition.Condition.{Condition}
@@ -30,19 +33,22 @@ use Rattle.proxy_core.specs.declared.outcome.Outcome.{Outcome}
 use Rattle.proxy_core.specs.declared.event.Event.{Event}
 use Rattle.proxy_core.specs.declared.event.Event.TheVariants.{Arrive, Answer, Fail, Wake, Abandon}
 use Rattle.proxy_core.specs.Replies.{stored_text}
-use Rattle.proxy_core.specs.Validating.{condition_at, is_validation, validated, refreshed}
+use Rattle.proxy_core.specs.Validating.{asked_about, condition_at, if_answered, is_validation, validated, refreshed}
 use Rattle.proxy_core.specs.Storing.{is_unasked}
 use Rattle.proxy_core.specs.Leading.{leader_for}
 use Rattle.proxy_core.specs.Outcomes.{find_exchange, id_of, sent, sent_text, as_hit, forwarded_as, collapsed_as, arrived, allowed, sent_on, unanswered, woken, is_only_if_cached, error_rule_at, fallback_by, fallback_for, failed, is_error_status, passed_unless, revalidated, answered, outcome_of}
 use Rattle.proxy_core.specs.State.{used_in, used_form}
 use Rattle.proxy_core.specs.Histories.{held_entries, open_exchanges, next_serial}
-use Rattle.proxy_core.specs.Sending.{IsAbout, TellsHow, IsThatResponse, SendsWhatIsHeld}
+use Rattle.proxy_core.specs.Sending.{IsReusable, WordAfterError, WordAtAnswer, IsAbout, TellsHow, IsThatResponse, SendsWhatIsHeld}
 use Rattle.proxy_core.proofs.Leaving.{unanswered as never_answered, same_at, serial_stays, validated_is}
-use Rattle.proxy_core.proofs.SendLaws.{named_is}
+use Rattle.proxy_core.proofs.SendLaws.{named_is, reusable_hit}
 use Rattle.proxy_core.proofs.FirstRules.{held_distinct}
 
 never_one : (s : ℕ) → ◌≡◌ {A = Option ℕ} None (Some s) → ⊥
 never_one s h = cc
+
+some_is_not : (e : Stored) → ◌≡◌ {A = Option Stored} (Some e) None → ⊥
+some_is_not e h = cc
 
 -- the held response of a serial
 abbrev IsFound : List Stored → ℕ → Type 0
@@ -69,9 +75,30 @@ module _ (table : Table) (es : List Stored) (distinct : Distinct (serials es)) w
           subst (IsFound es) same (n.response, n.found)
       by_rule (Some e) h = absurd (cc)
 
+  -- and the word that is told of it
+  word_after : (caches : Bool) (asked : Asked) (now s : ℕ) (detail : Detail) (d : Decision) → decision_of caches es asked now ≡ d → fallback_for es asked now d ≡ Sends s detail →
+      WordAfterError caches es asked now s (Some detail)
+  word_after caches asked now s detail (decision.Hit t) d_is h =
+      let same : t ≡ s = cc in
+      let word : ReuseAfterError ≡ detail = cc in
+      (λ may. ap (λ w. Some w) (sym word), λ no. absurd (no (subst (λ n. IsReusable caches es asked now n) same (reused_is_allowed caches es asked now t d_is))))
+  word_after caches asked now s detail (decision.Forward rule None) d_is h = absurd (cc)
+  word_after caches asked now s detail (decision.Forward rule (Some t)) d_is h = by_rule (error_rule_at es t asked now) h
+    where
+      no_hit : IsReusable caches es asked now s → ⊥
+      no_hit may =
+          let hit : decision.Forward rule (Some t) ≡ decision.Hit s = sym d_is ∙ reusable_hit caches es distinct asked now s may in
+          absurd (cc)
+
+      by_rule : (o : Option ErrorRule) → fallback_by rule t o ≡ Sends s detail → WordAfterError caches es asked now s (Some detail)
+      by_rule None h =
+          let word : StaleIfError ≡ detail = cc in
+          (λ may. absurd (no_hit may), λ no. ap (λ w. Some w) (sym word))
+      by_rule (Some e) h = absurd (cc)
+
   -- sent as it is held
   as_held : (x : Option Exchange) (event : Event) (s now : ℕ) (info : CacheStatusInfo) (asked : Asked) (f : IsFound es s) → used_form x event f.0 ≡ f.0 →
-      IsAbout x event now asked → TellsHow x event info → IsThatResponse table es x event (sent table es s now info asked) s
+      IsAbout x event now asked → TellsHow table es x event s info → IsThatResponse table es x event (sent table es s now info asked) s
   as_held x event s now info asked f same about how = record {
     response = f.0;
     is_held = f.1;
@@ -120,29 +147,43 @@ module _ (table : Table) (es : List Stored) (distinct : Distinct (serials es)) w
   -- after an error
   fallback_sends : (x : Exchange) (event : Event) (now : ℕ) (kind : FailKind) (came : Option ℕ) (s : ℕ) (fallback : Fallback) →
       fallback_for es x.asked now (decision_of (caches_of table.lines x.line) es x.asked now) ≡ fallback → ((e : Stored) → used_form (Some x) event e ≡ e) → IsAbout (Some x) event now x.asked →
-      ((detail : Option Detail) → TellsHow (Some x) event (forwarded_as x came detail)) →
+      ((t : ℕ) (detail : Option Detail) → WordAfterError (caches_of table.lines x.line) es x.asked now t detail → TellsHow table es (Some x) event t (forwarded_as x came detail)) →
       used_in (failed table es now x kind came fallback) ≡ Some s → IsThatResponse table es (Some x) event (failed table es now x kind came fallback) s
   fallback_sends x event now kind came s (Sends t detail) k same about how h =
       let f = found_fallback (caches_of table.lines x.line) x.asked now t detail (decision_of (caches_of table.lines x.line) es x.asked now) refl k in
       at_serial (Some x) event (sent table es t now (forwarded_as x came (Some detail)) x.asked) t s (same_Some t s h)
-      (as_held (Some x) event t now (forwarded_as x came (Some detail)) x.asked f (same f.0) about (how (Some detail)))
+      (as_held (Some x) event t now (forwarded_as x came (Some detail)) x.asked f (same f.0) about
+      (how t (Some detail) (word_after (caches_of table.lines x.line) x.asked now t detail (decision_of (caches_of table.lines x.line) es x.asked now) refl k)))
   fallback_sends x event now kind came s (Refuses rule error) k same about how h = absurd (never_one s h)
 
   module _ (x : Exchange) (now id : ℕ) (r : Response) (next : Option ℕ) (s : ℕ) where
     abbrev Is : Outcome → Type 0
     Is o = used_in o ≡ Some s → IsThatResponse table es (Some x) (Answer now id r) o s
 
+    -- no 304 to the proxy's conditions answers
+    not_validated : is_validation x r ≡ false → validated es x r now ≡ None
+    not_validated n = by_entry (asked_about es x)
+      where
+        by_entry : (o : Option Stored) → if_answered x r now o ≡ None
+        by_entry None = refl
+        by_entry (Some e) = ap (λ b. cond b (Some e) None) (never_answered x r now e n)
+
+    word_of_error : is_validation x r ≡ false → (t : ℕ) (detail : Option Detail) → WordAfterError (caches_of table.lines x.line) es x.asked now t detail →
+        WordAtAnswer (caches_of table.lines x.line) es x now r t detail
+    word_of_error n t detail word = (λ some. absurd (false≢true (ap is_some (sym (not_validated n)) ∙ some)), λ is none. absurd (false≢true (sym n ∙ is)), λ not. word)
+
     passes : (b : Bool) (fallback : Fallback) → fallback_for es x.asked now (decision_of (caches_of table.lines x.line) es x.asked now) ≡ fallback → is_validation x r ≡ false → Is (passed_unless table es now x r next b fallback)
     passes true (Sends t detail) k n =
         let f = found_fallback (caches_of table.lines x.line) x.asked now t detail (decision_of (caches_of table.lines x.line) es x.asked now) refl k in
         λ h. at_serial (Some x) (Answer now id r) (sent table es t now (forwarded_as x (Some r.status) (Some detail)) x.asked) t s (same_Some t s h)
         (as_held (Some x) (Answer now id r) t now (forwarded_as x (Some r.status) (Some detail)) x.asked f
-        (ap (λ b. cond b (refreshed x r now f.0) f.0) (never_answered x r now f.0 n)) (refl, refl) (Some detail, refl))
+        (ap (λ b. cond b (refreshed x r now f.0) f.0) (never_answered x r now f.0 n)) (refl, refl)
+        (Some detail, refl, word_of_error n t (Some detail) (word_after (caches_of table.lines x.line) x.asked now t detail (decision_of (caches_of table.lines x.line) es x.asked now) refl k)))
     passes true (Refuses rule error) k n = λ h. absurd (never_one s h)
     passes false fallback k n = λ h. absurd (never_one s h)
 
-    validates : (o : Option Stored) (d : Decision) → validated es x r now ≡ o → decision_of (caches_of table.lines x.line) es x.asked now ≡ d → Is (revalidated table es now x r o d)
-    validates (Some e) d v k =
+    validates : (o : Option Stored) (d : Decision) → is_validation x r ≡ true → validated es x r now ≡ o → decision_of (caches_of table.lines x.line) es x.asked now ≡ d → Is (revalidated table es now x r o d)
+    validates (Some e) d y v k =
         let valid = validated_is es x r now e v in
         let serial : e.serial ≡ (refreshed x r now e).serial = sym (serial_stays x r now e) in
         λ h. record {
@@ -152,7 +193,7 @@ module _ (table : Table) (es : List Stored) (distinct : Distinct (serials es)) w
           asked = x.asked;
           about = (refl, refl);
           info = forwarded_as x (Some r.status) None;
-          tells_how = (None, refl);
+          tells_how = (None, refl, (λ some. refl, λ is none. absurd (some_is_not e (sym v ∙ none)), λ n. absurd (false≢true (sym n ∙ y))));
           reply = record {
             bytes = stored_text table.name (refreshed x r now e) now (forwarded_as x (Some r.status) None) x.asked;
             close = x.asked.close;
@@ -163,11 +204,12 @@ module _ (table : Table) (es : List Stored) (distinct : Distinct (serials es)) w
           outcome_is = refl;
           bytes_are = ap (λ b. stored_text table.name (cond b (refreshed x r now e) e) now (forwarded_as x (Some r.status) None) x.asked) (sym valid.answered);
         }
-    validates None (decision.Hit t) v k =
+    validates None (decision.Hit t) y v k =
         let f = found_hit (caches_of table.lines x.line) x.asked now t k in
         λ h. at_serial (Some x) (Answer now id r) (sent table es t now (forwarded_as x (Some r.status) (Some ReuseAfter304)) x.asked) t s (same_Some t s h)
-        (as_held (Some x) (Answer now id r) t now (forwarded_as x (Some r.status) (Some ReuseAfter304)) x.asked f (same_at 0 es x now id r v t f.0 f.1) (refl, refl) (Some ReuseAfter304, refl))
-    validates None (decision.Forward rule against) v k = λ h. absurd (never_one s h)
+        (as_held (Some x) (Answer now id r) t now (forwarded_as x (Some r.status) (Some ReuseAfter304)) x.asked f (same_at 0 es x now id r v t f.0 f.1) (refl, refl)
+        (Some ReuseAfter304, refl, (λ some. absurd (false≢true (ap is_some (sym v) ∙ some)), λ is none. refl, λ n. absurd (false≢true (sym n ∙ y)))))
+    validates None (decision.Forward rule against) y v k = λ h. absurd (never_one s h)
 
     answer_sends : Is (answered table es now x r next (decision_of (caches_of table.lines x.line) es x.asked now))
     answer_sends = by_304 (is_validation x r) refl
@@ -177,13 +219,13 @@ module _ (table : Table) (es : List Stored) (distinct : Distinct (serials es)) w
             (passed_unless table es now x r next (is_error_status r.status) (fallback_for es x.asked now (decision_of (caches_of table.lines x.line) es x.asked now))))
         by_unasked true n =
             fallback_sends x (Answer now id r) now BadAnswer (Some r.status) s (fallback_for es x.asked now (decision_of (caches_of table.lines x.line) es x.asked now)) refl
-            (λ e. ap (λ b. cond b (refreshed x r now e) e) (never_answered x r now e n)) (refl, refl) (λ detail. (detail, refl))
+            (λ e. ap (λ b. cond b (refreshed x r now e) e) (never_answered x r now e n)) (refl, refl) (λ t detail word. (detail, refl, word_of_error n t detail word))
         by_unasked false n = passes (is_error_status r.status) (fallback_for es x.asked now (decision_of (caches_of table.lines x.line) es x.asked now)) refl n
 
         by_304 : (b : Bool) → is_validation x r ≡ b → Is (cond b (revalidated table es now x r (validated es x r now) (decision_of (caches_of table.lines x.line) es x.asked now))
             (cond (is_unasked x.asked r) (failed table es now x BadAnswer (Some r.status) (fallback_for es x.asked now (decision_of (caches_of table.lines x.line) es x.asked now)))
             (passed_unless table es now x r next (is_error_status r.status) (fallback_for es x.asked now (decision_of (caches_of table.lines x.line) es x.asked now)))))
-        by_304 true k = validates (validated es x r now) (decision_of (caches_of table.lines x.line) es x.asked now) refl refl
+        by_304 true k = validates (validated es x r now) (decision_of (caches_of table.lines x.line) es x.asked now) k refl refl
         by_304 false k = by_unasked (is_unasked x.asked r) k
 
   woken_sends : (x : Exchange) (now id s : ℕ) (d : Decision) → decision_of (caches_of table.lines x.line) es x.asked now ≡ d → used_in (woken table es now x d) ≡ Some s →
@@ -200,7 +242,7 @@ module _ (table : Table) (es : List Stored) (distinct : Distinct (serials es)) w
   sends_by_event xs (Some x) next (Answer now id r) s h = answer_sends x now id r next s h
   sends_by_event xs None next (Answer now id r) s h = absurd (never_one s h)
   sends_by_event xs (Some x) next (Fail now id kind) s h =
-      fallback_sends x (Fail now id kind) now kind None s (fallback_for es x.asked now (decision_of (caches_of table.lines x.line) es x.asked now)) refl (λ e. refl) (refl, refl) (λ detail. (detail, refl)) h
+      fallback_sends x (Fail now id kind) now kind None s (fallback_for es x.asked now (decision_of (caches_of table.lines x.line) es x.asked now)) refl (λ e. refl) (refl, refl) (λ t detail word. (detail, refl, word)) h
   sends_by_event xs None next (Fail now id kind) s h = absurd (never_one s h)
   sends_by_event xs (Some x) next (Wake now id) s h = woken_sends x now id s (decision_of (caches_of table.lines x.line) es x.asked now) refl h
   sends_by_event xs None next (Wake now id) s h = absurd (never_one s h)

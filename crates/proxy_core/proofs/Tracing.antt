@@ -38,6 +38,10 @@ pub same_table : (start : State) (trace : List Item) → (left start trace).tabl
 same_table start [] = refl
 same_table start (item ∷ past) = same_table start past
 
+pub same_limit : (start : State) (trace : List Item) → (left start trace).limit ≡ start.limit
+same_limit start [] = refl
+same_limit start (item ∷ past) = same_limit start past
+
 pub good-push : (start : State) (events : List Event) (outcomes : List Outcome) (e : Event) (o : Outcome) (s t : State) → slice_get events (length outcomes) ≡ Some e → s ≡ left start (trace_of events outcomes) → Steps s e o t
     → IsGood start (trace_of events outcomes) → IsGood start (trace_of events (outcomes ++ o ∷ []))
 good-push start events outcomes e o s t h l k g =

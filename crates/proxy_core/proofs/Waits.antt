@@ -44,7 +44,8 @@ use Rattle.proxy_core.specs.Histories.{held_entries, open_exchanges, next_serial
 use Rattle.proxy_core.specs.Promises.{goes_forward, ends, is_arrival, NoneArrives, key_by_step}
 use Rattle.proxy_core.specs.Carrying.{ArrivesBefore, StandInOrder, ids_of}
 use Rattle.proxy_core.specs.Sending.{IsReusable}
-use Rattle.proxy_core.specs.Waiting.{CouldWait, NoneLeads, IsFirstToLead, WaitsWhereOneLeads, IsToWait, WaitsNowhereElse, has_closed, GoesForTheKey, OneGoesForward, is_wake, was_woken, NoneOf, stage_of, IsReady, WaitsUntilItsLeaderEnds, WokenOnceBehindItsLeader, ReadyInOrderOfArrival, WokenExactlyWhereReady, IsJudgedAnew, WokenIsJudgedAnew}
+use Rattle.proxy_core.specs.Waiting.{CouldWait, WaitsWhereOneLeads, IsToWait, WaitsNowhereElse, has_closed, GoesForTheKey, OneGoesForward, is_wake, was_woken, NoneOf, stage_of, IsReady, WaitsUntilItsLeaderEnds, WokenOnceBehindItsLeader, ReadyInOrderOfArrival, WokenExactlyWhereReady, IsJudgedAnew, WokenIsJudgedAnew}
+use Rattle.proxy_core.proofs.Leads.{first_is, led_by, is_the_miss}
 use Rattle.proxy_core.proofs.ExchangeLists.{overtaken_by, released_by, changed_by, find-push}
 use Rattle.proxy_core.proofs.Moves.{Move, apart, opens, queues, passes, again, wakes, closes, asked_of, ended_by, move_of, and_none, is_either, answer_either, released_from, ends_back}
 use Rattle.proxy_core.proofs.Tracing.{same_table}
@@ -55,20 +56,6 @@ use Rattle.proxy_core.proofs.SendLaws.{arrival_is, forwards_nothing_else}
 use Rattle.proxy_core.proofs.OpenLaws.{id_was_free}
 
 -- ---- the first that leads
-
-first_is : (key : Key) (before : List Exchange) (x : Exchange) (behind : List Exchange) → leads key x ≡ true → NoneLeads key before → leader key (before ++ x ∷ behind) ≡ Some x.id
-first_is key [] x behind h n = ap (λ b. cond b (Some x.id) (leader key behind)) h
-first_is key (y ∷ before) x behind h n = ap (λ b. cond b (Some y.id) (leader key (before ++ x ∷ behind))) n.0 ∙ first_is key before x behind h n.1
-
-led_by : (key : Key) (xs : List Exchange) (l : ℕ) → leader key xs ≡ Some l → IsFirstToLead key xs l
-led_by key [] l h = absurd (cc)
-led_by key (x ∷ xs) l h = by_test (λ k. led_by key xs l k) (leads key x) refl h
-  where
-    by_test : (leader key xs ≡ Some l → IsFirstToLead key xs l) → (b : Bool) → leads key x ≡ b → cond b (Some x.id) (leader key xs) ≡ Some l → IsFirstToLead key (x ∷ xs) l
-    by_test rest true k h = record { before = []; x = x; behind = xs; open_are = refl; id = same_Some x.id l h; it_leads = k; none_before = tt }
-    by_test rest false k h =
-        let r = rest h in
-        record { before = x ∷ r.before; x = r.x; behind = r.behind; open_are = ap (λ (zs : List Exchange). x ∷ zs) r.open_are; id = r.id; it_leads = r.it_leads; none_before = (k, r.none_before) }
 
 -- where one leads there is a first
 some_leads : (key : Key) (id : ℕ) (xs : List Exchange) (z : Exchange) → find_exchange id xs ≡ Some z → leads key z ≡ true → (l : ℕ) × (leader key xs ≡ Some l)
@@ -82,26 +69,6 @@ some_leads key id (x ∷ xs) z f h = by_test (λ g. some_leads key id xs z g h) 
     by_test : (find_exchange id xs ≡ Some z → (l : ℕ) × (leader key xs ≡ Some l)) → (b : Bool) → leads key x ≡ b → (l : ℕ) × (cond b (Some x.id) (leader key xs) ≡ Some l)
     by_test rest true k = (x.id, refl)
     by_test rest false k = by_id rest k (eqb x.id id) f
-
-is_the_miss : (rule : ReuseRule) → is_uri_miss rule ≡ true → rule ≡ rules.UriMiss
-is_the_miss rules.Operator h = absurd (false≢true h)
-is_the_miss rules.Method h = absurd (false≢true h)
-is_the_miss rules.Content h = absurd (false≢true h)
-is_the_miss rules.Range h = absurd (false≢true h)
-is_the_miss rules.Precondition h = absurd (false≢true h)
-is_the_miss rules.UriMiss h = refl
-is_the_miss rules.VaryMiss h = absurd (false≢true h)
-is_the_miss rules.ResponseNoCache h = absurd (false≢true h)
-is_the_miss rules.RequestNoCache h = absurd (false≢true h)
-is_the_miss rules.AboveMaxAge h = absurd (false≢true h)
-is_the_miss rules.BelowMinFresh h = absurd (false≢true h)
-is_the_miss rules.MustRevalidate h = absurd (false≢true h)
-is_the_miss rules.NoLifetime h = absurd (false≢true h)
-is_the_miss rules.StaleNoCache h = absurd (false≢true h)
-is_the_miss rules.NoMaxStale h = absurd (false≢true h)
-is_the_miss rules.PastMaxStale h = absurd (false≢true h)
-is_the_miss rules.StaleMaxAge h = absurd (false≢true h)
-is_the_miss rules.StaleMinFresh h = absurd (false≢true h)
 
 -- ---- who waits
 

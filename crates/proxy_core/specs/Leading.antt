@@ -3,7 +3,9 @@
 -- leads: a GET that went forward since nothing is held for its key      leader: the first of these to arrive
 -- leader_for: the one that a request waits for                          waits_for: an exchange waits for another
 -- ready_ids: the exchanges that may be woken, in the order of arrival
-use Rattle.std.specs.Prelude.{ℕ, ◌==◌, ◌&&◌, Bool, true, false, List, [], ◌∷◌, Option, Some, None, cond, bytes_eq, codes}
+-- NoneLeads, IsFirstToLead: the same in words
+use Rattle.std.specs.Prelude.{◌≡◌, ℕ, ◌==◌, ◌&&◌, Bool, true, false, List, [], ◌∷◌, ◌++◌, Option, Some, None, cond, bytes_eq, codes}
+use Rattle.std.specs.List.{AllByRecursion}
 use Rattle.hx_target.specs.declared.keys.Key.{Key}
 use Rattle.hx_target.specs.Keys.{same_key}
 use Rattle.hx_hop.specs.declared.request_view.Asked.{Asked}
@@ -56,3 +58,17 @@ leader_for xs asked rule = cond (is_get asked && is_uri_miss rule) (leader asked
 abbrev pub ready_ids : List Exchange → List ℕ
 ready_ids [] = []
 ready_ids (x ∷ xs) = cond (is_released x.stage) (x.id ∷ ready_ids xs) (ready_ids xs)
+
+-- none of these leads
+abbrev pub NoneLeads : Key → List Exchange → Type 0
+NoneLeads key xs = AllByRecursion (λ (x : Exchange). leads key x ≡ false) xs
+
+-- of the open exchanges, which stand in the order of arrival, the first GET of this key that went forward since nothing was held
+pub record IsFirstToLead (key : Key) (xs : List Exchange) (leader : ℕ) : Type 0 where
+  pub before : List Exchange
+  pub x : Exchange
+  pub behind : List Exchange
+  pub open_are : xs ≡ before ++ x ∷ behind
+  pub id : x.id ≡ leader
+  pub it_leads : leads key x ≡ true
+  pub none_before : NoneLeads key before

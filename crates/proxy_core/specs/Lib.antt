@@ -15,6 +15,8 @@ pub mod Waiting
 pub mod Naming
 pub mod Sending
 pub mod Uncached
+pub mod GoingOn
+pub mod StoredAnswers
 pub mod Headline
 pub mod Driving
 pub mod Pending
@@ -25,4 +27,5 @@ pub mod Releases
 pub mod Gets
 pub mod Kept
 pub mod Cases
+pub mod WrongTraces
 pub mod ReadAnswers

@@ -3,10 +3,12 @@
 --
 -- MayBeReused of hx_reuse: what RFC 9111 lets be sent      MayBeSentInstead: what RFC 5861 lets be sent in place of an error
 -- MayBeSentAt: what may be sent at an event                IsThatResponse: what is sent is that response
+-- GoesForward, WaitsForTheFirst: the two ways to an origin's answer
 -- IsReached, IsTurnedAway: what becomes of a request that is allowed, and of one that isn't
 -- Below them are the statements that the laws of `src/laws.rt` prove.
-use Rattle.std.specs.Prelude.{◌≡◌, ◌≢◌, ◌⊎◌, ℕ, ◌||◌, Bool, true, false, List, ◌∷◌, Option, Some, None}
+use Rattle.std.specs.Prelude.{◌≡◌, ◌≢◌, ◌⊎◌, ℕ, ◌||◌, Bool, true, false, List, ◌∷◌, Option, Some, None, is_some}
 use Rattle.hx_directives.specs.Occurrences.{occurrences_of}
+use Rattle.hx_framing.specs.declared.messages.Response.{Response}
 use Rattle.hx_hop.specs.declared.request_view.Asked.{Asked}
 use Rattle.hx_allow.specs.Lines.{Table}
 use Rattle.hx_allow.specs.Matching.{verdict_of, caches_of}
@@ -14,12 +16,14 @@ use Rattle.hx_allow.specs.declared.verdicts.Verdict.TheVariants.{Allowed, Denied
 use Rattle.hx_store.specs.Stored.{Stored}
 use Rattle.hx_store.specs.Shelf.{find_entry}
 use Rattle.hx_reuse.specs.Rules.{stands, names_entry}
-use Rattle.hx_reuse.specs.Meaning.{IsChosen, IsLeast}
+use Rattle.hx_reuse.specs.Meaning.{IsChosen, IsLeast, NamesTheResponse}
 use Rattle.hx_reuse.specs.Reusable.{MayBeReused}
 use Rattle.hx_reuse.specs.OnError.{MayBeSentOnError}
 use Rattle.hx_reuse.specs.declared.rule.ReuseRule.{ReuseRule}
+use Rattle.hx_reuse.specs.declared.rule.ReuseRule.TheVariants.{UriMiss}
 use Rattle.hx_status.specs.declared.cause.Cause.TheVariants.{Denied, NoLine, OnlyIfCached}
 use Rattle.hx_status.specs.declared.status.Detail.{Detail}
+use Rattle.hx_status.specs.declared.status.Detail.TheVariants.{StaleIfError, ReuseAfterError, ReuseAfter304}
 use Rattle.proxy_core.specs.declared.exchange.Exchange.{Exchange}
 use Rattle.proxy_core.specs.declared.stored_reply.CacheStatusInfo.{CacheStatusInfo}
 use Rattle.proxy_core.specs.declared.outcome.Reply.{Reply}
@@ -28,10 +32,10 @@ use Rattle.proxy_core.specs.declared.outcome.Outcome.TheVariants.{Reply as Repli
 use Rattle.proxy_core.specs.declared.event.Event.{Event}
 use Rattle.proxy_core.specs.declared.event.Event.TheVariants.{Arrive, Answer, Fail, Wake, Abandon}
 use Rattle.proxy_core.specs.Storing.{is_unasked}
-use Rattle.proxy_core.specs.Validating.{is_validation, validated}
+use Rattle.proxy_core.specs.Validating.{condition_at, is_validation, validated}
 use Rattle.proxy_core.specs.Replies.{stored_text}
-use Rattle.proxy_core.specs.Outcomes.{find_exchange, id_of, is_only_if_cached, is_error_status, refused, as_hit, forwarded_as, collapsed_as}
-use Rattle.proxy_core.specs.Leading.{leader_for}
+use Rattle.proxy_core.specs.Outcomes.{find_exchange, id_of, is_only_if_cached, is_error_status, refused, forward_text, as_hit, forwarded_as, collapsed_as}
+use Rattle.proxy_core.specs.Leading.{is_get, leader_for, NoneLeads, IsFirstToLead}
 use Rattle.proxy_core.specs.State.{used_in, used_form}
 use Rattle.proxy_core.specs.Traces.{Item}
 use Rattle.proxy_core.specs.Histories.{held_entries, open_exchanges, IsGoodHistory}
@@ -72,13 +76,35 @@ MayBeSentAt table held x (Abandon id) s = ⊥
 
 -- ---- an item
 
+-- By the least rule against a stored response a request goes to the origin of a line: its own text, with conditions where the rule
+-- is on a response that has a validator, about that one (RFC 9111, section 4.3.1).
+pub record GoesForward (table : Table) (held : List Stored) (asked : Asked) (now line : ℕ) (rule : ReuseRule) (outcome : Outcome) : Type 0 where
+  pub is_least : IsLeast (caches_of table.lines line) held asked now rule
+  pub against : Option ℕ
+  pub names : NamesTheResponse held asked rule against
+  pub outcome_is : outcome ≡ Forward line (forward_text table asked (condition_at held against))
+
+-- a GET for whose key nothing is held goes forward only where no other is at the origin for that reason
+abbrev pub NobodyLeads : List Exchange → Asked → ReuseRule → Type 0
+NobodyLeads xs asked rule = is_get asked ≡ true → rule ≡ UriMiss → NoneLeads asked.target.key xs
+
+-- A GET for whose key nothing is held, and that takes an answer of the origin, waits for the first to arrive of those that are at
+-- the origin for that reason (RFC 9111, section 4: collapsed requests).
+pub record WaitsForTheFirst (table : Table) (held : List Stored) (xs : List Exchange) (now : ℕ) (asked : Asked) (line : ℕ) (outcome : Outcome) : Type 0 where
+  pub leader : ℕ
+  pub takes_others : is_only_if_cached asked ≡ false
+  pub gets : is_get asked ≡ true
+  pub nothing_held : IsLeast (caches_of table.lines line) held asked now UriMiss
+  pub first_leads : IsFirstToLead asked.target.key xs leader
+  pub outcome_is : outcome ≡ Waits leader
+
 -- A request that is allowed reaches the cache, which sends a stored response, or the origin of that line; or it waits for the
 -- answer to another request for its target; or it takes no response but a stored one, and is told the rule against that.
-abbrev pub IsReached : Table → List Stored → ℕ → Asked → ℕ → Outcome → Type 0
-IsReached table held now asked line outcome =
+abbrev pub IsReached : Table → List Stored → List Exchange → ℕ → Asked → ℕ → Outcome → Type 0
+IsReached table held xs now asked line outcome =
     ((s : ℕ) × (used_in outcome ≡ Some s))
-    ⊎ (((bytes : List ℕ) × (outcome ≡ Forward line bytes))
-    ⊎ (((leader : ℕ) × (outcome ≡ Waits leader))
+    ⊎ (((rule : ReuseRule) × GoesForward table held asked now line rule outcome × (is_only_if_cached asked ≡ false) × NobodyLeads xs asked rule)
+    ⊎ (WaitsForTheFirst table held xs now asked line outcome
     ⊎ ((rule : ReuseRule) × (is_only_if_cached asked ≡ true) × IsLeast (caches_of table.lines line) held asked now rule × (outcome ≡ refused now (OnlyIfCached rule) asked))))
 
 -- any other is turned away, by the line that denies it or because none matches
@@ -87,16 +113,29 @@ IsTurnedAway table now asked outcome =
     ((line : ℕ) × (verdict_of table.lines asked.method asked.target ≡ DeniedBy line) × (outcome ≡ refused now (Denied line) asked))
     ⊎ ((verdict_of table.lines asked.method asked.target ≡ Unmatched) × (outcome ≡ refused now NoLine asked))
 
--- what Cache-Status tells of a stored response (RFC 9211): a hit, or why the request had gone forward, and what came
-abbrev pub TellsHow : Option Exchange → Event → CacheStatusInfo → Type 0
-TellsHow x (Arrive now id asked) h = h ≡ as_hit
-TellsHow (Some x) (Answer now id r) h = (detail : Option Detail) × (h ≡ forwarded_as x (Some r.status) detail)
-TellsHow (Some x) (Fail now id kind) h = (detail : Option Detail) × (h ≡ forwarded_as x None detail)
-TellsHow (Some x) (Wake now id) h = h ≡ collapsed_as x
-TellsHow None (Answer now id r) h = ⊥
-TellsHow None (Fail now id kind) h = ⊥
-TellsHow None (Wake now id) h = ⊥
-TellsHow x (Abandon id) h = ⊥
+-- The word of one that is sent in place of an error: it may be sent anyway, or in that place alone.
+abbrev pub WordAfterError : Bool → List Stored → Asked → ℕ → ℕ → Option Detail → Type 0
+WordAfterError caches held asked now s detail =
+    (IsReusable caches held asked now s → detail ≡ Some ReuseAfterError) × ((IsReusable caches held asked now s → ⊥) → detail ≡ Some StaleIfError)
+
+-- The word of one that is sent at an answer: none where the 304 answers it; else that the 304 answered none, or that of an error.
+abbrev pub WordAtAnswer : Bool → List Stored → Exchange → ℕ → Response → ℕ → Option Detail → Type 0
+WordAtAnswer caches held x now r s detail =
+    (is_some (validated held x r now) ≡ true → detail ≡ None)
+    × (is_validation x r ≡ true → validated held x r now ≡ None → detail ≡ Some ReuseAfter304)
+    × (is_validation x r ≡ false → WordAfterError caches held x.asked now s detail)
+
+-- what Cache-Status tells of a stored response (RFC 9211): a hit, or why the request had gone forward, what came, and the word of
+-- the step
+abbrev pub TellsHow : Table → List Stored → Option Exchange → Event → ℕ → CacheStatusInfo → Type 0
+TellsHow table held x (Arrive now id asked) s h = h ≡ as_hit
+TellsHow table held (Some x) (Answer now id r) s h = (detail : Option Detail) × (h ≡ forwarded_as x (Some r.status) detail) × WordAtAnswer (caches_of table.lines x.line) held x now r s detail
+TellsHow table held (Some x) (Fail now id kind) s h = (detail : Option Detail) × (h ≡ forwarded_as x None detail) × WordAfterError (caches_of table.lines x.line) held x.asked now s detail
+TellsHow table held (Some x) (Wake now id) s h = h ≡ collapsed_as x
+TellsHow table held None (Answer now id r) s h = ⊥
+TellsHow table held None (Fail now id kind) s h = ⊥
+TellsHow table held None (Wake now id) s h = ⊥
+TellsHow table held x (Abandon id) s h = ⊥
 
 -- the moment of an event, and the request that it is about
 abbrev pub IsAbout : Option Exchange → Event → ℕ → Asked → Type 0
@@ -118,7 +157,7 @@ pub record IsThatResponse (table : Table) (held : List Stored) (x : Option Excha
   pub asked : Asked
   pub about : IsAbout x event now asked
   pub info : CacheStatusInfo
-  pub tells_how : TellsHow x event info
+  pub tells_how : TellsHow table held x event s info
   pub reply : Reply
   pub outcome_is : outcome ≡ Replied reply
   pub bytes_are : reply.bytes ≡ stored_text table.name (used_form x event response) now info asked
@@ -154,7 +193,7 @@ ForwardsNowhereElse = (table : Table) (limit first now id line : ℕ) (asked : A
 abbrev pub ReachesWhereAllowed : Type 0
 ReachesWhereAllowed = (table : Table) (limit first now id line : ℕ) (asked : Asked) (item : Item) (past : List Item) →
     IsGoodHistory table limit first (item ∷ past) → item.event ≡ Arrive now id asked →
-    verdict_of table.lines asked.method asked.target ≡ Allowed line → IsReached table (held_entries table limit past) now asked line item.outcome
+    verdict_of table.lines asked.method asked.target ≡ Allowed line → IsReached table (held_entries table limit past) (open_exchanges table limit past) now asked line item.outcome
 
 -- Any other is refused, by the line that denies it or because none matches.
 abbrev pub RefusesWhereNotAllowed : Type 0

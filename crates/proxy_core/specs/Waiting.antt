@@ -1,6 +1,6 @@
 -- Requests for one target wait for the first of them. A trace has its latest item first.
 --
--- CouldWait: a request that may wait        IsFirstToLead: the exchange that it waits for
+-- CouldWait: a request that may wait, for the first that leads (`Leading.antt`)
 -- WaitsWhereOneLeads, WaitsNowhereElse, OneGoesForward: who waits, and what for
 -- IsReady: an exchange that may be woken
 -- WaitsUntilItsLeaderEnds, WokenOnceBehindItsLeader, ReadyInOrderOfArrival, WokenExactlyWhereReady, WokenIsJudgedAnew: how it ends
@@ -24,7 +24,7 @@ use Rattle.proxy_core.specs.declared.outcome.Outcome.TheVariants.{Forward, Waits
 use Rattle.proxy_core.specs.declared.event.Event.{Event}
 use Rattle.proxy_core.specs.declared.event.Event.TheVariants.{Arrive, Answer, Fail, Wake, Abandon}
 use Rattle.proxy_core.specs.Moments.{too_late}
-use Rattle.proxy_core.specs.Leading.{is_released, is_get, leads, ready_ids}
+use Rattle.proxy_core.specs.Leading.{is_released, is_get, ready_ids, IsFirstToLead}
 use Rattle.proxy_core.specs.Outcomes.{find_exchange, id_of, fault_by, is_only_if_cached}
 use Rattle.proxy_core.specs.State.{used_in}
 use Rattle.proxy_core.specs.Traces.{Item}
@@ -42,20 +42,6 @@ pub record CouldWait (table : Table) (limit : ℕ) (past : List Item) (now line 
   pub takes_others : is_only_if_cached asked ≡ false
   pub gets : is_get asked ≡ true
   pub nothing_held : IsLeast (caches_of table.lines line) (held_entries table limit past) asked now UriMiss
-
--- none of these leads
-abbrev pub NoneLeads : Key → List Exchange → Type 0
-NoneLeads key xs = AllByRecursion (λ (x : Exchange). leads key x ≡ false) xs
-
--- of the open exchanges, which stand in the order of arrival, the first GET of this key that went forward since nothing was held
-pub record IsFirstToLead (key : Key) (xs : List Exchange) (leader : ℕ) : Type 0 where
-  pub before : List Exchange
-  pub x : Exchange
-  pub behind : List Exchange
-  pub open_are : xs ≡ before ++ x ∷ behind
-  pub id : x.id ≡ leader
-  pub it_leads : leads key x ≡ true
-  pub none_before : NoneLeads key before
 
 -- whoever could wait does, where one leads
 abbrev pub WaitsWhereOneLeads : Type 0

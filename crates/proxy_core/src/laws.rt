@@ -3,10 +3,11 @@
 ghost use Rattle.proxy_core.specs.Meaning.{OpenFromArrivalToEnd, OpenByArrivalAlone, HasItsRequest, KeepsItsRule, OvertakenWhereInvalidated, NextIsCounted, StoredHasTheNext, LeavesNoChoice, GoodOverWhatIsHeld, GoodOverTheList, KeepsWhatIsHeld, KeepsWhatIsOpen, KeepsTheNext};
 ghost use Rattle.proxy_core.specs.Carrying.{CarriesItsArrival, OpenInOrderOfArrival};
 ghost use Rattle.proxy_core.specs.Driving.{PromisesOfADrivenCore};
-ghost use Rattle.proxy_core.specs.Headline.{EveryGoodTraceHasIt};
+ghost use Rattle.proxy_core.specs.Headline.{EveryGoodTraceHasIt, NoOtherTraceHasIt};
 ghost use Rattle.proxy_core.specs.Naming.{NamesFirstRules};
 ghost use Rattle.proxy_core.specs.Sending.{SendsStoredWhereItMay, SendsStoredNowhereElse, SendsWhatIsHeld, ForwardsWhereAllowed, ForwardsNowhereElse, ReachesWhereAllowed, RefusesWhereNotAllowed};
 ghost use Rattle.proxy_core.specs.Waiting.{WaitsWhereOneLeads, WaitsNowhereElse, OneGoesForward, WaitsUntilItsLeaderEnds, WokenOnceBehindItsLeader, ReadyInOrderOfArrival, WokenExactlyWhereReady, WokenIsJudgedAnew};
+ghost use Rattle.proxy_core.specs.StoredAnswers.{RemovesJustThat, StoresNowhereElse, StoresWhereItMay};
 ghost use Rattle.proxy_core.specs.Uncached.{StoresNothingOverIt, SendsNothingOverIt, GoesForwardOverIt};
 
 /// After a good trace an exchange is open from its arrival to its end and not else, with the request and the rule of its
@@ -105,6 +106,20 @@ pub fn a_waiting_request_is_woken_once_behind_its_leader()
     ensures order { ReadyInOrderOfArrival }
     ensures ready { WokenExactlyWhereReady }
     ensures anew { WokenIsJudgedAnew }
+{}
+
+/// In a good trace the answer to an open exchange is stored exactly where RFC 9111, section 3 lets it be, with the choices that the
+/// definition marks *own*, and no stored response is sent in its place: under the next serial. What goes with a step is what a stored
+/// answer takes the place of, what an unsafe request invalidates, and what a 304 freshens and may not be kept.
+pub fn an_answer_is_stored_where_it_may_be()
+    ensures every { StoresWhereItMay }
+    ensures only { StoresNowhereElse }
+    ensures removed { RemovesJustThat }
+{}
+
+/// No trace but a good one has the headline, where each answer of an origin has a final status: the record leaves no outcome open.
+pub fn no_other_trace_has_the_headline()
+    ensures { NoOtherTraceHasIt }
 {}
 
 /// Every good trace has the headline.

@@ -16,6 +16,7 @@ mod answering;
 mod arriving;
 mod condition;
 mod event;
+mod event_cases;
 mod exchange;
 mod exchanges;
 mod failing;
@@ -23,6 +24,7 @@ mod fallback;
 mod fault;
 mod finishing;
 mod get_index;
+mod headline_cases;
 mod ids;
 mod judging;
 mod laws;
@@ -31,6 +33,7 @@ mod moments;
 mod origin_answer;
 mod outcome;
 mod pending;
+mod promise_cases;
 mod proxy;
 mod released;
 mod reply_text;
@@ -47,20 +50,32 @@ mod worked_cases;
 
 pub use crate::condition::Condition;
 pub use crate::event::Event;
+pub use crate::event_cases::{what_events_are, what_outcomes_are, what_traces_have};
 pub use crate::exchange::Exchange;
 pub use crate::fallback::Fallback;
 pub use crate::fault::CoreFault;
+pub use crate::headline_cases::{
+    the_headline_refuses_no_answer, the_headline_refuses_other_names,
+    the_headline_refuses_other_requests, the_headline_refuses_other_waits,
+    the_headline_refuses_what_may_not_be_sent, the_headline_refuses_what_never_comes,
+    the_headline_refuses_what_the_table_forbids, the_headline_refuses_wrong_storing,
+};
 pub use crate::ids::Ids;
 pub use crate::laws::{
     a_core_keeps_what_is_held, a_driven_core_keeps_the_promises, a_good_trace_leaves_no_choice,
     a_line_without_cache_touches_no_stored_response, a_request_goes_forward_where_it_is_allowed,
     a_request_reaches_cache_or_origin_where_it_is_allowed,
     a_stored_response_is_sent_where_one_may_be, a_waiting_request_is_woken_once_behind_its_leader,
-    an_open_exchange_carries_its_arrival, each_answer_names_its_first_rule,
-    every_good_trace_has_the_headline, open_from_arrival_to_end, overtaken_where_invalidated,
+    an_answer_is_stored_where_it_may_be, an_open_exchange_carries_its_arrival,
+    each_answer_names_its_first_rule, every_good_trace_has_the_headline,
+    no_other_trace_has_the_headline, open_from_arrival_to_end, overtaken_where_invalidated,
     requests_for_one_target_wait_for_the_first, serials_are_counted,
 };
 pub use crate::outcome::{Outcome, Reply, Run};
+pub use crate::promise_cases::{
+    a_denied_request_leaves_no_trace, an_exchange_goes_twice_and_replies_once,
+    what_goes_forward_is_the_request, what_is_invalidated_is_not_sent,
+};
 pub use crate::proxy::Core;
 pub use crate::reply_text::refused;
 pub use crate::runs::run;

@@ -1,4 +1,3 @@
 pub mod ClientConditions
-pub mod StoredAnswers
 pub mod OneResponse
 pub mod StoredReplies

@@ -5,14 +5,6 @@
 ghost use Rattle.proxy_laws.specs.ClientConditions.{AnswersNoOther, AnswersTheCondition};
 ghost use Rattle.proxy_laws.specs.OneResponse.{PassesOneResponse, RefusesAsOneResponse};
 ghost use Rattle.proxy_laws.specs.StoredReplies.{FreshensSendable, HoldsSendable, SendsA304AsOne, SendsWholeAsOne, StoresSendable};
-ghost use Rattle.proxy_laws.specs.StoredAnswers.{StoresNowhereElse, StoresWhereItMay};
-
-/// In a good history the answer to an open exchange is stored exactly where RFC 9111, section 3 lets it be, with the choices that
-/// the definition marks *own*, and no stored response is sent in its place. It gets the next serial.
-pub fn an_answer_is_stored_where_it_may_be()
-    ensures every { StoresWhereItMay }
-    ensures only { StoresNowhereElse }
-{}
 
 /// A client's If-None-Match, or where that is absent its If-Modified-Since, gets a 304 from a stored response exactly where the
 /// standard says that the condition fails (RFC 9110, sections 13.1.2, 13.1.3 and 13.2.2).

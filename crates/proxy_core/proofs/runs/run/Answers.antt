@@ -19,7 +19,7 @@ module _ (table : Table) (limit first : ℕ) (events : List Event) (outcomes mor
   good : IsGoodHistory table limit first (trace_of events more)
   good = good_held table limit first (trace_of events more) plain
 
-  has_it : Headline table limit (trace_of events more)
+  has_it : Headline table limit first (trace_of events more)
   has_it = headline table limit first (trace_of events more) good
 
 pub returns-clause-good : goal.returns-clause-good

@@ -1,8 +1,9 @@
 -- When an answer of an origin is stored: in the words of RFC 9111, section 3, over the exchange that is open and the answer that
--- came for it. So the facts that the storing rules are handed are said here in the field's terms.
+-- came for it. So the facts that the storing rules are handed are said here in the field's terms. And what is then held no longer.
 --
 -- NamesFields, KeepsItsFields, CanBeReused: what the answer's fields have to say     MayBeStoredAt: all that is asked
-use Rattle.std.specs.Prelude.{◌≡◌, ◌⊎◌, ℕ, ◌≤◌, true, false, bytes_eq, List, ◌∷◌, length, codes, is_some, All, Option, Some, None}
+-- IsStoredAnswer: an item that stores it      removed_at: what an item takes away
+use Rattle.std.specs.Prelude.{◌≡◌, ◌⊎◌, ℕ, ◌≤◌, true, false, bytes_eq, List, [], ◌∷◌, length, codes, is_some, All, Option, Some, None, cond}
 use Rattle.hx_fields.specs.declared.field_line.Field.{Field}
 use Rattle.hx_fields.specs.Lines.{has as has_line}
 use Rattle.hx_fields.specs.Tokens.{is_token}
@@ -10,19 +11,27 @@ use Rattle.hx_framing.specs.declared.messages.Response.{Response}
 use Rattle.hx_directives.specs.Occurrences.{occurrences_of}
 use Rattle.hx_directives.specs.Answers.{has}
 use Rattle.hx_directives.specs.declared.names.Directive.TheVariants.{MaxAge, SMaxage}
+use Rattle.hx_target.specs.declared.keys.Key.{Key}
 use Rattle.hx_vary.specs.Vary.{vary_names}
 use Rattle.hx_hop.specs.Answering.{answered_of}
 use Rattle.hx_hop.specs.Stripping.{cache_names, connection_names}
 use Rattle.hx_allow.specs.Lines.{Table}
 use Rattle.hx_allow.specs.Matching.{caches_of}
+use Rattle.hx_store.specs.Stored.{Stored}
+use Rattle.hx_store.specs.Shelf.{serials_of}
 use Rattle.hx_storable.specs.Storable.{IsFinal, IsForTheStore, IsStorable}
 use Rattle.hx_validate.specs.Validators.{modified_value, tag_value}
 use Rattle.proxy_core.specs.declared.exchange.Exchange.{Exchange}
-use Rattle.proxy_core.specs.declared.event.Event.TheVariants.{Answer}
-use Rattle.proxy_core.specs.Outcomes.{find_exchange}
-use Rattle.proxy_core.specs.State.{stored_in, used_in}
+use Rattle.proxy_core.specs.declared.outcome.Outcome.{Outcome}
+use Rattle.proxy_core.specs.declared.event.Event.{Event}
+use Rattle.proxy_core.specs.declared.event.Event.TheVariants.{Arrive, Answer, Fail, Wake, Abandon}
+use Rattle.proxy_core.specs.Storing.{replaced_by}
+use Rattle.proxy_core.specs.Validating.{validated, refreshed, is_kept}
+use Rattle.proxy_core.specs.Outcomes.{find_exchange, id_of}
+use Rattle.proxy_core.specs.State.{stored_in, used_in, removed_in}
 use Rattle.proxy_core.specs.Traces.{Item}
-use Rattle.proxy_core.specs.Histories.{IsGoodHistory, next_serial, open_exchanges}
+use Rattle.proxy_core.specs.Histories.{IsGoodHistory, held_entries, next_serial, open_exchanges}
+use Rattle.proxy_core.specs.Promises.{key_by_answer}
 
 -- each member of Vary is a field name: none is a star, by which no later request would ever match (RFC 9111, section 4.1)
 abbrev pub NamesFields : List Field → Type 0
@@ -55,15 +64,6 @@ pub record MayBeStoredAt (table : Table) (next : Option ℕ) (x : Exchange) (r :
   pub fits : length r.content ≤ table.max_stored
   pub serial_is_left : is_some next ≡ true
 
--- ---- the statements
-
--- An answer that may be stored, and in whose place no stored response is sent, is stored, under the next serial.
-abbrev pub StoresWhereItMay : Type 0
-StoresWhereItMay = (table : Table) (limit first now id : ℕ) (x : Exchange) (r : Response) (item : Item) (past : List Item) →
-    IsGoodHistory table limit first (item ∷ past) → item.event ≡ Answer now id r → find_exchange id (open_exchanges table limit past) ≡ Some x →
-    used_in item.outcome ≡ None → MayBeStoredAt table (next_serial first past) x r now →
-    stored_in item.outcome ≡ next_serial first past
-
 -- the event is the answer to an exchange that is open, and may be stored
 pub record IsStoredAnswer (table : Table) (limit first : ℕ) (item : Item) (past : List Item) : Type 0 where
   pub now : ℕ
@@ -75,7 +75,47 @@ pub record IsStoredAnswer (table : Table) (limit first : ℕ) (item : Item) (pas
   pub nothing_is_sent_instead : used_in item.outcome ≡ None
   pub may_be_stored : IsFinal (answered_of response now) → MayBeStoredAt table (next_serial first past) exchange response now
 
+-- ---- what is taken away
+
+-- a response that a 304 answers and freshens goes, where a storing rule stands against what it becomes (RFC 9111, sections 3 and 4.3.4)
+abbrev pub not_kept : Table → Exchange → ℕ → Response → Option Stored → List ℕ
+not_kept table x now r None = []
+not_kept table x now r (Some e) = cond (is_kept table x r (refreshed x r now e)) [] (e.serial ∷ [])
+
+-- all that is held for a key goes, where one is invalidated (section 4.4)
+abbrev pub held_for : List Stored → Option Key → List ℕ → List ℕ
+held_for held None others = others
+held_for held (Some key) others = serials_of key held
+
+-- By an answer: where it is stored, those go that would answer the same request (section 4.1).
+abbrev pub removed_by_answer : Table → List Stored → Exchange → ℕ → Response → Outcome → List ℕ
+removed_by_answer table held x now r outcome =
+    cond (is_some (stored_in outcome)) (replaced_by held x.asked) (held_for held (key_by_answer x.asked r outcome) (not_kept table x now r (validated held x r now)))
+
+-- no other event takes anything away
+abbrev pub removed_at : Table → List Stored → Option Exchange → Event → Outcome → List ℕ
+removed_at table held (Some x) (Answer now id r) outcome = removed_by_answer table held x now r outcome
+removed_at table held None (Answer now id r) outcome = []
+removed_at table held x (Arrive now id asked) outcome = []
+removed_at table held x (Fail now id kind) outcome = []
+removed_at table held x (Wake now id) outcome = []
+removed_at table held x (Abandon id) outcome = []
+
+-- ---- the statements
+
+-- An answer that may be stored, and in whose place no stored response is sent, is stored, under the next serial.
+abbrev pub StoresWhereItMay : Type 0
+StoresWhereItMay = (table : Table) (limit first now id : ℕ) (x : Exchange) (r : Response) (item : Item) (past : List Item) →
+    IsGoodHistory table limit first (item ∷ past) → item.event ≡ Answer now id r → find_exchange id (open_exchanges table limit past) ≡ Some x →
+    used_in item.outcome ≡ None → MayBeStoredAt table (next_serial first past) x r now →
+    stored_in item.outcome ≡ next_serial first past
+
 -- Nothing else is stored. That its status is final is known of each response that was read (law `what_is_read_is_final`).
 abbrev pub StoresNowhereElse : Type 0
 StoresNowhereElse = (table : Table) (limit first s : ℕ) (item : Item) (past : List Item) →
     IsGoodHistory table limit first (item ∷ past) → stored_in item.outcome ≡ Some s → IsStoredAnswer table limit first item past
+
+-- what an item takes away
+abbrev pub RemovesJustThat : Type 0
+RemovesJustThat = (table : Table) (limit first : ℕ) (item : Item) (past : List Item) → IsGoodHistory table limit first (item ∷ past) →
+    removed_in item.outcome ≡ removed_at table (held_entries table limit past) (find_exchange (id_of item.event) (open_exchanges table limit past)) item.event item.outcome

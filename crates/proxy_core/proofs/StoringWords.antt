@@ -1,0 +1,141 @@
+-- The facts that the storing rules are handed, and what they say in words.
+use Rattle.std.proofs.Common.{◌≡◌, inl, inr, ◌⊎◌, ℕ, ◌≤◌, Bool, true, false, not, ◌||◌, cond, List, [], ◌∷◌, refl, arith}
+use Rattle.std.specs.Prelude.{All, Option, Some, None, bytes_eq, codes, is_none, is_some, nat_lt}
+use Rattle.std.specs.List.{list_any}
+use Rattle.std.proofs.lemmas.Bool.Decides.{nat_tests}
+use Rattle.std.proofs.lemmas.List.Elements.{All-nil, All-cons, All-head, All-tail}
+use Rattle.hx_fields.specs.declared.field_line.Field.{Field}
+use Rattle.hx_fields.specs.Lines.{has as has_line}
+use Rattle.hx_fields.specs.Tokens.{is_token}
+use Rattle.hx_directives.specs.Occurrences.{occurrences_of}
+use Rattle.hx_directives.specs.Answers.{has, seconds}
+use Rattle.hx_directives.specs.declared.names.Directive.TheVariants.{MaxAge, SMaxage}
+use Rattle.hx_age.specs.declared.lifetimes.Lifetime.{Lifetime}
+use Rattle.hx_age.specs.Lifetime.{explicit_of, lifetime_of, stated_seconds, until_expires}
+use Rattle.hx_vary.specs.Vary.{is_star, is_star_member, vary_names}
+use Rattle.hx_hop.specs.Stripping.{cache_names, connection_names, lists_cache_field}
+use Rattle.hx_validate.specs.Validators.{has_validator, modified_value, tag_value}
+use Rattle.proxy_core.specs.StoredAnswers.{CanBeReused, KeepsItsFields, NamesFields}
+
+neither : (a b : Bool) → a || b ≡ false → (a ≡ false) × (b ≡ false)
+neither true b h = absurd cc
+neither false b h = (refl, h)
+
+one_of : (a b : Bool) → a || b ≡ true → (a ≡ true) ⊎ (b ≡ true)
+one_of true b h = inl refl
+one_of false b h = inr h
+
+pub not_false : (b : Bool) → not b ≡ false → b ≡ true
+not_false true h = refl
+not_false false h = absurd cc
+
+-- ---- Vary
+
+no_star : (names : List (List ℕ)) → All (λ name. (bytes_eq name (codes "*") ≡ false) × (is_token name ≡ true)) names → list_any is_star_member names ≡ false
+no_star [] all = refl
+no_star (n ∷ names) all =
+    let first = All-head (λ name. (bytes_eq name (codes "*") ≡ false) × (is_token name ≡ true)) n names all in
+    rw (first.0, first.1) (no_star names (All-tail (λ name. (bytes_eq name (codes "*") ≡ false) × (is_token name ≡ true)) n names all))
+
+names_each : (names : List (List ℕ)) → list_any is_star_member names ≡ false → All (λ name. (bytes_eq name (codes "*") ≡ false) × (is_token name ≡ true)) names
+names_each [] h = All-nil (λ name. (bytes_eq name (codes "*") ≡ false) × (is_token name ≡ true))
+names_each (n ∷ names) h =
+    let parts = neither (is_star_member n) (list_any is_star_member names) h in
+    let first = neither (bytes_eq n (codes "*")) (not (is_token n)) parts.0 in
+    All-cons (λ name. (bytes_eq name (codes "*") ≡ false) × (is_token name ≡ true)) n names (first.0, not_false (is_token n) first.1) (names_each names parts.1)
+
+pub star_absent : (fields : List Field) → NamesFields fields → is_star fields ≡ false
+star_absent fields all = no_star (vary_names fields) all
+
+pub fields_named : (fields : List Field) → is_star fields ≡ false → NamesFields fields
+fields_named fields h = names_each (vary_names fields) h
+
+-- ---- Connection
+
+module _ (received : List Field) where
+  none_listed : (names : List (List ℕ)) → All (λ name. connection_names received name ≡ false) names → list_any (connection_names received) names ≡ false
+  none_listed [] all = refl
+  none_listed (n ∷ names) all =
+      rw (All-head (λ name. connection_names received name ≡ false) n names all) (none_listed names (All-tail (λ name. connection_names received name ≡ false) n names all))
+
+  each_kept : (names : List (List ℕ)) → list_any (connection_names received) names ≡ false → All (λ name. connection_names received name ≡ false) names
+  each_kept [] h = All-nil (λ name. connection_names received name ≡ false)
+  each_kept (n ∷ names) h =
+      let parts = neither (connection_names received n) (list_any (connection_names received) names) h in
+      All-cons (λ name. connection_names received name ≡ false) n names parts.0 (each_kept names parts.1)
+
+  pub lists_none : KeepsItsFields received → lists_cache_field received ≡ false
+  lists_none all = none_listed cache_names all
+
+  pub keeps_all : lists_cache_field received ≡ false → KeepsItsFields received
+  keeps_all h = each_kept cache_names h
+
+-- ---- lifetimes and validators
+
+abbrev stated : Bool → Bool → Bool → ℕ → ℕ → ℕ → Lifetime
+stated s m e a b c = cond s (explicit_of a) (cond m (explicit_of b) (cond e (explicit_of c) (record { explicit = false; seconds = 0 })))
+
+explicit_by : (s m e : Bool) (a b c : ℕ) → (s ≡ true) ⊎ ((m ≡ true) ⊎ (e ≡ true)) → (stated s m e a b c).explicit ≡ true
+explicit_by true m e a b c h = refl
+explicit_by false true e a b c h = refl
+explicit_by false false true a b c h = refl
+explicit_by false false false a b c (inl h) = absurd cc
+explicit_by false false false a b c (inr (inl h)) = absurd cc
+explicit_by false false false a b c (inr (inr h)) = absurd cc
+
+said_by : (s m e : Bool) (a b c : ℕ) → (stated s m e a b c).explicit ≡ true → (s ≡ true) ⊎ ((m ≡ true) ⊎ (e ≡ true))
+said_by true m e a b c h = inl refl
+said_by false true e a b c h = inr (inl refl)
+said_by false false true a b c h = inr (inr refl)
+said_by false false false a b c h = absurd cc
+
+module _ (fields : List Field) where
+  lasting : (has (occurrences_of fields) SMaxage ≡ true) ⊎ ((has (occurrences_of fields) MaxAge ≡ true) ⊎ (has_line fields (codes "Expires") ≡ true)) → (lifetime_of fields).explicit ≡ true
+  lasting h =
+      explicit_by (has (occurrences_of fields) SMaxage) (has (occurrences_of fields) MaxAge) (has_line fields (codes "Expires"))
+      (stated_seconds (seconds (occurrences_of fields) SMaxage)) (stated_seconds (seconds (occurrences_of fields) MaxAge)) (until_expires fields) h
+
+  lasts : (lifetime_of fields).explicit ≡ true → (has (occurrences_of fields) SMaxage ≡ true) ⊎ ((has (occurrences_of fields) MaxAge ≡ true) ⊎ (has_line fields (codes "Expires") ≡ true))
+  lasts h =
+      said_by (has (occurrences_of fields) SMaxage) (has (occurrences_of fields) MaxAge) (has_line fields (codes "Expires"))
+      (stated_seconds (seconds (occurrences_of fields) SMaxage)) (stated_seconds (seconds (occurrences_of fields) MaxAge)) (until_expires fields) h
+
+  pub can_be_reused : ((lifetime_of fields).explicit ≡ true) ⊎ (has_validator fields ≡ true) → CanBeReused fields
+  can_be_reused (inl h) = of_lifetime (lasts h)
+    where
+      of_lifetime : (has (occurrences_of fields) SMaxage ≡ true) ⊎ ((has (occurrences_of fields) MaxAge ≡ true) ⊎ (has_line fields (codes "Expires") ≡ true)) → CanBeReused fields
+      of_lifetime (inl s) = inl s
+      of_lifetime (inr (inl m)) = inr (inl m)
+      of_lifetime (inr (inr e)) = inr (inr (inl e))
+  can_be_reused (inr h) = of_validator (one_of (is_some (tag_value fields)) (is_some (modified_value fields)) h)
+    where
+      of_validator : (is_some (tag_value fields) ≡ true) ⊎ (is_some (modified_value fields) ≡ true) → CanBeReused fields
+      of_validator (inl t) = inr (inr (inr (inl t)))
+      of_validator (inr m) = inr (inr (inr (inr m)))
+
+  pub lasts_or_validates : CanBeReused fields → ((lifetime_of fields).explicit ≡ true) ⊎ (has_validator fields ≡ true)
+  lasts_or_validates (inl s) = inl (lasting (inl s))
+  lasts_or_validates (inr (inl m)) = inl (lasting (inr (inl m)))
+  lasts_or_validates (inr (inr (inl e))) = inl (lasting (inr (inr e)))
+  lasts_or_validates (inr (inr (inr (inl t)))) = inr (rw t refl)
+  lasts_or_validates (inr (inr (inr (inr m)))) = inr (last (is_some (tag_value fields)) m)
+    where
+      last : (a : Bool) → is_some (modified_value fields) ≡ true → a || is_some (modified_value fields) ≡ true
+      last true h = refl
+      last false h = h
+
+-- ---- limits
+
+pub fits_in : (most n : ℕ) → n ≤ most → nat_lt most n ≡ false
+fits_in most n h = grind (arith, nat_tests, h)
+
+pub is_within : (most n : ℕ) → nat_lt most n ≡ false → n ≤ most
+is_within most n h = grind (arith, nat_tests, h)
+
+pub some_left : (next : Option ℕ) → is_none next ≡ false → is_some next ≡ true
+some_left None h = absurd cc
+some_left (Some n) h = refl
+
+pub none_is_not : (next : Option ℕ) → is_some next ≡ true → is_none next ≡ false
+none_is_not None h = absurd cc
+none_is_not (Some n) h = refl
