@@ -90,8 +90,9 @@ pub fn a_line_without_cache_touches_no_stored_response()
     ensures forwards { GoesForwardOverIt }
 {}
 
-/// In a good trace a GET waits exactly where nothing is held for its key and a GET for that is at the origin for the same
-/// reason: for the first of these to arrive. So of the GETs for one key one goes forward, as long as it is open.
+/// In a good trace a GET waits exactly where that nothing is held for its key is the first rule against a stored response, and a GET
+/// for that key is at the origin by the same rule: for the first of these to arrive. So while one that arrived is at the origin by this
+/// rule, none that arrives goes there by it. One that another rule sends forward, as a GET with Range, doesn't wait.
 pub fn requests_for_one_target_wait_for_the_first()
     ensures waits { WaitsWhereOneLeads }
     ensures only { WaitsNowhereElse }
