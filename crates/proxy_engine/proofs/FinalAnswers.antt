@@ -1,12 +1,14 @@
 -- Each answer that acts ask the core about is one that an origin's stream spells, and so has a final status.
-use Rattle.std.proofs.Common.{◌≡◌, ◌≤◌, inl, inr, ℕ, Bool, true, false, List, [], ◌∷◌, sym, subst}
+use Rattle.std.proofs.Common.{◌≡◌, ◌≤◌, inl, inr, ℕ, Bool, true, false, List, [], ◌∷◌, refl, sym, ◌∙◌, subst}
 use Rattle.std.specs.Prelude.{Option, Some, None}
 use Rattle.std.specs.List.{AllByRecursion}
+use Rattle.hx_framing.specs.declared.messages.Request.{Request}
 use Rattle.hx_framing.specs.declared.messages.Response.{Response}
 use Rattle.hx_framing.specs.declared.messages.Next.{Next}
 use Rattle.hx_framing.specs.declared.messages.Next.TheVariants as next
 use Rattle.hx_framing.specs.Progress.{Progress, next_of}
 use Rattle.hx_framing.specs.Reading.{Reading, Incomplete, Continue, Over, Spelled, Faulty}
+use Rattle.hx_framing.specs.RequestReading.{Reads as ReadsRequest}
 use Rattle.hx_framing.specs.ResponseReading.{Reads}
 use Rattle.hx_framing.specs.ResponseStream.{Answers, AnswersBy}
 use Rattle.hx_status.specs.declared.cause.FailKind.{FailKind}
@@ -14,56 +16,91 @@ use Rattle.proxy_core.specs.declared.event.Event.{Event}
 use Rattle.proxy_core.specs.declared.event.Event.TheVariants as events
 use Rattle.proxy_core.specs.ReadAnswers.{IsRead, IsReadEvent}
 use Rattle.proxy_core.specs.Traces.{Item}
-use Rattle.proxy_engine.specs.Story.{Story, LinkStory, link_at}
-use Rattle.proxy_engine.specs.Due.{Act, Abandons, Finishes, Wakes, Serves, Gives, Breaks, IsDueFirst, FinishBy, finish_of}
+use Rattle.proxy_engine.specs.Story.{Story, ConnStory, LinkStory, connection_at, link_at}
+use Rattle.proxy_engine.specs.Due.{Act, Abandons, Finishes, Wakes, Serves, Gives, Breaks, IsDueFirst, FinishBy, WishBy, finish_of, is_busy, wish_of}
 use Rattle.proxy_engine.specs.Lives.{Took, Worked, IsEventOf}
-use Rattle.proxy_engine.specs.FinalAnswers.{AnswersAreFinal, AnswersAreRead, HasFinalStatus}
+use Rattle.proxy_engine.specs.FinalAnswers.{ActsAreSpelled, AnswersAreFinal, AnswersAreRead, HasFinalStatus, SpellsAnswer, SpellsRequest}
 
--- ---- a response that stands on a link was read
+-- ---- what an act is about is what a stream spells
 
-spelled : (p : Progress Response) (r : Response) (reading : Reading Response) → Reads p.max_body p.to_head p.ended p.stream reading →
-    next.Message r ≡ next_of reading → IsRead r
-spelled p r Incomplete h e = absurd cc
-spelled p r Continue h e = absurd cc
-spelled p r Over h e = absurd cc
-spelled p r (Faulty f) h e = absurd cc
-spelled p r (Spelled m rest) h e = subst IsRead (sym same) is
-  where
-    same : r ≡ m
-    same = cc
+next_spelled : {M : Type 0} (m : M) (reading : Reading M) → next.Message m ≡ next_of reading → (rest : List ℕ) × (reading ≡ Spelled m rest)
+next_spelled m Incomplete e = absurd cc
+next_spelled m Continue e = absurd cc
+next_spelled m Over e = absurd cc
+next_spelled m (Faulty f) e = absurd cc
+next_spelled m (Spelled n rest) e = (rest, cc)
 
-    is : IsRead m
-    is = record { max_body = p.max_body; to_head = p.to_head; ended = p.ended; bytes = p.stream; rest = rest; reads = h }
+abbrev IsAnswer : Progress Response → Response → Type 0
+IsAnswer p r = (p.given ≡ []) × ((rest : List ℕ) × Reads p.max_body p.to_head p.ended p.stream (Spelled r rest))
 
-answered : (p : Progress Response) (r : Response) (given : List Response) → AnswersBy p given (next.Message r) → IsRead r
-answered p r [] h = spelled p r h.0 h.1 h.2
-answered p r (g ∷ more) h = absurd cc
+answered : (p : Progress Response) (r : Response) (given : List Response) → p.given ≡ given → AnswersBy p given (next.Message r) → IsAnswer p r
+answered p r [] none h =
+    let is = next_spelled r h.0 h.2 in
+    (none, (is.0, subst (λ (reading : Reading Response). Reads p.max_body p.to_head p.ended p.stream reading) is.1 h.1))
+answered p r (g ∷ more) some h = absurd cc
 
-finished : (p : Progress Response) (r : Response) (a : Next Response) (kind : Option FailKind) → Answers p a → Some (Gives r) ≡ finish_of a kind → IsRead r
+finished : (p : Progress Response) (r : Response) (a : Next Response) (kind : Option FailKind) → Answers p a → Some (Gives r) ≡ finish_of a kind → IsAnswer p r
 finished p r next.More None h e = absurd cc
 finished p r next.More (Some k) h e = absurd cc
 finished p r next.NeedsContinue kind h e = absurd cc
 finished p r (next.Refused f) kind h e = absurd cc
 finished p r next.End kind h e = absurd cc
-finished p r (next.Message m) kind h e = subst IsRead (sym same) (answered p m p.given h.by)
+finished p r (next.Message m) kind h e = subst (λ (q : Response). IsAnswer p q) (sym same) (answered p m p.given refl h.by)
   where
     same : r ≡ m
     same = cc
 
-stood : (k : LinkStory) (r : Response) (dropped : Bool) → FinishBy dropped k (Some (Gives r)) → IsRead r
-stood k r true h = absurd cc
-stood k r false h = finished k.progress r h.0 k.failed h.1 h.2
+stood : (k : LinkStory) (r : Response) (dropped : Bool) → k.dropped ≡ dropped → FinishBy dropped k (Some (Gives r)) → SpellsAnswer k r
+stood k r true is h = absurd cc
+stood k r false is h =
+    let answer = finished k.progress r h.0 k.failed h.1 h.2 in
+    record { still = is; none_given = answer.0; rest = answer.1.0; reads = answer.1.1 }
 
-asked : (s : Story) (now : ℕ) (act : Act) (event : Event) → IsDueFirst s (Some act) → IsEventOf s now act event → IsReadEvent event
-asked s now (Abandons i l) event due is = subst IsReadEvent (sym is) tt
-asked s now (Finishes j (Gives r)) event due is = subst IsReadEvent (sym is) (stood (link_at s j) r (link_at s j).dropped due.1.1)
-asked s now (Finishes j (Breaks kind)) event due is = subst IsReadEvent (sym is) tt
-asked s now (Wakes i) event due is = subst IsReadEvent (sym is) tt
-asked s now (Serves i (next.Message r)) event due is = subst IsReadEvent (sym is.2) tt
-asked s now (Serves i next.More) event due is = absurd is
-asked s now (Serves i next.NeedsContinue) event due is = absurd is
-asked s now (Serves i (next.Refused fault)) event due is = absurd is
-asked s now (Serves i next.End) event due is = absurd is
+wished : (r : Request) (a : Next Request) → Some (next.Message r) ≡ wish_of a → next.Message r ≡ a
+wished r next.More e = absurd cc
+wished r next.NeedsContinue e = absurd cc
+wished r (next.Message m) e = cc
+wished r (next.Refused f) e = absurd cc
+wished r next.End e = absurd cc
+
+wanted : (c : ConnStory) (r : Request) (busy : Bool) → is_busy c.gone c.closed c.activity ≡ busy → WishBy busy c (Some (next.Message r)) → SpellsRequest c r
+wanted c r true is h = absurd cc
+wanted c r false is h =
+    let answer = h.1 in
+    let read = next_spelled r answer.reading (wished r h.0 h.2 ∙ answer.answer_is) in
+    record {
+      free = is;
+      behind = answer.rest;
+      given = answer.spells;
+      rest = read.0;
+      reads = subst (λ (reading : Reading Request). ReadsRequest c.progress.max_body c.progress.ended c.progress.told answer.rest reading) read.1 answer.reads;
+    }
+
+pub acts_are_spelled : ActsAreSpelled
+acts_are_spelled s (Abandons i l) due = tt
+acts_are_spelled s (Finishes j (Gives r)) due = stood (link_at s j) r (link_at s j).dropped refl due.1.1
+acts_are_spelled s (Finishes j (Breaks kind)) due = tt
+acts_are_spelled s (Wakes i) due = tt
+acts_are_spelled s (Serves i (next.Message r)) due =
+    wanted (connection_at s i) r (is_busy (connection_at s i).gone (connection_at s i).closed (connection_at s i).activity) refl due.3.1
+acts_are_spelled s (Serves i next.More) due = tt
+acts_are_spelled s (Serves i next.NeedsContinue) due = tt
+acts_are_spelled s (Serves i (next.Refused fault)) due = tt
+acts_are_spelled s (Serves i next.End) due = tt
+
+read_of : (k : LinkStory) (r : Response) → SpellsAnswer k r → IsRead r
+read_of k r is = record { max_body = k.progress.max_body; to_head = k.progress.to_head; ended = k.progress.ended; bytes = k.progress.stream; rest = is.rest; reads = is.reads }
+
+event_read : (s : Story) (now : ℕ) (act : Act) (event : Event) → IsDueFirst s (Some act) → IsEventOf s now act event → IsReadEvent event
+event_read s now (Abandons i l) event due is = subst IsReadEvent (sym is) tt
+event_read s now (Finishes j (Gives r)) event due is = subst IsReadEvent (sym is) (read_of (link_at s j) r (acts_are_spelled s (Finishes j (Gives r)) due))
+event_read s now (Finishes j (Breaks kind)) event due is = subst IsReadEvent (sym is) tt
+event_read s now (Wakes i) event due is = subst IsReadEvent (sym is) tt
+event_read s now (Serves i (next.Message r)) event due is = subst IsReadEvent (sym is.2) tt
+event_read s now (Serves i next.More) event due is = absurd is
+event_read s now (Serves i next.NeedsContinue) event due is = absurd is
+event_read s now (Serves i (next.Refused fault)) event due is = absurd is
+event_read s now (Serves i next.End) event due is = absurd is
 
 -- ---- so was each that a life tells of
 
@@ -75,7 +112,7 @@ answers_are_read table begin last [] trace h = subst AreRead (sym h.1) tt
 answers_are_read table begin last (Took happening ∷ steps) trace (before, past, tells, leads, adds) =
     subst AreRead (sym adds) (answers_are_read table begin before steps past tells)
 answers_are_read table begin last (Worked now act told ∷ steps) trace (before, past, tells, leads, inl (item, is, one)) =
-    subst AreRead (sym is) (asked before now act item.event leads.0 one.event_is, answers_are_read table begin before steps past tells)
+    subst AreRead (sym is) (event_read before now act item.event leads.0 one.event_is, answers_are_read table begin before steps past tells)
 answers_are_read table begin last (Worked now act told ∷ steps) trace (before, past, tells, leads, inr (same, none, own)) =
     subst AreRead (sym same) (answers_are_read table begin before steps past tells)
 

@@ -12,6 +12,7 @@ pub mod Finding
 pub mod Once
 pub mod Ending
 pub mod Wishing
+pub mod Spending
 pub mod Stepping
 pub mod Wires
 pub mod Ordering

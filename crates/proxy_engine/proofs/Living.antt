@@ -33,9 +33,9 @@ module _ (table : Table) where
   core_after i to_head Queues s = refl
   core_after i to_head Nothing s = refl
 
-  stepped : (now : ℕ) (act : Act) (s t : Story) (to_head : Bool) (event : Event) (told : List Effect) (after : Story) → s.core.table ≡ table → IsEventOf s now act event
-      → StepsOn s t (place_of s act) to_head event (drops_of s act) told after → Goes s now act told after
-  stepped now act s t to_head event told after config is h =
+  pub step_told : (now : ℕ) (act : Act) (s t : Story) (to_head : Bool) (event : Event) (told : List Effect) (after : Story) → s.core.table ≡ table → IsEventOf s now act event
+      → StepsOn s t (place_of s act) to_head event (drops_of s act) told after → (item : Item) × IsTold table s now act item told after
+  step_told now act s t to_head event told after config is h =
       let item : Item = record { event = event; outcome = h.outcome } in
       let core : after.core ≡ h.core = ap (λ (u : Story). u.core) h.after_is ∙ core_after (place_of s act) to_head (came s.core.table h.outcome) (with_core t h.core) in
       let is_told : IsTold table s now act item told after = record {
@@ -43,7 +43,11 @@ module _ (table : Table) where
         steps = subst (λ (u : CoreState). Steps s.core event h.outcome u) (sym core) h.steps;
         told_is = h.told_is ∙ ap (λ (c : Table). drops_of s act ++ effects_on (place_of s act) (next_number s) (came c h.outcome)) config;
       } in
-      inl (item, is_told)
+      (item, is_told)
+
+  stepped : (now : ℕ) (act : Act) (s t : Story) (to_head : Bool) (event : Event) (told : List Effect) (after : Story) → s.core.table ≡ table → IsEventOf s now act event
+      → StepsOn s t (place_of s act) to_head event (drops_of s act) told after → Goes s now act told after
+  stepped now act s t to_head event told after config is h = inl (step_told now act s t to_head event told after config is h)
 
   refused : (now : ℕ) (s : Story) (i : ℕ) (wish : Next Request) (why : Cause) (head : Bool) (told : List Effect) (after : Story) → HasNoEvent (Serves i wish) → IsRefused s now i why head told after → Goes s now (Serves i wish) told after
   refused now s i wish why head told after none h = inr (ap (λ (u : Story). u.core) h.after_is, none, Refuses why head h.told_is)
@@ -89,11 +93,11 @@ heard_core s (Fails l kind) = refl
 
 module _ (table : Table) (limit first : ℕ) (begin : Story) where
   -- the core's steps so far, as they were told
-  record Runs (steps : List Step) (t : Story) : Type 0 where
-    trace : List Item
-    has_run : HasRun table limit first trace t.core
-    config : t.core.table ≡ table
-    tells : Tells table begin steps t trace
+  pub record Runs (steps : List Step) (t : Story) : Type 0 where
+    pub trace : List Item
+    pub has_run : HasRun table limit first trace t.core
+    pub config : t.core.table ≡ table
+    pub tells : Tells table begin steps t trace
 
   worked : (steps : List Step) (now : ℕ) (act : Act) (told : List Effect) (s t : Story) → Leads s (Worked now act told) t → (run : Runs steps s) → Goes table s now act told t → Runs (Worked now act told ∷ steps) t
   worked steps now act told s t leads run (inl h) = record {
@@ -120,7 +124,7 @@ module _ (table : Table) (limit first : ℕ) (begin : Story) where
       }
   step_on steps (Worked now act told) s t l run = worked steps now act told s t l run (acts table now act s told t run.config l.1)
 
-  lives : begin.core ≡ core_begun table limit first → (steps : List Step) (t : Story) → Lives begin steps t → Runs steps t
+  pub lives : begin.core ≡ core_begun table limit first → (steps : List Step) (t : Story) → Lives begin steps t → Runs steps t
   lives e [] t h =
       let core : t.core ≡ core_begun table limit first = ap (λ (u : Story). u.core) h ∙ e in
       record { trace = []; has_run = core; config = ap (λ (u : CoreState). u.table) core; tells = (h, refl) }

@@ -35,7 +35,7 @@ stood_by : (b : Bool) (x : LinkStory) (o p : Option Finish) → FinishBy b x o �
 stood_by true x o p h k = h ∙ sym k
 stood_by false x o p h k = h.2 ∙ (ap (λ a. finish_of a x.failed) (responses_once x.progress h.0 k.0 h.1 k.1) ∙ sym k.2)
 
-stood_once : (x : LinkStory) (o p : Option Finish) → Stood x o → Stood x p → o ≡ p
+pub stood_once : (x : LinkStory) (o p : Option Finish) → Stood x o → Stood x p → o ≡ p
 stood_once x o p h k = stood_by x.dropped x o p h k
 
 wanted_by : (b : Bool) (x : ConnStory) (o p : Option (Next Request)) → WishBy b x o → WishBy b x p → o ≡ p
@@ -45,10 +45,10 @@ wanted_by false x o p h k = h.2 ∙ (ap wish_of (requests_once x.progress h.0 k.
 wanted_once : (x : ConnStory) (o p : Option (Next Request)) → Wanted x o → Wanted x p → o ≡ p
 wanted_once x o p h k = wanted_by (is_busy x.gone x.closed x.activity) x o p h k
 
-lost_same : (s : Story) (a b : Option (ℕ × Option ℕ)) → IsFirst Lost no_connection s.connections a → IsFirst Lost no_connection s.connections b → a ≡ b
+pub lost_same : (s : Story) (a b : Option (ℕ × Option ℕ)) → IsFirst Lost no_connection s.connections a → IsFirst Lost no_connection s.connections b → a ≡ b
 lost_same s a b h k = first_once Lost no_connection s.connections a b lost_once h k
 
-stood_same : (s : Story) (a b : Option (ℕ × Finish)) → IsFirst Stood no_link s.links a → IsFirst Stood no_link s.links b → a ≡ b
+pub stood_same : (s : Story) (a b : Option (ℕ × Finish)) → IsFirst Stood no_link s.links a → IsFirst Stood no_link s.links b → a ≡ b
 stood_same s a b h k = first_once Stood no_link s.links a b stood_once h k
 
 wanted_same : (s : Story) (a b : Option (ℕ × Next Request)) → IsFirst Wanted no_connection s.connections a → IsFirst Wanted no_connection s.connections b → a ≡ b

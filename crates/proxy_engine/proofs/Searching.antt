@@ -24,13 +24,17 @@ module _ {A B C : Type 0} (R : Option A → B → Type 0) (P : B → Option C �
   at_place : (ys : List B) → Both R (listed m n) ys → (j : ℕ) → j < n → R (get nat_cmp m j) (get_or ys j d)
   at_place ys both j l = subst (λ (o : Option A). R o (get_or ys j d)) (listed_at m n j None l) (both_at R (listed m n) ys j None d both (omega (arith, l, listed_length m n)))
 
+  -- nothing that is open before i has the flag
+  pub before_none : (i : ℕ) → i < n → NoneBelow flag m i → (ys : List B) → Both R (listed m n) ys → (j : ℕ) → j < i → P (get_or ys j d) None
+  before_none i within before ys both j l = passed j (get_or ys j d) (get nat_cmp m j) refl (λ x e. before j x l e) (at_place ys both j (omega (arith, l, within)))
+
   -- what is open at i shows c, and nothing before it has the flag
   pub found_first : (i : ℕ) (c : C) → i < n → ((y : B) → R (get nat_cmp m i) y → P y (Some c)) → NoneBelow flag m i → (ys : List B) → Both R (listed m n) ys → IsFirst P d ys (Some (i, c))
   found_first i c within here before ys both =
       let same = both_length R (listed m n) ys both in (
         omega (arith, within, same, listed_length m n),
         here (get_or ys i d) (at_place ys both i within),
-        λ j l. passed j (get_or ys j d) (get nat_cmp m j) refl (λ x e. before j x l e) (at_place ys both j (omega (arith, l, within))),
+        before_none i within before ys both,
       )
 
   -- nothing has the flag

@@ -8,6 +8,7 @@ pub mod Admitted
 pub mod Due
 pub mod Acts
 pub mod State
+pub mod Spent
 pub mod Room
 pub mod Reading
 pub mod Places

@@ -1,10 +1,11 @@
 //! The first act that is due: an exchange is abandoned, else one is finished, else a request that waited is woken, else a
 //! connection is served.
-ghost use Rattle.std.specs.Prelude.{◌≡◌, ◌<◌, ◌≤◌, None, Some, IfOk, IfErr, OnErr};
+ghost use Rattle.std.specs.Prelude.{◌≡◌, ◌<◌, ◌≤◌, None, Some, Err, IfOk, IfErr, OnErr};
 ghost use Rattle.hx_fields.specs.declared.limits.TheConstants.{END_OF_TIME};
 ghost use Rattle.proxy_engine.specs.Story.{Story, no_connection, no_link};
 ghost use Rattle.proxy_engine.specs.Due.{IsFirst, Lost, Stood, next_ready};
 ghost use Rattle.proxy_engine.specs.State.{Stands, NoneLost, load_at, Did, Failed, Lessens};
+ghost use Rattle.proxy_engine.specs.Spent.{TellsSpent};
 
 use crate::engine::Engine;
 use crate::happening::{EngineFault, Work};
@@ -42,6 +43,8 @@ impl<S: Shelf> Engine<S> {
         ensures less { IfOk result (λ work. Lessens self.old work self.new) }
         ensures fault { IfErr result (λ fault. (s : Story) → IsFirst Lost no_connection s.connections None → IsFirst Stood no_link s.links None
             → Stands self.old s → Failed s fault) }
+        ensures spent { result ≡ Err EngineFault.OutOfMemory → (s : Story) → IsFirst Lost no_connection s.connections None → IsFirst Stood no_link s.links None
+            → Stands self.old s → TellsSpent s self.new }
         ensures unchanged { OnErr result ((s : Story) → Stands self.old s → Stands self.new s) }
         ensures no_more { OnErr result (load_at self.new ≤ load_at self.old) }
     {
@@ -63,6 +66,8 @@ impl<S: Shelf> Engine<S> {
         ensures less { IfOk result (λ work. Lessens self.old work self.new) }
         ensures fault { IfErr result (λ fault. (s : Story) → IsFirst Lost no_connection s.connections None
             → Stands self.old s → Failed s fault) }
+        ensures spent { result ≡ Err EngineFault.OutOfMemory → (s : Story) → IsFirst Lost no_connection s.connections None
+            → Stands self.old s → TellsSpent s self.new }
         ensures unchanged { OnErr result ((s : Story) → Stands self.old s → Stands self.new s) }
         ensures no_more { OnErr result (load_at self.new ≤ load_at self.old) }
     {
@@ -83,6 +88,8 @@ impl<S: Shelf> Engine<S> {
         ensures ok { IfOk result (λ work. (s : Story) → Stands self.old s → Did s now work self.new) }
         ensures less { IfOk result (λ work. Lessens self.old work self.new) }
         ensures fault { IfErr result (λ fault. (s : Story) → Stands self.old s → Failed s fault) }
+        // Where what is due may need a link and no number is left, that is told, and not that memory is wanting.
+        ensures spent { result ≡ Err EngineFault.OutOfMemory → (s : Story) → Stands self.old s → TellsSpent s self.new }
         ensures unchanged { OnErr result ((s : Story) → Stands self.old s → Stands self.new s) }
         ensures no_more { OnErr result (load_at self.new ≤ load_at self.old) }
     {

@@ -21,11 +21,15 @@ pub(crate) trait Endpoint: Drop {
     /// For how many bytes there is room.
     ghost spare: { Self → ℕ };
 
+    /// Nothing is known of it: it wasn't asked, or found no memory.
+    ghost is_unknown: { Self → Bool };
+
     /// Whether something is due there. What is found is kept, so nothing is read twice.
     fn poll(&mut self, alloc: Global) -> Result<bool, AllocError>
         ensures alike { LooksLike self.old self.new }
         ensures yes { IfOk result (λ b. b ≡ true → IsShown (Some self.new)) }
-        ensures no { IfOk result (λ b. b ≡ false → may_show self.new ≡ false) };
+        ensures no { IfOk result (λ b. b ≡ false → may_show self.new ≡ false) }
+        ensures failed { OnErr result (is_unknown self.new ≡ true) };
 
     /// Makes room for so many bytes. An `Err` changes nothing.
     fn reserve(&mut self, n: usize) -> Result<(), AllocError>
@@ -43,6 +47,7 @@ pub(crate) trait Endpoint: Drop {
 impl Endpoint for Connection {
     ghost use Rattle.proxy_engine.specs.Held.{GrowsConnection};
     ghost use Rattle.proxy_engine.specs.Marked.{may_want, LooksLikeConnection, WantsThere};
+    ghost use Rattle.proxy_engine.specs.Spent.{connection_unknown};
     ghost use Rattle.std.proofs.Common.{refl, ◌∙◌};
     ghost use Rattle.std.proofs.Math.Nat.{le_refl, le_trans};
 
@@ -55,6 +60,8 @@ impl Endpoint for Connection {
     ghost Grows = { GrowsConnection };
 
     ghost spare = { λ c. c.reader.inner.spare };
+
+    ghost is_unknown = { connection_unknown };
 
     fn poll(&mut self, alloc: Global) -> Result<bool, AllocError> {
         if self.gone || self.activity.has_exchange() {
@@ -83,6 +90,7 @@ impl Endpoint for Connection {
 impl Endpoint for Link {
     ghost use Rattle.proxy_engine.specs.Held.{GrowsLink};
     ghost use Rattle.proxy_engine.specs.Marked.{may_stand, LooksLikeLink, StandsThere};
+    ghost use Rattle.proxy_engine.specs.Spent.{link_unknown};
     ghost use Rattle.std.proofs.Common.{refl, ◌∙◌};
     ghost use Rattle.std.proofs.Math.Nat.{le_refl, le_trans};
 
@@ -95,6 +103,8 @@ impl Endpoint for Link {
     ghost Grows = { GrowsLink };
 
     ghost spare = { λ k. k.reader.inner.spare };
+
+    ghost is_unknown = { link_unknown };
 
     fn poll(&mut self, alloc: Global) -> Result<bool, AllocError> {
         self.reader.look_ahead(alloc)?;

@@ -1,8 +1,9 @@
 //! The first place at which something is due. What `poll` finds is kept, so nothing is read twice.
-ghost use Rattle.std.specs.Prelude.{◌≡◌, ◌≢◌, ℕ, length, true, false, is_some, IfOk, IfSome, IfNone, OnOk, MatchOption, Contains, Some};
+ghost use Rattle.std.specs.Prelude.{◌≡◌, ◌≢◌, ℕ, length, true, false, is_some, IfOk, IfSome, IfNone, OnOk, OnErr, MatchOption, Contains, Some};
 ghost use Rattle.std.specs.Ordering.{nat_cmp};
 ghost use Rattle.std.specs.BTreeMap.{get};
 ghost use Rattle.proxy_engine.specs.Places.{IsMarked};
+ghost use Rattle.proxy_engine.specs.Spent.{HasThere};
 ghost use Rattle.proxy_engine.specs.Marked.{may_be_lost, AtEach, NoneBelow, NoneAtAll, lost_at};
 
 use crate::endpoint::Endpoint;
@@ -59,6 +60,7 @@ fn poll_at<E: Endpoint>(
     ensures size { length ends.new.entries ≡ length ends.old.entries }
     ensures yes { IfOk result (λ b. b ≡ true → E.IsShown (get nat_cmp ends.new place)) }
     ensures no { IfOk result (λ b. b ≡ false → (x : E) → get nat_cmp ends.new place ≡ Some x → E.may_show x ≡ false) }
+    ensures failed { OnErr result (HasThere E.is_unknown (get nat_cmp ends.new place)) }
 {
     match ends.get_mut(&place) {
         Some(end) => end.poll(alloc),
@@ -79,6 +81,7 @@ pub(crate) fn first_due<E: Endpoint>(
     ensures size { length ends.new.entries ≡ length ends.old.entries }
     ensures found { IfOk result (λ found. MatchOption found (NoneAtAll E.may_show ends.new)
         (λ place. E.IsShown (get nat_cmp ends.new place) × NoneBelow E.may_show ends.new place × Contains marked.old.places place)) }
+    ensures failed { OnErr result ((place : ℕ) × HasThere E.is_unknown (get nat_cmp ends.new place) × NoneBelow E.may_show ends.new place × Contains marked.old.places place) }
 {
     while let Some(place) = marked.least() {
         if poll_at(ends, place, alloc)? {

@@ -4,7 +4,7 @@ ghost use Rattle.proxy_engine.specs.Story.{Story};
 ghost use Rattle.proxy_engine.specs.Due.{Act, IsDueFirst};
 ghost use Rattle.proxy_engine.specs.Drops.{ActsAreShort, ActsTellDrops, TakesDropNone};
 ghost use Rattle.proxy_engine.specs.Lives.{ActsInOneWay, HasOneTrace, LivesAreRuns};
-ghost use Rattle.proxy_engine.specs.FinalAnswers.{AnswersAreFinal, AnswersAreRead};
+ghost use Rattle.proxy_engine.specs.FinalAnswers.{ActsAreSpelled, AnswersAreFinal, AnswersAreRead};
 ghost use Rattle.proxy_engine.specs.Orderly.{BeginsOrderly, TakesInOrder, ActsInOrder, TakesStay, ActsStay};
 
 use hx_framing::laws::response_laws::what_is_read_is_final;
@@ -63,9 +63,11 @@ pub fn lives_are_runs()
     ensures { LivesAreRuns }
 {}
 
-/// Whatever an engine lives through, each answer that it hands to its core is one that an origin's stream spells, and has a final
-/// status, from 200 to 599.
+/// The answer that an act hands to the core is the response that the stream of its own link spells, and the request that of its own
+/// connection behind those that were served. So whatever an engine lives through, each answer in its trace is one that a stream spells
+/// as a response, and has a final status, from 200 to 599.
 pub fn answers_are_final()
+    ensures spelled { ActsAreSpelled }
     ensures read { AnswersAreRead }
     ensures status { AnswersAreFinal }
 {

@@ -7,6 +7,7 @@ ghost use Rattle.proxy_engine.specs.Reading.{places_with, has_failed, link_end};
 ghost use Rattle.proxy_engine.specs.Room.{IsRoomyLink, piece};
 ghost use Rattle.proxy_engine.specs.Wiring.{owners_of};
 ghost use Rattle.proxy_engine.specs.State.{Both, LinkStands, FoundLinks, link_load};
+ghost use Rattle.proxy_engine.specs.Spent.{StopsAt};
 
 use crate::ends::Link;
 use crate::finds::first_due;
@@ -160,6 +161,7 @@ impl Links {
     pub(crate) fn find_finished(&mut self, alloc: Global) -> Result<Option<u64>, AllocError>
         ensures stands { (ss : List LinkStory) → Both LinkStands self.old.items ss → Both LinkStands self.new.items ss }
         ensures found { IfOk result (λ found. FoundLinks self.new.items found) }
+        ensures failed { OnErr result (StopsAt self.new.items) }
         ensures owners { owners_of self.new.items ≡ owners_of self.old.items }
         ensures load { sum_by link_load self.new.items ≤ sum_by link_load self.old.items }
     {

@@ -1,11 +1,12 @@
 //! A reader that is asked ahead: its answer is kept until it is used, so that no act reads bytes twice, and a message that finds
 //! no memory on its way isn't lost.
-ghost use Rattle.std.specs.Prelude.{◌≡◌, ◌+◌, ◌*◌, ◌≤◌, length, false, IsOk, OnOk, OnErr, IfSome, is_some};
+ghost use Rattle.std.specs.Prelude.{◌≡◌, ◌+◌, ◌*◌, ◌≤◌, length, true, false, IsOk, OnOk, OnErr, IfSome, is_some};
 ghost use Rattle.hx_framing.specs.Progress.{Progress, fed, finished, moved};
 ghost use Rattle.hx_framing.specs.declared.messages.Next.{Next};
 ghost use Rattle.hx_framing.specs.declared.messages.Next.TheVariants as next;
 ghost use Rattle.proxy_engine.specs.Lookahead.{Shows, is_due, known, unsettled};
 ghost use Rattle.proxy_engine.specs.Peeked.{Stands, load};
+ghost use Rattle.proxy_engine.specs.Spent.{is_unknown};
 
 use crate::lookahead::Lookahead;
 use crate::readers::Reader;
@@ -74,6 +75,7 @@ impl<R: Reader> Peeked<R> {
     pub fn look_ahead(&mut self, alloc: Global) -> Result<(), AllocError>
         ensures stands { (p : Progress R.Message) → Stands R.StandsFor R.Answers self.old p → Stands R.StandsFor R.Answers self.new p }
         ensures looked { OnOk result ((a : Next R.Message) × Shows self.new.ahead a) }
+        ensures unknown { OnErr result (is_unknown self.new.ahead ≡ true) }
         ensures load { load R.weight self.new ≤ load R.weight self.old }
         ensures unsettled { unsettled self.new.ahead ≤ unsettled self.old.ahead }
     {

@@ -1,10 +1,8 @@
 -- Whatever is held can be sent as one response, where the answers of a history were read.
-use Rattle.std.proofs.Common.{◌≡◌, ◌<◌, ℕ, Bool, true, false, cond, List, [], ◌∷◌, refl, sym, subst}
+use Rattle.std.proofs.Common.{◌≡◌, ◌<◌, ℕ, Bool, true, false, cond, [], ◌∷◌, refl, subst}
 use Rattle.std.specs.Prelude.{Option, Some, None, option_map, nat_lt}
-use Rattle.std.specs.List.{AllByRecursion}
 use Rattle.std.proofs.lemmas.Bool.{ltb-true}
 use Rattle.hx_fields.specs.declared.limits.TheConstants.{END_OF_TIME}
-use Rattle.hx_allow.specs.Lines.{Table}
 use Rattle.hx_store.specs.Stored.{Stored}
 use Rattle.hx_store.specs.Recency.{is_the}
 use Rattle.proxy_core.specs.declared.exchange.Exchange.{Exchange}
@@ -12,13 +10,12 @@ use Rattle.proxy_core.specs.declared.event.Event.{Event}
 use Rattle.proxy_core.specs.declared.event.Event.TheVariants.{Arrive, Answer, Fail, Wake, Abandon}
 use Rattle.proxy_core.specs.declared.fault.CoreFault.{CoreFault}
 use Rattle.proxy_core.specs.declared.fault.CoreFault.TheVariants.{MomentTooLate}
-use Rattle.proxy_core.specs.Histories.{IsGoodHistory, entry_after, held_entry, open_exchanges}
+use Rattle.proxy_core.specs.Histories.{held_entry, open_exchanges}
 use Rattle.proxy_core.specs.Moments.{too_late}
 use Rattle.proxy_core.specs.Outcomes.{fault_of, find_exchange, id_of, or_fault, not_forwarded}
-use Rattle.proxy_core.specs.ReadAnswers.{IsRead, IsReadEvent}
+use Rattle.proxy_core.specs.ReadAnswers.{IsReadEvent}
 use Rattle.proxy_core.specs.State.{stored_in, used_in, stored_form, used_form}
 use Rattle.proxy_core.specs.Storing.{made}
-use Rattle.proxy_core.specs.Traces.{Item}
 use Rattle.proxy_core.specs.Validating.{is_answered, refreshed}
 use Rattle.hx_age.specs.Age.{times_of}
 use Rattle.hx_hop.specs.Answering.{answered_of}
@@ -26,14 +23,14 @@ use Rattle.proxy_laws.specs.StoredReplies.{HoldsSendable, IsSendable}
 use Rattle.proxy_laws.proofs.StoredReplies.{freshens_sendable, stores_sendable}
 
 -- a moment that isn't too late
-in_time : (now : ℕ) → too_late now ≡ None → now < END_OF_TIME
+pub in_time : (now : ℕ) → too_late now ≡ None → now < END_OF_TIME
 in_time now h = by_test (nat_lt now END_OF_TIME) refl h
   where
     by_test : (t : Bool) → nat_lt now END_OF_TIME ≡ t → cond t None (Some MomentTooLate) ≡ None → now < END_OF_TIME
     by_test true is k = ltb-true now END_OF_TIME is
     by_test false is k = absurd cc
 
-first_none : (a b : Option CoreFault) → or_fault a b ≡ None → a ≡ None
+pub first_none : (a b : Option CoreFault) → or_fault a b ≡ None → a ≡ None
 first_none None b h = refl
 first_none (Some f) b h = absurd cc
 
@@ -49,7 +46,7 @@ made_so (Some x) (Wake now id) s e allowed is h = absurd cc
 made_so (Some x) (Abandon id) s e allowed is h = absurd cc
 made_so None event s e allowed is h = absurd cc
 
-left_so : (x : Option Exchange) (event : Event) (e : Stored) → fault_of x event ≡ None → IsReadEvent event → IsSendable e → IsSendable (used_form x event e)
+pub left_so : (x : Option Exchange) (event : Event) (e : Stored) → fault_of x event ≡ None → IsReadEvent event → IsSendable e → IsSendable (used_form x event e)
 left_so (Some x) (Answer now id r) e allowed is sendable =
     let early = in_time now (first_none (too_late now) (not_forwarded x.stage) allowed) in
     let fresh : IsSendable (refreshed x r now e) =

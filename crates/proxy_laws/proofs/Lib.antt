@@ -4,3 +4,7 @@ pub mod ReplyValues
 pub mod OneResponse
 pub mod StoredReplies
 pub mod HeldReplies
+pub mod ReadTables
+pub mod HeldValues
+pub mod OpenRequests
+pub mod SentMessages

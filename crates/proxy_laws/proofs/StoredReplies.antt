@@ -30,7 +30,7 @@ use Rattle.proxy_laws.proofs.ReplyValues.{decimal_value, member_value}
 
 -- ---- what is stored
 
-widened : (h : Bool) (status : ℕ) → is_without_content false status ≡ true → is_without_content h status ≡ true
+pub widened : (h : Bool) (status : ℕ) → is_without_content false status ≡ true → is_without_content h status ≡ true
 widened true status none = refl
 widened false status none = none
 

@@ -1,3 +1,4 @@
 pub mod ClientConditions
 pub mod OneResponse
 pub mod StoredReplies
+pub mod SentMessages

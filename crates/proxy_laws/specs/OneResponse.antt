@@ -33,12 +33,12 @@ told_by_the_proxy now cause close head = record {
 
 -- ---- the statements
 
--- What was read of an answer to an open exchange and is passed on is read by the client as it was sent, whatever stands behind it,
--- within the limits of a reader. The name is the table's, which is a token.
+-- What was read of an answer, to a HEAD or not, and is passed on to an open exchange is read by the client as it was sent, whatever stands
+-- behind it, within the limits of a reader. The name is the table's, which is a token.
 abbrev pub PassesOneResponse : Type 0
 PassesOneResponse =
-    (max_body most now : ℕ) (ended stored : Bool) (bytes rest name : List ℕ) (x : Exchange) (r : Response)
-    → Reads max_body (is_head x.asked) ended bytes (Spelled r rest) → now < END_OF_TIME → IsToken name → most < 2 ^ 64
+    (max_body most now : ℕ) (to_head ended stored : Bool) (bytes rest name : List ℕ) (x : Exchange) (r : Response)
+    → Reads max_body to_head ended bytes (Spelled r rest) → now < END_OF_TIME → IsToken name → most < 2 ^ 64
     → FitsAReader most (passed_on name x r now stored)
     → (over : Bool) (behind : List ℕ)
     → Reads most (is_head x.asked) over (passed_text name x r now stored ++ behind) (Spelled (response_back (is_head x.asked) (passed_on name x r now stored)) behind)

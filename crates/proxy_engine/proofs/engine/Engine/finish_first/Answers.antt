@@ -1,7 +1,8 @@
 use Rattle.std.proofs.Common.{Option, ℕ, subst, is_some, ap}
 use Rattle.proxy_engine.specs.Due.{Finishes}
-use Rattle.proxy_engine.specs.State.{FoundLinks}
+use Rattle.proxy_engine.specs.State.{FoundLinks, state}
 use Rattle.proxy_engine.proofs.Changes.{looked_links}
+use Rattle.proxy_engine.proofs.Spending.{end_told, look_stopped}
 use Rattle.proxy_engine.proofs.Wishing.{on_ok, on_err, stays_err}
 use Rattle.proxy_engine.proofs.engine.Engine.finish_first.Goals as goal
 
@@ -51,4 +52,31 @@ returns-in-Ok-None-clause-unchanged g c = rw (← c.self.view_is) (
     stays_err c.wake_first.result _ _ (λ same s h.
     let looked = c.in-Ok-None.ensures.stands s.links h.links in
     same s (looked_links c.self.inside.ends.connections.items c.self.inside.ends.links.items c.find_finished.new.self.items c.self.inside.core c.self.inside.ends.first_link s looked h)) c.wake_first.ensures.unchanged
+    )
+
+pub returns-in-Err-finish-clause-spent : goal.returns-in-Err-finish-clause-spent
+returns-in-Err-finish-clause-spent g c = rw (← c.self.view_is) (
+    λ memory s lost h.
+    let ks = c.find_finished.new.self.items in
+    let found = subst (λ (o : Option ℕ). FoundLinks ks o) c.in-Ok-Some.field-0-is c.in-Ok-Some.ensures.found in
+    let looked = c.in-Ok-Some.ensures.stands s.links h.links in
+    let here = looked_links c.self.inside.ends.connections.items c.self.inside.ends.links.items ks c.self.inside.core c.self.inside.ends.first_link s looked h in
+    end_told (state c.self.inside.ends.connections.items ks c.self.inside.core c.self.inside.ends.first_link) c.finish.new.self s c.in-Ok-Some.j found.due c.in-Err-finish.fault here (c.in-Err-finish.ensures.spent found.due found.shown) memory (lost, found.first s.links looked)
+    )
+
+pub returns-in-Ok-None-clause-spent : goal.returns-in-Ok-None-clause-spent
+returns-in-Ok-None-clause-spent g c = rw (← c.self.view_is) (
+    let ks = c.find_finished.new.self.items in
+    let found = subst (λ (o : Option ℕ). FoundLinks ks o) c.in-Ok-None.field-0-is c.in-Ok-None.ensures.found in
+    λ memory s lost h.
+    let looked = c.in-Ok-None.ensures.stands s.links h.links in
+    c.wake_first.ensures.spent memory s lost (found s.links looked) (looked_links c.self.inside.ends.connections.items c.self.inside.ends.links.items ks c.self.inside.core c.self.inside.ends.first_link s looked h)
+    )
+
+pub returns-in-Err-clause-spent : goal.returns-in-Err-clause-spent
+returns-in-Err-clause-spent g c = rw (← c.self.view_is) (
+    λ memory s lost h.
+    let ks = c.find_finished.new.self.items in
+    look_stopped (state c.self.inside.ends.connections.items ks c.self.inside.core c.self.inside.ends.first_link) s c.in-Err.ensures.failed
+    (looked_links c.self.inside.ends.connections.items c.self.inside.ends.links.items ks c.self.inside.core c.self.inside.ends.first_link s (c.in-Err.ensures.stands s.links h.links) h)
     )

@@ -6,6 +6,8 @@ use Rattle.proxy_engine.specs.Due.{Wakes, next_ready}
 use Rattle.proxy_engine.specs.State.{State}
 use Rattle.proxy_engine.specs.Wiring.{Wired, activities_of, owners_of}
 use Rattle.proxy_engine.specs.declared.activities.Activity.{Activity}
+use Rattle.proxy_engine.specs.declared.happening.EngineFault.TheVariants.{OutOfMemory}
+use Rattle.proxy_engine.proofs.Spending.{err_at, number_left, served_unseen}
 use Rattle.proxy_engine.proofs.Wires.{ready_numbered}
 use Rattle.proxy_engine.proofs.engine.Engine.wake_first.Goals as goal
 
@@ -28,3 +30,11 @@ returns-in-Err-clause-fault g c = λ s lost stood h.
     let more = before (activities_of c.self.inside.ends.connections.items) (owners_of c.self.inside.ends.links.items) c.self.inside.core.exchanges id c.in-Some.ensures.ready c.self.invariant in
     let next : next_ready s.core ≡ Some ((id - 1) + 1) = ap next_ready (sym (ap (λ (e : State). e.core) c.self.view_is ∙ h.core)) ∙ (sym c.in-Some.ensures.value ∙ ap (λ (n : ℕ). Some n) more) in
     c.in-Err.ensures.fault s (id - 1) more (lost, stood, next) h
+
+pub returns-in-Err-clause-spent : goal.returns-in-Err-clause-spent
+returns-in-Err-clause-spent g c = λ memory s lost stood h.
+    number_left c.args.self.now c.wake.new.self s h (c.in-Err.ensures.spent (err_at c.in-Err.fault OutOfMemory memory))
+
+pub returns-in-None-clause-spent : goal.returns-in-None-clause-spent
+returns-in-None-clause-spent g c = λ memory s lost stood h.
+    served_unseen c.serve_first.new.self s lost stood (ap next_ready (sym (ap (λ (e : State). e.core) c.self.view_is ∙ h.core)) ∙ sym c.in-None.ensures.value)

@@ -8,7 +8,8 @@ use Rattle.proxy_engine.specs.declared.ends.Link.{Link}
 use Rattle.proxy_engine.proofs.Searching.{both_listed, map_listed, sum_listed}
 use Rattle.proxy_engine.proofs.Marking.{unstood, unstood_over}
 use Rattle.proxy_engine.proofs.Finding.{due_found}
-use Rattle.proxy_engine.proofs.Wishing.{on_ok}
+use Rattle.proxy_engine.proofs.Spending.{stops_at}
+use Rattle.proxy_engine.proofs.Wishing.{on_ok, stays_err}
 use Rattle.proxy_engine.proofs.links.Links.find_finished.Goals as goal
 
 pub invariant_of-self : goal.invariant_of-self
@@ -30,3 +31,6 @@ pub returns-clause-load : goal.returns-clause-load
 returns-clause-load c =
     let less = sum_listed LooksLikeLink link_load (λ x y r. r.load) c.self.inside.ends c.first_due.new.ends c.self.inside.count c.first_due.ensures.alike in
     omega (arith, less, ap (λ (v : EndList Link). sum_by link_load v.items) c.self.view_is)
+
+pub returns-clause-failed : goal.returns-clause-failed
+returns-clause-failed c = stays_err c.first_due.result _ _ (λ h. stops_at c.first_due.new.ends c.self.inside.count c.self.inside.stirred.places c.self.invariant.1 h) c.first_due.ensures.failed
