@@ -1,15 +1,33 @@
--- What an engine has lived through goes on: whatever a take answers, and from one step of a server to the next.
-use Rattle.std.proofs.Common.{◌≡◌, sym, subst, Result, Ok, Err, OnOk, OnErr}
-use Rattle.proxy_engine.specs.Happenings.{Said}
+-- What is lost between two turns: whatever a take answers, and from one step of a server to the next.
+use Rattle.std.proofs.Common.{◌≡◌, sym, subst, ap, ◌∙◌, Option, None, Some, Result, Ok, Err, OnOk, OnErr}
+use Rattle.std.specs.Prelude.{option_map}
+use Rattle.hx_status.specs.declared.cause.FailKind.{FailKind}
+use Rattle.proxy_script.specs.declared.happening.Happening.{Happening}
+use Rattle.proxy_engine.specs.Happenings.{Said, said}
 use Rattle.proxy_engine.specs.Story.{Story}
 use Rattle.proxy_engine.specs.State.{State, Stands, Takes}
+use Rattle.proxy_engine.specs.declared.happening.End.{End}
+use Rattle.proxy_engine.specs.declared.happening.End.TheVariants as ends
 use Rattle.proxy_engine.specs.declared.happening.EngineFault.{EngineFault}
-use Rattle.proxy_turn.specs.Served.{GoesOn, StaysOn, GoesOnAndOn, TakesGoOn}
+use Rattle.proxy_turn.specs.Turn.{lost}
+use Rattle.proxy_turn.specs.Served.{IsLoss, LosesOn, NothingIsLost, OneIsLost, MoreAreLost}
 
-pub gone_on : StaysOn → TakesGoOn → (e new : State) (h : Said) (r : Result (Unit {0}) EngineFault) → OnOk r ((s : Story) → Stands e s → Takes s h new) → OnErr r (new ≡ e) → GoesOn e new
-gone_on stays takes e new h (Ok x) taken same = takes e new h taken
-gone_on stays takes e new h (Err fault) taken same = subst (GoesOn e) (sym same) (stays e)
+pub lost_on : NothingIsLost → OneIsLost → (e new : State) (h : Said) (r : Result (Unit {0}) EngineFault) → IsLoss h → OnOk r ((s : Story) → Stands e s → Takes s h new) → OnErr r (new ≡ e) → LosesOn e new
+lost_on none one e new h (Ok x) loss taken same = one e new h loss taken
+lost_on none one e new h (Err fault) loss taken same = subst (LosesOn e) (sym same) (none e)
 
 -- from a state that is the one before
-pub on_from : GoesOnAndOn → (e mid same new : State) → same ≡ mid → GoesOn e mid → GoesOn same new → GoesOn e new
-on_from on e mid same new is first rest = on e mid new first (subst (λ (x : State). GoesOn x new) is rest)
+pub on_from : MoreAreLost → (e mid same new : State) → same ≡ mid → LosesOn e mid → LosesOn same new → LosesOn e new
+on_from more e mid same new is first rest = more e mid new first (subst (λ (x : State). LosesOn x new) is rest)
+
+abbrev IsLossIf : Option Said → Type 0
+IsLossIf None = Unit {0}
+IsLossIf (Some h) = IsLoss h
+
+lost_is_loss : (end : End) (kind : FailKind) → IsLossIf (lost end kind)
+lost_is_loss ends.Listener kind = tt
+lost_is_loss (ends.Client n) kind = tt
+lost_is_loss (ends.Link l) kind = tt
+
+pub is_loss : (o : Option Happening) (end : End) (kind : FailKind) (h : Happening) → o ≡ Some h → option_map said o ≡ lost end kind → IsLoss (said h)
+is_loss o end kind h is told = subst IsLossIf (sym told ∙ ap (option_map said) is) (lost_is_loss end kind)

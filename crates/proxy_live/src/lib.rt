@@ -18,4 +18,4 @@ mod server;
 pub use crate::live_sockets::{LiveSockets, Silence};
 pub use crate::recorder::{RecordFault, Recorder};
 pub use crate::recording::Recording;
-pub use crate::server::{ServeFault, Server};
+pub use crate::server::{ServeFault, Server, Turned};

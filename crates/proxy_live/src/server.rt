@@ -2,7 +2,8 @@
 ghost use Rattle.std.specs.Prelude.{◌≡◌, ◌<◌, [], Some, IfOk};
 ghost use Rattle.hx_fields.specs.declared.limits.TheConstants.{END_OF_TIME};
 ghost use Rattle.proxy_engine.specs.State.{Stands, begun};
-ghost use Rattle.proxy_turn.specs.Served.{HasLived, IsServing, GoesOn};
+ghost use Rattle.proxy_turn.specs.Served.{IsServing, GoesOn, LosesOn, Serves};
+ghost use Rattle.proxy_live.specs.Serving.{Answers};
 
 use crate::live_sockets::LiveSockets;
 use crate::recorder::{RecordFault, Recorder};
@@ -13,7 +14,9 @@ use hx_status::FailKind;
 use hx_store::Shelf;
 use proxy_engine::Engine;
 use proxy_log::Lines;
-use proxy_turn::{End, MOST_WORKS, Report, TurnFault, engines_live_on, loss, turn};
+use proxy_turn::{
+    End, MOST_WORKS, Report, TurnFault, a_turn_is_served_behind_losses, engines_live_on, loss, turn,
+};
 use std::alloc::Global;
 use std::io::{ErrorKind, Write};
 use std::marker::Model;
@@ -34,6 +37,15 @@ pub enum ServeFault {
     Record(RecordFault),
     /// The last number of a link is used.
     Spent,
+}
+
+/// A turn that was served.
+#[derive(Clone, Copy, Debug, PartialEq, Eq)]
+pub struct Turned {
+    /// Its moment, in Unix seconds.
+    pub moment: u64,
+    /// What it told. Where it ended early, the next one does what is left.
+    pub told: Result<Report, TurnFault>,
 }
 
 /// An engine over sockets of the system. Contracts see the engine's state, and whatever the sockets do, its core's steps are a
@@ -82,8 +94,8 @@ fn seconds<C: Clock>(clock: &C) -> Result<u64, ServeFault> {
 }
 
 impl<'a, S: Shelf + Drop, R: Net, W: Write + Drop> Server<'a, S, R, W> {
-    /// A server to which nothing has happened. The shelf is empty and has the configured capacity; serials of stored responses
-    /// and numbers of links begin at 1. The first turn doesn't wait.
+    /// A server to which nothing has happened. The shelf is empty and has the capacity of the operator's table; serials of stored
+    /// responses and numbers of links begin at 1. The first turn doesn't wait.
     pub fn new(
         alloc: Global,
         config: Config,
@@ -91,9 +103,10 @@ impl<'a, S: Shelf + Drop, R: Net, W: Write + Drop> Server<'a, S, R, W> {
         sockets: LiveSockets<'a, R>,
         recorder: Option<Recorder<W>>,
     ) -> Server<'a, S, R, W>
-        requires { S.entries shelf ≡ [] }
+        requires empty { S.entries shelf ≡ [] }
+        requires capacity { S.limit shelf ≡ config.capacity }
         ensures table { result.core.table ≡ config }
-        ensures begins { Stands result (begun (record { table = config; limit = S.limit shelf; entries = []; exchanges = []; next = Some 1 }) 1) }
+        ensures begins { Stands result (begun (record { table = config; limit = config.capacity; entries = []; exchanges = []; next = Some 1 }) 1) }
     {
         engines_live_on();
         Server {
@@ -123,13 +136,17 @@ impl<'a, S: Shelf + Drop, R: Net, W: Write + Drop> Server<'a, S, R, W> {
         self.ends.sockets.clear_log();
     }
 
-    /// Waits until something is ready, for a second at most, and serves a turn.
+    /// Waits until something is ready, for a second at most, and serves a turn: what failed or was silent since the last one is
+    /// taken, and then the turn.
     ///
-    /// After it, also after an `Err`, what the engine had lived through has gone on, and the steps of its core are a good run by
-    /// its table, with the headline.
-    pub fn serve_turn<C: Clock>(&mut self, clock: &C) -> Result<(), ServeFault>
+    /// After it, also after an `Err`, what the engine had lived through has gone on by the steps of that turn and no others, and
+    /// the steps of its core are a good run by its table, over a store of its capacity, with the headline.
+    pub fn serve_turn<C: Clock>(&mut self, clock: &C) -> Result<Turned, ServeFault>
+        ensures served { Answers self.old self.new result }
         ensures goes_on { GoesOn self.old self.new }
         ensures serves { IsServing self.new }
+        ensures table { self.new.core.table ≡ self.old.core.table }
+        ensures limit { self.new.core.limit ≡ self.old.core.limit }
     {
         engines_live_on();
         let served = self.serve_next(clock);
@@ -138,10 +155,9 @@ impl<'a, S: Shelf + Drop, R: Net, W: Write + Drop> Server<'a, S, R, W> {
     }
 
     /// Waits, and serves a turn.
-    fn serve_next<C: Clock>(&mut self, clock: &C) -> Result<(), ServeFault>
-        ensures { GoesOn self.old self.new }
+    fn serve_next<C: Clock>(&mut self, clock: &C) -> Result<Turned, ServeFault>
+        ensures { Answers self.old self.new result }
     {
-        engines_live_on();
         if self.ends.sockets.wait(self.busy).is_err() {
             return Err(ServeFault::Socket);
         }
@@ -151,11 +167,10 @@ impl<'a, S: Shelf + Drop, R: Net, W: Write + Drop> Server<'a, S, R, W> {
     }
 
     /// Serves a turn at a second of the clock that never goes back, and a moment.
-    fn serve_at(&mut self, second: u64, now: u64) -> Result<(), ServeFault>
+    fn serve_at(&mut self, second: u64, now: u64) -> Result<Turned, ServeFault>
         requires { now < END_OF_TIME }
-        ensures { GoesOn self.old self.new }
+        ensures { Answers self.old self.new result }
     {
-        engines_live_on();
         if self.ends.sockets.refresh(second) {
             // What came before this second counts before an end is called silent, though the proxy was halted meanwhile.
             if self.ends.sockets.look_again().is_err() {
@@ -163,21 +178,26 @@ impl<'a, S: Shelf + Drop, R: Net, W: Write + Drop> Server<'a, S, R, W> {
             }
             self.sweeping = true;
         }
-        let now = self.ends.begin(now, self.settled).min(LATEST);
-        self.ends.sockets.set_moment(now);
-        let told = self.turn_at(now);
+        let moment = self.ends.begin(now, self.settled).min(LATEST);
+        self.ends.sockets.set_moment(moment);
+        let told = self.turn_at(moment);
         if let Some(fault) = self.ends.fault() {
             return Err(ServeFault::Record(fault));
         }
-        self.look_ahead(told)
+        self.look_ahead(told);
+        match told {
+            Err(TurnFault::Spent) => Err(ServeFault::Spent),
+            told => Ok(Turned { moment, told }),
+        }
     }
 
     /// Hands in what happened since the last turn, and then takes one at a moment.
     fn turn_at(&mut self, now: u64) -> Result<Report, TurnFault>
         requires { now < END_OF_TIME }
-        ensures { GoesOn self.old self.new }
+        ensures { Serves now self.old self.new result }
     {
         engines_live_on();
+        a_turn_is_served_behind_losses();
         self.hand_in_lost();
         if self.sweeping {
             self.hand_in_silent();
@@ -186,7 +206,7 @@ impl<'a, S: Shelf + Drop, R: Net, W: Write + Drop> Server<'a, S, R, W> {
     }
 
     /// Whether the next turn has to wait, by what this one told.
-    fn look_ahead(&mut self, told: Result<Report, TurnFault>) -> Result<(), ServeFault>
+    fn look_ahead(&mut self, told: Result<Report, TurnFault>)
         ensures { self.new ≡ self.old }
     {
         match told {
@@ -195,27 +215,26 @@ impl<'a, S: Shelf + Drop, R: Net, W: Write + Drop> Server<'a, S, R, W> {
                 self.settled = report.works < MOST_WORKS;
                 self.busy = !self.settled || freed && self.ends.sockets.has_unread();
             }
-            Err(TurnFault::Listener) => {
-                self.settled = false;
-                self.busy = true;
-            }
             // Memory may be there a little later.
             Err(TurnFault::NoMemory) => {
                 self.settled = false;
                 self.busy = false;
-                return Ok(());
+                return;
             }
-            Err(TurnFault::Spent) => return Err(ServeFault::Spent),
+            Err(_) => {
+                self.settled = false;
+                self.busy = true;
+            }
         }
         self.busy = self.busy || self.sweeping || self.ends.has_passed();
-        Ok(())
     }
 
     /// The engine takes that an end is lost.
     fn lose(&mut self, end: End, kind: FailKind)
-        ensures { GoesOn self.old self.new }
+        ensures { LosesOn self.old self.new }
     {
         engines_live_on();
+        a_turn_is_served_behind_losses();
         if let Some(happening) = loss(end, kind) {
             if self.ends.note_between(happening) {
                 // It takes no memory, and the end was there.
@@ -226,9 +245,9 @@ impl<'a, S: Shelf + Drop, R: Net, W: Write + Drop> Server<'a, S, R, W> {
 
     /// Hands in the ends that failed since the last turn.
     fn hand_in_lost(&mut self)
-        ensures { GoesOn self.old self.new }
+        ensures { LosesOn self.old self.new }
     {
-        engines_live_on();
+        a_turn_is_served_behind_losses();
         for _ in 0..self.ends.sockets.lost_count() {
             if !self.ends.may_happen() {
                 return;
@@ -241,9 +260,9 @@ impl<'a, S: Shelf + Drop, R: Net, W: Write + Drop> Server<'a, S, R, W> {
 
     /// Hands in the ends that were silent for too long: links as timed out, clients without an exchange as gone.
     fn hand_in_silent(&mut self)
-        ensures { GoesOn self.old self.new }
+        ensures { LosesOn self.old self.new }
     {
-        engines_live_on();
+        a_turn_is_served_behind_losses();
         // Where there is no memory for the list, they are looked for again.
         let Ok(ends) = self.engine.readable_ends(self.alloc) else {
             return;

@@ -60,7 +60,8 @@ fn serve_turns<'a, R: Net + Clock + Files + Eprint, S: Shelf + Drop, L: Write + 
     let mut told = false;
     let mut log_told = false;
     for _ in 0..turns {
-        server.serve_turn(rt)?;
+        // What a turn that ended early left undone is done in the next one.
+        let _turned = server.serve_turn(rt)?;
         if !told && server.record_has_ended() {
             told = true;
             let _ = eprintln!(rt; "record ended");

@@ -3,6 +3,7 @@ mod Counting
 mod Hearing
 mod Listening
 mod Serving
+mod Stepping
 mod There
 mod Turning
 mod Whole

@@ -1,5 +1,6 @@
 -- What an engine has lived through goes on by what happens and by turns, under one table.
-use Rattle.std.proofs.Common.{◌≡◌, ℕ, List, [], ◌∷◌, ◌++◌, refl, sym, ap, ◌∙◌, subst, Bool, Result, Ok, Err}
+use Rattle.std.proofs.Common.{◌≡◌, ℕ, List, [], ◌∷◌, ◌++◌, refl, sym, ap, ◌∙◌, subst, append_assoc, Bool, Result, Ok, Err}
+use Rattle.std.specs.List.{AllByRecursion}
 use Rattle.hx_allow.specs.Lines.{Table}
 use Rattle.hx_framing.specs.declared.fault.FrameFault.TheVariants as frame
 use Rattle.hx_framing.specs.declared.messages.Next.{Next}
@@ -18,52 +19,60 @@ use Rattle.proxy_engine.specs.Due.{Act, Abandons, Finishes, Wakes, Serves, Gives
 use Rattle.proxy_engine.specs.Acts.{Does, StepsOn, Refuses, Closes, Served, Arrives, Came, Replies, Forwards, Queues, Nothing, came, after_on}
 use Rattle.proxy_engine.specs.Orderly.{IsOrderly, BeginsOrderly, TakesInOrder, ActsInOrder}
 use Rattle.proxy_engine.specs.Lives.{Step, Took, Worked, Lives, LivesAreRuns}
-use Rattle.proxy_engine.specs.State.{begun}
-use Rattle.proxy_turn.specs.Turn.{TurnsAreLived}
-use Rattle.proxy_turn.specs.Served.{BeginsLived, StaysOn, GoesOnAndOn, TakesGoOn, TurnsGoOn, LivedGoesOn, LivedAreServing}
-use Rattle.proxy_turn.proofs.Turning.{lives_on}
+use Rattle.proxy_engine.specs.State.{State, Stands, begun}
+use Rattle.proxy_turn.specs.TurnSteps.{TurnsAreLived}
+use Rattle.proxy_turn.specs.declared.report.Report.{Report}
+use Rattle.proxy_turn.specs.declared.report.TurnFault.{TurnFault}
+use Rattle.proxy_turn.specs.Served.{beginning, LivesBy, HasLived, take_steps, IsLoss, ServedTurn, served_steps, NothingIsLost, OneIsLost, MoreAreLost, LossesGoOn, TurnsAreServed, BeginsLived, StaysOn, GoesOnAndOn, TakesGoOn, TurnsGoOn, LivedGoesOn, LivedAreServing, TurnsLiveOn, LivesAreServing, KeepsItsTable}
+use Rattle.proxy_turn.proofs.Stepping.{lives_on}
 
--- ---- the table stays
+-- ---- the table and the room of the store stay
 
-table_heard : (s : Story) (h : Said) → (heard s h).core ≡ s.core
-table_heard s (Accepts n) = refl
-table_heard s (Sends n bytes) = refl
-table_heard s (Hears l bytes) = refl
-table_heard s (Ends n) = refl
-table_heard s (Leaves n) = refl
-table_heard s (Shuts l) = refl
-table_heard s (Fails l kind) = refl
+abbrev kept_core : CoreState → Table × ℕ
+kept_core k = (k.table, k.limit)
 
-steps_table : (s t : Story) (i : ℕ) (to_head : Bool) (event : Event) (before told : List Effect) (after : Story) → StepsOn s t i to_head event before told after → after.core.table ≡ s.core.table
-steps_table s t i to_head event before told after steps =
-    ap (λ (u : Story). u.core.table) steps.after_is ∙ (by (came s.core.table steps.outcome) ∙ ap (λ (k : CoreState). k.table) steps.steps.leaves)
+abbrev kept : Story → Table × ℕ
+kept s = kept_core s.core
+
+core_heard : (s : Story) (h : Said) → (heard s h).core ≡ s.core
+core_heard s (Accepts n) = refl
+core_heard s (Sends n bytes) = refl
+core_heard s (Hears l bytes) = refl
+core_heard s (Ends n) = refl
+core_heard s (Leaves n) = refl
+core_heard s (Shuts l) = refl
+core_heard s (Fails l kind) = refl
+
+steps_keep : (s t : Story) (i : ℕ) (to_head : Bool) (event : Event) (before told : List Effect) (after : Story) → StepsOn s t i to_head event before told after → kept after ≡ kept s
+steps_keep s t i to_head event before told after steps =
+    ap kept steps.after_is ∙ (by (came s.core.table steps.outcome) ∙ ap kept_core steps.steps.leaves)
   where
-    by : (c : Came) → (after_on i to_head c (with_core t steps.core)).core.table ≡ steps.core.table
+    by : (c : Came) → kept (after_on i to_head c (with_core t steps.core)) ≡ kept_core steps.core
     by (Replies bytes close) = refl
     by (Forwards address bytes) = refl
     by Queues = refl
     by Nothing = refl
 
-does_table : (s : Story) (now : ℕ) (act : Act) (told : List Effect) (after : Story) → Does s now act told after → after.core.table ≡ s.core.table
-does_table s now (Abandons i l) told after done = steps_table s _ _ _ _ _ told after done
-does_table s now (Finishes j (Gives r)) told after done = steps_table s _ _ _ _ _ told after done.1
-does_table s now (Finishes j (Breaks kind)) told after done = steps_table s _ _ _ _ _ told after done
-does_table s now (Wakes i) told after done = steps_table s _ _ _ _ _ told after done.1
-does_table s now (Serves i wish) told after done = by_wish wish done
+does_keep : (s : Story) (now : ℕ) (act : Act) (told : List Effect) (after : Story) → Does s now act told after → kept after ≡ kept s
+does_keep s now (Abandons i l) told after done = steps_keep s _ _ _ _ _ told after done
+does_keep s now (Finishes j (Gives r)) told after done = steps_keep s _ _ _ _ _ told after done.1
+does_keep s now (Finishes j (Breaks kind)) told after done = steps_keep s _ _ _ _ _ told after done
+does_keep s now (Wakes i) told after done = steps_keep s _ _ _ _ _ told after done.1
+does_keep s now (Serves i wish) told after done = by_wish wish done
   where
-    refuses : (why : Cause) (head : Bool) → Refuses s now i why head told after → after.core.table ≡ s.core.table
-    refuses why head d = ap (λ (u : Story). u.core.table) d.after_is
+    refuses : (why : Cause) (head : Bool) → Refuses s now i why head told after → kept after ≡ kept s
+    refuses why head d = ap kept d.after_is
 
-    closes : Closes s i told after → after.core.table ≡ s.core.table
-    closes d = ap (λ (u : Story). u.core.table) d.1
+    closes : Closes s i told after → kept after ≡ kept s
+    closes d = ap kept d.1
 
-    arrives : (r : Request) (judged : Result Asked Refusal) → Arrives s now i r judged told after → after.core.table ≡ s.core.table
-    arrives r (Ok asked) d = steps_table s _ _ _ _ _ told after d.1
+    arrives : (r : Request) (judged : Result Asked Refusal) → Arrives s now i r judged told after → kept after ≡ kept s
+    arrives r (Ok asked) d = steps_keep s _ _ _ _ _ told after d.1
     arrives r (Err refusal) d = refuses _ _ d
 
-    by_wish : (w : Next Request) → Served s now i w told after → after.core.table ≡ s.core.table
+    by_wish : (w : Next Request) → Served s now i w told after → kept after ≡ kept s
     by_wish next.More d = absurd d
-    by_wish next.NeedsContinue d = ap (λ (u : Story). u.core.table) d.1
+    by_wish next.NeedsContinue d = ap kept d.1
     by_wish (next.Message r) d = arrives r d.0 d.2
     by_wish (next.Refused frame.Truncated) d = closes d
     by_wish (next.Refused frame.Head) d = refuses _ _ d
@@ -77,25 +86,95 @@ does_table s now (Serves i wish) told after done = by_wish wish done
     by_wish (next.Refused frame.Status) d = refuses _ _ d
     by_wish next.End d = closes d
 
-lives_table : (s : Story) (steps : List Step) (t : Story) → Lives s steps t → t.core.table ≡ s.core.table
-lives_table s [] t here = ap (λ (u : Story). u.core.table) here
-lives_table s (Took h ∷ past) t lives =
-    ap (λ (u : Story). u.core.table) lives.2.1 ∙ (ap (λ (k : CoreState). k.table) (table_heard lives.0 h) ∙ lives_table s past lives.0 lives.1)
-lives_table s (Worked now act told ∷ past) t lives = does_table lives.0 now act told t lives.2.1 ∙ lives_table s past lives.0 lives.1
+lives_keep : (s : Story) (steps : List Step) (t : Story) → Lives s steps t → kept t ≡ kept s
+lives_keep s [] t here = ap kept here
+lives_keep s (Took h ∷ past) t lives =
+    ap kept lives.2.1 ∙ (ap kept_core (core_heard lives.0 h) ∙ lives_keep s past lives.0 lives.1)
+lives_keep s (Worked now act told ∷ past) t lives = does_keep lives.0 now act told t lives.2.1 ∙ lives_keep s past lives.0 lives.1
+
+-- an engine that stands for what was lived from a beginning by this table has that table
+same_table : (e new : State) (first link : ℕ) (steps : List Step) (last : Story) → Lives (beginning e first link) steps last → Stands new last → e.core.table ≡ new.core.table
+same_table e new first link steps last lives stands =
+    sym (ap (λ (k : Table × ℕ). k.0) (ap kept_core stands.core ∙ lives_keep (beginning e first link) steps last lives))
+
+-- ---- what is lost is taken
+
+take_on : (hs : List Said) (past : List Step) → take_steps hs past ≡ take_steps hs [] ++ past
+take_on [] past = refl
+take_on (h ∷ hs) past =
+    take_on hs (Took h ∷ past)
+    ∙ (sym (append_assoc (take_steps hs []) (Took h ∷ []) past) ∙ ap (λ (steps : List Step). steps ++ past) (sym (take_on hs (Took h ∷ []))))
+
+takes_live : (hs : List Said) (begin : Story) (past : List Step) (s t : Story) → Lives begin past s → Lives s (take_steps hs []) t → Lives begin (take_steps hs past) t
+takes_live hs begin past s t before takes =
+    subst (λ (steps : List Step). Lives begin steps t) (sym (take_on hs past)) (lives_on (take_steps hs []) begin past s t before takes)
+
+take_both : (hs more : List Said) (past : List Step) → take_steps (hs ++ more) past ≡ take_steps more (take_steps hs past)
+take_both [] more past = refl
+take_both (h ∷ hs) more past = take_both hs more (Took h ∷ past)
+
+both_losses : (hs more : List Said) → AllByRecursion IsLoss hs → AllByRecursion IsLoss more → AllByRecursion IsLoss (hs ++ more)
+both_losses [] more are others = others
+both_losses (h ∷ hs) more are others = (are.0, both_losses hs more are.1 others)
+
+pub nothing_is_lost : NothingIsLost
+nothing_is_lost e s stands = record { lost = []; are_losses = tt; after = s; takes = refl; stands = stands }
+
+pub one_is_lost : OneIsLost
+one_is_lost e new h loss taken s stands =
+    let took = taken s stands in
+    record { lost = h ∷ []; are_losses = (loss, tt); after = heard s h; takes = (s, refl, (took.free, refl)); stands = took.stands }
+
+pub more_are_lost : MoreAreLost
+more_are_lost e mid new first rest s stands =
+    let one = first s stands in
+    let other = rest one.after one.stands in
+    record {
+      lost = one.lost ++ other.lost;
+      are_losses = both_losses one.lost other.lost one.are_losses other.are_losses;
+      after = other.after;
+      takes = subst (λ (steps : List Step). Lives s steps other.after) (sym (take_both one.lost other.lost []))
+          (takes_live other.lost s (take_steps one.lost []) one.after other.after one.takes other.takes);
+      stands = other.stands;
+    }
+
+pub losses_go_on : LossesGoOn
+losses_go_on e new loses s stands orderly =
+    let losses = loses s stands in
+    record { steps = take_steps losses.lost []; last = losses.after; lives = losses.takes; stands = losses.stands }
+
+lives_orderly : TakesInOrder → ActsInOrder → (s : Story) (steps : List Step) (t : Story) → IsOrderly s → Lives s steps t → IsOrderly t
+lives_orderly takes acts s [] t h here = subst IsOrderly (sym here) h
+lives_orderly takes acts s (Took said ∷ past) t h lives = subst IsOrderly (sym lives.2.1) (takes lives.0 said (lives_orderly takes acts s past lives.0 h lives.1))
+lives_orderly takes acts s (Worked now act told ∷ past) t h lives = (acts lives.0 now act told t (lives_orderly takes acts s past lives.0 h lives.1) lives.2.0 lives.2.1).0
+
+pub turns_are_served : TakesInOrder → ActsInOrder → TurnsAreServed
+turns_are_served takes acts e mid new now before after told loses turns s stands orderly =
+    let losses = loses s stands in
+    record {
+      lost = losses.lost;
+      are_losses = losses.are_losses;
+      mid = losses.after;
+      takes = losses.takes;
+      before = before;
+      after = after;
+      turn = turns losses.after losses.stands (lives_orderly takes acts s (take_steps losses.lost []) losses.after orderly losses.takes);
+    }
 
 -- ---- it goes on
 
+table_now : (e : State) (s : Story) → Stands e s → kept_core e.core ≡ kept s
+table_now e s stands = ap kept_core stands.core
+
 pub begins_lived : BeginsLived
-begins_lived e table limit first link stands =
+begins_lived e table first link stands =
     let same : table ≡ e.core.table = sym (ap (λ (k : CoreState). k.table) stands.core) in
     record {
-      limit = limit;
       first = first;
       link = link;
       steps = [];
-      last = begun (core_begun table limit first) link;
-      lives = ap (λ (table : Table). begun (core_begun table limit first) link) same;
-      stands = stands;
+      last = begun (core_begun table table.capacity first) link;
+      lived = record { lives = ap (λ (table : Table). begun (core_begun table table.capacity first) link) same; stands = stands };
     }
 
 pub stays_on : StaysOn
@@ -106,22 +185,28 @@ takes_go_on e new h taken s stands orderly =
     let took = taken s stands in
     record { steps = Took h ∷ []; last = heard s h; lives = (s, refl, (took.free, refl)); stands = took.stands }
 
-pub turns_go_on : TurnsAreLived → TurnsGoOn
-turns_go_on lived e new now before after result turned s stands orderly =
-    let turn = turned s stands orderly in
-    let more = lived now s turn.asked turn.reads turn.rest turn.rounds turn.last turn.turn in
-    record { steps = more.0; last = turn.last; lives = more.1; stands = turn.stands }
+module _ (lived : TurnsAreLived) where
+  -- behind what was lived before it
+  served_lives : (begin : Story) (past : List Step) (e new : State) (s : Story) (now : ℕ) (told : Result Report TurnFault) → Lives begin past s → (served : ServedTurn now s new told) → Lives begin (served_steps served past) served.turn.last
+  served_lives begin past e new s now told before served =
+      let turn = served.turn in
+      lived begin (take_steps served.lost past) now served.mid turn.asked turn.reads turn.rest turn.rounds turn.last (takes_live served.lost begin past s served.mid before served.takes) turn.turn
+
+  pub turns_go_on : TurnsGoOn
+  turns_go_on e new now told serves s stands orderly =
+      let served = serves s stands orderly in
+      record { steps = served_steps served []; last = served.turn.last; lives = served_lives s [] e new s now told refl served; stands = served.turn.stands }
+
+  pub turns_live_on : TurnsLiveOn
+  turns_live_on e new first link steps s now told before served =
+      let whole = served_lives (beginning e first link) steps e new s now told before.lives served in
+      record { lives = subst (λ (table : Table). Lives (begun (core_begun table table.capacity first) link) (served_steps served steps) served.turn.last) (same_table e new first link (served_steps served steps) served.turn.last whole served.turn.stands) whole; stands = served.turn.stands }
 
 module _ (takes : TakesInOrder) (acts : ActsInOrder) where
-  lives_orderly : (s : Story) (steps : List Step) (t : Story) → IsOrderly s → Lives s steps t → IsOrderly t
-  lives_orderly s [] t h here = subst IsOrderly (sym here) h
-  lives_orderly s (Took said ∷ past) t h lives = subst IsOrderly (sym lives.2.1) (takes lives.0 said (lives_orderly s past lives.0 h lives.1))
-  lives_orderly s (Worked now act told ∷ past) t h lives = (acts lives.0 now act told t (lives_orderly s past lives.0 h lives.1) lives.2.0 lives.2.1).0
-
   pub goes_on_and_on : GoesOnAndOn
   goes_on_and_on e mid new first rest s stands orderly =
       let one = first s stands orderly in
-      let other = rest one.last one.stands (lives_orderly s one.steps one.last orderly one.lives) in
+      let other = rest one.last one.stands (lives_orderly takes acts s one.steps one.last orderly one.lives) in
       record {
         steps = other.steps ++ one.steps;
         last = other.last;
@@ -129,30 +214,43 @@ module _ (takes : TakesInOrder) (acts : ActsInOrder) where
         stands = other.stands;
       }
 
-  pub lived_goes_on : BeginsOrderly → LivedGoesOn
-  lived_goes_on begins e new goes lived =
-      let start : Table → Story = λ table. begun (core_begun table lived.limit lived.first) lived.link in
-      let orderly = lives_orderly (start e.core.table) lived.steps lived.last (begins (core_begun e.core.table lived.limit lived.first) lived.link refl) lived.lives in
-      let more = goes lived.last lived.stands orderly in
-      let whole = lives_on more.steps (start e.core.table) lived.steps lived.last more.last lived.lives more.lives in
-      let same : e.core.table ≡ new.core.table = sym (lives_table (start e.core.table) (more.steps ++ lived.steps) more.last whole) ∙ sym (ap (λ (k : CoreState). k.table) more.stands.core) in
-      record {
-        limit = lived.limit;
-        first = lived.first;
-        link = lived.link;
-        steps = more.steps ++ lived.steps;
-        last = more.last;
-        lives = subst (λ (table : Table). Lives (start table) (more.steps ++ lived.steps) more.last) same whole;
-        stands = more.stands;
-      }
+  module _ (begins : BeginsOrderly) where
+    lived_orderly : (e : State) (first link : ℕ) (steps : List Step) (last : Story) → LivesBy e first link steps last → IsOrderly last
+    lived_orderly e first link steps last lived =
+        lives_orderly takes acts (beginning e first link) steps last (begins (core_begun e.core.table e.core.table.capacity first) link refl) lived.lives
+
+    pub lives_are_serving : LivesAreRuns → LivesAreServing
+    lives_are_serving runs e first link steps last lived =
+        (lived_orderly e first link steps last lived, runs e.core.table e.core.table.capacity first link steps last lived.lives)
+
+    pub lived_goes_on : LivedGoesOn
+    lived_goes_on e new goes had =
+        let lived = had.lived in
+        let more = goes had.last lived.stands (lived_orderly e had.first had.link had.steps had.last lived) in
+        let steps = more.steps ++ had.steps in
+        let whole = lives_on more.steps (beginning e had.first had.link) had.steps had.last more.last lived.lives more.lives in
+        record {
+          first = had.first;
+          link = had.link;
+          steps = steps;
+          last = more.last;
+          lived = record { lives = subst (λ (table : Table). Lives (begun (core_begun table table.capacity had.first) had.link) steps more.last) (same_table e new had.first had.link steps more.last whole more.stands) whole; stands = more.stands };
+        }
+
+    pub keeps_its_table : KeepsItsTable
+    keeps_its_table e new goes had =
+        let more = goes had.last had.lived.stands (lived_orderly e had.first had.link had.steps had.last had.lived) in
+        let same : kept_core new.core ≡ kept_core e.core =
+            table_now new more.last more.stands ∙ (lives_keep had.last more.steps more.last more.lives ∙ sym (table_now e had.last had.lived.stands)) in
+        (ap (λ (k : Table × ℕ). k.0) same, ap (λ (k : Table × ℕ). k.1) same)
 
 pub lived_are_serving : LivesAreRuns → LivedAreServing
-lived_are_serving runs e lived = record {
-  limit = lived.limit;
-  first = lived.first;
-  link = lived.link;
-  steps = lived.steps;
-  last = lived.last;
-  run = runs e.core.table lived.limit lived.first lived.link lived.steps lived.last lived.lives;
-  stands = lived.stands;
+lived_are_serving runs e had = record {
+  first = had.first;
+  link = had.link;
+  steps = had.steps;
+  last = had.last;
+  run = runs e.core.table e.core.table.capacity had.first had.link had.steps had.last had.lived.lives;
+  stands = had.lived.stands;
+  limit = ap (λ (k : Table × ℕ). k.1) (table_now e had.last had.lived.stands ∙ lives_keep (beginning e had.first had.link) had.steps had.last had.lived.lives);
 }

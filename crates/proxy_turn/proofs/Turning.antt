@@ -6,11 +6,9 @@ use Rattle.proxy_engine.specs.Happenings.{Said}
 use Rattle.proxy_engine.specs.Story.{Story}
 use Rattle.proxy_engine.specs.Due.{IsDueFirst}
 use Rattle.proxy_engine.specs.Acts.{Does}
-use Rattle.proxy_engine.specs.Lives.{Step, Took, Worked, Lives}
 use Rattle.proxy_engine.specs.Orderly.{IsOrderly, Stays, TakesInOrder, TakesStay, ActsInOrder}
-use Rattle.proxy_engine.specs.Reading.{failed_links}
 use Rattle.proxy_engine.specs.declared.happening.End.{End}
-use Rattle.proxy_turn.specs.Turn.{TakesIf, accepted_by, said_by, Read, Reads, lost, end_of, Fate, Carried, Passed, Lost, CarriesOne, CarriesOut, Round, Works, TurnsAreLived}
+use Rattle.proxy_turn.specs.Turn.{TakesIf, said_by, Read, Reads, lost, end_of, Fate, Carried, Passed, Lost, CarriesOne, CarriesOut, Round, Works}
 
 -- ---- one more
 
@@ -101,48 +99,3 @@ module _ (takes_in_order : TakesInOrder) where
   works_orderly acts [] now s gone t more here h = subst IsOrderly (sym here.0) h
   works_orderly acts (r ∷ rs) now s gone t more w h =
       works_orderly acts rs now w.1 w.2 t more w.6 (carries_orderly r.told r.fates w.0 gone w.1 w.2 w.5 ((acts s now r.act r.told w.0 h w.3 w.4).0))
-
--- ---- what an engine lives through
-
-pub lives_on : (later : List Step) (s : Story) (steps : List Step) (t u : Story) → Lives s steps t → Lives t later u → Lives s (later ++ steps) u
-lives_on [] s steps t u first here = subst (Lives s steps) (sym here) first
-lives_on (step ∷ later) s steps t u first rest = (rest.0, lives_on later s steps t rest.0 first rest.1, rest.2)
-
-abbrev IsLived : Story → Story → Type 0
-IsLived s t = (steps : List Step) × Lives s steps t
-
-lived_none : (s t : Story) → t ≡ s → IsLived s t
-lived_none s t here = ([], here)
-
-lived_on : (s t u : Story) → IsLived s t → IsLived t u → IsLived s u
-lived_on s t u first rest = (rest.0 ++ first.0, lives_on rest.0 s first.0 t u first.1 rest.1)
-
-if_lived : (s : Story) (o : Option Said) (t : Story) → TakesIf s o t → IsLived s t
-if_lived s None t takes = lived_none s t takes
-if_lived s (Some h) t takes = (Took h ∷ [], (s, refl, takes))
-
-reads_lived : (rs : List Read) (s t : Story) → Reads s rs t → IsLived s t
-reads_lived [] s t here = lived_none s t here
-reads_lived (r ∷ rs) s t before = lived_on s before.0 t (if_lived s (said_by r.end r.given) before.0 before.1) (reads_lived rs before.0 t before.2)
-
-carries_lived : (es : List Effect) (fs : List Fate) (s : Story) (gone : List End) (t : Story) (more : List End) → CarriesOut s gone es fs t more → IsLived s t
-carries_lived [] [] s gone t more here = lived_none s t here.0
-carries_lived [] (f ∷ fs) s gone t more out = absurd out
-carries_lived (e ∷ es) [] s gone t more out = absurd out
-carries_lived (e ∷ es) (f ∷ fs) s gone t more out = lived_on s out.0 t (one f out.2) (carries_lived es fs out.0 out.1 t more out.3)
-  where
-    one : (f : Fate) → CarriesOne s gone e f out.0 out.1 → IsLived s out.0
-    one Carried c = lived_none s out.0 c.1
-    one Passed c = lived_none s out.0 c.1
-    one (Lost kind) c = if_lived s (lost (end_of e) kind) out.0 c.2
-
-works_lived : (rs : List Round) (now : ℕ) (s : Story) (gone : List End) (t : Story) (more : List End) → Works now s gone rs t more → IsLived s t
-works_lived [] now s gone t more here = lived_none s t here.0
-works_lived (r ∷ rs) now s gone t more w =
-    lived_on s w.0 t (Worked now r.act r.told ∷ [], (s, refl, (w.3, w.4)))
-    (lived_on w.0 w.1 t (carries_lived r.told r.fates w.0 gone w.1 w.2 w.5) (works_lived rs now w.1 w.2 t more w.6))
-
-pub turns_are_lived : TurnsAreLived
-turns_are_lived now s asked reads rest rounds t turn =
-    lived_on s turn.begun t (if_lived s (accepted_by s asked) turn.begun turn.accepts)
-    (lived_on turn.begun turn.read t (reads_lived reads turn.begun turn.read turn.reads_are) (works_lived rounds now turn.read (failed_links turn.read) t turn.gone turn.works))

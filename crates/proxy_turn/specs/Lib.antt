@@ -4,3 +4,4 @@ pub mod Parts
 pub mod Received
 pub mod Served
 pub mod Turn
+pub mod TurnSteps

@@ -3,7 +3,6 @@
 -- Asked, asks: the call of accept               Given, Read, Reads: reads, and what each gave, as a happening
 -- Fate, CarriesOne, CarriesOut: what became of the effects of an act       Round, Works: acts with their effects
 -- IsTurn: a turn, whole or as far as it came    Tells: what it answers      Turns: both
--- TurnsAreLived: the law
 use Rattle.std.specs.Prelude.{◌≡◌, ℕ, ◌+◌, ◌≤◌, List, [], ◌∷◌, ◌++◌, length, sum_by, map, Bool, true, false, ◌&&◌, ◌==◌, nat_lt, Option, None, Some, is_some, cond, Result, Ok, Err, ◌⊎◌}
 use Rattle.std.specs.List.{list_any}
 use Rattle.hx_status.specs.declared.cause.FailKind.{FailKind}
@@ -14,7 +13,6 @@ use Rattle.proxy_engine.specs.Happenings.{Said, Accepts, Sends, Hears, Ends, Lea
 use Rattle.proxy_engine.specs.Story.{Story, heard, fault_of}
 use Rattle.proxy_engine.specs.Due.{Act, IsDueFirst}
 use Rattle.proxy_engine.specs.Acts.{Does}
-use Rattle.proxy_engine.specs.Lives.{Step, Lives}
 use Rattle.proxy_engine.specs.Reading.{ends_read, failed_links, open_count, next_connection}
 use Rattle.proxy_engine.specs.State.{State, Stands, Failed as EngineFailed}
 use Rattle.proxy_engine.specs.declared.happening.EngineFault.TheVariants as engine
@@ -240,8 +238,3 @@ pub record Turns (now : ℕ) (s : Story) (e : State) (before after : Calls) (res
   pub stands : Stands e last
   pub tells : Tells s asked reads rest rounds last result
   pub raises : Raises before after (asked_calls asked) (length reads) (asked_failures asked + (failed_reads reads + failed_rounds rounds))
-
--- a turn is takes and acts of the engine, one after another: so the law over what an engine lives through speaks of turns, too
-abbrev pub TurnsAreLived : Type 0
-TurnsAreLived =
-    (now : ℕ) (s : Story) (asked : Asked) (reads : List Read) (rest : List End) (rounds : List Round) (t : Story) → IsTurn now s asked reads rest rounds t → (steps : List Step) × Lives s steps t

@@ -1,17 +1,32 @@
 //! Laws on the definitions that the contracts cite.
-ghost use Rattle.proxy_turn.specs.Turn.{TurnsAreLived};
-ghost use Rattle.proxy_turn.specs.Served.{BeginsLived, StaysOn, GoesOnAndOn, TakesGoOn, TurnsGoOn, LivedGoesOn, LivedAreServing};
+ghost use Rattle.proxy_turn.specs.TurnSteps.{TurnsAreLived, TurnsTellTheirEffects};
+ghost use Rattle.proxy_turn.specs.Served.{NothingIsLost, OneIsLost, MoreAreLost, LossesGoOn, TurnsAreServed, BeginsLived, StaysOn, GoesOnAndOn, TakesGoOn, TurnsGoOn, LivedGoesOn, LivedAreServing, TurnsLiveOn, LivesAreServing, KeepsItsTable};
 
 use proxy_engine::{effects_name_open_ends, lives_are_runs};
 
-/// A turn is takes and acts of the engine, one after another. So what `proxy_engine::lives_are_runs` says of whatever an engine
-/// lives through, it says of turns over sockets.
+/// A turn is lived by its own steps, behind whatever was lived before it: it takes the connection that came and what its reads
+/// gave, does its acts at its moment, and takes the ends on which a call failed. The effects of these steps are those that it
+/// carried out. So what `proxy_engine::lives_are_runs` says of whatever an engine lives through, it says of turns over sockets.
 pub fn turns_are_lived()
-    ensures { TurnsAreLived }
+    ensures lived { TurnsAreLived }
+    ensures tells { TurnsTellTheirEffects }
 {}
+
+/// Ends that are lost between two turns are taken, one after another; behind them a turn is served.
+pub fn a_turn_is_served_behind_losses()
+    ensures none { NothingIsLost }
+    ensures one { OneIsLost }
+    ensures more { MoreAreLost }
+    ensures on { LossesGoOn }
+    ensures served { TurnsAreServed }
+{
+    effects_name_open_ends();
+}
 
 /// Whatever happens to an engine, and whatever its sockets do in its turns: what it has lived through goes on, and the steps of
 /// its core are a good run, by its table and with the headline, of the requests that its clients' bytes spell.
+///
+/// Its steps behind a turn of a server are those of the turn, behind those before it. Its table and the room of its store stay.
 pub fn engines_live_on()
     ensures begins { BeginsLived }
     ensures stays { StaysOn }
@@ -20,6 +35,9 @@ pub fn engines_live_on()
     ensures turns { TurnsGoOn }
     ensures lived { LivedGoesOn }
     ensures serves { LivedAreServing }
+    ensures by_steps { TurnsLiveOn }
+    ensures runs { LivesAreServing }
+    ensures table { KeepsItsTable }
 {
     turns_are_lived();
     effects_name_open_ends();

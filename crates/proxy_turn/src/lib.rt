@@ -13,7 +13,7 @@ mod sockets;
 mod turns;
 
 pub use crate::happenings::{arrival, ending, loss};
-pub use crate::laws::{engines_live_on, turns_are_lived};
+pub use crate::laws::{a_turn_is_served_behind_losses, engines_live_on, turns_are_lived};
 pub use crate::limits::MOST_WORKS;
 pub use crate::report::{Report, TurnFault};
 pub use crate::sockets::{Received, SocketFailed, Sockets};

@@ -1,6 +1,6 @@
-use Rattle.proxy_turn.specs.Served.{GoesOn}
+use Rattle.proxy_turn.specs.Served.{LosesOn}
 use Rattle.proxy_live.proofs.server.Server.hand_in_lost.Given as goal
 
--- what the engine had lived through has gone on so far
+-- nothing but what was lost has been taken so far
 abbrev pub invariant-loop : goal.invariant-loop
-invariant-loop g l = GoesOn l.fn.self l.self
+invariant-loop g l = LosesOn l.fn.self l.self
