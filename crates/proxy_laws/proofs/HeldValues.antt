@@ -28,7 +28,7 @@ use Rattle.proxy_core.specs.Traces.{Item}
 use Rattle.proxy_core.specs.Validating.{is_answered, refreshed}
 use Rattle.proxy_laws.specs.SentMessages.{AsksByFieldValues, HoldsWhatFits}
 use Rattle.proxy_laws.proofs.HeldReplies.{holds_sendable}
-use Rattle.proxy_laws.proofs.StoredAnswers.{stores_nowhere_else}
+use Rattle.proxy_core.proofs.StoredAnswers.{stores_nowhere_else}
 
 -- ---- validators
 
