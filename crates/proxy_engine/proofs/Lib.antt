@@ -22,3 +22,4 @@ pub mod Staying
 pub mod Dropping
 pub mod Readable
 pub mod FinalAnswers
+pub mod OneRun

@@ -21,3 +21,4 @@ pub mod Orderly
 pub mod Drops
 pub mod Lives
 pub mod FinalAnswers
+pub mod OneRun

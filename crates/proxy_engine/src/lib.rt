@@ -25,6 +25,7 @@ mod peeked;
 mod places;
 mod readers;
 mod reading;
+mod run_laws;
 mod serving;
 mod takes;
 mod waking;
@@ -40,4 +41,5 @@ pub use crate::laws::{
 pub use crate::lookahead::Lookahead;
 pub use crate::peeked::Peeked;
 pub use crate::readers::Reader;
+pub use crate::run_laws::a_run_refuses_what_was_not_done;
 pub use proxy_script::Happening;

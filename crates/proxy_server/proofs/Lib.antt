@@ -6,3 +6,4 @@ pub mod Running
 pub mod OnePlay
 pub mod Behind
 pub mod Overs
+pub mod OneReplay

@@ -5,3 +5,4 @@ pub mod Steps
 pub mod FaultLines
 pub mod Runs
 pub mod Closes
+pub mod OneReplay

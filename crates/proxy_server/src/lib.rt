@@ -12,6 +12,7 @@ mod laws;
 mod memory;
 mod play;
 pub mod program;
+mod replay_laws;
 mod shelves;
 mod steps;
 
@@ -22,3 +23,4 @@ pub use crate::laws::{
 };
 pub use crate::memory::replayed;
 pub use crate::play::{replay, replay_on_list};
+pub use crate::replay_laws::a_replay_refuses_other_texts;

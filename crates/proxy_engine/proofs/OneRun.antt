@@ -1,0 +1,64 @@
+-- A run refuses what wasn't done.
+use Rattle.std.proofs.Common.{◌≡◌, ◌≢◌, ◌⊎◌, inl, inr, ℕ, ◌+◌, ◌≤◌, List, [], ◌∷◌, length, refl, sym, ap, ◌∙◌, subst, arith, Option, Some, None}
+use Rattle.std.proofs.lemmas.Option.{same_Some}
+use Rattle.hx_framing.specs.declared.messages.Request.{Request}
+use Rattle.hx_framing.specs.declared.messages.Next.{Next}
+use Rattle.hx_framing.specs.declared.messages.Next.TheVariants as next
+use Rattle.hx_allow.specs.Lines.{Table}
+use Rattle.proxy_core.specs.declared.event.Event.{Event}
+use Rattle.proxy_core.specs.Traces.{Item}
+use Rattle.proxy_script.specs.declared.effect_list.Effect.{Effect}
+use Rattle.proxy_engine.specs.Story.{Story}
+use Rattle.proxy_engine.specs.Due.{Act, Abandons, Finishes, Wakes, Serves, Gives, Breaks, IsDueFirst}
+use Rattle.proxy_engine.specs.Acts.{Does}
+use Rattle.proxy_engine.specs.Lives.{Step, Took, Worked, Adds, Tells, IsEventOf, ActsInOneWay, HasOneTrace}
+use Rattle.proxy_engine.specs.OneRun.{moment_of, acts_in, NoOtherEffects, NoOtherAct, NoOtherMoment, NothingUntaken, NoMoreItems, NothingUndone}
+use Rattle.proxy_engine.proofs.Once.{due_first_once}
+
+some_act : {a b : Act} → Some a ≡ Some b → a ≡ b
+some_act h = cc
+
+pub no_other_effects : HasOneTrace → ActsInOneWay → NoOtherEffects
+no_other_effects once one_way table limit first now begin last other past act told more run differ second =
+    let a = run.tells in
+    let b = second.tells in
+    let same : a.0 ≡ b.0 = (once table begin past a.0 b.0 a.1 b.1 a.2 b.2).0 in
+    let does = subst (λ (s : Story). Does s now act told last) same a.3.1 in
+    differ (one_way b.0 now act told more last other does b.3.1).0
+
+pub no_other_act : HasOneTrace → NoOtherAct
+no_other_act once table limit first now then begin last other past act instead told more run differ second =
+    let a = run.tells in
+    let b = second.tells in
+    let same : a.0 ≡ b.0 = (once table begin past a.0 b.0 a.1 b.1 a.2 b.2).0 in
+    let due = subst (λ (s : Story). IsDueFirst s (Some act)) same a.3.0 in
+    differ (some_act (due_first_once b.0 (Some act) (Some instead) due b.3.0))
+
+at_its_moment : (s : Story) (now then : ℕ) (act : Act) (event : Event) → IsEventOf s now act event → moment_of event ≡ Some then → now ≡ then
+at_its_moment s now then (Abandons i l) event is at = let never : None ≡ Some then = sym (ap moment_of is) ∙ at in absurd (cc)
+at_its_moment s now then (Finishes j (Gives r)) event is at = same_Some now then (sym (ap moment_of is) ∙ at)
+at_its_moment s now then (Finishes j (Breaks kind)) event is at = same_Some now then (sym (ap moment_of is) ∙ at)
+at_its_moment s now then (Wakes i) event is at = same_Some now then (sym (ap moment_of is) ∙ at)
+at_its_moment s now then (Serves i next.More) event is at = absurd is
+at_its_moment s now then (Serves i (next.Message r)) event is at = same_Some now then (sym (ap moment_of is.2) ∙ at)
+at_its_moment s now then (Serves i next.NeedsContinue) event is at = absurd is
+at_its_moment s now then (Serves i (next.Refused fault)) event is at = absurd is
+at_its_moment s now then (Serves i next.End) event is at = absurd is
+
+pub no_other_moment : NoOtherMoment
+no_other_moment table s after now then act item told h at differ = differ (at_its_moment s now then act item.event h.event_is at)
+
+pub nothing_untaken : NothingUntaken
+nothing_untaken table limit first begin last past happening run never = never run.tells.0 run.tells.3.0
+
+pub no_more_items : NoMoreItems
+no_more_items table begin last [] trace h = subst (λ (z : List Item). length z ≤ 0) (sym h.1) (omega arith)
+no_more_items table begin last (Took happening ∷ past) trace h = subst (λ (z : List Item). length z ≤ acts_in past) (sym h.4) (no_more_items table begin h.0 past h.1 h.2)
+no_more_items table begin last (Worked now act told ∷ past) trace h = by_step (no_more_items table begin h.0 past h.1 h.2) h.4
+  where
+    by_step : length h.1 ≤ acts_in past → Adds table h.0 (Worked now act told) last h.1 trace → length trace ≤ acts_in past + 1
+    by_step few (inl (item, is, done)) = subst (λ (z : List Item). length z ≤ acts_in past + 1) (sym is) (omega (arith, few))
+    by_step few (inr (is, none, own)) = subst (λ (z : List Item). length z ≤ acts_in past + 1) (sym is) (omega (arith, few))
+
+pub nothing_undone : NothingUndone
+nothing_undone table begin last item past h = let never : item ∷ past ≡ [] = h.1 in absurd (cc)
