@@ -22,3 +22,4 @@ pub mod Drops
 pub mod Lives
 pub mod FinalAnswers
 pub mod OneRun
+pub mod StoryCases

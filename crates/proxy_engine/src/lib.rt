@@ -27,6 +27,7 @@ mod readers;
 mod reading;
 mod run_laws;
 mod serving;
+mod story_cases;
 mod takes;
 mod waking;
 mod wishes;
@@ -42,4 +43,8 @@ pub use crate::lookahead::Lookahead;
 pub use crate::peeked::Peeked;
 pub use crate::readers::Reader;
 pub use crate::run_laws::a_run_refuses_what_was_not_done;
+pub use crate::story_cases::{
+    what_acts_tell, what_happenings_add, what_is_due_by_its_words, what_steps_told,
+    which_happenings_are_taken,
+};
 pub use proxy_script::Happening;
