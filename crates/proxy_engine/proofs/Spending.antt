@@ -1,5 +1,5 @@
 -- That no link number is left hides behind no want of memory.
-use Rattle.std.proofs.Common.{◌≡◌, ◌⊎◌, inl, inr, ℕ, ◌+◌, ◌<◌, ◌≤◌, ◌^◌, List, length, get_or, refl, sym, ap, ◌∙◌, subst, arith, Bool, true, false, Option, None, Some, nat_le, Contains, Result, Err}
+use Rattle.std.proofs.Common.{◌≡◌, ◌≢◌, ◌⊎◌, inl, inr, ℕ, ◌+◌, ◌<◌, ◌≤◌, ◌^◌, List, length, get_or, refl, sym, ap, ◌∙◌, subst, arith, Bool, true, false, Option, None, Some, nat_le, Contains, Result, Err}
 use Rattle.std.specs.Ordering.{nat_cmp}
 use Rattle.std.specs.BTreeMap.{BTreeMap, get}
 use Rattle.std.proofs.lemmas.Bool.{cases_lt, leb-false}
@@ -7,10 +7,12 @@ use Rattle.proxy_engine.specs.Story.{Story, no_connection, no_link}
 use Rattle.proxy_engine.specs.Due.{Abandons, Finishes, Wakes, Serves, Finish, Gives, Breaks, IsFirst, IsDueFirst, Lost, Stood, next_ready}
 use Rattle.proxy_engine.specs.Acts.{MayForward, next_number}
 use Rattle.proxy_engine.specs.State.{State, Stands, LinkStands}
-use Rattle.proxy_engine.specs.Spent.{HasThere, link_unknown, StopsAt, TellsSpent, HidesNoWake, HidesNoAnswer}
+use Rattle.proxy_engine.specs.Spent.{HasThere, is_unknown, link_unknown, StopsAt, TellsSpent, HidesNoWake, HidesNoAnswer}
 use Rattle.proxy_engine.specs.Wishes.{EndFault}
 use Rattle.proxy_engine.specs.Places.{listed, AllBelow}
 use Rattle.proxy_engine.specs.Marked.{NoneBelow, may_stand}
+use Rattle.proxy_engine.specs.declared.lookahead.Lookahead.{Lookahead}
+use Rattle.proxy_engine.specs.declared.lookahead.Lookahead.TheVariants.{Unknown, Quiet, Due}
 use Rattle.proxy_engine.specs.declared.ends.Link.{Link}
 use Rattle.proxy_engine.specs.declared.happening.EngineFault.{EngineFault}
 use Rattle.proxy_engine.specs.declared.happening.EngineFault.TheVariants.{OutOfMemory}
@@ -88,13 +90,15 @@ stops_at m n places below h =
 
 -- ---- what isn't so
 
+unknown_is : {M : Type 0} (ahead : Lookahead M) → is_unknown ahead ≡ true → ahead ≡ Unknown
+unknown_is Unknown is = refl
+unknown_is Quiet is = absurd cc
+unknown_is (Due a) is = absurd cc
+
 -- where each link that is kept is known, none is unknown
-known_there : (o : Option Link) → ((link : Link) → o ≡ Some link → link_unknown link ≡ false) → HasThere link_unknown o → ⊥
+known_there : (o : Option Link) → ((link : Link) → o ≡ Some link → link.reader.ahead ≢ Unknown) → HasThere link_unknown o → ⊥
 known_there None known has = has
-known_there (Some link) known has = no_true (link_unknown link) has (known link refl)
-  where
-    no_true : (b : Bool) → b ≡ true → b ≡ false → ⊥
-    no_true b is other = cc
+known_there (Some link) known has = known link refl (unknown_is link.reader.ahead has)
 
 pub hides_no_wake : HidesNoWake
 hides_no_wake s e i due known spent tells =

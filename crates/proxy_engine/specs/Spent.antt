@@ -3,7 +3,7 @@
 -- is_unknown, HasThere: nothing is known of an end            StopsAt: a look over the links has found no memory
 -- IsSeen: it is known what is due, and whether it needs a link     TellsSpent: want of memory is told only where a number is left
 -- HidesNoWake, HidesNoAnswer: what isn't so
-use Rattle.std.specs.Prelude.{◌≡◌, ℕ, ◌<◌, ◌≤◌, ◌^◌, List, Bool, true, false, Option, None, Some, slice_index_or}
+use Rattle.std.specs.Prelude.{◌≡◌, ◌≢◌, ℕ, ◌<◌, ◌≤◌, ◌^◌, List, Bool, true, false, Option, None, Some, slice_index_or}
 use Rattle.proxy_engine.specs.Story.{Story, LinkStory, no_link}
 use Rattle.hx_framing.specs.declared.messages.Response.{Response}
 use Rattle.proxy_engine.specs.Due.{Act, Abandons, Finishes, Wakes, Serves, Gives, IsDueFirst, Stood}
@@ -54,11 +54,11 @@ TellsSpent s e = (act : Act) → IsDueFirst s (Some act) → MayForward act → 
 -- a request is to be woken, all links are known, and no number is left for one more: memory isn't what is wanting
 abbrev pub HidesNoWake : Type 0
 HidesNoWake = (s : Story) (e : State) (i : ℕ) → IsDueFirst s (Some (Wakes i))
-    → ((k : ℕ) (link : Link) → slice_index_or e.links k None ≡ Some link → link_unknown link ≡ false)
+    → ((k : ℕ) (link : Link) → slice_index_or e.links k None ≡ Some link → link.reader.ahead ≢ Unknown)
     → 2 ^ 64 ≤ next_number s → TellsSpent s e → ⊥
 
 -- nor where an answer is due, and the links up to its own are known
 abbrev pub HidesNoAnswer : Type 0
 HidesNoAnswer = (s : Story) (e : State) (j : ℕ) (response : Response) → IsDueFirst s (Some (Finishes j (Gives response)))
-    → ((k : ℕ) (link : Link) → k ≤ j → slice_index_or e.links k None ≡ Some link → link_unknown link ≡ false)
+    → ((k : ℕ) (link : Link) → k ≤ j → slice_index_or e.links k None ≡ Some link → link.reader.ahead ≢ Unknown)
     → 2 ^ 64 ≤ next_number s → TellsSpent s e → ⊥
