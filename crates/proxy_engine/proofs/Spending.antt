@@ -1,5 +1,5 @@
 -- That no link number is left hides behind no want of memory.
-use Rattle.std.proofs.Common.{◌≡◌, ◌⊎◌, inl, inr, ℕ, ◌+◌, ◌<◌, ◌≤◌, ◌^◌, List, length, get_or, sym, ap, ◌∙◌, subst, arith, Option, None, Some, nat_le, Contains, Result, Err}
+use Rattle.std.proofs.Common.{◌≡◌, ◌≢◌, ◌⊎◌, inl, inr, ℕ, ◌+◌, ◌<◌, ◌≤◌, ◌^◌, List, length, get_or, refl, sym, ap, ◌∙◌, subst, arith, Bool, true, false, Option, None, Some, nat_le, Contains, Result, Err}
 use Rattle.std.specs.Ordering.{nat_cmp}
 use Rattle.std.specs.BTreeMap.{BTreeMap, get}
 use Rattle.std.proofs.lemmas.Bool.{cases_lt, leb-false}
@@ -7,10 +7,12 @@ use Rattle.proxy_engine.specs.Story.{Story, no_connection, no_link}
 use Rattle.proxy_engine.specs.Due.{Abandons, Finishes, Wakes, Serves, Finish, Gives, Breaks, IsFirst, IsDueFirst, Lost, Stood, next_ready}
 use Rattle.proxy_engine.specs.Acts.{MayForward, next_number}
 use Rattle.proxy_engine.specs.State.{State, Stands, LinkStands}
-use Rattle.proxy_engine.specs.Spent.{HasThere, link_unknown, StopsAt, TellsSpent}
+use Rattle.proxy_engine.specs.Spent.{HasThere, is_unknown, link_unknown, StopsAt, TellsSpent, HidesNoWake, HidesNoAnswer}
 use Rattle.proxy_engine.specs.Wishes.{EndFault}
 use Rattle.proxy_engine.specs.Places.{listed, AllBelow}
 use Rattle.proxy_engine.specs.Marked.{NoneBelow, may_stand}
+use Rattle.proxy_engine.specs.declared.lookahead.Lookahead.{Lookahead}
+use Rattle.proxy_engine.specs.declared.lookahead.Lookahead.TheVariants.{Unknown, Quiet, Due}
 use Rattle.proxy_engine.specs.declared.ends.Link.{Link}
 use Rattle.proxy_engine.specs.declared.happening.EngineFault.{EngineFault}
 use Rattle.proxy_engine.specs.declared.happening.EngineFault.TheVariants.{OutOfMemory}
@@ -85,3 +87,25 @@ stops_at m n places below h =
       unknown = subst (HasThere link_unknown) (sym (listed_at m n h.0 None within)) h.1;
       before = before_none LinkStands Stood may_stand no_link m n unstood unstood_over h.0 within h.2;
     }
+
+-- ---- what isn't so
+
+unknown_is : {M : Type 0} (ahead : Lookahead M) → is_unknown ahead ≡ true → ahead ≡ Unknown
+unknown_is Unknown is = refl
+unknown_is Quiet is = absurd cc
+unknown_is (Due a) is = absurd cc
+
+-- where each link that is kept is known, none is unknown
+known_there : (o : Option Link) → ((link : Link) → o ≡ Some link → link.reader.ahead ≢ Unknown) → HasThere link_unknown o → ⊥
+known_there None known has = has
+known_there (Some link) known has = known link refl (unknown_is link.reader.ahead has)
+
+pub hides_no_wake : HidesNoWake
+hides_no_wake s e i due known spent tells =
+    let left = tells (Wakes i) due tt (λ k has. known_there (get_or e.links k None) (known k) has) in
+    omega (arith, spent, left)
+
+pub hides_no_answer : HidesNoAnswer
+hides_no_answer s e j response due known spent tells =
+    let left = tells (Finishes j (Gives response)) due tt (λ k upto has. known_there (get_or e.links k None) (λ link is. known k link upto is) has) in
+    omega (arith, spent, left)

@@ -1,10 +1,12 @@
 -- That no link number is left hides behind no want of memory.
 --
--- is_unknown, UnknownThere: nothing is known of an end           StopsAt: a look over the links has found no memory
--- IsSeen: what is due, and that it may need a link, is known     TellsSpent: want of memory is told only where a number is left, then
-use Rattle.std.specs.Prelude.{◌≡◌, ℕ, ◌<◌, ◌≤◌, ◌^◌, List, Bool, true, false, Option, None, Some, slice_index_or}
+-- is_unknown, HasThere: nothing is known of an end            StopsAt: a look over the links has found no memory
+-- IsSeen: it is known what is due, and whether it needs a link     TellsSpent: want of memory is told only where a number is left
+-- HidesNoWake, HidesNoAnswer: what isn't so
+use Rattle.std.specs.Prelude.{◌≡◌, ◌≢◌, ℕ, ◌<◌, ◌≤◌, ◌^◌, List, Bool, true, false, Option, None, Some, slice_index_or}
 use Rattle.proxy_engine.specs.Story.{Story, LinkStory, no_link}
-use Rattle.proxy_engine.specs.Due.{Act, Abandons, Finishes, Wakes, Serves, IsDueFirst, Stood}
+use Rattle.hx_framing.specs.declared.messages.Response.{Response}
+use Rattle.proxy_engine.specs.Due.{Act, Abandons, Finishes, Wakes, Serves, Gives, IsDueFirst, Stood}
 use Rattle.proxy_engine.specs.Acts.{MayForward, next_number}
 use Rattle.proxy_engine.specs.State.{State, Both, LinkStands}
 use Rattle.proxy_engine.specs.declared.lookahead.Lookahead.{Lookahead}
@@ -35,8 +37,8 @@ pub record StopsAt (ks : List (Option Link)) : Type 0 where
   pub unknown : HasThere link_unknown (slice_index_or ks place None)
   pub before : (ys : List LinkStory) → Both LinkStands ks ys → (j : ℕ) → j < place → Stood (slice_index_or ys j no_link) None
 
--- What is due is known, and whether it may need a link, by the looks at the links: of an answer at those up to its own, of a wake at all. An
--- arriving request is judged first, for which memory is needed.
+-- The looks at the links tell what is due, and that it may need a link: of an answer those up to its own, of a wake all of them.
+-- An arriving request is judged first, and that takes memory.
 abbrev pub IsSeen : State → Act → Type 0
 IsSeen e (Abandons i l) = Unit {0}
 IsSeen e (Finishes j finish) = (k : ℕ) → k ≤ j → HasThere link_unknown (slice_index_or e.links k None) → ⊥
@@ -46,3 +48,17 @@ IsSeen e (Serves i wish) = ⊥
 -- where the act that is due is seen, and may need a link, a number for it is left
 abbrev pub TellsSpent : Story → State → Type 0
 TellsSpent s e = (act : Act) → IsDueFirst s (Some act) → MayForward act → IsSeen e act → next_number s < 2 ^ 64
+
+-- ---- the statements
+
+-- a request is to be woken, all links are known, and no number is left for one more: memory isn't what is wanting
+abbrev pub HidesNoWake : Type 0
+HidesNoWake = (s : Story) (e : State) (i : ℕ) → IsDueFirst s (Some (Wakes i))
+    → ((k : ℕ) (link : Link) → slice_index_or e.links k None ≡ Some link → link.reader.ahead ≢ Unknown)
+    → 2 ^ 64 ≤ next_number s → TellsSpent s e → ⊥
+
+-- nor where an answer is due, and the links up to its own are known
+abbrev pub HidesNoAnswer : Type 0
+HidesNoAnswer = (s : Story) (e : State) (j : ℕ) (response : Response) → IsDueFirst s (Some (Finishes j (Gives response)))
+    → ((k : ℕ) (link : Link) → k ≤ j → slice_index_or e.links k None ≡ Some link → link.reader.ahead ≢ Unknown)
+    → 2 ^ 64 ≤ next_number s → TellsSpent s e → ⊥

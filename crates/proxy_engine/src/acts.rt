@@ -82,13 +82,14 @@ impl<S: Shelf> Engine<S> {
     }
 
     /// Does the first act that is due, and at most one step of the core. `now` is in Unix seconds, up to the end of
-    /// the year 9999. After an `Err` the engine stands for the stories that it stood for.
+    /// the year 9999. After an `Err` the engine stands for the stories that it stood for. Want of memory hides no
+    /// `Spent`, where looks have found that an answer or a waiting request is due. A request that arrives is judged before that, which
+    /// takes memory.
     pub fn work(&mut self, alloc: Global, now: u64) -> Result<Work, EngineFault>
         requires { now < END_OF_TIME }
         ensures ok { IfOk result (λ work. (s : Story) → Stands self.old s → Did s now work self.new) }
         ensures less { IfOk result (λ work. Lessens self.old work self.new) }
         ensures fault { IfErr result (λ fault. (s : Story) → Stands self.old s → Failed s fault) }
-        // Where what is due may need a link and no number is left, that is told, and not that memory is wanting.
         ensures spent { result ≡ Err EngineFault.OutOfMemory → (s : Story) → Stands self.old s → TellsSpent s self.new }
         ensures unchanged { OnErr result ((s : Story) → Stands self.old s → Stands self.new s) }
         ensures no_more { OnErr result (load_at self.new ≤ load_at self.old) }

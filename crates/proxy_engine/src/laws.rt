@@ -5,6 +5,7 @@ ghost use Rattle.proxy_engine.specs.Due.{Act, IsDueFirst};
 ghost use Rattle.proxy_engine.specs.Drops.{ActsAreShort, ActsTellDrops, TakesDropNone};
 ghost use Rattle.proxy_engine.specs.Lives.{ActsInOneWay, HasOneTrace, LivesAreRuns};
 ghost use Rattle.proxy_engine.specs.FinalAnswers.{ActsAreSpelled, AnswersAreFinal, AnswersAreRead};
+ghost use Rattle.proxy_engine.specs.Spent.{HidesNoAnswer, HidesNoWake};
 ghost use Rattle.proxy_engine.specs.Orderly.{BeginsOrderly, TakesInOrder, ActsInOrder, TakesStay, ActsStay};
 
 use hx_framing::laws::response_laws::what_is_read_is_final;
@@ -73,3 +74,10 @@ pub fn answers_are_final()
 {
     what_is_read_is_final();
 }
+
+/// Where a waiting request or an answer is the first that is due, the links that come before it are known, and no number is left for one
+/// more link, `work` doesn't say that memory is wanting: `TellsSpent`, which it ensures then, is false of such a state.
+pub fn memory_hides_no_lack_of_numbers()
+    ensures wakes { HidesNoWake }
+    ensures answers { HidesNoAnswer }
+{}

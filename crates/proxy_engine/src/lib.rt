@@ -37,7 +37,7 @@ pub use crate::happening::{End, EngineFault, Work};
 pub use crate::laws::{
     a_life_has_one_trace, an_act_has_three_effects_at_most, an_act_is_done_in_one_way,
     answers_are_final, due_once, each_drop_is_told, effects_name_open_ends, lives_are_runs,
-    what_ends_stays_ended,
+    memory_hides_no_lack_of_numbers, what_ends_stays_ended,
 };
 pub use crate::lookahead::Lookahead;
 pub use crate::peeked::Peeked;

@@ -1,5 +1,5 @@
 -- Each step of a good history sends one message or none, where what it was handed was read.
-use Rattle.std.proofs.Common.{◌≡◌, ℕ, ◌<◌, ◌≤◌, ◌^◌, Bool, true, false, cond, List, [], ◌∷◌, ◌++◌, length, length-append, append-nil, refl, sym, ap, ◌∙◌, subst, arith}
+use Rattle.std.proofs.Common.{◌≡◌, ℕ, ◌<◌, ◌≤◌, ◌^◌, Bool, true, false, cond, List, [], ◌∷◌, ◌++◌, length, length-append, refl, sym, ap, ◌∙◌, subst, arith}
 use Rattle.std.specs.Prelude.{IfSome, Option, None, Some, is_some}
 use Rattle.std.specs.List.{AllByRecursion}
 use Rattle.std.specs.Option.{option_and_then}
@@ -8,7 +8,6 @@ use Rattle.hx_fields.specs.declared.limits.TheConstants.{END_OF_TIME}
 use Rattle.hx_framing.specs.declared.messages.Response.{Response}
 use Rattle.hx_framing.specs.Reading.{Spelled}
 use Rattle.hx_framing.specs.RequestReading.{Reads as ReadsRequest}
-use Rattle.hx_framing.specs.ResponseReading.{Reads as ReadsResponse}
 use Rattle.hx_framing.specs.Text.{request_text}
 use Rattle.hx_framing.specs.Written.{read_back}
 use Rattle.hx_framing.specs.WrittenResponse.{response_back, sent_head_text}
@@ -296,17 +295,17 @@ sends_one_message_each_time table limit first item past table_read good read =
 
 -- ---- two messages are no one message
 
-no_rest : {M : Type 0} (m n : M) (rest : List ℕ) → Spelled m rest ≡ Spelled n [] → rest ≡ []
-no_rest m n rest h = cc
+same_spelled : {M : Type 0} (m n : M) (rest behind : List ℕ) → Spelled m rest ≡ Spelled n behind → (m ≡ n) × (rest ≡ behind)
+same_spelled m n rest behind h = (cc, cc)
 
 pub one_request_is_all : OneRequestIsAll
-one_request_is_all name bytes one most over continued request rest small limits reads =
+one_request_is_all name bytes behind one most over continued request rest small limits reads =
     let sent = read_back (forwarded_of one.asked name one.conditions) in
-    let alone = subst (λ (text : List ℕ). ReadsRequest most over continued text (Spelled sent [])) (append-nil bytes) (one.alone most small limits over continued []) in
-    no_rest request sent rest (request_read_once most over continued bytes (Spelled request rest) (Spelled sent []) reads alone)
+    same_spelled request sent rest behind
+    (request_read_once most over continued (bytes ++ behind) (Spelled request rest) (Spelled sent behind) reads (one.alone most small limits over continued behind))
 
 pub one_response_is_all : OneResponseIsAll
-one_response_is_all to_head bytes one most over response rest small limits reads =
+one_response_is_all to_head bytes behind one most over response rest small limits reads =
     let sent = response_back to_head one.sent in
-    let alone = subst (λ (text : List ℕ). ReadsResponse most to_head over text (Spelled sent [])) (append-nil bytes) (one.alone most small limits over []) in
-    no_rest response sent rest (response_read_once most to_head over bytes (Spelled response rest) (Spelled sent []) reads alone)
+    same_spelled response sent rest behind
+    (response_read_once most to_head over (bytes ++ behind) (Spelled response rest) (Spelled sent behind) reads (one.alone most small limits over behind))

@@ -3,7 +3,7 @@
 -- IsReadTable, IsReadRequest, IsHandedWhatWasRead: a table, a request and an event that were read
 -- IsOneRequest, IsOneResponse: bytes that are one message, and end where the proxy ended it     IsOneMessage: those of an outcome
 -- The statements: the premises first (a name, conditions, a content), then what is sent
-use Rattle.std.specs.Prelude.{◌≡◌, ℕ, ◌<◌, ◌≤◌, ◌^◌, ◌++◌, Bool, false, List, [], ◌∷◌, codes, length, Option, None, Some, Ok}
+use Rattle.std.specs.Prelude.{◌≡◌, ℕ, ◌<◌, ◌≤◌, ◌^◌, ◌++◌, Bool, false, List, ◌∷◌, codes, length, Option, None, Some, Ok}
 use Rattle.std.specs.List.{AllByRecursion}
 use Rattle.httparse.specs.Grammar.{IsToken}
 use Rattle.hx_fields.specs.Lines.{values_of}
@@ -78,7 +78,8 @@ pub record IsOneRequest (name bytes : List ℕ) : Type 0 where
   pub conditions : Option Conditions
   pub was_read : IsReadRequest asked
   pub text_is : bytes ≡ request_text (forwarded_of asked name conditions)
-  pub alone : (most : ℕ) → most < 2 ^ 64 → IsWithinLimits most (forwarded_of asked name conditions) → (over continued : Bool) (behind : List ℕ)
+  pub alone : (most : ℕ) → most < 2 ^ 64 → IsWithinLimits most (forwarded_of asked name conditions)
+      → (over continued : Bool) (behind : List ℕ)
       → ReadsRequest most over continued (bytes ++ behind) (Spelled (read_back (forwarded_of asked name conditions)) behind)
 
 -- The bytes are the text of a response. Where that is within the limits of a reader it is read back as it was sent, by a client that
@@ -110,14 +111,20 @@ IsOneMessage name to_head Ended = Unit {0}
 
 -- ---- the statements
 
--- So two messages are no one message: a reader within whose limits it is, and who reads a message in these bytes alone, has read them all.
+-- So two messages are no one message, and less than one isn't: whoever reads such bytes within its limits, with whatever stands behind
+-- them, and finds a message, found what was sent, and left just what stands behind.
 abbrev pub OneRequestIsAll : Type 0
-OneRequestIsAll = (name bytes : List ℕ) (one : IsOneRequest name bytes) (most : ℕ) (over continued : Bool) (request : Request) (rest : List ℕ)
-    → most < 2 ^ 64 → IsWithinLimits most (forwarded_of one.asked name one.conditions) → ReadsRequest most over continued bytes (Spelled request rest) → rest ≡ []
+OneRequestIsAll =
+    (name bytes behind : List ℕ) (one : IsOneRequest name bytes) (most : ℕ) (over continued : Bool) (request : Request) (rest : List ℕ)
+    → most < 2 ^ 64 → IsWithinLimits most (forwarded_of one.asked name one.conditions)
+    → ReadsRequest most over continued (bytes ++ behind) (Spelled request rest)
+    → (request ≡ read_back (forwarded_of one.asked name one.conditions)) × (rest ≡ behind)
 
 abbrev pub OneResponseIsAll : Type 0
-OneResponseIsAll = (to_head : Bool) (bytes : List ℕ) (one : IsOneResponse to_head bytes) (most : ℕ) (over : Bool) (response : Response) (rest : List ℕ)
-    → most < 2 ^ 64 → FitsAReader most one.sent → ReadsResponse most to_head over bytes (Spelled response rest) → rest ≡ []
+OneResponseIsAll =
+    (to_head : Bool) (bytes behind : List ℕ) (one : IsOneResponse to_head bytes) (most : ℕ) (over : Bool) (response : Response) (rest : List ℕ)
+    → most < 2 ^ 64 → FitsAReader most one.sent → ReadsResponse most to_head over (bytes ++ behind) (Spelled response rest)
+    → (response ≡ response_back to_head one.sent) × (rest ≡ behind)
 
 -- the name in a table that was read is a token (RFC 9110, section 5.6.2), and no content that it lets be stored is long
 abbrev pub NamesAToken : Type 0
@@ -130,17 +137,19 @@ StoresNoneTooLong = (table : Table) → IsReadTable table → table.max_stored <
 -- its ETag and its Last-Modified (RFC 9110, sections 13.1.2 and 13.1.3). So no byte of them ends a line of the next request.
 abbrev pub AsksByFieldValues : Type 0
 AsksByFieldValues = (table : Table) (limit first : ℕ) (trace : List Item) → IsGoodHistory table limit first trace
-    → AllByRecursion (λ item. IsReadEvent item.event) trace → (serial : ℕ) (e : Stored) → held_entry table limit trace serial ≡ Some e → AreFieldValues (conditions_of e.fields)
+    → AllByRecursion (λ item. IsReadEvent item.event) trace → (serial : ℕ) (e : Stored) → held_entry table limit trace serial ≡ Some e
+    → AreFieldValues (conditions_of e.fields)
 
 -- and its content is no longer than the table says
 abbrev pub HoldsWhatFits : Type 0
 HoldsWhatFits = (table : Table) (limit first : ℕ) (trace : List Item) → IsGoodHistory table limit first trace
-    → AllByRecursion (λ item. IsReadEvent item.event) trace → (serial : ℕ) (e : Stored) → held_entry table limit trace serial ≡ Some e → length e.content ≤ table.max_stored
+    → AllByRecursion (λ item. IsReadEvent item.event) trace → (serial : ℕ) (e : Stored) → held_entry table limit trace serial ≡ Some e
+    → length e.content ≤ table.max_stored
 
 -- the request of each open exchange was read, where each that arrived was
 abbrev pub KeepsWhatWasRead : Type 0
-KeepsWhatWasRead = (table : Table) (limit first id : ℕ) (trace : List Item) (x : Exchange) → IsGoodHistory table limit first trace → AreHandedWhatWasRead trace
-    → find_exchange id (open_exchanges table limit trace) ≡ Some x → IsReadRequest x.asked
+KeepsWhatWasRead = (table : Table) (limit first id : ℕ) (trace : List Item) (x : Exchange) → IsGoodHistory table limit first trace
+    → AreHandedWhatWasRead trace → find_exchange id (open_exchanges table limit trace) ≡ Some x → IsReadRequest x.asked
 
 -- In a good history over a table that was read, of requests and answers that were read, each step sends one message or none: a request
 -- that goes forward, at its arrival, when it is woken and a second time, and whatever a client gets, an answer of the origin, a stored

@@ -2,10 +2,13 @@
 //! contract is a law, and its body is empty. Nothing here runs.
 #![tactic(auto)]
 
+mod message_laws;
+
 ghost use Rattle.proxy_laws.specs.ClientConditions.{AnswersNoOther, AnswersTheCondition};
-ghost use Rattle.proxy_laws.specs.SentMessages.{AsksByFieldValues, HoldsWhatFits, KeepsWhatWasRead, NamesAToken, OneRequestIsAll, OneResponseIsAll, SendsOneMessageEachTime, StoresNoneTooLong};
 ghost use Rattle.proxy_laws.specs.OneResponse.{PassesOneResponse, RefusesAsOneResponse};
 ghost use Rattle.proxy_laws.specs.StoredReplies.{FreshensSendable, HoldsSendable, SendsA304AsOne, SendsWholeAsOne, StoresSendable};
+
+pub use crate::message_laws::{a_core_sends_one_message_each_time, what_was_read_can_be_sent};
 
 /// A client's If-None-Match, or where that is absent its If-Modified-Since, gets a 304 from a stored response exactly where the
 /// standard says that the condition fails (RFC 9110, sections 13.1.2, 13.1.3 and 13.2.2).
@@ -29,25 +32,4 @@ pub fn a_stored_response_is_sent_as_one()
     ensures held { HoldsSendable }
     ensures whole { SendsWholeAsOne }
     ensures not_modified { SendsA304AsOne }
-{}
-
-/// What the laws on one message take for granted holds of what was read. The name in a table that was read is a token, and no content that
-/// it lets be stored is too long to be told. At each moment of a good history whose answers were read, the ETag and the Last-Modified by
-/// which an origin is asked are field values, so an origin's bytes end no line of the next request (RFC 9110, section 5.5), and a
-/// content is no longer than the table lets it be. The request of each open exchange was read, where each that arrived was.
-pub fn what_was_read_can_be_sent()
-    ensures name { NamesAToken }
-    ensures short { StoresNoneTooLong }
-    ensures conditions { AsksByFieldValues }
-    ensures fits { HoldsWhatFits }
-    ensures requests { KeepsWhatWasRead }
-{}
-
-/// So in a good history over a table that was read, of requests and answers that were read, each step sends one message or none: what goes
-/// forward is one request, what a client gets is one response, and each ends where the proxy ended it (RFC 9112, sections 6.3, 11.1 and
-/// 11.2). That an engine hands its core nothing else is a law of `proxy_messages`.
-pub fn a_core_sends_one_message_each_time()
-    ensures each { SendsOneMessageEachTime }
-    ensures one_request { OneRequestIsAll }
-    ensures one_response { OneResponseIsAll }
 {}

@@ -54,24 +54,29 @@ IsAnsweredAsOne to_head (effects.Drop l) = Unit {0}
 
 -- whatever an engine lives through, its core is handed requests and answers that were read
 abbrev pub HandsWhatWasRead : Type 0
-HandsWhatWasRead = (table : Table) (begin last : Story) (steps : List Step) (trace : List Item) → Tells table begin steps last trace → AreHandedWhatWasRead trace
+HandsWhatWasRead =
+    (table : Table) (begin last : Story) (steps : List Step) (trace : List Item) → Tells table begin steps last trace → AreHandedWhatWasRead trace
 
--- Whatever an engine with a table that was read lives through, each request that it forwards is one: read back within the limits of a reader
--- it is what was sent, and nothing of it is left over.
+-- Whatever an engine with a table that was read lives through, each request that it forwards is one: within the limits of a reader it is
+-- read back as it was sent, and what stands behind it is left.
 abbrev pub ForwardsOneRequestEach : Type 0
 ForwardsOneRequestEach =
-    (table : Table) (limit first link : ℕ) (steps : List Step) (t : Story) → IsReadTable table → Lives (begun (core_begun table limit first) link) steps t
+    (table : Table) (limit first link : ℕ) (steps : List Step) (t : Story) → IsReadTable table
+    → Lives (begun (core_begun table limit first) link) steps t
     → (l : ℕ) (address bytes : List ℕ) → Contains (told_of steps) (effects.Forward l address bytes) → IsOneRequest table.name bytes
 
--- And whatever act it does then, what a client gets for it is a continue or one response, read by a client that knows whether it asked by HEAD.
+-- And whatever act it does then, what a client gets for it is a continue or one response, for a client that knows whether it asked by
+-- HEAD.
 abbrev pub AnswersOneResponseEach : Type 0
 AnswersOneResponseEach =
-    (table : Table) (limit first link now : ℕ) (past : List Step) (s t : Story) (act : Act) (told : List Effect) → IsReadTable table
-    → Lives (begun (core_begun table limit first) link) past s → now < END_OF_TIME → Leads s (Worked now act told) t
+    (table : Table) (limit first link now : ℕ) (past : List Step) (s t : Story) (act : Act) (told : List Effect)
+    → IsReadTable table → Lives (begun (core_begun table limit first) link) past s → now < END_OF_TIME → Leads s (Worked now act told) t
     → All (IsAnsweredAsOne (answers_head s act)) told
 
 -- so it is of all that clients ever got
 abbrev pub GetsOneResponseEach : Type 0
 GetsOneResponseEach =
-    (table : Table) (limit first link : ℕ) (steps : List Step) (t : Story) → IsReadTable table → Lives (begun (core_begun table limit first) link) steps t → AreInTime steps
-    → (n : ℕ) (bytes : List ℕ) → Contains (told_of steps) (effects.Client n bytes) → (bytes ≡ continue_text) ⊎ ((to_head : Bool) × IsOneResponse to_head bytes)
+    (table : Table) (limit first link : ℕ) (steps : List Step) (t : Story) → IsReadTable table
+    → Lives (begun (core_begun table limit first) link) steps t → AreInTime steps
+    → (n : ℕ) (bytes : List ℕ) → Contains (told_of steps) (effects.Client n bytes)
+    → (bytes ≡ continue_text) ⊎ ((to_head : Bool) × IsOneResponse to_head bytes)
