@@ -8,16 +8,18 @@ use Rattle.proxy_engine.specs.Story.{Story}
 use Rattle.proxy_engine.specs.Orderly.{TakesStay}
 use Rattle.proxy_engine.specs.State.{State, Stands}
 use Rattle.proxy_engine.specs.declared.happening.End.{End}
+use Rattle.proxy_turn.specs.Calls.{Call}
 use Rattle.proxy_turn.specs.Counts.{Calls, Raises}
-use Rattle.proxy_turn.specs.Turn.{TakesIf, lost, is_lost, end_of, FailsAs, Lost, CarriesOut, fate_failures, failed_fates}
+use Rattle.proxy_turn.specs.Turn.{TakesIf, lost, is_lost, end_of, FailsAs, Lost, CarriesOut, fate_failures, failed_fates, calls_carried, calls_told}
 use Rattle.proxy_turn.specs.Parts.{TookIf, IsThere, AreThere, CarriedOne, CarriedOut}
+use Rattle.proxy_turn.proofs.Called.{Joins, told_more}
 use Rattle.proxy_turn.proofs.Counting.{raises_none, raises_on}
 use Rattle.proxy_turn.proofs.There.{all_there_later}
 use Rattle.proxy_turn.proofs.Turning.{carries_more, carries_stays, sum_more}
 
-pub carried_lost : (s : Story) (gone : List End) (effect : Effect) (e : State) (more : List End) (before after : Calls) (kind : FailKind) (end : End) (o : Option Said) → end ≡ end_of effect → is_lost gone end ≡ false → FailsAs effect kind → o ≡ lost end kind
-    → TookIf s o e → more ≡ gone ++ end ∷ [] → Raises before after 0 0 1 → CarriedOne s gone effect e more before after 1
-carried_lost s gone effect e more before after kind end o is here fails said took longer raises = record {
+pub carried_lost : (s : Story) (gone : List End) (effect : Effect) (e : State) (more : List End) (did : List Call → Type 0) (before after : Calls) (kind : FailKind) (end : End) (o : Option Said) → end ≡ end_of effect → is_lost gone end ≡ false → FailsAs effect kind → o ≡ lost end kind
+    → TookIf s o e → more ≡ gone ++ end ∷ [] → did (calls_carried effect (Lost kind)) → Raises before after 0 0 1 → CarriedOne s gone effect e more did before after 1
+carried_lost s gone effect e more did before after kind end o is here fails said took longer calls raises = record {
   fate = Lost kind;
   last = took.after;
   carries = (
@@ -28,6 +30,7 @@ carried_lost s gone effect e more before after kind end o is here fails said too
   );
   stands = took.stands;
   counted = refl;
+  calls = calls;
   raises = raises;
 }
 
@@ -36,17 +39,17 @@ effect_there s [] i effect there l is = absurd (omega (arith, l))
 effect_there s (e ∷ es) zero effect there l is = subst (λ (x : Effect). IsThere s (end_of x)) (sym is) there.0
 effect_there s (e ∷ es) (suc i) effect there l is = effect_there s es i effect there.1 (omega (arith, l)) is
 
-pub carried_none : (s : Story) (gone : List End) (e : State) (here : Calls) → Stands e s → CarriedOut s gone [] e gone here here 0
-carried_none s gone e here stands = record { fates = []; last = s; carries = (refl, refl); stands = stands; counted = refl; raises = raises_none here }
+pub carried_none : (s : Story) (gone : List End) (e : State) (did : List Call → Type 0) (here : Calls) → Stands e s → did [] → CarriedOut s gone [] e gone did here here 0
+carried_none s gone e did here stands none = record { fates = []; last = s; carries = (refl, refl); stands = stands; counted = refl; calls = none; raises = raises_none here }
 
-pub named_later : (stay : TakesStay) (s : Story) (gone : List End) (es : List Effect) (i : ℕ) (effect : Effect) (e : State) (mid : List End) (a b : Calls) (faults : ℕ) → effect ≡ get_or es i effect → i < length es → AreThere s (map end_of es) → (done : CarriedOut s gone (take i es) e mid a b faults)
+pub named_later : (stay : TakesStay) (s : Story) (gone : List End) (es : List Effect) (i : ℕ) (effect : Effect) (e : State) (mid : List End) (did : List Call → Type 0) (a b : Calls) (faults : ℕ) → effect ≡ get_or es i effect → i < length es → AreThere s (map end_of es) → (done : CarriedOut s gone (take i es) e mid did a b faults)
     → IsThere done.last (end_of effect)
-named_later stay s gone es i effect e mid a b faults is l there done =
+named_later stay s gone es i effect e mid did a b faults is l there done =
     effect_there done.last es i effect (all_there_later s done.last (map end_of es) (carries_stays stay (take i es) done.fates s gone done.last mid done.carries) there) l is
 
-module _ (s : Story) (gone : List End) (es : List Effect) (i : ℕ) (effect : Effect) (e new : State) (mid more : List End) (a b c : Calls) (faults count : ℕ) where
-  pub carried_more : effect ≡ get_or es i effect → i < length es → (done : CarriedOut s gone (take i es) e mid a b faults) → CarriedOne done.last mid effect new more b c count → CarriedOut s gone (take (i + 1) es) new more a c (faults + count)
-  carried_more is l done one =
+module _ (s : Story) (gone : List End) (es : List Effect) (i : ℕ) (effect : Effect) (e new : State) (mid more : List End) (did then all : List Call → Type 0) (a b c : Calls) (faults count : ℕ) where
+  pub carried_more : effect ≡ get_or es i effect → i < length es → (done : CarriedOut s gone (take i es) e mid did a b faults) → CarriedOne done.last mid effect new more then b c count → Joins did then all → CarriedOut s gone (take (i + 1) es) new more all a c (faults + count)
+  carried_more is l done one join =
       let longer : take (i + 1) es ≡ take i es ++ effect ∷ [] = next in
       record {
         fates = done.fates ++ one.fate ∷ [];
@@ -55,6 +58,8 @@ module _ (s : Story) (gone : List End) (es : List Effect) (i : ℕ) (effect : Ef
             (carries_more (take i es) done.fates s gone done.last mid effect one.fate one.last more done.carries one.carries);
         stands = one.stands;
         counted = let before = done.counted in let here = one.counted in let sum = sum_more fate_failures done.fates one.fate in omega (arith, before, here, sum);
+        calls = subst (λ (xs : List Effect). all (calls_told xs (done.fates ++ one.fate ∷ []))) (sym longer)
+            (subst all (sym (told_more (take i es) done.fates s gone done.last mid effect one.fate done.carries)) (join (calls_told (take i es) done.fates) (calls_carried effect one.fate) done.calls one.calls));
         raises = subst (λ (n : ℕ). Raises a c 0 0 n) (sym (sum_more fate_failures done.fates one.fate)) (raises_on a b c 0 0 (failed_fates done.fates) 0 0 (fate_failures one.fate) done.raises one.raises);
       }
     where

@@ -28,9 +28,6 @@ pub raises_failed : (accepts reads failures more_accepts more_reads more_failure
 raises_failed accepts reads failures more_accepts more_reads more_failures k same_accepts same_reads rise =
     record { asked = rise_none accepts more_accepts same_accepts; read = rise_none reads more_reads same_reads; failed = rise }
 
-pub raises_read : (accepts reads failures more_accepts more_reads more_failures k : ℕ) → more_accepts ≡ accepts → IsRise reads more_reads 1 → IsRise failures more_failures k → Raises (calls accepts reads failures) (calls more_accepts more_reads more_failures) 0 1 k
-raises_read accepts reads failures more_accepts more_reads more_failures k same_accepts read rise = record { asked = rise_none accepts more_accepts same_accepts; read = read; failed = rise }
-
 pub on_err : {A E : Type 0} {P : Type 0} (r : Result A E) → P → OnErr r P
 on_err (Ok x) p = tt
 on_err (Err e) p = p

@@ -3,7 +3,6 @@ use Rattle.std.proofs.Common.{◌≡◌, ℕ, zero, suc, ◌+◌, ◌-◌, ◌<�
 use Rattle.std.proofs.Math.Seq.{take-suc}
 use Rattle.std.proofs.lemmas.List.{map-append, length-append, length-map, append-nil, take_all, take-append-drop}
 use Rattle.hx_status.specs.declared.cause.FailKind.{FailKind}
-use Rattle.proxy_engine.specs.Happenings.{Said}
 use Rattle.proxy_engine.specs.Story.{Story}
 use Rattle.proxy_engine.specs.Orderly.{TakesStay}
 use Rattle.proxy_engine.specs.Reading.{ends_read}
@@ -13,11 +12,14 @@ use Rattle.proxy_engine.specs.declared.ends.Connection.{Connection}
 use Rattle.proxy_engine.specs.declared.ends.Link.{Link}
 use Rattle.proxy_engine.specs.declared.happening.End.{End}
 use Rattle.proxy_engine.specs.declared.happening.End.TheVariants as ends
+use Rattle.proxy_turn.specs.Calls as call
+use Rattle.proxy_turn.specs.Calls.{Call}
 use Rattle.proxy_turn.specs.Counts.{Calls, Raises}
-use Rattle.proxy_turn.specs.Turn.{arrived, ended, lost, Given, said_by, given_failures, Read, ends_of, failed_reads}
-use Rattle.proxy_turn.specs.Parts.{TookIf, FindsIf, IsThere, AreThere, ReadsOne, ReadsNone, ReadsSome, ReadsAll}
+use Rattle.proxy_turn.specs.Turn.{arrived, ended, lost, given_failures, Read, ends_of, failed_reads, calls_read}
+use Rattle.proxy_turn.specs.Parts.{FindsIf, IsThere, AreThere, ReadsOne, ReadsNone, ReadsSome, ReadsAll}
 use Rattle.proxy_turn.specs.declared.report.TurnFault.{TurnFault}
 use Rattle.proxy_turn.specs.declared.report.TurnFault.TheVariants.{NoMemory}
+use Rattle.proxy_turn.proofs.Called.{Joins, read_more}
 use Rattle.proxy_turn.proofs.Counting.{raises_none, raises_on}
 use Rattle.proxy_turn.proofs.There.{all_there_later, there_at}
 use Rattle.proxy_turn.proofs.Turning.{reads_more, reads_stay, sum_more}
@@ -45,47 +47,45 @@ lost_found e ends.Listener kind = tt
 lost_found e (ends.Client n) kind = tt
 lost_found e (ends.Link k) kind = tt
 
--- what an end gave was taken
-pub read_by : (s : Story) (end : End) (e : State) (before after : Calls) (given : Given) (o : Option Said) → o ≡ said_by end given → TookIf s o e → Raises before after 0 1 (given_failures given) → ReadsOne s end e before after (given_failures given)
-read_by s end e before after given o is took raises = record { given = given; took = subst (λ (x : Option Said). TookIf s x e) is took; counted = refl; raises = raises }
-
-pub reads_none : (s : Story) (e : State) (here : Calls) → Stands e s → ReadsSome s [] e here here
-reads_none s e here stands = record { last = s; are = refl; stands = stands; raises = raises_none here }
+pub reads_none : (s : Story) (e : State) (did : List Call → Type 0) (here : Calls) → Stands e s → did [] → ReadsSome s [] e did here here
+reads_none s e did here stands none = record { last = s; are = refl; stands = stands; calls = none; raises = raises_none here }
 
 -- an end that was there is there behind the reads
-pub read_later : (stay : TakesStay) (s : Story) (es : List End) (reads : List Read) (i : ℕ) (end : End) (e : State) (a b : Calls) → end ≡ get_or es i end → i < length es → AreThere s es → (done : ReadsSome s reads e a b) → IsThere done.last end
-read_later stay s es reads i end e a b is l there done = there_at done.last es i end (all_there_later s done.last es (reads_stay stay reads s done.last done.are) there) l is
+pub read_later : (stay : TakesStay) (s : Story) (es : List End) (reads : List Read) (i : ℕ) (end : End) (e : State) (did : List Call → Type 0) (a b : Calls) → end ≡ get_or es i end → i < length es → AreThere s es → (done : ReadsSome s reads e did a b) → IsThere done.last end
+read_later stay s es reads i end e did a b is l there done = there_at done.last es i end (all_there_later s done.last es (reads_stay stay reads s done.last done.are) there) l is
 
 -- one more
-pub reads_one : (s : Story) (reads : List Read) (end : End) (e new : State) (a b c : Calls) (count : ℕ) → (done : ReadsSome s reads e a b) → (one : ReadsOne done.last end new b c count) → ReadsSome s (reads ++ record { end = end; given = one.given } ∷ []) new a c
-reads_one s reads end e new a b c count done one =
+pub reads_one : (s : Story) (reads : List Read) (end : End) (e new : State) (did then all : List Call → Type 0) (a b c : Calls) (count : ℕ) → (done : ReadsSome s reads e did a b) → (one : ReadsOne done.last end new then b c count) → Joins did then all
+    → ReadsSome s (reads ++ record { end = end; given = one.given } ∷ []) new all a c
+reads_one s reads end e new did then all a b c count done one join =
     let r : Read = record { end = end; given = one.given } in
     record {
       last = one.took.after;
-      are = reads_more reads s done.last one.took.after r done.are one.took.takes;
+      are = reads_more reads s done.last one.took.after r done.are one.took.takes one.piece;
       stands = one.took.stands;
+      calls = subst all (sym (read_more reads r)) (join (calls_read reads) (call.Read end one.given ∷ []) done.calls one.calls);
       raises = subst (λ (n : ℕ). Raises a c 0 n (failed_reads (reads ++ r ∷ []))) (sym (length-append reads (r ∷ [])))
           (subst (λ (n : ℕ). Raises a c 0 (length reads + 1) n) (sym (sum_more (λ (x : Read). given_failures x.given) reads r)) (raises_on a b c 0 (length reads) (failed_reads reads) 0 1 (given_failures one.given) done.raises one.raises));
     }
 
 -- these ends were read
-pub record SoFar (s : Story) (es : List End) (e : State) (a b : Calls) (faults : ℕ) : Type 0 where
+pub record SoFar (s : Story) (es : List End) (e : State) (did : List Call → Type 0) (a b : Calls) (faults : ℕ) : Type 0 where
   pub reads : List Read
   pub ends : ends_of reads ≡ es
-  pub some : ReadsSome s reads e a b
+  pub some : ReadsSome s reads e did a b
   pub counted : faults ≡ failed_reads reads
 
-pub so_far_none : (s : Story) (e : State) (here : Calls) → Stands e s → SoFar s [] e here here 0
-so_far_none s e here stands = record { reads = []; ends = refl; some = reads_none s e here stands; counted = refl }
+pub so_far_none : (s : Story) (e : State) (did : List Call → Type 0) (here : Calls) → Stands e s → did [] → SoFar s [] e did here here 0
+so_far_none s e did here stands none = record { reads = []; ends = refl; some = reads_none s e did here stands none; counted = refl }
 
-pub so_far_more : (s : Story) (es : List End) (i : ℕ) (end : End) (e new : State) (a b c : Calls) (faults count : ℕ) → end ≡ get_or es i end → i < length es → (done : SoFar s (take i es) e a b faults) → ReadsOne done.some.last end new b c count
-    → SoFar s (take (i + 1) es) new a c (faults + count)
-so_far_more s es i end e new a b c faults count is l done one =
+pub so_far_more : (s : Story) (es : List End) (i : ℕ) (end : End) (e new : State) (did then all : List Call → Type 0) (a b c : Calls) (faults count : ℕ) → end ≡ get_or es i end → i < length es → (done : SoFar s (take i es) e did a b faults) → ReadsOne done.some.last end new then b c count
+    → Joins did then all → SoFar s (take (i + 1) es) new all a c (faults + count)
+so_far_more s es i end e new did then all a b c faults count is l done one join =
     let r : Read = record { end = end; given = one.given } in
     record {
       reads = done.reads ++ r ∷ [];
       ends = map-append (λ (x : Read). x.end) done.reads (r ∷ []) ∙ (ap (λ (xs : List End). xs ++ end ∷ []) done.ends ∙ sym next);
-      some = reads_one s done.reads end e new a b c count done.some one;
+      some = reads_one s done.reads end e new did then all a b c count done.some one join;
       counted = let before = done.counted in let here = one.counted in let sum = sum_more (λ (x : Read). given_failures x.given) done.reads r in omega (arith, before, here, sum);
     }
   where
@@ -94,11 +94,11 @@ so_far_more s es i end e new a b c faults count is l done one =
         let same : i + 1 ≡ suc i = omega arith in
         ap (λ (n : ℕ). take n es) same ∙ (take-suc es i end l ∙ ap (λ (x : End). take i es ++ x ∷ []) (sym is))
 
-pub so_far_later : (stay : TakesStay) (s : Story) (es : List End) (i : ℕ) (end : End) (e : State) (a b : Calls) (faults : ℕ) → end ≡ get_or es i end → i < length es → AreThere s es → (done : SoFar s (take i es) e a b faults) → IsThere done.some.last end
-so_far_later stay s es i end e a b faults is l there done = read_later stay s es done.reads i end e a b is l there done.some
+pub so_far_later : (stay : TakesStay) (s : Story) (es : List End) (i : ℕ) (end : End) (e : State) (did : List Call → Type 0) (a b : Calls) (faults : ℕ) → end ≡ get_or es i end → i < length es → AreThere s es → (done : SoFar s (take i es) e did a b faults) → IsThere done.some.last end
+so_far_later stay s es i end e did a b faults is l there done = read_later stay s es done.reads i end e did a b is l there done.some
 
-pub read_whole : (s : Story) (es : List End) (n : ℕ) (e : State) (a b : Calls) (faults : ℕ) (counts : ℕ × ℕ) → es ≡ ends_read s → length es ≤ n → SoFar s (take n es) e a b faults → counts.0 ≡ length es → counts.1 ≡ faults → ReadsAll s e a b (Ok counts)
-read_whole s es n e a b faults counts is l done number more =
+pub read_whole : (s : Story) (es : List End) (n : ℕ) (e : State) (did : List Call → Type 0) (a b : Calls) (faults : ℕ) (counts : ℕ × ℕ) → es ≡ ends_read s → length es ≤ n → SoFar s (take n es) e did a b faults → counts.0 ≡ length es → counts.1 ≡ faults → ReadsAll s e did a b (Ok counts)
+read_whole s es n e did a b faults counts is l done number more =
     let all = done.ends ∙ take_all n es l in
     record {
       reads = done.reads;
@@ -108,17 +108,17 @@ read_whole s es n e a b faults counts is l done number more =
       tells = (refl, number ∙ (sym (ap length all) ∙ length-map done.reads (λ (x : Read). x.end)), more ∙ done.counted);
     }
 
-pub read_partly : (s : Story) (es : List End) (i : ℕ) (e new : State) (a b c : Calls) (faults : ℕ) (fault : TurnFault) → es ≡ ends_read s → (done : SoFar s (take i es) e a b faults) → ReadsNone done.some.last new b c fault → ReadsAll s new a c (Err fault)
-read_partly s es i e new a b c faults fault is done none = record {
+pub read_partly : (s : Story) (es : List End) (i : ℕ) (e new : State) (did then all : List Call → Type 0) (a b c : Calls) (faults : ℕ) (fault : TurnFault) → es ≡ ends_read s → (done : SoFar s (take i es) e did a b faults) → ReadsNone done.some.last new then b c fault → Joins did then all → ReadsAll s new all a c (Err fault)
+read_partly s es i e new did then all a b c faults fault is done none join = record {
   reads = done.reads;
   rest = drop i es;
   ends = ap (λ (xs : List End). xs ++ drop i es) done.ends ∙ (take-append-drop i es ∙ is);
-  some = record { last = done.some.last; are = done.some.are; stands = none.stands; raises = subst (λ (x : Calls). Raises a x 0 (length done.reads) (failed_reads done.reads)) none.same done.some.raises };
+  some = record { last = done.some.last; are = done.some.are; stands = none.stands; calls = subst all (append-nil (calls_read done.reads)) (join (calls_read done.reads) [] done.some.calls none.calls); raises = subst (λ (x : Calls). Raises a x 0 (length done.reads) (failed_reads done.reads)) none.same done.some.raises };
   tells = none.fault_is;
 }
 
-pub read_not : (s : Story) (e : State) (here : Calls) (fault : TurnFault) → fault ≡ NoMemory → Stands e s → ReadsAll s e here here (Err fault)
-read_not s e here fault is stands = record { reads = []; rest = ends_read s; ends = refl; some = reads_none s e here stands; tells = is }
+pub read_not : (s : Story) (e : State) (did : List Call → Type 0) (here : Calls) (fault : TurnFault) → fault ≡ NoMemory → Stands e s → did [] → ReadsAll s e did here here (Err fault)
+read_not s e did here fault is stands none = record { reads = []; rest = ends_read s; ends = refl; some = reads_none s e did here stands none; tells = is }
 
 -- an element is itself at its place
 pub read_at : {A : Type 0} (d : A) (xs : List A) (i : ℕ) → i < length xs → get_or xs i d ≡ get_or xs i (get_or xs i d)

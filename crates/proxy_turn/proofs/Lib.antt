@@ -1,3 +1,4 @@
+mod Called
 mod Carrying
 mod Counting
 mod Hearing

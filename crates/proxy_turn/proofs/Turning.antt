@@ -8,13 +8,13 @@ use Rattle.proxy_engine.specs.Due.{IsDueFirst}
 use Rattle.proxy_engine.specs.Acts.{Does}
 use Rattle.proxy_engine.specs.Orderly.{IsOrderly, Stays, TakesInOrder, TakesStay, ActsInOrder}
 use Rattle.proxy_engine.specs.declared.happening.End.{End}
-use Rattle.proxy_turn.specs.Turn.{TakesIf, said_by, Read, Reads, lost, end_of, Fate, Carried, Passed, Lost, CarriesOne, CarriesOut, Round, Works}
+use Rattle.proxy_turn.specs.Turn.{TakesIf, said_by, IsPiece, Read, Reads, lost, end_of, Fate, Carried, Passed, Lost, CarriesOne, CarriesOut, Round, Works}
 
 -- ---- one more
 
-pub reads_more : (rs : List Read) (s t u : Story) (r : Read) → Reads s rs t → TakesIf t (said_by r.end r.given) u → Reads s (rs ++ r ∷ []) u
-reads_more [] s t u r here takes = (u, subst (λ x. TakesIf x (said_by r.end r.given) u) here takes, refl)
-reads_more (first ∷ rs) s t u r before takes = (before.0, before.1, reads_more rs before.0 t u r before.2 takes)
+pub reads_more : (rs : List Read) (s t u : Story) (r : Read) → Reads s rs t → TakesIf t (said_by r.end r.given) u → IsPiece r.given → Reads s (rs ++ r ∷ []) u
+reads_more [] s t u r here takes piece = (u, subst (λ x. TakesIf x (said_by r.end r.given) u) here takes, refl, piece)
+reads_more (first ∷ rs) s t u r before takes piece = (before.0, before.1, reads_more rs before.0 t u r before.2 takes piece, before.3)
 
 pub carries_more : (es : List Effect) (fs : List Fate) (s : Story) (gone : List End) (t : Story) (mid : List End) (e : Effect) (f : Fate) (u : Story) (more : List End) → CarriesOut s gone es fs t mid → CarriesOne t mid e f u more
     → CarriesOut s gone (es ++ e ∷ []) (fs ++ f ∷ []) u more

@@ -1,15 +1,17 @@
 -- A turn of its parts.
-use Rattle.std.proofs.Common.{◌≡◌, inl, inr, ℕ, ◌+◌, ◌≤◌, [], length, refl, ap, ◌∙◌, subst, arith, Result, Ok, Err}
+use Rattle.std.proofs.Common.{◌≡◌, inl, inr, ℕ, ◌+◌, ◌≤◌, List, [], ◌++◌, length, refl, ap, ◌∙◌, subst, arith, Result, Ok, Err}
 use Rattle.proxy_engine.specs.Story.{Story}
 use Rattle.proxy_engine.specs.Orderly.{IsOrderly, TakesInOrder}
 use Rattle.proxy_engine.specs.Reading.{ends_read, failed_links}
 use Rattle.proxy_engine.specs.State.{State}
+use Rattle.proxy_turn.specs.Calls.{Call}
 use Rattle.proxy_turn.specs.Counts.{Calls, Raises}
-use Rattle.proxy_turn.specs.Turn.{Asked, NotAsked, asked_calls, asked_failures, accepted_by, failed_reads, failed_rounds, IsTurn, Tells, Turns}
+use Rattle.proxy_turn.specs.Turn.{Asked, NotAsked, asked_calls, asked_failures, accepted_by, failed_reads, failed_rounds, calls_asked, calls_read, calls_worked, calls_of, IsTurn, Tells, TurnsAndCalls}
 use Rattle.proxy_turn.specs.Parts.{AskTells, Asks, ReadsAll, WorkTells, WorksAll}
 use Rattle.proxy_turn.specs.declared.report.Report.{Report}
 use Rattle.proxy_turn.specs.declared.report.TurnFault.{TurnFault}
 use Rattle.proxy_turn.specs.declared.report.TurnFault.TheVariants as faults
+use Rattle.proxy_turn.proofs.Called.{Joins, asked_alone, asked_read}
 use Rattle.proxy_turn.proofs.Counting.{raises_on}
 use Rattle.proxy_turn.proofs.Turning.{if_orderly, reads_orderly}
 
@@ -19,30 +21,33 @@ raises_same a b i j k x y z e f h raises = subst (λ n. Raises a b n y z) e (sub
 not_failed : (asked : Asked) → asked ≡ NotAsked → asked_failures asked ≡ 0
 not_failed asked is = ap asked_failures is
 
-module _ (now : ℕ) (s : Story) (e : State) (a b : Calls) where
+module _ (now : ℕ) (s : Story) (e : State) (did : List Call → Type 0) (a b : Calls) where
   -- the listener was the last
-  pub asks_alone : (fault : TurnFault) → Asks s e a b (Err fault) → Turns now s e a b (Err fault)
+  pub asks_alone : (fault : TurnFault) → Asks s e did a b (Err fault) → TurnsAndCalls now s e did a b (Err fault)
   asks_alone fault part = record {
-    asked = part.asked;
-    reads = [];
-    rest = ends_read part.begun;
-    rounds = [];
-    last = part.begun;
-    turn = record {
-      begun = part.begun;
-      read = part.begun;
-      gone = failed_links part.begun;
-      only = part.only;
-      accepts = part.takes;
-      ends = refl;
-      reads_are = refl;
-      works = (refl, refl);
-      bound = omega arith;
-      behind = inr refl;
+    turns = record {
+      asked = part.asked;
+      reads = [];
+      rest = ends_read part.begun;
+      rounds = [];
+      last = part.begun;
+      turn = record {
+        begun = part.begun;
+        read = part.begun;
+        gone = failed_links part.begun;
+        only = part.only;
+        accepts = part.takes;
+        ends = refl;
+        reads_are = refl;
+        works = (refl, refl);
+        bound = omega arith;
+        behind = inr refl;
+      };
+      stands = part.stands;
+      tells = tells fault part.tells;
+      raises = raises_same a b (asked_calls part.asked) 0 (asked_failures part.asked) (asked_calls part.asked) 0 (asked_failures part.asked + (0 + 0)) refl refl (omega arith) part.raises;
     };
-    stands = part.stands;
-    tells = tells fault part.tells;
-    raises = raises_same a b (asked_calls part.asked) 0 (asked_failures part.asked) (asked_calls part.asked) 0 (asked_failures part.asked + (0 + 0)) refl refl (omega arith) part.raises;
+    calls = subst did (asked_alone s part.asked) part.calls;
   }
     where
       tells : (fault : TurnFault) → AskTells s part.asked (Err fault) → Tells s part.asked [] (ends_read part.begun) [] part.begun (Err fault)
@@ -50,31 +55,34 @@ module _ (now : ℕ) (s : Story) (e : State) (a b : Calls) where
       tells faults.NoMemory t = not_failed part.asked t
       tells faults.Spent t = absurd t
 
-  module _ (accepted : ℕ) (first : Asks s e a b (Ok accepted)) (f : State) (c : Calls) where
+  module _ (accepted : ℕ) (first : Asks s e did a b (Ok accepted)) (f : State) (read : List Call → Type 0) (c : Calls) where
     -- the ends were the last
-    pub reads_last : (fault : TurnFault) → ReadsAll first.begun f b c (Err fault) → Turns now s f a c (Err fault)
-    reads_last fault part = record {
-      asked = first.asked;
-      reads = part.reads;
-      rest = part.rest;
-      rounds = [];
-      last = part.some.last;
-      turn = record {
-        begun = first.begun;
-        read = part.some.last;
-        gone = failed_links part.some.last;
-        only = first.only;
-        accepts = first.takes;
-        ends = part.ends;
-        reads_are = part.some.are;
-        works = (refl, refl);
-        bound = omega arith;
-        behind = inr refl;
+    pub reads_last : (fault : TurnFault) → ReadsAll first.begun f read b c (Err fault) → (both : List Call → Type 0) → Joins did read both → TurnsAndCalls now s f both a c (Err fault)
+    reads_last fault part both join = record {
+      turns = record {
+        asked = first.asked;
+        reads = part.reads;
+        rest = part.rest;
+        rounds = [];
+        last = part.some.last;
+        turn = record {
+          begun = first.begun;
+          read = part.some.last;
+          gone = failed_links part.some.last;
+          only = first.only;
+          accepts = first.takes;
+          ends = part.ends;
+          reads_are = part.some.are;
+          works = (refl, refl);
+          bound = omega arith;
+          behind = inr refl;
+        };
+        stands = part.some.stands;
+        tells = tells fault part.tells;
+        raises = raises_same a c (asked_calls first.asked + 0) (0 + length part.reads) (asked_failures first.asked + failed_reads part.reads) (asked_calls first.asked) (length part.reads) (asked_failures first.asked + (failed_reads part.reads + 0))
+            (omega arith) (omega arith) (omega arith) (raises_on a b c (asked_calls first.asked) 0 (asked_failures first.asked) 0 (length part.reads) (failed_reads part.reads) first.raises part.some.raises);
       };
-      stands = part.some.stands;
-      tells = tells fault part.tells;
-      raises = raises_same a c (asked_calls first.asked + 0) (0 + length part.reads) (asked_failures first.asked + failed_reads part.reads) (asked_calls first.asked) (length part.reads) (asked_failures first.asked + (failed_reads part.reads + 0))
-          (omega arith) (omega arith) (omega arith) (raises_on a b c (asked_calls first.asked) 0 (asked_failures first.asked) 0 (length part.reads) (failed_reads part.reads) first.raises part.some.raises);
+      calls = subst both (asked_read s first.asked part.reads) (join (calls_asked s first.asked) (calls_read part.reads) first.calls part.some.calls);
     }
       where
         tells : (fault : TurnFault) → fault ≡ faults.NoMemory → Tells s first.asked part.reads part.rest [] part.some.last (Err fault)
@@ -82,12 +90,12 @@ module _ (now : ℕ) (s : Story) (e : State) (a b : Calls) where
         tells faults.Listener t = absurd cc
         tells faults.Spent t = absurd cc
 
-    module _ (counts : ℕ × ℕ) (second : ReadsAll first.begun f b c (Ok counts)) where
+    module _ (counts : ℕ × ℕ) (second : ReadsAll first.begun f read b c (Ok counts)) where
       pub read_orderly : TakesInOrder → IsOrderly s → IsOrderly second.some.last
       read_orderly takes h = reads_orderly takes second.reads first.begun second.some.last second.some.are (if_orderly takes s (accepted_by s first.asked) first.begun first.takes h)
 
-      module _ (g : State) (d : Calls) where
-        turned : (result : Result (ℕ × ℕ) TurnFault) → (third : WorksAll now second.some.last g c d result) → IsTurn now s first.asked second.reads second.rest third.rounds third.some.last
+      module _ (g : State) (worked : List Call → Type 0) (d : Calls) where
+        turned : (result : Result (ℕ × ℕ) TurnFault) → (third : WorksAll now second.some.last g worked c d result) → IsTurn now s first.asked second.reads second.rest third.rounds third.some.last
         turned result third = record {
           begun = first.begun;
           read = second.some.last;
@@ -101,7 +109,7 @@ module _ (now : ℕ) (s : Story) (e : State) (a b : Calls) where
           behind = inl second.tells.0;
         }
 
-        raised : (result : Result (ℕ × ℕ) TurnFault) → (third : WorksAll now second.some.last g c d result)
+        raised : (result : Result (ℕ × ℕ) TurnFault) → (third : WorksAll now second.some.last g worked c d result)
             → Raises a d (asked_calls first.asked) (length second.reads) (asked_failures first.asked + (failed_reads second.reads + failed_rounds third.rounds))
         raised result third = raises_same a d (asked_calls first.asked + 0 + 0) (0 + length second.reads + 0) (asked_failures first.asked + failed_reads second.reads + failed_rounds third.rounds)
             (asked_calls first.asked) (length second.reads) (asked_failures first.asked + (failed_reads second.reads + failed_rounds third.rounds))
@@ -109,18 +117,25 @@ module _ (now : ℕ) (s : Story) (e : State) (a b : Calls) where
             (raises_on a c d (asked_calls first.asked + 0) (0 + length second.reads) (asked_failures first.asked + failed_reads second.reads) 0 0 (failed_rounds third.rounds)
             (raises_on a b c (asked_calls first.asked) 0 (asked_failures first.asked) 0 (length second.reads) (failed_reads second.reads) first.raises second.some.raises) third.some.raises)
 
+        called : (result : Result (ℕ × ℕ) TurnFault) → (third : WorksAll now second.some.last g worked c d result) → (later all : List Call → Type 0) → Joins read worked later → Joins did later all → all (calls_of s first.asked second.reads third.rounds)
+        called result third later all join onto =
+            onto (calls_asked s first.asked) (calls_read second.reads ++ calls_worked third.rounds) first.calls (join (calls_read second.reads) (calls_worked third.rounds) second.some.calls third.some.calls)
+
         -- an act was the last
-        pub works_last : (fault : TurnFault) → WorksAll now second.some.last g c d (Err fault) → Turns now s g a d (Err fault)
-        works_last fault third = record {
-          asked = first.asked;
-          reads = second.reads;
-          rest = second.rest;
-          rounds = third.rounds;
-          last = third.some.last;
-          turn = turned (Err fault) third;
-          stands = third.some.stands;
-          tells = tells fault third.tells;
-          raises = raised (Err fault) third;
+        pub works_last : (fault : TurnFault) → WorksAll now second.some.last g worked c d (Err fault) → (later all : List Call → Type 0) → Joins read worked later → Joins did later all → TurnsAndCalls now s g all a d (Err fault)
+        works_last fault third later all join onto = record {
+          turns = record {
+            asked = first.asked;
+            reads = second.reads;
+            rest = second.rest;
+            rounds = third.rounds;
+            last = third.some.last;
+            turn = turned (Err fault) third;
+            stands = third.some.stands;
+            tells = tells fault third.tells;
+            raises = raised (Err fault) third;
+          };
+          calls = called (Err fault) third later all join onto;
         }
           where
             tells : (fault : TurnFault) → WorkTells third.rounds third.some.last (Err fault) → Tells s first.asked second.reads second.rest third.rounds third.some.last (Err fault)
@@ -129,27 +144,31 @@ module _ (now : ℕ) (s : Story) (e : State) (a b : Calls) where
             tells faults.Spent t = (first.tells.1, first.tells.0, second.tells.0, t)
 
         -- whole
-        pub whole : (done : ℕ × ℕ) → (third : WorksAll now second.some.last g c d (Ok done)) → (report : Report) → report.accepted ≡ accepted → report.reads ≡ counts.0 → report.works ≡ done.0 → report.faults ≡ counts.1 + done.1 → Turns now s g a d (Ok report)
-        whole done third report accepts reads works faults = record {
-          asked = first.asked;
-          reads = second.reads;
-          rest = second.rest;
-          rounds = third.rounds;
-          last = third.some.last;
-          turn = turned (Ok done) third;
-          stands = third.some.stands;
-          tells = record {
-            asked_is = first.tells.0;
-            unbroken = first.tells.1;
-            rest_is = second.tells.0;
-            worked = third.tells.0;
-            accepted = accepts ∙ first.tells.2;
-            reads_are = reads ∙ second.tells.1;
-            works = works ∙ third.tells.1;
-            faults = let m = second.tells.2 in let n = third.tells.2 in omega (arith, faults, m, n);
+        pub whole : (done : ℕ × ℕ) → (third : WorksAll now second.some.last g worked c d (Ok done)) → (report : Report) → report.accepted ≡ accepted → report.reads ≡ counts.0 → report.works ≡ done.0 → report.faults ≡ counts.1 + done.1 → (later all : List Call → Type 0) → Joins read worked later → Joins did later all
+            → TurnsAndCalls now s g all a d (Ok report)
+        whole done third report accepts reads works faults later all join onto = record {
+          turns = record {
+            asked = first.asked;
+            reads = second.reads;
+            rest = second.rest;
+            rounds = third.rounds;
+            last = third.some.last;
+            turn = turned (Ok done) third;
+            stands = third.some.stands;
+            tells = record {
+              asked_is = first.tells.0;
+              unbroken = first.tells.1;
+              rest_is = second.tells.0;
+              worked = third.tells.0;
+              accepted = accepts ∙ first.tells.2;
+              reads_are = reads ∙ second.tells.1;
+              works = works ∙ third.tells.1;
+              faults = let m = second.tells.2 in let n = third.tells.2 in omega (arith, faults, m, n);
+            };
+            raises = raised (Ok done) third;
           };
-          raises = raised (Ok done) third;
+          calls = called (Ok done) third later all join onto;
         }
 
-        pub few_works : (done : ℕ × ℕ) → WorksAll now second.some.last g c d (Ok done) → done.1 ≤ 3000
+        pub few_works : (done : ℕ × ℕ) → WorksAll now second.some.last g worked c d (Ok done) → done.1 ≤ 3000
         few_works done third = let n = third.tells.2 in let few = third.few in omega (arith, n, few)

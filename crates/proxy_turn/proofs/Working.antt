@@ -16,19 +16,21 @@ use Rattle.proxy_engine.specs.declared.happening.EngineFault.{EngineFault}
 use Rattle.proxy_engine.specs.declared.happening.EngineFault.TheVariants as engine
 use Rattle.proxy_engine.specs.declared.happening.Work.{Work}
 use Rattle.proxy_engine.specs.declared.happening.Work.TheVariants as work
+use Rattle.proxy_turn.specs.Calls.{Call}
 use Rattle.proxy_turn.specs.Counts.{Calls, Raises}
-use Rattle.proxy_turn.specs.Turn.{Round, end_of, failed_fates, failed_rounds}
+use Rattle.proxy_turn.specs.Turn.{Round, end_of, failed_fates, failed_rounds, calls_told, calls_worked}
 use Rattle.proxy_turn.specs.Parts.{of_engine, AreThere, CarriedOut, WorksSome, WorkTells, WorksAll}
 use Rattle.proxy_turn.specs.declared.report.TurnFault.{TurnFault}
 use Rattle.proxy_turn.specs.declared.report.TurnFault.TheVariants.{NoMemory}
+use Rattle.proxy_turn.proofs.Called.{Joins, worked_one_more}
 use Rattle.proxy_turn.proofs.Counting.{raises_none, raises_on}
 use Rattle.proxy_turn.proofs.There.{effects_there}
 use Rattle.proxy_turn.proofs.Turning.{works_more, works_orderly, sum_more}
 
 -- so many acts were done
-pub record SoFar (now : ℕ) (s : Story) (e : State) (gone : List End) (a b : Calls) (works faults : ℕ) : Type 0 where
+pub record SoFar (now : ℕ) (s : Story) (e : State) (gone : List End) (did : List Call → Type 0) (a b : Calls) (works faults : ℕ) : Type 0 where
   pub rounds : List Round
-  pub some : WorksSome now s rounds e gone a b
+  pub some : WorksSome now s rounds e gone did a b
   pub number : length rounds ≡ works
   pub counted : faults ≡ failed_rounds rounds
   pub few : faults ≤ 3 * works
@@ -46,16 +48,16 @@ acted t now w effects e is did =
     let one = subst (λ (w : Work). Did t now w e) is did in
     record { act = one.0; after = one.2.after; due = one.1; does = one.2.does; stands = one.2.stands }
 
-pub worked_none : (now : ℕ) (s : Story) (e : State) (gone : List End) (here : Calls) → gone ≡ failed_links s → Stands e s → SoFar now s e gone here here 0 0
-worked_none now s e gone here is stands = record {
+pub worked_none : (now : ℕ) (s : Story) (e : State) (gone : List End) (did : List Call → Type 0) (here : Calls) → gone ≡ failed_links s → Stands e s → did [] → SoFar now s e gone did here here 0 0
+worked_none now s e gone did here is stands none = record {
   rounds = [];
-  some = record { last = s; works = (refl, is); stands = stands; raises = raises_none here };
+  some = record { last = s; works = (refl, is); stands = stands; calls = none; raises = raises_none here };
   number = refl;
   counted = refl;
   few = omega arith;
 }
 
-module _ (now : ℕ) (s : Story) (e : State) (gone : List End) (a b : Calls) (works faults : ℕ) (done : SoFar now s e gone a b works faults) where
+module _ (now : ℕ) (s : Story) (e : State) (gone : List End) (did : List Call → Type 0) (a b : Calls) (works faults : ℕ) (done : SoFar now s e gone did a b works faults) where
   pub still_orderly : TakesInOrder → ActsInOrder → IsOrderly s → IsOrderly done.some.last
   still_orderly takes acts h = works_orderly takes acts done.rounds now s (failed_links s) done.some.last gone done.some.works h
 
@@ -67,8 +69,9 @@ module _ (now : ℕ) (s : Story) (e : State) (gone : List End) (a b : Calls) (wo
     pub told_short : ActsAreShort → length told ≤ 3
     told_short short = (short done.some.last now one.act told one.after one.does).0
 
-    pub worked_more : (new : State) (more : List End) (c : Calls) (count sum : ℕ) → sum ≡ faults + count → count ≤ 3 → CarriedOut one.after gone told new more b c count → SoFar now s new more a c (works + 1) sum
-    worked_more new more c count sum is small out =
+    pub worked_more : (new : State) (more : List End) (then all : List Call → Type 0) (c : Calls) (count sum : ℕ) → sum ≡ faults + count → count ≤ 3 → CarriedOut one.after gone told new more then b c count → Joins did then all
+        → SoFar now s new more all a c (works + 1) sum
+    worked_more new more then all c count sum is small out join =
         let r : Round = record { act = one.act; told = told; fates = out.fates } in
         let total = sum_more (λ (x : Round). failed_fates x.fates) done.rounds r in
         record {
@@ -77,6 +80,7 @@ module _ (now : ℕ) (s : Story) (e : State) (gone : List End) (a b : Calls) (wo
             last = out.last;
             works = works_more done.rounds now s (failed_links s) done.some.last gone r one.after out.last more done.some.works one.due one.does out.carries;
             stands = out.stands;
+            calls = subst all (sym (worked_one_more done.rounds r)) (join (calls_worked done.rounds) (calls_told told out.fates) done.some.calls out.calls);
             raises = subst (λ (n : ℕ). Raises a c 0 0 n) (sym total) (raises_on a b c 0 0 (failed_rounds done.rounds) 0 0 (failed_fates out.fates) done.some.raises out.raises);
           };
           number = length-append done.rounds (r ∷ []) ∙ ap (λ (n : ℕ). n + 1) done.number;
@@ -92,20 +96,20 @@ module _ (now : ℕ) (s : Story) (e : State) (gone : List End) (a b : Calls) (wo
     small = let n = done.counted in let few = done.few in omega (arith, n, few, bound)
 
   -- nothing is due
-  pub idle_by : (w : Work) (new : State) (counts : ℕ × ℕ) → w ≡ work.Idle → Did done.some.last now w new → counts.0 ≡ works → counts.1 ≡ faults → works ≤ 1000 → WorksAll now s new a b (Ok counts)
+  pub idle_by : (w : Work) (new : State) (counts : ℕ × ℕ) → w ≡ work.Idle → Did done.some.last now w new → counts.0 ≡ works → counts.1 ≡ faults → works ≤ 1000 → WorksAll now s new did a b (Ok counts)
   idle_by w new counts is did number more bound =
       let idle = subst (λ (w : Work). Did done.some.last now w new) is did in
       record {
         rounds = done.rounds;
         gone = gone;
-        some = record { last = done.some.last; works = done.some.works; stands = idle.1; raises = done.some.raises };
+        some = record { last = done.some.last; works = done.some.works; stands = idle.1; calls = done.some.calls; raises = done.some.raises };
         bound = bounded bound;
         few = small bound;
         tells = (inr idle.0, number ∙ sym done.number, more ∙ done.counted);
       }
 
   -- as many as a turn does
-  pub full_by : (counts : ℕ × ℕ) → counts.0 ≡ works → counts.1 ≡ faults → works ≡ 1000 → WorksAll now s e a b (Ok counts)
+  pub full_by : (counts : ℕ × ℕ) → counts.0 ≡ works → counts.1 ≡ faults → works ≡ 1000 → WorksAll now s e did a b (Ok counts)
   full_by counts number more full = record {
     rounds = done.rounds;
     gone = gone;
@@ -116,15 +120,15 @@ module _ (now : ℕ) (s : Story) (e : State) (gone : List End) (a b : Calls) (wo
   }
 
   -- room was refused
-  pub stopped_by : works ≤ 1000 → WorksAll now s e a b (Err NoMemory)
+  pub stopped_by : works ≤ 1000 → WorksAll now s e did a b (Err NoMemory)
   stopped_by bound = record { rounds = done.rounds; gone = gone; some = done.some; bound = bounded bound; few = small bound; tells = tt }
 
   -- an act was refused
-  pub failed_by : (fault : EngineFault) (new : State) → Failed done.some.last fault → Stands new done.some.last → works ≤ 1000 → WorksAll now s new a b (Err (of_engine fault))
+  pub failed_by : (fault : EngineFault) (new : State) → Failed done.some.last fault → Stands new done.some.last → works ≤ 1000 → WorksAll now s new did a b (Err (of_engine fault))
   failed_by fault new failed stands bound = record {
     rounds = done.rounds;
     gone = gone;
-    some = record { last = done.some.last; works = done.some.works; stands = stands; raises = done.some.raises };
+    some = record { last = done.some.last; works = done.some.works; stands = stands; calls = done.some.calls; raises = done.some.raises };
     bound = bounded bound;
     few = small bound;
     tells = tells fault failed;
@@ -137,11 +141,11 @@ module _ (now : ℕ) (s : Story) (e : State) (gone : List End) (a b : Calls) (wo
       tells engine.Spent failed = failed
 
 -- under other names for the same
-pub same_gone : (now : ℕ) (s : Story) (e : State) (gone more : List End) (a b : Calls) (works faults : ℕ) → more ≡ gone → SoFar now s e gone a b works faults → SoFar now s e more a b works faults
-same_gone now s e gone more a b works faults is done = subst (λ (es : List End). SoFar now s e es a b works faults) (sym is) done
+pub same_gone : (now : ℕ) (s : Story) (e : State) (gone more : List End) (did : List Call → Type 0) (a b : Calls) (works faults : ℕ) → more ≡ gone → SoFar now s e gone did a b works faults → SoFar now s e more did a b works faults
+same_gone now s e gone more did a b works faults is done = subst (λ (es : List End). SoFar now s e es did a b works faults) (sym is) done
 
-pub same_told : (s : Story) (gone : List End) (told more : List Effect) (e : State) (later : List End) (a b : Calls) (count : ℕ) → more ≡ told → CarriedOut s gone more e later a b count → CarriedOut s gone told e later a b count
-same_told s gone told more e later a b count is out = subst (λ (es : List Effect). CarriedOut s gone es e later a b count) is out
+pub same_told : (s : Story) (gone : List End) (told more : List Effect) (e : State) (later : List End) (did : List Call → Type 0) (a b : Calls) (count : ℕ) → more ≡ told → CarriedOut s gone more e later did a b count → CarriedOut s gone told e later did a b count
+same_told s gone told more e later did a b count is out = subst (λ (es : List Effect). CarriedOut s gone es e later did a b count) is out
 
-pub same_fault : (now : ℕ) (s : Story) (e : State) (a b : Calls) (fault other : TurnFault) → other ≡ fault → WorksAll now s e a b (Err fault) → WorksAll now s e a b (Err other)
-same_fault now s e a b fault other is all = subst (λ (f : TurnFault). WorksAll now s e a b (Err f)) (sym is) all
+pub same_fault : (now : ℕ) (s : Story) (e : State) (did : List Call → Type 0) (a b : Calls) (fault other : TurnFault) → other ≡ fault → WorksAll now s e did a b (Err fault) → WorksAll now s e did a b (Err other)
+same_fault now s e did a b fault other is all = subst (λ (f : TurnFault). WorksAll now s e did a b (Err f)) (sym is) all

@@ -1,5 +1,6 @@
 -- What each part of a turn does, over the stories of the engine, with the calls that it makes.
 use Rattle.std.specs.Prelude.{◌≡◌, ℕ, ◌≤◌, List, [], ◌∷◌, ◌++◌, length, true, Option, None, Some, Result, Ok, Err, ◌⊎◌}
+use Rattle.hx_status.specs.declared.cause.FailKind.{FailKind}
 use Rattle.proxy_script.specs.declared.effect_list.Effect.{Effect}
 use Rattle.proxy_engine.specs.Happenings.{Said}
 use Rattle.proxy_engine.specs.Story.{Story, fault_of, connection_fault, link_fault}
@@ -11,8 +12,10 @@ use Rattle.proxy_engine.specs.declared.happening.EngineFault.{EngineFault}
 use Rattle.proxy_engine.specs.declared.happening.EngineFault.TheVariants as engine
 use Rattle.proxy_engine.specs.declared.happening.End.{End}
 use Rattle.proxy_engine.specs.declared.happening.End.TheVariants as ends
+use Rattle.proxy_turn.specs.Calls as call
+use Rattle.proxy_turn.specs.Calls.{Call}
 use Rattle.proxy_turn.specs.Counts.{Calls, Raises}
-use Rattle.proxy_turn.specs.Turn.{TakesIf, Asked, NotAsked, Failed, asks, was_asked, accepted_by, asked_calls, came, asked_failures, Given, said_by, given_failures, Read, Reads, ends_of, failed_reads, Fate, CarriesOne, CarriesOut, fate_failures, failed_fates, Round, Works, failed_rounds}
+use Rattle.proxy_turn.specs.Turn.{TakesIf, Asked, NotAsked, Failed, asks, was_asked, accepted_by, asked_calls, came, asked_failures, Given, IsPiece, said_by, given_failures, Read, Reads, ends_of, failed_reads, Fate, Carried, Lost, CarriesOne, CarriesOut, fate_failures, failed_fates, Round, Works, failed_rounds, calls_asked, calls_read, calls_carried, calls_told, calls_worked}
 use Rattle.proxy_turn.specs.declared.report.TurnFault.{TurnFault}
 use Rattle.proxy_turn.specs.declared.report.TurnFault.TheVariants as faults
 
@@ -56,33 +59,38 @@ AskTells s asked (Err faults.NoMemory) = asked ≡ NotAsked
 AskTells s asked (Err faults.Spent) = ⊥
 
 -- the listener was asked, or not
-pub record Asks (s : Story) (e : State) (before after : Calls) (result : Result ℕ TurnFault) : Type 0 where
+pub record Asks (s : Story) (e : State) (did : List Call → Type 0) (before after : Calls) (result : Result ℕ TurnFault) : Type 0 where
   pub asked : Asked
   pub begun : Story
   pub only : was_asked asked ≡ true → asks s ≡ true
   pub takes : TakesIf s (accepted_by s asked) begun
   pub stands : Stands e begun
   pub tells : AskTells s asked result
+  pub calls : did (calls_asked s asked)
   pub raises : Raises before after (asked_calls asked) 0 (asked_failures asked)
 
 -- an end was read once, and what it gave was taken
-pub record ReadsOne (s : Story) (end : End) (e : State) (before after : Calls) (count : ℕ) : Type 0 where
+pub record ReadsOne (s : Story) (end : End) (e : State) (did : List Call → Type 0) (before after : Calls) (count : ℕ) : Type 0 where
   pub given : Given
   pub took : TookIf s (said_by end given) e
+  pub piece : IsPiece given
+  pub calls : did (call.Read end given ∷ [])
   pub counted : count ≡ given_failures given
   pub raises : Raises before after 0 1 (given_failures given)
 
 -- no call was made
-pub record ReadsNone (s : Story) (e : State) (before after : Calls) (fault : TurnFault) : Type 0 where
+pub record ReadsNone (s : Story) (e : State) (did : List Call → Type 0) (before after : Calls) (fault : TurnFault) : Type 0 where
   pub fault_is : fault ≡ faults.NoMemory
   pub stands : Stands e s
   pub same : before ≡ after
+  pub calls : did []
 
 -- ends were read, each once
-pub record ReadsSome (s : Story) (reads : List Read) (e : State) (before after : Calls) : Type 0 where
+pub record ReadsSome (s : Story) (reads : List Read) (e : State) (did : List Call → Type 0) (before after : Calls) : Type 0 where
   pub last : Story
   pub are : Reads s reads last
   pub stands : Stands e last
+  pub calls : did (calls_read reads)
   pub raises : Raises before after 0 (length reads) (failed_reads reads)
 
 abbrev pub ReadTells : List Read → List End → Result (ℕ × ℕ) TurnFault → Type 0
@@ -90,35 +98,43 @@ ReadTells reads rest (Ok counts) = (rest ≡ []) × (counts.0 ≡ length reads) 
 ReadTells reads rest (Err fault) = fault ≡ faults.NoMemory
 
 -- the ends from which bytes may come were read, but for the rest
-pub record ReadsAll (s : Story) (e : State) (before after : Calls) (result : Result (ℕ × ℕ) TurnFault) : Type 0 where
+pub record ReadsAll (s : Story) (e : State) (did : List Call → Type 0) (before after : Calls) (result : Result (ℕ × ℕ) TurnFault) : Type 0 where
   pub reads : List Read
   pub rest : List End
   pub ends : ends_of reads ++ rest ≡ ends_read s
-  pub some : ReadsSome s reads e before after
+  pub some : ReadsSome s reads e did before after
   pub tells : ReadTells reads rest result
 
+-- what became of an effect whose calls answered this
+abbrev pub fate_of : Result (Unit {0}) FailKind → Fate
+fate_of (Ok done) = Carried
+fate_of (Err kind) = Lost kind
+
 -- an effect was carried out, or not, and so many calls failed
-pub record CarriedOne (s : Story) (gone : List End) (effect : Effect) (e : State) (more : List End) (before after : Calls) (count : ℕ) : Type 0 where
+pub record CarriedOne (s : Story) (gone : List End) (effect : Effect) (e : State) (more : List End) (did : List Call → Type 0) (before after : Calls) (count : ℕ) : Type 0 where
   pub fate : Fate
   pub last : Story
   pub carries : CarriesOne s gone effect fate last more
   pub stands : Stands e last
   pub counted : count ≡ fate_failures fate
+  pub calls : did (calls_carried effect fate)
   pub raises : Raises before after 0 0 (fate_failures fate)
 
-pub record CarriedOut (s : Story) (gone : List End) (told : List Effect) (e : State) (more : List End) (before after : Calls) (count : ℕ) : Type 0 where
+pub record CarriedOut (s : Story) (gone : List End) (told : List Effect) (e : State) (more : List End) (did : List Call → Type 0) (before after : Calls) (count : ℕ) : Type 0 where
   pub fates : List Fate
   pub last : Story
   pub carries : CarriesOut s gone told fates last more
   pub stands : Stands e last
   pub counted : count ≡ failed_fates fates
+  pub calls : did (calls_told told fates)
   pub raises : Raises before after 0 0 (failed_fates fates)
 
 -- acts were done, one after another
-pub record WorksSome (now : ℕ) (s : Story) (rounds : List Round) (e : State) (gone : List End) (before after : Calls) : Type 0 where
+pub record WorksSome (now : ℕ) (s : Story) (rounds : List Round) (e : State) (gone : List End) (did : List Call → Type 0) (before after : Calls) : Type 0 where
   pub last : Story
   pub works : Works now s (failed_links s) rounds last gone
   pub stands : Stands e last
+  pub calls : did (calls_worked rounds)
   pub raises : Raises before after 0 0 (failed_rounds rounds)
 
 abbrev pub WorkTells : List Round → Story → Result (ℕ × ℕ) TurnFault → Type 0
@@ -127,10 +143,10 @@ WorkTells rounds t (Err faults.Listener) = ⊥
 WorkTells rounds t (Err faults.NoMemory) = Unit {0}
 WorkTells rounds t (Err faults.Spent) = EngineFailed t engine.Spent
 
-pub record WorksAll (now : ℕ) (s : Story) (e : State) (before after : Calls) (result : Result (ℕ × ℕ) TurnFault) : Type 0 where
+pub record WorksAll (now : ℕ) (s : Story) (e : State) (did : List Call → Type 0) (before after : Calls) (result : Result (ℕ × ℕ) TurnFault) : Type 0 where
   pub rounds : List Round
   pub gone : List End
-  pub some : WorksSome now s rounds e gone before after
+  pub some : WorksSome now s rounds e gone did before after
   pub bound : length rounds ≤ 1000
   pub few : failed_rounds rounds ≤ 3000
   pub tells : WorkTells rounds some.last result

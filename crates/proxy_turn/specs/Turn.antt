@@ -2,7 +2,8 @@
 --
 -- Asked, asks: the call of accept               Given, Read, Reads: reads, and what each gave, as a happening
 -- Fate, CarriesOne, CarriesOut: what became of the effects of an act       Round, Works: acts with their effects
--- IsTurn: a turn, whole or as far as it came    Tells: what it answers      Turns: both
+-- calls_of: the calls of a turn, in order       IsTurn: a turn, whole or as far as it came
+-- Tells: what it answers      Turns: both      TurnsAndCalls: with its calls
 use Rattle.std.specs.Prelude.{◌≡◌, ℕ, ◌+◌, ◌≤◌, List, [], ◌∷◌, ◌++◌, length, sum_by, map, Bool, true, false, ◌&&◌, ◌==◌, nat_lt, Option, None, Some, is_some, cond, Result, Ok, Err, ◌⊎◌}
 use Rattle.std.specs.List.{list_any}
 use Rattle.hx_status.specs.declared.cause.FailKind.{FailKind}
@@ -18,6 +19,9 @@ use Rattle.proxy_engine.specs.State.{State, Stands, Failed as EngineFailed}
 use Rattle.proxy_engine.specs.declared.happening.EngineFault.TheVariants as engine
 use Rattle.proxy_engine.specs.declared.happening.End.{End}
 use Rattle.proxy_engine.specs.declared.happening.End.TheVariants as ends
+use Rattle.proxy_turn.specs.Calls as call
+use Rattle.proxy_turn.specs.Calls.{Call}
+pub use Rattle.proxy_turn.specs.Calls.{Given, Nothing, Ended, Broken, Bytes}
 use Rattle.proxy_turn.specs.Counts.{Calls, Raises}
 use Rattle.proxy_turn.specs.declared.report.Report.{Report}
 use Rattle.proxy_turn.specs.declared.report.TurnFault.{TurnFault}
@@ -69,10 +73,12 @@ lost (ends.Link l) kind = Some (Fails l kind)
 
 -- ---- reads
 
--- nothing yet, the end of the input, a failure, or bytes
-pub data Given : Type 0 where
-  Nothing Ended Broken : Given
-  Bytes : (bytes : List ℕ) → Given
+-- at most 4,096 bytes
+abbrev pub IsPiece : Given → Type 0
+IsPiece Nothing = Unit {0}
+IsPiece Ended = Unit {0}
+IsPiece Broken = Unit {0}
+IsPiece (Bytes bytes) = length bytes ≤ 4096
 
 abbrev pub said_by : End → Given → Option Said
 said_by end Nothing = None
@@ -87,7 +93,7 @@ pub record Read : Type 0 where
 -- what each read gave is taken before the next
 abbrev pub Reads : Story → List Read → Story → Type 0
 Reads s [] t = t ≡ s
-Reads s (r ∷ rs) t = (after : Story) × TakesIf s (said_by r.end r.given) after × Reads after rs t
+Reads s (r ∷ rs) t = (after : Story) × TakesIf s (said_by r.end r.given) after × Reads after rs t × IsPiece r.given
 
 abbrev pub ends_of : List Read → List End
 ends_of reads = map (λ (r : Read). r.end) reads
@@ -156,6 +162,48 @@ Works now s gone [] t more = (t ≡ s) × (more ≡ gone)
 Works now s gone (r ∷ rs) t more =
     (done : Story) × (after : Story) × (then : List End)
     × IsDueFirst s (Some r.act) × Does s now r.act r.told done × CarriesOut done gone r.told r.fates after then × Works now after then rs t more
+
+-- ---- calls
+
+-- for a connection of the next number
+abbrev pub calls_asked : Story → Asked → List Call
+calls_asked s NotAsked = []
+calls_asked s Failed = call.Accept (length s.connections + 1) call.Failed ∷ []
+calls_asked s NoneCame = call.Accept (length s.connections + 1) call.NoneCame ∷ []
+calls_asked s Came = call.Accept (length s.connections + 1) call.Came ∷ []
+
+abbrev pub calls_read : List Read → List Call
+calls_read reads = map (λ (r : Read). call.Read r.end r.given) reads
+
+-- A link is told as refused where its connect failed; then nothing is written. Otherwise the write failed.
+abbrev pub calls_failed : ℕ → List ℕ → List ℕ → FailKind → List Call
+calls_failed l address bytes kinds.Refused = call.Connect l address false ∷ []
+calls_failed l address bytes other = call.Connect l address true ∷ call.Write (ends.Link l) bytes false ∷ []
+
+-- An effect's calls, once and with its bytes whole. Of one that was lost the last call failed; for one that was passed over none is made.
+abbrev pub calls_carried : Effect → Fate → List Call
+calls_carried effect Passed = []
+calls_carried (effects.Client n bytes) Carried = call.Write (ends.Client n) bytes true ∷ []
+calls_carried (effects.Client n bytes) (Lost kind) = call.Write (ends.Client n) bytes false ∷ []
+calls_carried (effects.Close n) Carried = call.Shut (ends.Client n) true ∷ []
+calls_carried (effects.Close n) (Lost kind) = call.Shut (ends.Client n) false ∷ []
+calls_carried (effects.Forward l address bytes) Carried = call.Connect l address true ∷ call.Write (ends.Link l) bytes true ∷ []
+calls_carried (effects.Forward l address bytes) (Lost kind) = calls_failed l address bytes kind
+calls_carried (effects.Drop l) Carried = call.Shut (ends.Link l) true ∷ []
+calls_carried (effects.Drop l) (Lost kind) = call.Shut (ends.Link l) false ∷ []
+
+abbrev pub calls_told : List Effect → List Fate → List Call
+calls_told [] fates = []
+calls_told (e ∷ es) [] = []
+calls_told (e ∷ es) (f ∷ fs) = calls_carried e f ++ calls_told es fs
+
+abbrev pub calls_worked : List Round → List Call
+calls_worked [] = []
+calls_worked (r ∷ rs) = calls_told r.told r.fates ++ calls_worked rs
+
+-- all of a turn, in order
+abbrev pub calls_of : Story → Asked → List Read → List Round → List Call
+calls_of s asked reads rounds = calls_asked s asked ++ (calls_read reads ++ calls_worked rounds)
 
 -- ---- counts
 
@@ -227,7 +275,7 @@ Tells s asked reads rest rounds t (Err faults.Listener) = (asked ≡ Failed) × 
 Tells s asked reads rest rounds t (Err faults.NoMemory) = asked_failures asked ≡ 0
 Tells s asked reads rest rounds t (Err faults.Spent) = (asked_failures asked ≡ 0) × (was_asked asked ≡ asks s) × (rest ≡ []) × EngineFailed t engine.Spent
 
--- a turn of an engine, with the calls that it made
+-- a turn of an engine, with how the counts of calls rose
 pub record Turns (now : ℕ) (s : Story) (e : State) (before after : Calls) (result : Result Report TurnFault) : Type 0 where
   pub asked : Asked
   pub reads : List Read
@@ -238,3 +286,8 @@ pub record Turns (now : ℕ) (s : Story) (e : State) (before after : Calls) (res
   pub stands : Stands e last
   pub tells : Tells s asked reads rest rounds last result
   pub raises : Raises before after (asked_calls asked) (length reads) (asked_failures asked + (failed_reads reads + failed_rounds rounds))
+
+-- A turn of an engine, and its calls: `did` says that just these were made on the sockets.
+pub record TurnsAndCalls (now : ℕ) (s : Story) (e : State) (did : List Call → Type 0) (before after : Calls) (result : Result Report TurnFault) : Type 0 where
+  pub turns : Turns now s e before after result
+  pub calls : did (calls_of s turns.asked turns.reads turns.rounds)

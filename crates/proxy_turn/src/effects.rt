@@ -2,12 +2,13 @@
 
 ghost use Rattle.std.specs.Prelude.{◌≡◌, ◌<◌, ◌≤◌, ◌+◌, ◌⊎◌, length, map, option_map, IfOk, IfErr, OnOk, OnErr, vec_len, vec_capacity};
 ghost use Rattle.hx_status.specs.declared.cause.FailKind.TheVariants.{Refused, Closed};
+ghost use Rattle.proxy_script.specs.declared.effect_list.Effect.TheVariants.{Forward};
 ghost use Rattle.proxy_engine.specs.Happenings.{said};
 ghost use Rattle.proxy_engine.specs.Story.{Story};
 ghost use Rattle.proxy_engine.specs.State.{Stands};
 ghost use Rattle.proxy_turn.specs.Counts.{IsRise, calls, failed};
-ghost use Rattle.proxy_turn.specs.Turn.{end_of, is_lost, FailsAs};
-ghost use Rattle.proxy_turn.specs.Parts.{TookIf, IsFree, FindsIf, IsThere, AreThere, CarriedOne, CarriedOut};
+ghost use Rattle.proxy_turn.specs.Turn.{end_of, is_lost, FailsAs, calls_carried};
+ghost use Rattle.proxy_turn.specs.Parts.{TookIf, IsFree, FindsIf, IsThere, AreThere, fate_of, CarriedOne, CarriedOut};
 
 use crate::happenings::loss;
 use crate::report::TurnFault;
@@ -59,6 +60,7 @@ fn open<K: Sockets>(
     address: &[u8],
     bytes: &[u8],
 ) -> Result<(), FailKind>
+    ensures did { K.Did sockets.old (calls_carried (Forward link address.now bytes.now) (fate_of result)) sockets.new }
     ensures kinds { IfErr result (λ kind. (kind ≡ Refused) ⊎ (kind ≡ Closed)) }
     ensures accepts { K.accepts sockets.new ≡ K.accepts sockets.old }
     ensures reads { K.reads sockets.new ≡ K.reads sockets.old }
@@ -75,6 +77,7 @@ fn open<K: Sockets>(
 
 /// Makes the calls of an effect. The error says as what a failed call on a link counts.
 fn call<K: Sockets>(sockets: &mut K, effect: &Effect) -> Result<(), FailKind>
+    ensures did { K.Did sockets.old (calls_carried effect.now (fate_of result)) sockets.new }
     ensures kinds { IfErr result (FailsAs effect.now) }
     ensures accepts { K.accepts sockets.new ≡ K.accepts sockets.old }
     ensures reads { K.reads sockets.new ≡ K.reads sockets.old }
@@ -103,7 +106,7 @@ fn carry_out_one<S: Shelf, K: Sockets>(
     effect: &Effect,
     failed: &mut Vec<End>,
 ) -> Result<u64, TurnFault>
-    ensures ok { IfOk result (λ count. (s : Story) → Stands engine.old s → IsThere s (end_of effect.now) → CarriedOne s failed.old.items effect.now engine.new failed.new.items (calls (K.accepts sockets.old) (K.reads sockets.old) (K.failures sockets.old)) (calls (K.accepts sockets.new) (K.reads sockets.new) (K.failures sockets.new)) count) }
+    ensures ok { IfOk result (λ count. (s : Story) → Stands engine.old s → IsThere s (end_of effect.now) → CarriedOne s failed.old.items effect.now engine.new failed.new.items (λ made. K.Did sockets.old made sockets.new) (calls (K.accepts sockets.old) (K.reads sockets.old) (K.failures sockets.old)) (calls (K.accepts sockets.new) (K.reads sockets.new) (K.failures sockets.new)) count) }
     ensures never { OnErr result (vec_len failed.old < vec_capacity failed.old → (s : Story) → Stands engine.old s → IsThere s (end_of effect.now) → ⊥) }
     ensures room { vec_capacity failed.old ≤ vec_capacity failed.new }
     ensures one { vec_len failed.new ≤ vec_len failed.old + 1 }
@@ -132,7 +135,7 @@ pub(crate) fn carry_out<S: Shelf, K: Sockets>(
     effects: &[Effect],
     failed: &mut Vec<End>,
 ) -> Result<u64, TurnFault>
-    ensures ok { IfOk result (λ count. (s : Story) → Stands engine.old s → AreThere s (map end_of effects.now) → CarriedOut s failed.old.items effects.now engine.new failed.new.items (calls (K.accepts sockets.old) (K.reads sockets.old) (K.failures sockets.old)) (calls (K.accepts sockets.new) (K.reads sockets.new) (K.failures sockets.new)) count) }
+    ensures ok { IfOk result (λ count. (s : Story) → Stands engine.old s → AreThere s (map end_of effects.now) → CarriedOut s failed.old.items effects.now engine.new failed.new.items (λ made. K.Did sockets.old made sockets.new) (calls (K.accepts sockets.old) (K.reads sockets.old) (K.failures sockets.old)) (calls (K.accepts sockets.new) (K.reads sockets.new) (K.failures sockets.new)) count) }
     ensures never { OnErr result (vec_len failed.old + length effects.now ≤ vec_capacity failed.old → (s : Story) → Stands engine.old s → AreThere s (map end_of effects.now) → ⊥) }
     ensures few { IfOk result (λ count. count ≤ length effects.now) }
 {

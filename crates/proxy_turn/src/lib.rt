@@ -1,13 +1,14 @@
 //! Turns of a proxy over sockets: a connection is accepted, each end is read from once, and what is then due is done.
 //!
-//! `Sockets` are the calls that a turn makes, each of which may fail; contracts see how often they were made and how
-//! many failed (`specs/Counts.antt`). Nothing here opens a socket, waits or reads a clock.
+//! `Sockets` are the calls that a turn makes, each of which may fail; contracts see each with its bytes and what came of it
+//! (`specs/Calls.antt`), and how many failed (`specs/Counts.antt`). Nothing here opens a socket, waits or reads a clock.
 #![tactic(auto)]
 
 mod effects;
 mod happenings;
 mod laws;
 mod limits;
+mod logged;
 mod report;
 mod sockets;
 mod turns;
@@ -15,6 +16,7 @@ mod turns;
 pub use crate::happenings::{arrival, ending, loss};
 pub use crate::laws::{a_turn_is_served_behind_losses, engines_live_on, turns_are_lived};
 pub use crate::limits::MOST_WORKS;
+pub use crate::logged::{Gave, Logged, LoggedCall, turn_with_log};
 pub use crate::report::{Report, TurnFault};
 pub use crate::sockets::{Received, SocketFailed, Sockets};
 pub use crate::turns::turn;

@@ -1,5 +1,6 @@
 //! The ends of a proxy as calls that may fail.
-ghost use Rattle.std.specs.Prelude.{◌≡◌, ℕ, length, IfOk};
+ghost use Rattle.std.specs.Prelude.{◌≡◌, ℕ, List, [], ◌∷◌, ◌++◌, length, IfOk, is_ok};
+ghost use Rattle.proxy_turn.specs.Calls.{Call, Accept, Read, Write, Connect, Shut, answer_of, given_of};
 ghost use Rattle.proxy_turn.specs.Counts.{IsRise, failed};
 ghost use Rattle.proxy_turn.specs.Received.{IsReceived};
 
@@ -22,6 +23,9 @@ pub enum Received {
 
 /// A listener, the clients that it accepted and the links to origins, each client and link by its number.
 pub trait Sockets {
+    /// These calls, the oldest first, led from one state to another.
+    ghost Did: { Self → List Call → Self → Type 0 };
+
     /// How often `accept` was called.
     ghost accepts: { Self → ℕ };
 
@@ -33,12 +37,14 @@ pub trait Sockets {
 
     /// Accepts a connection under this number, if one waits.
     fn accept(&mut self, n: u64) -> Result<bool, SocketFailed>
+        ensures did { Did self.old (Accept n (answer_of result) ∷ []) self.new }
         ensures accepts { IsRise (accepts self.old) (accepts self.new) 1 }
         ensures reads { reads self.new ≡ reads self.old }
         ensures failures { IsRise (failures self.old) (failures self.new) (failed result) };
 
     /// Reads what has come from a client or on a link, at most as many bytes as there is room for.
     fn read(&mut self, end: End, buf: &mut [u8]) -> Result<Received, SocketFailed>
+        ensures did { Did self.old (Read end (given_of result buf.new) ∷ []) self.new }
         ensures within { IfOk result (IsReceived (length buf.old)) }
         ensures length { length buf.new ≡ length buf.old }
         ensures accepts { accepts self.new ≡ accepts self.old }
@@ -47,19 +53,27 @@ pub trait Sockets {
 
     /// Writes all of the bytes to a client or on a link, or fails.
     fn write(&mut self, end: End, bytes: &[u8]) -> Result<(), SocketFailed>
+        ensures did { Did self.old (Write end bytes.now (is_ok result) ∷ []) self.new }
         ensures accepts { accepts self.new ≡ accepts self.old }
         ensures reads { reads self.new ≡ reads self.old }
         ensures failures { IsRise (failures self.old) (failures self.new) (failed result) };
 
     /// Opens the link of this number to an address, four numbers and a port.
     fn connect(&mut self, link: u64, address: &[u8]) -> Result<(), SocketFailed>
+        ensures did { Did self.old (Connect link address.now (is_ok result) ∷ []) self.new }
         ensures accepts { accepts self.new ≡ accepts self.old }
         ensures reads { reads self.new ≡ reads self.old }
         ensures failures { IsRise (failures self.old) (failures self.new) (failed result) };
 
     /// Closes a client's connection or a link.
     fn shut(&mut self, end: End) -> Result<(), SocketFailed>
+        ensures did { Did self.old (Shut end (is_ok result) ∷ []) self.new }
         ensures accepts { accepts self.new ≡ accepts self.old }
         ensures reads { reads self.new ≡ reads self.old }
         ensures failures { IsRise (failures self.old) (failures self.new) (failed result) };
+
+    /// With no call it stays the same state.
+    ghost none: { (s : Self) → Did s [] s };
+
+    ghost joined: { (s t u : Self) (a b : List Call) → Did s a t → Did t b u → Did s (a ++ b) u };
 }

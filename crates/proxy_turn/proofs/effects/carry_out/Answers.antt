@@ -11,7 +11,7 @@ returns-in_err-more-clause-never g c =
     let done = c.loop-effect.invariant.done s stands there in
     let room = c.loop-effect.invariant.room fits in
     c.in_err-more.ensures.never (omega (arith, room, n)) done.last done.stands
-    (named_later c.what_ends_stays_ended.ensures.takes s _ c.args.effects.now c.loop-effect.effect-index c.effect-item.result c.loop-effect.engine _ _ _ c.loop-effect.faults c.effect-item.is n there done))
+    (named_later c.what_ends_stays_ended.ensures.takes s _ c.args.effects.now c.loop-effect.effect-index c.effect-item.result c.loop-effect.engine _ _ _ _ c.loop-effect.faults c.effect-item.is n there done))
 
 pub loop-effect-preserved : goal.loop-effect-preserved
 loop-effect-preserved g c =
@@ -22,10 +22,11 @@ loop-effect-preserved g c =
     record {
       done = λ s stands there.
           let done = c.loop-effect.invariant.done s stands there in
-          let here = named_later c.what_ends_stays_ended.ensures.takes s _ c.args.effects.now c.loop-effect.effect-index c.effect-item.result c.loop-effect.engine _ _ _ c.loop-effect.faults c.effect-item.is n there done in
-          subst (CarriedOut s _ _ c.carry_out_one.new.engine _ _ _) (sym sum)
-          (carried_more s _ c.args.effects.now c.loop-effect.effect-index c.effect-item.result c.loop-effect.engine c.carry_out_one.new.engine _ _ _ _ _ c.loop-effect.faults c.in_ok-more.more c.effect-item.is n done
-          (c.in_ok-more.ensures.ok done.last done.stands here));
+          let here = named_later c.what_ends_stays_ended.ensures.takes s _ c.args.effects.now c.loop-effect.effect-index c.effect-item.result c.loop-effect.engine _ _ _ _ c.loop-effect.faults c.effect-item.is n there done in
+          subst (CarriedOut s _ _ c.carry_out_one.new.engine _ _ _ _) (sym sum)
+          (carried_more s _ c.args.effects.now c.loop-effect.effect-index c.effect-item.result c.loop-effect.engine c.carry_out_one.new.engine _ _ _ _ _ _ _ _ c.loop-effect.faults c.in_ok-more.more c.effect-item.is n done
+          (c.in_ok-more.ensures.ok done.last done.stands here)
+          (λ x y p q. g.met.K.Sockets.joined _ _ _ x y p q));
       room = λ fits. let room = c.loop-effect.invariant.room fits in let kept = c.carry_out_one.ensures.room in let longer = c.carry_out_one.ensures.one in omega (arith, room, kept, longer);
       few = omega (arith, few, one, sum);
     }

@@ -1,0 +1,183 @@
+//! Sockets that keep a log of the calls made on them: what contracts say of calls, seen at run time.
+ghost use Rattle.std.specs.Prelude.{◌≡◌, ◌<◌, [], ◌∷◌, ◌++◌, map, false};
+ghost use Rattle.hx_fields.specs.declared.limits.TheConstants.{END_OF_TIME};
+ghost use Rattle.proxy_engine.specs.Story.{Story};
+ghost use Rattle.proxy_engine.specs.State.{Stands};
+ghost use Rattle.proxy_engine.specs.Orderly.{IsOrderly};
+ghost use Rattle.proxy_turn.specs.Calls as call;
+ghost use Rattle.proxy_turn.specs.Calls.{given_of};
+ghost use Rattle.proxy_turn.specs.Logs.{call_in, Grew, grew_none, grew_joined};
+ghost use Rattle.proxy_turn.specs.Counts.{calls};
+ghost use Rattle.proxy_turn.specs.Turn.{TurnsAndCalls};
+
+use crate::report::{Report, TurnFault};
+use crate::sockets::{Received, SocketFailed, Sockets};
+use crate::turns::turn;
+use hx_fields::Bytes;
+use hx_store::Shelf;
+use proxy_engine::{End, Engine};
+use std::alloc::Global;
+
+/// What a read gave.
+#[derive(Debug, Drop)]
+pub enum Gave {
+    Nothing,
+    Bytes(Bytes),
+    End,
+    Failed,
+}
+
+/// A call, with its bytes and what came of it; the last of a write, a connect and a shut says that it didn't fail.
+#[derive(Debug, Drop)]
+pub enum LoggedCall {
+    Accept(u64, Result<bool, SocketFailed>),
+    Read(End, Gave),
+    Write(End, Bytes, bool),
+    Connect(u64, Bytes, bool),
+    Shut(End, bool),
+}
+
+/// Sockets, and a log of the calls that were made on them.
+#[derive(Drop)]
+pub struct Logged<K: Sockets + Drop> {
+    sockets: K,
+    alloc: Global,
+    calls: Vec<LoggedCall>,
+    lost: bool,
+}
+
+impl<K: Sockets + Drop> Logged<K> {
+    pub fn new(sockets: K, alloc: Global) -> Logged<K>
+        ensures log { result.calls.items ≡ [] }
+        ensures lost { result.lost ≡ false }
+    {
+        Logged {
+            sockets,
+            alloc,
+            calls: Vec::new(alloc),
+            lost: false,
+        }
+    }
+
+    /// The calls so far, the oldest first.
+    pub fn calls(&self) -> &[LoggedCall]
+        ensures { result.now ≡ self.now.calls.items }
+    {
+        self.calls.as_slice()
+    }
+
+    /// Whether a call isn't in the log, for want of memory.
+    pub fn has_lost(&self) -> bool
+        ensures { result ≡ self.now.lost }
+    {
+        self.lost
+    }
+
+    fn keep(&mut self, it: LoggedCall)
+        ensures sockets { self.new.sockets ≡ self.old.sockets }
+        ensures kept { Grew self.old.lost self.old.calls.items self.new.lost self.new.calls.items (call_in it ∷ []) }
+    {
+        if self.calls.push(it).is_err() {
+            self.lost = true;
+        }
+    }
+
+    fn keep_read(&mut self, end: End, received: &Result<Received, SocketFailed>, buf: &[u8])
+        ensures sockets { self.new.sockets ≡ self.old.sockets }
+        ensures kept { Grew self.old.lost self.old.calls.items self.new.lost self.new.calls.items (call.Read end (given_of received.now buf.now) ∷ []) }
+    {
+        let gave = match received {
+            Ok(Received::Nothing) => Gave::Nothing,
+            Ok(Received::Bytes(n)) => match Bytes::copy_of(
+                self.alloc,
+                buf.get(..*n).unwrap_or(buf),
+            ) {
+                Ok(bytes) => Gave::Bytes(bytes),
+                Err(_) => {
+                    self.lost = true;
+                    return;
+                }
+            },
+            Ok(Received::End) => Gave::End,
+            Err(_) => Gave::Failed,
+        };
+        self.keep(LoggedCall::Read(end, gave));
+    }
+
+    fn keep_write(&mut self, end: End, bytes: &[u8], done: bool)
+        ensures sockets { self.new.sockets ≡ self.old.sockets }
+        ensures kept { Grew self.old.lost self.old.calls.items self.new.lost self.new.calls.items (call.Write end bytes.now done ∷ []) }
+    {
+        match Bytes::copy_of(self.alloc, bytes) {
+            Ok(bytes) => self.keep(LoggedCall::Write(end, bytes, done)),
+            Err(_) => self.lost = true,
+        }
+    }
+
+    fn keep_connect(&mut self, link: u64, address: &[u8], done: bool)
+        ensures sockets { self.new.sockets ≡ self.old.sockets }
+        ensures kept { Grew self.old.lost self.old.calls.items self.new.lost self.new.calls.items (call.Connect link address.now done ∷ []) }
+    {
+        match Bytes::copy_of(self.alloc, address) {
+            Ok(address) => self.keep(LoggedCall::Connect(link, address, done)),
+            Err(_) => self.lost = true,
+        }
+    }
+}
+
+impl<K: Sockets + Drop> Sockets for Logged<K> {
+    ghost Did = { λ s made t. Grew s.lost s.calls.items t.lost t.calls.items made };
+
+    ghost accepts = { λ s. K.accepts s.sockets };
+
+    ghost reads = { λ s. K.reads s.sockets };
+
+    ghost failures = { λ s. K.failures s.sockets };
+
+    ghost none = { λ s. grew_none s.lost s.calls.items };
+
+    ghost joined = { λ s t u a b first then. grew_joined s.lost s.calls.items t.lost t.calls.items u.lost u.calls.items a b first then };
+
+    fn accept(&mut self, n: u64) -> Result<bool, SocketFailed> {
+        let came = self.sockets.accept(n);
+        self.keep(LoggedCall::Accept(n, came));
+        came
+    }
+
+    fn read(&mut self, end: End, buf: &mut [u8]) -> Result<Received, SocketFailed> {
+        let received = self.sockets.read(end, buf);
+        self.keep_read(end, &received, buf);
+        received
+    }
+
+    fn write(&mut self, end: End, bytes: &[u8]) -> Result<(), SocketFailed> {
+        let written = self.sockets.write(end, bytes);
+        self.keep_write(end, bytes, written.is_ok());
+        written
+    }
+
+    fn connect(&mut self, link: u64, address: &[u8]) -> Result<(), SocketFailed> {
+        let connected = self.sockets.connect(link, address);
+        self.keep_connect(link, address, connected.is_ok());
+        connected
+    }
+
+    fn shut(&mut self, end: End) -> Result<(), SocketFailed> {
+        let shut = self.sockets.shut(end);
+        self.keep(LoggedCall::Shut(end, shut.is_ok()));
+        shut
+    }
+}
+
+/// Serves one turn, as `turn` does. The log grows by its calls, each with its bytes, in order.
+pub fn turn_with_log<S: Shelf, K: Sockets + Drop>(
+    engine: &mut Engine<S>,
+    sockets: &mut Logged<K>,
+    alloc: Global,
+    now: u64,
+) -> Result<Report, TurnFault>
+    requires { now < END_OF_TIME }
+    ensures { (s : Story) → Stands engine.old s → IsOrderly s → TurnsAndCalls now s engine.new (λ made. Grew sockets.old.lost sockets.old.calls.items sockets.new.lost sockets.new.calls.items made) (calls (K.accepts sockets.old.sockets) (K.reads sockets.old.sockets) (K.failures sockets.old.sockets)) (calls (K.accepts sockets.new.sockets) (K.reads sockets.new.sockets) (K.failures sockets.new.sockets)) result }
+{
+    turn(engine, sockets, alloc, now)
+}
