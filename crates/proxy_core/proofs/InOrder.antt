@@ -16,7 +16,7 @@ use Rattle.proxy_core.specs.Outcomes.{find_exchange, id_of, fault_of}
 use Rattle.hx_allow.specs.Matching.{verdict_of, caches_of}
 use Rattle.hx_reuse.specs.Rules.{decision_of}
 use Rattle.proxy_core.specs.Validating.{condition_at}
-use Rattle.proxy_core.specs.State.{overtake, release, left_open, closed, opened, queued, line_of, rule_of, named_by, gone_out, sent_out, woken_out, invalidated_by, open_after}
+use Rattle.proxy_core.specs.State.{overtake, release, left_open, closed, opened, queued, line_of, rule_of, named_by, gone_out, woken_out, invalidated_by, open_after}
 use Rattle.proxy_core.specs.Traces.{Item, begun, left, IsGood}
 use Rattle.proxy_core.specs.Promises.{is_arrival, NoneArrives}
 use Rattle.proxy_core.specs.Carrying.{ArrivesBefore, StandInOrder, ids_of, OpenInOrderOfArrival}

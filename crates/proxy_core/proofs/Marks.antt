@@ -17,7 +17,7 @@ use Rattle.proxy_core.specs.Promises.{goes_forward, is_arrival, times, asked_at,
 use Rattle.proxy_core.specs.declared.stage.Stage.TheVariants.{Forwarded, Waiting, Released}
 use Rattle.proxy_core.specs.Leading.{waits_for}
 use Rattle.proxy_core.specs.State.{release}
-use Rattle.proxy_core.proofs.ExchangeLists.{overtaken_by, released_by, changed_by}
+use Rattle.proxy_core.proofs.ExchangeLists.{overtaken_by, released_by}
 use Rattle.proxy_core.proofs.Moves.{Move, apart, opens, queues, passes, again, wakes, closes, asked_of, ended_by, move_of}
 use Rattle.proxy_core.proofs.Tracing.{same_table}
 

@@ -1,6 +1,6 @@
 -- Two outcomes of one event that both fit what was before it are the same: so the headline leaves no choice, and no trace but a good
 -- one has it.
-use Rattle.std.proofs.Common.{◌≡◌, ◌≢◌, ◌⊎◌, inl, inr, ℕ, ◌<◌, Bool, true, false, not, cond, ◌&&◌, ltb, eqb, Option, None, Some, List, [], ◌∷◌, refl, sym, ◌∙◌, ap, subst, arith}
+use Rattle.std.proofs.Common.{◌≡◌, ◌≢◌, ◌⊎◌, inl, inr, ℕ, ◌<◌, Bool, true, false, cond, ltb, eqb, Option, None, Some, List, [], ◌∷◌, refl, sym, ◌∙◌, ap, subst, arith}
 use Rattle.std.specs.Prelude.{is_none, is_some}
 use Rattle.std.proofs.lemmas.Bool.{eqb-true, eq-eqb, false≢true}
 use Rattle.std.proofs.lemmas.Bool.Decides.{nat_tests}
@@ -8,7 +8,6 @@ use Rattle.std.proofs.lemmas.Option.{same_Some}
 use Rattle.hx_fields.specs.declared.limits.TheConstants.{END_OF_TIME}
 use Rattle.hx_directives.specs.Occurrences.{occurrences_of}
 use Rattle.hx_framing.specs.declared.messages.Response.{Response}
-use Rattle.hx_hop.specs.Answering.{answered_of}
 use Rattle.hx_hop.specs.declared.request_view.Asked.{Asked}
 use Rattle.hx_hop.specs.Moments.{date_text_of}
 use Rattle.hx_allow.specs.Lines.{Table}
@@ -17,9 +16,8 @@ use Rattle.hx_allow.specs.declared.verdicts.Verdict.{Verdict}
 use Rattle.hx_allow.specs.declared.verdicts.Verdict.TheVariants as verdict
 use Rattle.hx_store.specs.Stored.{Stored}
 use Rattle.hx_store.specs.Serials.{Distinct}
-use Rattle.hx_store.specs.Shelf.{serials, find_entry}
-use Rattle.hx_storable.specs.Storable.{IsFinal}
-use Rattle.hx_reuse.specs.Rules.{decision_of, names_entry}
+use Rattle.hx_store.specs.Shelf.{serials}
+use Rattle.hx_reuse.specs.Rules.{decision_of}
 use Rattle.hx_reuse.specs.Meaning.{IsLeast, NamesTheResponse}
 use Rattle.hx_reuse.specs.ErrorRules.{error_rule_on}
 use Rattle.hx_reuse.specs.declared.rule.ReuseRule.{ReuseRule}
@@ -34,32 +32,28 @@ use Rattle.hx_status.specs.declared.status.Detail.{Detail}
 use Rattle.hx_status.specs.declared.cause.FailKind.{FailKind}
 use Rattle.hx_status.specs.declared.cause.FailKind.TheVariants.{BadAnswer}
 use Rattle.hx_status.specs.declared.cause.Cause.TheVariants.{Denied, OnlyIfCached, Origin}
-use Rattle.proxy_core.specs.declared.condition.Condition.{Condition}
-use Rattle.proxy_core.specs.declared.stage.Stage.{Stage}
-use Rattle.proxy_core.specs.declared.stage.Stage.TheVariants.{Forwarded, Waiting, Released}
 use Rattle.proxy_core.specs.declared.exchange.Exchange.{Exchange}
 use Rattle.proxy_core.specs.declared.stored_reply.CacheStatusInfo.{CacheStatusInfo}
-use Rattle.proxy_core.specs.declared.fault.CoreFault.{CoreFault}
 use Rattle.proxy_core.specs.declared.fault.CoreFault.TheVariants.{MomentTooLate, NotForwarded, NotReady}
 use Rattle.proxy_core.specs.declared.outcome.Reply.{Reply}
 use Rattle.proxy_core.specs.declared.outcome.Outcome.{Outcome}
-use Rattle.proxy_core.specs.declared.outcome.Outcome.TheVariants.{Reply as Replied, Forward, Waits, Ended}
+use Rattle.proxy_core.specs.declared.outcome.Outcome.TheVariants.{Reply as Replied, Forward, Waits}
 use Rattle.proxy_core.specs.declared.event.Event.{Event}
 use Rattle.proxy_core.specs.declared.event.Event.TheVariants.{Arrive, Answer, Fail, Wake, Abandon}
 use Rattle.proxy_core.specs.Moments.{too_late}
-use Rattle.proxy_core.specs.Leading.{is_forwarded, is_released, leader_for}
+use Rattle.proxy_core.specs.Leading.{leader_for}
 use Rattle.proxy_core.specs.Storing.{is_unasked, replaced_by}
 use Rattle.proxy_core.specs.Validating.{condition_at, is_validation, validated}
 use Rattle.proxy_core.specs.Replies.{stored_text, passed_text, refused_text, is_head}
-use Rattle.proxy_core.specs.Outcomes.{find_exchange, id_of, outcome_by, is_only_if_cached, refused, forwarded_as, forward_text, or_fault, not_forwarded, not_ready, fault_of, fault_by}
+use Rattle.proxy_core.specs.Outcomes.{find_exchange, id_of, outcome_by, refused, forwarded_as, forward_text, or_fault, not_forwarded, not_ready, fault_of, fault_by}
 use Rattle.proxy_core.specs.State.{stored_in, used_in, removed_in, used_form}
 use Rattle.proxy_core.specs.Traces.{Item}
 use Rattle.proxy_core.specs.Histories.{held_entries, open_exchanges, next_serial, IsGoodHistory}
-use Rattle.proxy_core.specs.Promises.{asked_by, key_by_answer, sends_nothing_held}
+use Rattle.proxy_core.specs.Promises.{key_by_answer}
 use Rattle.proxy_core.specs.Sending.{IsReusable, MayBeSentAt, GoesForward, NobodyLeads, WaitsForTheFirst, IsReached, IsTurnedAway, WordAfterError, WordAtAnswer, TellsHow, IsAbout, IsThatResponse}
-use Rattle.proxy_core.specs.GoingOn.{MayCome, AsksAgain, IsReply, GoesOnBy}
+use Rattle.proxy_core.specs.GoingOn.{MayCome, IsReply, GoesOnBy}
 use Rattle.proxy_core.specs.Naming.{NamesErrorRule, NamesOnError, NamesByEvent, NamesFirst}
-use Rattle.proxy_core.specs.StoredAnswers.{MayBeStoredAt, IsStoredAnswer, held_for, not_kept, removed_by_answer, removed_at}
+use Rattle.proxy_core.specs.StoredAnswers.{held_for, not_kept, removed_at}
 use Rattle.proxy_core.specs.Headline.{EachStep, GoesOn, ReachesExactly, SendsExactly, SendsThatResponse, NamesTheFirst, StoresExactly, RemovesExactly, ClosesAsAsked, Headline, HasFinalAnswer, NoOtherTraceHasIt}
 use Rattle.proxy_core.proofs.FirstRules.{held_distinct}
 use Rattle.proxy_core.proofs.Leads.{leads_for_none, leads_for}

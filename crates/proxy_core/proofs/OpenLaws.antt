@@ -24,7 +24,7 @@ use Rattle.proxy_core.specs.Promises.{goes_forward, ends, is_arrival, NoneArrive
 use Rattle.proxy_core.specs.Carrying.{judges, NoneJudged}
 use Rattle.proxy_core.specs.Meaning.{has_ended, starts, OpenFromArrivalToEnd, OpenByArrivalAlone, HasItsRequest, KeepsItsRule, OvertakenWhereInvalidated}
 use Rattle.proxy_core.proofs.ExchangeLists.{overtaken_by, released_by, changed_by, find-push}
-use Rattle.proxy_core.proofs.Moves.{Move, apart, opens, queues, passes, again, wakes, closes, asked_of, ended_by, ends_back, forward_goes_on, move_of, and_none}
+use Rattle.proxy_core.proofs.Moves.{Move, apart, opens, queues, passes, again, wakes, closes, asked_of, ended_by, forward_goes_on, move_of, and_none}
 use Rattle.proxy_core.proofs.Tracing.{same_table}
 use Rattle.proxy_core.proofs.TwiceForward.{not_both, fresh_arrival, part}
 use Rattle.proxy_core.proofs.HeldLaw.{good_plain, entries_are_held, exchanges_are_open}

@@ -4,13 +4,10 @@ use Rattle.std.specs.Prelude.{nat_le, bytes_eq, is_some, length, ◌==◌}
 use Rattle.std.proofs.lemmas.Bool.{eq-eqb, false≢true}
 use Rattle.std.proofs.lemmas.Bool.Decides.{nat_tests}
 use Rattle.std.proofs.lemmas.Option.{same_Some}
-use Rattle.hx_framing.specs.declared.messages.Response.{Response}
-use Rattle.hx_hop.specs.Answering.{answered_of}
 use Rattle.hx_hop.specs.declared.request_view.Asked.{Asked}
 use Rattle.hx_allow.specs.Matching.{verdict_of, caches_of}
 use Rattle.hx_allow.specs.declared.verdicts.Verdict.TheVariants.{Allowed}
 use Rattle.hx_store.specs.Recency.{is_the}
-use Rattle.hx_storable.specs.Storable.{IsFinal}
 use Rattle.hx_reuse.specs.Meaning.{NamesTheResponse}
 use Rattle.hx_reuse.specs.Rules.{decision_of}
 use Rattle.hx_reuse.specs.declared.rule.ReuseRule.{ReuseRule}

@@ -8,15 +8,15 @@ use Rattle.proxy_core.specs.declared.exchange.Exchange.{Exchange}
 use Rattle.proxy_core.specs.declared.outcome.Outcome.{Outcome}
 use Rattle.proxy_core.specs.declared.outcome.Outcome.TheVariants.{Reply, Forward, Waits, Ended}
 use Rattle.proxy_core.specs.declared.event.Event.{Event}
-use Rattle.proxy_core.specs.declared.event.Event.TheVariants.{Arrive, Wake}
+use Rattle.proxy_core.specs.declared.event.Event.TheVariants.{Arrive}
 use Rattle.proxy_core.specs.Outcomes.{find_exchange, id_of}
 use Rattle.proxy_core.specs.declared.stage.Stage.{Stage}
 use Rattle.proxy_core.specs.declared.stage.Stage.TheVariants.{Forwarded, Waiting, Released}
 use Rattle.proxy_core.specs.Leading.{is_forwarded, is_released, waits_for}
-use Rattle.proxy_core.specs.State.{State, release, overtake, opened, queued}
+use Rattle.proxy_core.specs.State.{State, release, overtake, opened}
 use Rattle.proxy_core.specs.Traces.{Item, left, IsGood}
 use Rattle.proxy_core.specs.Promises.{goes_forward, is_reply, is_arrival, key_by_step, times, NoneArrives, TwiceForwardOneReply}
-use Rattle.proxy_core.proofs.ExchangeLists.{overtaken_by, released_by, changed_by}
+use Rattle.proxy_core.proofs.ExchangeLists.{overtaken_by, released_by}
 use Rattle.proxy_core.proofs.Moves.{Move, apart, opens, queues, passes, again, wakes, closes, woken_form, asked_of, ended_by, ends_back, move_of, and_none}
 use Rattle.proxy_core.proofs.Tracing.{same_table}
 

@@ -8,7 +8,6 @@ use Rattle.hx_fields.specs.declared.limits.TheConstants.{END_OF_TIME}
 use Rattle.hx_framing.specs.declared.messages.Response.{Response}
 use Rattle.hx_hop.specs.declared.request_view.Asked.{Asked}
 use Rattle.hx_allow.specs.Lines.{Table}
-use Rattle.hx_allow.specs.Matching.{caches_of}
 use Rattle.hx_store.specs.Stored.{Stored}
 use Rattle.hx_reuse.specs.Meaning.{IsLeast, NamesTheResponse}
 use Rattle.hx_reuse.specs.declared.rule.ReuseRule.{ReuseRule}

@@ -3,19 +3,17 @@
 --
 -- edge: an operator's table     goes_well: these events, latest first, each with the outcome of its case
 -- wrong: another outcome of the last event     Refuses: no headline
-use Rattle.std.specs.Prelude.{ℕ, true, false, List, [], ◌∷◌, codes, Option, Some, None}
+use Rattle.std.specs.Prelude.{ℕ, false, List, [], ◌∷◌, codes, Option, Some, None}
 use Rattle.hx_fields.specs.declared.field_line.Field.{Field}
-use Rattle.hx_fields.specs.Examples.{line}
 use Rattle.hx_framing.specs.declared.messages.Response.{Response}
 use Rattle.hx_hop.specs.declared.request_view.Asked.{Asked}
-use Rattle.hx_allow.specs.Lines.{Line, Table}
-use Rattle.hx_status.specs.declared.cause.Cause.{Cause}
+use Rattle.hx_allow.specs.Lines.{Table}
 use Rattle.proxy_core.specs.declared.condition.Condition.{Condition}
 use Rattle.proxy_core.specs.declared.outcome.Outcome.{Outcome}
 use Rattle.proxy_core.specs.declared.outcome.Outcome.TheVariants.{Reply, Forward}
 use Rattle.proxy_core.specs.declared.event.Event.{Event}
-use Rattle.proxy_core.specs.declared.event.Event.TheVariants.{Arrive, Answer, Fail, Wake, Abandon}
-use Rattle.proxy_core.specs.Outcomes.{outcome_by, refused}
+use Rattle.proxy_core.specs.declared.event.Event.TheVariants.{Arrive, Answer}
+use Rattle.proxy_core.specs.Outcomes.{outcome_by}
 use Rattle.proxy_core.specs.Traces.{Item}
 use Rattle.proxy_core.specs.Histories.{held_entries, open_exchanges, next_serial}
 use Rattle.proxy_core.specs.Headline.{GoesWhereAllowed, Headline}

@@ -74,7 +74,8 @@ pub use crate::laws::{
 pub use crate::outcome::{Outcome, Reply, Run};
 pub use crate::promise_cases::{
     a_denied_request_leaves_no_trace, an_exchange_goes_twice_and_replies_once,
-    what_goes_forward_is_the_request, what_is_invalidated_is_not_sent,
+    no_run_stops_without_a_fault, what_goes_forward_is_the_request,
+    what_is_invalidated_is_not_sent,
 };
 pub use crate::proxy::Core;
 pub use crate::reply_text::refused;

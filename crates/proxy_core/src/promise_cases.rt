@@ -3,11 +3,12 @@
 
 ghost use Rattle.std.specs.Prelude.{◌≡◌, ◌∷◌, [], Some, None, true, false, codes};
 ghost use Rattle.hx_status.specs.declared.cause.FailKind.TheVariants as kinds;
-ghost use Rattle.hx_status.specs.declared.cause.Cause.TheVariants.{Denied};
 ghost use Rattle.proxy_core.specs.declared.event.Event.TheVariants.{Arrive, Answer, Fail, Wake};
 ghost use Rattle.proxy_core.specs.declared.outcome.Outcome.TheVariants.{Forward, Waits, Ended};
-ghost use Rattle.proxy_core.specs.Outcomes.{forward_text, refused};
+ghost use Rattle.proxy_core.specs.declared.fault.CoreFault.TheVariants.{IdTaken, NotForwarded, OutOfMemory};
+ghost use Rattle.proxy_core.specs.Outcomes.{forward_text};
 ghost use Rattle.proxy_core.specs.Traces.{DeniedLeaveNoTrace};
+ghost use Rattle.proxy_core.specs.Histories.{StopsAt};
 ghost use Rattle.proxy_core.specs.Promises.{NothingInvalidatedIsSent, TwiceForwardOneReply};
 ghost use Rattle.proxy_core.specs.Headline.{GoesWhereAllowed};
 ghost use Rattle.proxy_core.specs.Cases.{answer};
@@ -47,4 +48,11 @@ pub fn an_exchange_goes_twice_and_replies_once()
 pub fn what_is_invalidated_is_not_sent()
     ensures since_stored { NothingInvalidatedIsSent invalidated_since_stored → ⊥ }
     ensures on_its_way { NothingInvalidatedIsSent invalidated_on_its_way → ⊥ }
+{}
+
+/// No run stops behind its last event, nor at one that no fault stands against, but for want of memory.
+pub fn no_run_stops_without_a_fault()
+    ensures behind_the_last { StopsAt [] None OutOfMemory → ⊥ }
+    ensures at_a_good_event { StopsAt [] (Some (Arrive 100 1 get_a)) IdTaken → ⊥ }
+    ensures by_another_fault { StopsAt [] (Some (Answer 100 1 fresh)) NotForwarded → ⊥ }
 {}

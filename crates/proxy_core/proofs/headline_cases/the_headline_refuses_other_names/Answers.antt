@@ -16,7 +16,7 @@ use Rattle.proxy_core.specs.declared.event.Event.TheVariants.{Answer, Arrive, Fa
 use Rattle.proxy_core.specs.Replies.{passed_text}
 use Rattle.proxy_core.specs.Outcomes.{refused}
 use Rattle.proxy_core.specs.Cases.{answer, bytes_of, went}
-use Rattle.proxy_core.specs.WrongTraces.{edge, fresh, get_a, only_cached, replies, says}
+use Rattle.proxy_core.specs.WrongTraces.{fresh, get_a, only_cached, replies, says}
 use Rattle.proxy_core.proofs.Refusals.{has_bytes, refuse}
 use Rattle.proxy_core.proofs.headline_cases.the_headline_refuses_other_names.Goals as goal
 

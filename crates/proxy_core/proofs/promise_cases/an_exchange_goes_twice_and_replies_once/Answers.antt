@@ -1,4 +1,4 @@
-use Rattle.std.proofs.Common.{◌≤◌, ℕ, List, [], ◌∷◌, refl, arith}
+use Rattle.std.proofs.Common.{◌≤◌, [], ◌∷◌, refl, arith}
 use Rattle.std.specs.Fmt.{digits}
 use Rattle.httpdate.proofs.OnLiterals.{httpdate_on_literals}
 use Rattle.hx_hop.specs.Forwarding.{forwarded_of}

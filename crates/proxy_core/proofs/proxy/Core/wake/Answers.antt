@@ -1,4 +1,4 @@
-use Rattle.std.proofs.Common.{◌≡◌, ap, subst, sym, ◌∙◌}
+use Rattle.std.proofs.Common.{ap, subst, sym, ◌∙◌}
 use Rattle.hx_allow.specs.Matching.{caches_of}
 use Rattle.hx_reuse.specs.Rules.{decision_of}
 use Rattle.proxy_core.specs.State.{State}

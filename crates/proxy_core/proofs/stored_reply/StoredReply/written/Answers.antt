@@ -1,10 +1,10 @@
-use Rattle.std.proofs.Common.{◌≡◌, ◌++◌, ◌∷◌, [], List, ap, subst, sym, ◌∙◌, IfOk}
+use Rattle.std.proofs.Common.{◌≡◌, ◌++◌, ◌∷◌, [], List, ap, subst, ◌∙◌, IfOk}
 use Rattle.std.specs.Prelude.{codes, decimal}
 use Rattle.hx_fields.specs.declared.field_line.Field.{Field}
 use Rattle.hx_framing.specs.Text.{response_text}
 use Rattle.hx_age.specs.Age.{age_of}
 use Rattle.hx_store.specs.Stored.{Stored}
-use Rattle.proxy_core.specs.Replies.{line, lines_sent}
+use Rattle.proxy_core.specs.Replies.{line}
 use Rattle.proxy_core.proofs.AddedLines.{lines_added}
 use Rattle.proxy_core.proofs.stored_reply.StoredReply.written.Goals as goal
 
