@@ -186,8 +186,10 @@ impl<'a, S: Shelf + Drop, R: Net, W: Write + Drop> Server<'a, S, R, W> {
         }
         self.look_ahead(told);
         match told {
+            Ok(_) => Ok(Turned { moment, told }),
+            Err(TurnFault::Listener) => Ok(Turned { moment, told }),
+            Err(TurnFault::NoMemory) => Ok(Turned { moment, told }),
             Err(TurnFault::Spent) => Err(ServeFault::Spent),
-            told => Ok(Turned { moment, told }),
         }
     }
 
