@@ -149,6 +149,7 @@ impl<'a, S: Shelf + Drop, R: Net, W: Write + Drop> Server<'a, S, R, W> {
         ensures limit { self.new.core.limit ≡ self.old.core.limit }
     {
         engines_live_on();
+        let _before = &self.engine;
         let served = self.serve_next(clock);
         let _engine = &self.engine;
         served
@@ -161,8 +162,12 @@ impl<'a, S: Shelf + Drop, R: Net, W: Write + Drop> Server<'a, S, R, W> {
         if self.ends.sockets.wait(self.busy).is_err() {
             return Err(ServeFault::Socket);
         }
-        let second = seconds(clock)?;
-        let now = moment(clock)?;
+        let Ok(second) = seconds(clock) else {
+            return Err(ServeFault::Clock);
+        };
+        let Ok(now) = moment(clock) else {
+            return Err(ServeFault::Clock);
+        };
         self.serve_at(second, now)
     }
 
@@ -186,8 +191,10 @@ impl<'a, S: Shelf + Drop, R: Net, W: Write + Drop> Server<'a, S, R, W> {
         }
         self.look_ahead(told);
         match told {
+            Ok(_) => Ok(Turned { moment, told }),
+            Err(TurnFault::Listener) => Ok(Turned { moment, told }),
+            Err(TurnFault::NoMemory) => Ok(Turned { moment, told }),
             Err(TurnFault::Spent) => Err(ServeFault::Spent),
-            told => Ok(Turned { moment, told }),
         }
     }
 

@@ -12,3 +12,6 @@ loop-end-preserved g c =
           (on_from c.a_turn_is_served_behind_losses.ensures.more c.args.self.now c.loop-end.self c.self-in-loop-end.inside.engine w.lose.new.self c.self-in-loop-end.view_is c.loop-end.invariant w.lose.ensures)
       | else-is_silent w ↦ subst (LosesOn c.args.self.now) (sym w.self-is) c.loop-end.invariant
     ]
+
+pub returns : goal.returns
+returns g c = subst (LosesOn c.args.self.now) (sym c.self-2.view_is) c.loop-end.invariant
