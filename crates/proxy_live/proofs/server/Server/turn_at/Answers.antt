@@ -6,7 +6,7 @@ use Rattle.proxy_live.proofs.server.Server.turn_at.Goals as goal
 use Rattle.proxy_live.proofs.server.Server.turn_at.Goals.{After-turn, then-self, else-self}
 
 turned : (g : Over) (c : After-turn g) → GoesOn c.self-2.inside.engine c.turn.new.engine
-turned g c = c.engines_live_on.ensures.turns c.self-2.inside.engine c.turn.new.engine c.args.now _ _ c.turn.result c.turn.ensures
+turned g c = c.engines_live_on.ensures.turns c.self-2.inside.engine c.turn.new.engine c.args.now _ _ c.turn.result (λ s stands orderly. let both = c.turn.ensures s stands orderly in both.turns)
 
 pub invariant_of-self : goal.invariant_of-self
 invariant_of-self g c = c.engines_live_on.ensures.lived c.self-2.inside.engine c.turn.new.engine (turned g c) c.self-2.invariant
