@@ -422,11 +422,18 @@ impl<'a, R: Net> LiveSockets<'a, R> {
 }
 
 impl<'a, R: Net> Sockets for LiveSockets<'a, R> {
+    // No contract can say what the system's sockets give or take, and no log of it is kept.
+    ghost Did = { λ s made t. Unit {0} };
+
     ghost accepts = { λ s. s.accepts };
 
     ghost reads = { λ s. s.reads };
 
     ghost failures = { λ s. s.failures };
+
+    ghost none = { λ s. tt };
+
+    ghost joined = { λ s t u a b first then. tt };
 
     fn accept(&mut self, n: u64) -> Result<bool, SocketFailed> {
         self.accepts = self.accepts.saturating_add(1);

@@ -3,7 +3,9 @@
 //! A script has all that is due done behind each happening, a turn behind all that it took. So while a record is written, at
 //! most one end gives something in a turn, and none before all is done that was due; then a replay does the same acts in the
 //! same order. Which end comes next goes round.
-ghost use Rattle.std.specs.Prelude.{◌≡◌, ◌≤◌, length, IfOk};
+ghost use Rattle.std.specs.Prelude.{◌≡◌, ◌≤◌, List, [], ◌∷◌, ◌++◌, length, IfOk, true, false, refl, is_some};
+ghost use Rattle.proxy_live.specs.Recorded.{PassedOn, passed_on};
+ghost use Rattle.proxy_turn.specs.Calls.{Call};
 ghost use Rattle.proxy_turn.specs.Counts.{IsRise, failed};
 ghost use Rattle.proxy_turn.specs.Received.{IsReceived};
 
@@ -64,7 +66,10 @@ fn note<W: Write + Drop>(
     fault: &mut Option<RecordFault>,
     now: u64,
     happening: Happening<'_>,
-) -> bool {
+) -> bool
+    ensures told { result ≡ false → is_some fault.new ≡ true }
+    ensures kept { is_some fault.old ≡ true → is_some fault.new ≡ true }
+{
     if let Some(record) = record {
         if let Err(e) = record.happens(now, happening) {
             *fault = Some(e);
@@ -165,6 +170,8 @@ impl<K: Sockets + Drop, W: Write + Drop> Recording<K, W> {
         kind: FailKind,
     ) -> Result<(), SocketFailed>
         ensures value { result ≡ done }
+        ensures sockets { self.new.sockets ≡ self.old.sockets }
+        ensures fault { is_some self.old.fault ≡ true → is_some self.new.fault ≡ true }
         ensures accepts { self.new.accepts ≡ self.old.accepts }
         ensures reads { self.new.reads ≡ self.old.reads }
         ensures failures { IsRise self.old.failures self.new.failures (failed done) }
@@ -180,11 +187,17 @@ impl<K: Sockets + Drop, W: Write + Drop> Recording<K, W> {
 }
 
 impl<K: Sockets + Drop, W: Write + Drop> Sockets for Recording<K, W> {
+    ghost Did = { λ s made t. (is_some s.fault ≡ true → is_some t.fault ≡ true) × (below : List Call) × K.Did s.sockets below t.sockets × PassedOn (is_some t.fault) made below };
+
     ghost accepts = { λ s. s.accepts };
 
     ghost reads = { λ s. s.reads };
 
     ghost failures = { λ s. s.failures };
+
+    ghost none = { λ s. (λ failed. failed, [], K.none s.sockets, refl) };
+
+    ghost joined = { λ s t u a b first then. (λ failed. then.0 (first.0 failed), first.1 ++ then.1, K.joined s.sockets t.sockets u.sockets first.1 then.1 first.2 then.2, passed_on (is_some t.fault) (is_some u.fault) a b first.1 then.1 then.0 first.3 then.3) };
 
     fn accept(&mut self, n: u64) -> Result<bool, SocketFailed> {
         self.accepts = self.accepts.saturating_add(1);

@@ -148,11 +148,17 @@ impl Crowd {
 }
 
 impl Sockets for Crowd {
+    ghost Did = { λ s made t. Unit {0} };
+
     ghost accepts = { λ s. s.accepts };
 
     ghost reads = { λ s. s.reads };
 
     ghost failures = { λ s. s.failures };
+
+    ghost none = { λ s. tt };
+
+    ghost joined = { λ s t u a b first then. tt };
 
     fn accept(&mut self, _n: u64) -> Result<bool, SocketFailed> {
         self.accepts = self.accepts.saturating_add(1);

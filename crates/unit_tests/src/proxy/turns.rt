@@ -5,7 +5,7 @@ use super::memory_sockets::{Call, MemorySockets};
 use hx_allow::Config;
 use hx_store::ListShelf;
 use proxy_engine::Engine;
-use proxy_turn::{End, Sockets, TurnFault, turn};
+use proxy_turn::{End, Gave, Logged, LoggedCall, Sockets, TurnFault, turn, turn_with_log};
 use std::alloc::Global;
 use std::process::Abort;
 use std::test::Fail;
@@ -164,5 +164,31 @@ fn stored_though_the_write_failed(rt: HostRuntime) -> Result<(), Fail> {
         }
     }
     assert!(rt; found == 1);
+    Ok(())
+}
+
+/// The calls of a turn are in the log, in order and with their bytes.
+#[test]
+fn calls_are_logged(rt: HostRuntime) -> Result<(), Fail> {
+    let alloc = rt.alloc();
+    let mut engine = engine(alloc)?;
+    let mut below = MemorySockets::new(alloc, 0, ASK, ANSWER);
+    below.waiting = 1;
+    let mut sockets = Logged::new(below, alloc);
+    assert!(rt; turn_with_log(&mut engine, &mut sockets, alloc, 100).is_ok());
+    assert!(rt; !sockets.has_lost());
+    match sockets.calls() {
+        [
+            LoggedCall::Accept(1, Ok(true)),
+            LoggedCall::Read(End::Client(1), Gave::Bytes(asked)),
+            LoggedCall::Connect(1, address, true),
+            LoggedCall::Write(End::Link(1), written, true),
+        ] => {
+            assert!(rt; asked.as_slice() == ASK);
+            assert!(rt; address.as_slice() == b"127.0.0.1:8081".as_slice());
+            assert!(rt; written.as_slice() == FORWARDED);
+        }
+        _ => panic!(rt; "other calls"),
+    }
     Ok(())
 }

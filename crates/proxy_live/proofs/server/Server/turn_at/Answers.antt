@@ -8,7 +8,7 @@ turned : (g : Over) (c : After-turn g) → GoesOn c.self-2.inside.engine c.turn.
 turned g c =
     let losses = c.a_turn_is_served_behind_losses.ensures in
     let e = c.self-2.inside.engine in
-    c.engines_live_on.ensures.turns e c.turn.new.engine c.args.now c.turn.result (losses.served e e c.turn.new.engine c.args.now _ _ c.turn.result (losses.none e) c.turn.ensures)
+    c.engines_live_on.ensures.turns e c.turn.new.engine c.args.now c.turn.result (losses.served e e c.turn.new.engine c.args.now _ _ c.turn.result (losses.none e) (λ s stands orderly. let both = c.turn.ensures s stands orderly in both.turns))
 
 pub invariant_of-self : goal.invariant_of-self
 invariant_of-self g c = c.engines_live_on.ensures.lived c.self-2.inside.engine c.turn.new.engine (turned g c) c.self-2.invariant
@@ -21,4 +21,4 @@ returns g c =
       | else-self w ↦ subst (LosesOn c.args.self.now) (sym w.self-is) c.hand_in_lost.ensures
     ] in
     losses.served c.args.self.now c.self-2.inside.engine c.turn.new.engine c.args.now _ _ c.turn.result
-    (subst (LosesOn c.args.self.now) (sym c.self-2.view_is) handed_in) c.turn.ensures
+    (subst (LosesOn c.args.self.now) (sym c.self-2.view_is) handed_in) (λ s stands orderly. let both = c.turn.ensures s stands orderly in both.turns)
