@@ -7,3 +7,4 @@ pub mod Received
 pub mod Served
 pub mod Turn
 pub mod TurnSteps
+pub mod TurnCases

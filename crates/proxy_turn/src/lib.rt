@@ -11,6 +11,7 @@ mod limits;
 mod logged;
 mod report;
 mod sockets;
+mod turn_cases;
 mod turns;
 
 pub use crate::happenings::{arrival, ending, loss};
@@ -19,5 +20,9 @@ pub use crate::limits::MOST_WORKS;
 pub use crate::logged::{Gave, Logged, LoggedCall, turn_with_log};
 pub use crate::report::{Report, TurnFault};
 pub use crate::sockets::{Received, SocketFailed, Sockets};
+pub use crate::turn_cases::{
+    a_turn_refuses_what_is_not_done, in_which_order_steps_stand, what_is_called,
+    what_reads_are_taken_as,
+};
 pub use crate::turns::turn;
 pub use proxy_engine::End;
