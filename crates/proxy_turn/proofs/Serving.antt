@@ -241,7 +241,7 @@ module _ (takes : TakesInOrder) (acts : ActsInOrder) where
     keeps_its_table e new goes had =
         let more = goes had.last had.lived.stands (lived_orderly e had.first had.link had.steps had.last had.lived) in
         let same : kept_core new.core ≡ kept_core e.core =
-            table_now new more.last more.stands ∙ (lives_keep had.last more.steps more.last more.lives ∙ sym (table_now e had.last had.lived.stands)) in
+        table_now new more.last more.stands ∙ (lives_keep had.last more.steps more.last more.lives ∙ sym (table_now e had.last had.lived.stands)) in
         (ap (λ (k : Table × ℕ). k.0) same, ap (λ (k : Table × ℕ). k.1) same)
 
 pub lived_are_serving : LivesAreRuns → LivedAreServing

@@ -15,7 +15,7 @@ returns-in-Ok g c =
       | else-refresh w ↦ rw w.self-inside-is c.self.view_is
     ] in
     let served = served_as c.min-moment.result c.args.self.now c.if-refresh.self-inside.engine c.turn_at-told.new.self c.look_ahead.new.self c.turn_at-told.result
-        first c.look_ahead.ensures c.turn_at-told.ensures in
+    first c.look_ahead.ensures c.turn_at-told.ensures in
     (early, subst IsUnspent (sym c.in-Ok.is) tt, served)
 
 pub returns-in-Err-Listener : goal.returns-in-Err-Listener
@@ -29,7 +29,7 @@ returns-in-Err-Listener g c =
       | else-refresh w ↦ rw w.self-inside-is c.self.view_is
     ] in
     let served = served_as c.min-moment.result c.args.self.now c.if-refresh.self-inside.engine c.turn_at-told.new.self c.look_ahead.new.self c.turn_at-told.result
-        first c.look_ahead.ensures c.turn_at-told.ensures in
+    first c.look_ahead.ensures c.turn_at-told.ensures in
     (early, subst IsUnspent (sym says) tt, served)
 
 pub returns-in-Err-NoMemory : goal.returns-in-Err-NoMemory
@@ -43,7 +43,7 @@ returns-in-Err-NoMemory g c =
       | else-refresh w ↦ rw w.self-inside-is c.self.view_is
     ] in
     let served = served_as c.min-moment.result c.args.self.now c.if-refresh.self-inside.engine c.turn_at-told.new.self c.look_ahead.new.self c.turn_at-told.result
-        first c.look_ahead.ensures c.turn_at-told.ensures in
+    first c.look_ahead.ensures c.turn_at-told.ensures in
     (early, subst IsUnspent (sym says) tt, served)
 
 pub returns-in-Err-Spent : goal.returns-in-Err-Spent
@@ -57,5 +57,5 @@ returns-in-Err-Spent g c =
       | else-refresh w ↦ rw w.self-inside-is c.self.view_is
     ] in
     let served = served_as c.min-moment.result c.args.self.now c.if-refresh.self-inside.engine c.turn_at-told.new.self c.look_ahead.new.self c.turn_at-told.result
-        first c.look_ahead.ensures c.turn_at-told.ensures in
+    first c.look_ahead.ensures c.turn_at-told.ensures in
     (c.min-moment.result, early, subst (Serves c.min-moment.result c.args.self.now c.look_ahead.new.self) says served)
