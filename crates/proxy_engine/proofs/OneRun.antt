@@ -1,17 +1,13 @@
 -- A run refuses what wasn't done.
-use Rattle.std.proofs.Common.{◌≡◌, ◌≢◌, ◌⊎◌, inl, inr, ℕ, ◌+◌, ◌≤◌, List, [], ◌∷◌, length, refl, sym, ap, ◌∙◌, subst, arith, Option, Some, None}
+use Rattle.std.proofs.Common.{◌≡◌, inl, inr, ℕ, ◌+◌, ◌≤◌, List, [], ◌∷◌, length, sym, ap, ◌∙◌, subst, arith, Some, None}
 use Rattle.std.proofs.lemmas.Option.{same_Some}
-use Rattle.hx_framing.specs.declared.messages.Request.{Request}
-use Rattle.hx_framing.specs.declared.messages.Next.{Next}
 use Rattle.hx_framing.specs.declared.messages.Next.TheVariants as next
-use Rattle.hx_allow.specs.Lines.{Table}
 use Rattle.proxy_core.specs.declared.event.Event.{Event}
 use Rattle.proxy_core.specs.Traces.{Item}
-use Rattle.proxy_script.specs.declared.effect_list.Effect.{Effect}
 use Rattle.proxy_engine.specs.Story.{Story}
 use Rattle.proxy_engine.specs.Due.{Act, Abandons, Finishes, Wakes, Serves, Gives, Breaks, IsDueFirst}
 use Rattle.proxy_engine.specs.Acts.{Does}
-use Rattle.proxy_engine.specs.Lives.{Step, Took, Worked, Adds, Tells, IsEventOf, ActsInOneWay, HasOneTrace}
+use Rattle.proxy_engine.specs.Lives.{Took, Worked, Adds, IsEventOf, ActsInOneWay, HasOneTrace}
 use Rattle.proxy_engine.specs.OneRun.{moment_of, acts_in, NoOtherEffects, NoOtherAct, NoOtherMoment, NothingUntaken, NoMoreItems, NothingUndone}
 use Rattle.proxy_engine.proofs.Once.{due_first_once}
 

@@ -1,5 +1,5 @@
 -- The stories and messages that the laws of worked cases speak of.
-use Rattle.std.specs.Prelude.{ℕ, false, List, [], codes, None}
+use Rattle.std.specs.Prelude.{false, [], codes, None}
 use Rattle.hx_framing.specs.declared.messages.Request.{Request}
 use Rattle.hx_framing.specs.declared.messages.Response.{Response}
 use Rattle.proxy_core.specs.Traces.{begun as core_begun}

@@ -1,5 +1,5 @@
 -- What one call on sockets whose calls are recorded passes on.
-use Rattle.std.proofs.Common.{◌≡◌, ℕ, List, [], ◌∷◌, refl, sym, subst, inl, inr, Bool, true, false, Result, Ok}
+use Rattle.std.proofs.Common.{◌≡◌, ℕ, [], ◌∷◌, refl, sym, subst, inl, inr, Bool, true, false, Ok}
 use Rattle.proxy_engine.specs.declared.happening.End.{End}
 use Rattle.proxy_turn.specs.Calls as call
 use Rattle.proxy_turn.specs.Calls.{Call, Given, answer_of}

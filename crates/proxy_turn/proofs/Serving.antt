@@ -23,7 +23,7 @@ use Rattle.proxy_engine.specs.State.{State, Stands, begun}
 use Rattle.proxy_turn.specs.TurnSteps.{TurnsAreLived}
 use Rattle.proxy_turn.specs.declared.report.Report.{Report}
 use Rattle.proxy_turn.specs.declared.report.TurnFault.{TurnFault}
-use Rattle.proxy_turn.specs.Served.{beginning, LivesBy, HasLived, take_steps, IsLoss, ServedTurn, served_steps, NothingIsLost, OneIsLost, MoreAreLost, LossesGoOn, TurnsAreServed, BeginsLived, StaysOn, GoesOnAndOn, TakesGoOn, TurnsGoOn, LivedGoesOn, LivedAreServing, TurnsLiveOn, LivesAreServing, KeepsItsTable}
+use Rattle.proxy_turn.specs.Served.{beginning, LivesBy, take_steps, IsLoss, ServedTurn, served_steps, NothingIsLost, OneIsLost, MoreAreLost, LossesGoOn, TurnsAreServed, BeginsLived, StaysOn, GoesOnAndOn, TakesGoOn, TurnsGoOn, LivedGoesOn, LivedAreServing, TurnsLiveOn, LivesAreServing, KeepsItsTable}
 use Rattle.proxy_turn.proofs.Stepping.{lives_on}
 
 -- ---- the table and the room of the store stay

@@ -3,10 +3,10 @@ use Rattle.std.proofs.Common.{◌≡◌, ℕ, List, [], ◌∷◌, ◌++◌, ref
 use Rattle.proxy_script.specs.declared.effect_list.Effect.{Effect}
 use Rattle.proxy_engine.specs.Happenings.{Said}
 use Rattle.proxy_engine.specs.Story.{Story}
-use Rattle.proxy_engine.specs.Lives.{Step, Took, Worked, Lives, told_of}
+use Rattle.proxy_engine.specs.Lives.{Step, Worked, Lives, told_of}
 use Rattle.proxy_engine.specs.Reading.{failed_links}
 use Rattle.proxy_engine.specs.declared.happening.End.{End}
-use Rattle.proxy_turn.specs.Turn.{TakesIf, accepted_by, said_by, Asked, Read, Reads, lost, end_of, Fate, Carried, Passed, Lost, CarriesOut, Round, Works}
+use Rattle.proxy_turn.specs.Turn.{TakesIf, accepted_by, said_by, Read, Reads, lost, end_of, Fate, Carried, Passed, Lost, CarriesOut, Round, Works}
 use Rattle.proxy_turn.specs.TurnSteps.{took_if, read_steps, loss_steps, round_steps, effects_of, TurnsAreLived, TurnsTellTheirEffects}
 
 -- ---- behind what was lived

@@ -1,9 +1,8 @@
-use Rattle.std.proofs.Common.{◌≡◌, ◌⊎◌, inl, inr, ℕ, ◌≤◌, List, [], ◌∷◌, refl, sym, ◌∙◌, ap, subst, arith, true, false}
+use Rattle.std.proofs.Common.{◌≡◌, ◌⊎◌, inl, inr, [], ◌∷◌, sym, ◌∙◌, ap, arith, true, false}
 use Rattle.std.proofs.lemmas.Bool.{false≢true}
 use Rattle.hx_status.specs.declared.cause.FailKind.TheVariants as kinds
 use Rattle.proxy_engine.specs.Reading.{ends_read}
-use Rattle.proxy_engine.specs.declared.happening.End.{End}
-use Rattle.proxy_turn.specs.Turn.{Asked, Came, Failed, Round}
+use Rattle.proxy_turn.specs.Turn.{Came, Failed}
 use Rattle.proxy_turn.proofs.turn_cases.a_turn_refuses_what_is_not_done.Goals as goal
 
 pub returns-clause-acts : goal.returns-clause-acts
