@@ -23,4 +23,4 @@ pub use crate::laws::{
 };
 pub use crate::memory::replayed;
 pub use crate::play::{replay, replay_on_list};
-pub use crate::replay_laws::a_replay_refuses_other_texts;
+pub use crate::replay_laws::{a_replay_refuses_other_texts, what_items_do};
