@@ -3,3 +3,4 @@ pub mod Tags
 pub mod Replaced
 pub mod Echoes
 pub mod IdentifiedLemmas
+pub mod Rooms

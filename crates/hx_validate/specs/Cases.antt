@@ -1,5 +1,5 @@
 -- The messages and stored responses that the laws of worked cases speak of.
-use Rattle.std.specs.Prelude.{ℕ, Bool, false, List, [], ◌∷◌, codes, None}
+use Rattle.std.specs.Prelude.{ℕ, zero, suc, Bool, false, List, [], ◌∷◌, codes, None}
 use Rattle.hx_fields.specs.declared.field_line.Field.{Field}
 use Rattle.hx_fields.specs.Examples.{line}
 use Rattle.hx_hop.specs.declared.response_view.Answered.{Answered}
@@ -74,3 +74,8 @@ since value = line (codes "If-Modified-Since") value
 -- whether a client that asks with these lines gets a 304 for a stored response of those
 abbrev pub wants_by : List Field → List Field → Bool
 wants_by asked stored = wants_304 (asked_with asked) (stored_with stored)
+
+-- so many lines of a name and value
+abbrev pub lines_of : ℕ → List Field
+lines_of zero = []
+lines_of (suc n) = line (codes "X") (codes "1") ∷ lines_of n

@@ -5,3 +5,4 @@ pub mod Meaning
 pub mod NotModified
 pub mod Validators
 pub mod Identified
+pub mod Room

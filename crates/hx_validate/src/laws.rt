@@ -3,11 +3,12 @@
 ghost use Rattle.std.specs.Prelude.{◌≡◌, [], ◌∷◌, codes, true, false, Some, None};
 ghost use Rattle.hx_fields.specs.Examples.{line};
 ghost use Rattle.hx_validate.specs.Answering.{freshened_fields, freshened_of};
-ghost use Rattle.hx_validate.specs.Cases.{answered_with, asked_with, first_304, first_stored, is_answered, modified_line, new_lines, none_match, old_lines, since, stored_with, tag_line, wants_by};
+ghost use Rattle.hx_validate.specs.Cases.{answered_with, asked_with, first_304, first_stored, is_answered, lines_of, modified_line, new_lines, none_match, old_lines, since, stored_with, tag_line, wants_by};
 ghost use Rattle.hx_validate.specs.EntityTags.{is_tag_byte, strong_eq, tag_of, weak_eq};
 ghost use Rattle.hx_validate.specs.Identified.{AnswersNothingElse, AnswersWhatItIdentifies, NeverFreshensAnother, SeveralTagsAnswerNothing};
 ghost use Rattle.hx_validate.specs.Meaning.{ComparesBothWays, LeavesItsOwn, LeavesOtherNames, LeavesTheRest, NominatesByTheNewLines, NominatesNothingByAStar, ReadsEachTag, ReadsTheGrammar, ReplacesItsNames, StrongIsWeak, TheSameTagAnswers};
 ghost use Rattle.hx_validate.specs.NotModified.{not_modified_of, wants_304};
+ghost use Rattle.hx_validate.specs.Room.{LeavesRoomForAll, LeavesRoomForNoMore, LeavesRoomToTheByte, leaves_room};
 ghost use Rattle.hx_validate.specs.Validators.{conditions_of, has_validator};
 
 /// Entity tags are those of the grammar, and no others.
@@ -173,4 +174,14 @@ pub fn lines_of_a_304()
     ensures expires { not_modified_of (line (codes "Expires") (codes "a") ∷ []) ≡ line (codes "Expires") (codes "a") ∷ [] }
     ensures vary { not_modified_of (line (codes "Vary") (codes "a") ∷ []) ≡ line (codes "Vary") (codes "a") ∷ [] }
     ensures others { not_modified_of (line (codes "Set-Cookie") (codes "a") ∷ line (codes "Content-Type") (codes "b") ∷ line (codes "Content-Length") (codes "1") ∷ line (codes "Server") (codes "c") ∷ []) ≡ [] }
+{}
+
+/// What is added to lines that leave room for it stays within the limits of a head: whatever it is, and no line and no byte more.
+pub fn lines_leave_room_for_what_is_added()
+    ensures all { LeavesRoomForAll }
+    ensures no_more { LeavesRoomForNoMore }
+    ensures bytes { LeavesRoomToTheByte }
+    ensures none { leaves_room [] ≡ true }
+    ensures lines_96 { leaves_room (lines_of 96) ≡ true }
+    ensures lines_97 { leaves_room (lines_of 97) ≡ false }
 {}
