@@ -155,7 +155,7 @@ passed_unless table es now x r next true (Sends serial detail) = sent table es s
 passed_unless table es now x r next true (Refuses rule error) = passed table es now x r (stored_serial table x r now next)
 passed_unless table es now x r next false fallback = passed table es now x r (stored_serial table x r now next)
 
--- a freshened response is sent, and kept where no storing rule stands
+-- a freshened response is sent, and kept where no storing rule stands and its head leaves room
 abbrev pub sent_refreshed : Table → Exchange → Response → ℕ → Stored → Outcome
 sent_refreshed table x r now e =
     Reply (record {
@@ -166,8 +166,8 @@ sent_refreshed table x r now e =
       removed = cond (is_kept table x r e) [] (e.serial ∷ []);
     })
 
--- a 304 to the proxy's conditions sends the response that it answers, and keeps it where no storing rule stands. Where
--- it answers none, a response that no rule keeps back is sent, else the client's own request goes forward.
+-- a 304 to the proxy's conditions sends the response that it answers, and keeps it where it may be kept. Where it
+-- answers none, a response that no rule keeps back is sent, else the client's own request goes forward.
 abbrev pub revalidated : Table → List Stored → ℕ → Exchange → Response → Option Stored → Decision → Outcome
 revalidated table es now x r (Some e) d = sent_refreshed table x r now (refreshed x r now e)
 revalidated table es now x r None (decision.Hit serial) = sent table es serial now (forwarded_as x (Some r.status) (Some ReuseAfter304)) x.asked

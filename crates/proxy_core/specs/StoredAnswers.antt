@@ -77,7 +77,8 @@ pub record IsStoredAnswer (table : Table) (limit first : ℕ) (item : Item) (pas
 
 -- ---- what is taken away
 
--- a response that a 304 answers and freshens goes, where a storing rule stands against what it becomes (RFC 9111, sections 3 and 4.3.4)
+-- a response that a 304 answers and freshens goes, where a storing rule stands against what it becomes (RFC 9111, sections 3 and 4.3.4),
+-- or its head has become too long to be sent with what is added (own)
 abbrev pub not_kept : Table → Exchange → ℕ → Response → Option Stored → List ℕ
 not_kept table x now r None = []
 not_kept table x now r (Some e) = cond (is_kept table x r (refreshed x r now e)) [] (e.serial ∷ [])

@@ -21,6 +21,7 @@ use Rattle.hx_storable.specs.Rules.{storage_rule_of}
 use Rattle.hx_storable.specs.declared.known_facts.Facts.{Facts}
 use Rattle.hx_validate.specs.Validators.{has_validator, conditions_of}
 use Rattle.hx_validate.specs.Answering.{answers304, freshened_of}
+use Rattle.hx_validate.specs.Room.{leaves_room}
 use Rattle.proxy_core.specs.declared.condition.Condition.{Condition}
 use Rattle.proxy_core.specs.declared.exchange.Exchange.{Exchange}
 
@@ -90,6 +91,7 @@ kept_facts table x r e = record {
   no_serial = false;
 }
 
--- no storing rule stands against a freshened response
+-- No storing rule stands against a freshened response.
+-- own: and its head leaves room for what is added to it where it is sent ("What a 304 brings has a bound")
 abbrev pub is_kept : Table → Exchange → Response → Stored → Bool
-is_kept table x r e = is_none (storage_rule_of (as_get x.asked) (head_of e) (kept_facts table x r e))
+is_kept table x r e = is_none (storage_rule_of (as_get x.asked) (head_of e) (kept_facts table x r e)) && leaves_room e.fields

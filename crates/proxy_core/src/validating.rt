@@ -27,7 +27,7 @@ use hx_status::Detail;
 use hx_storable::{Facts, first_rule_against};
 use hx_store::{Entry, Serials, Shelf};
 use hx_target::equal_keys_are_one;
-use hx_validate::{answers, freshened, has_validator};
+use hx_validate::{answers, freshened, has_validator, leaves_room};
 use hx_vary::{Nominated, Nomination};
 use std::alloc::{AllocError, Global};
 
@@ -135,7 +135,7 @@ fn is_star(alloc: Global, asked: &Asked, entry: &Entry) -> Result<bool, AllocErr
     }
 }
 
-/// Whether no storing rule stands against a freshened response.
+/// Whether a freshened response is kept: its head leaves room for what is added to it, and no storing rule stands against it.
 fn is_kept(
     alloc: Global,
     config: &Config,
@@ -145,6 +145,9 @@ fn is_kept(
 ) -> Result<bool, AllocError>
     ensures { IfOk result (λ is. is ≡ is_kept config.now exchange.now response.now entry.now) }
 {
+    if !leaves_room(&entry.fields) {
+        return Ok(false);
+    }
     let asked = as_get(alloc, &exchange.asked)?;
     let asked_directives = Directives::of(alloc, &asked.fields)?;
     let head = head_of(alloc, entry)?;

@@ -1,6 +1,6 @@
 //! What the definitions give on worked cases, computed from them: each function's contract is the cases, and its body is empty.
 
-ghost use Rattle.std.specs.Prelude.{◌≡◌, ◌∷◌, [], Some, None, true, false, codes};
+ghost use Rattle.std.specs.Prelude.{◌≡◌, ◌∷◌, [], Some, None, true, false, codes, ℕ, ◌+◌, List, length, nat_le};
 ghost use Rattle.hx_fields.specs.Examples.{line};
 ghost use Rattle.hx_allow.specs.declared.verdicts.Verdict.TheVariants as verdict;
 ghost use Rattle.hx_store.specs.Shelf.{serials};
@@ -18,6 +18,7 @@ ghost use Rattle.proxy_core.specs.declared.fault.CoreFault.TheVariants.{IdTaken,
 ghost use Rattle.proxy_core.specs.Replies.{passed_text, refused_text, stored_text};
 ghost use Rattle.proxy_core.specs.Storing.{invalidates, is_storable, is_unasked, made, replaced_by};
 ghost use Rattle.proxy_core.specs.Validating.{condition_on, is_answered, is_kept, is_validation, refreshed};
+ghost use Rattle.hx_validate.specs.Cases.{lines_of};
 ghost use Rattle.proxy_core.specs.Leading.{leader_for};
 ghost use Rattle.proxy_core.specs.Outcomes.{answered, arrived, as_hit, fallback_for, fault_of, forwarded_as, is_error_status, passed_unless, refused, removed_by, sent_refreshed, woken};
 ghost use Rattle.proxy_core.specs.State.{next_after, next_of, open_after, removed_in, stored_in, stored_list, used_in, used_list};
@@ -132,8 +133,12 @@ pub fn what_a_304_leaves()
     ensures for_one_connection { is_kept table (asked_about_e (get [])) (answer 304 (connection (codes "ETag") ∷ [])) first_stored ≡ false }
     ensures longer { is_kept table (asked_about_e (get [])) (answer 304 []) (record first_stored { content = codes "hi!" }) ≡ false }
     ensures without_cache { is_kept table over_line_2 (answer 304 []) first_stored ≡ false }
+    ensures lines_96 { is_kept table (asked_about_e (get [])) (answer 304 []) (stored_with 1 (tag (codes "\"e\"") ∷ lines_of 95)) ≡ true }
+    ensures lines_97 { is_kept table (asked_about_e (get [])) (answer 304 []) (stored_with 1 (tag (codes "\"e\"") ∷ lines_of 96)) ≡ false }
+    ensures bytes { (value : List ℕ) → is_kept table (asked_about_e (get [])) (answer 304 []) (stored_with 1 (line (codes "X") value ∷ tag (codes "\"e\"") ∷ [])) ≡ nat_le (length value + 11) 32507 }
     ensures kept { removed_in (sent_refreshed table (asked_about_e (get [])) (answer 304 []) 105 first_stored) ≡ [] }
     ensures let_go { removed_in (sent_refreshed table (asked_about_e (get [])) (answer 304 []) 105 (stored_with 1 (vary (codes "*") ∷ first_lines))) ≡ 1 ∷ [] }
+    ensures too_many { removed_in (sent_refreshed table (asked_about_e (get [])) (answer 304 []) 105 (stored_with 1 (tag (codes "\"e\"") ∷ lines_of 96))) ≡ 1 ∷ [] }
 {}
 
 /// What is held is sent after a failure: what may be reused, what stale-if-error allows (RFC 5861, section 4), each by its word, or
