@@ -8,3 +8,7 @@ pub mod ReadTables
 pub mod HeldValues
 pub mod OpenRequests
 pub mod SentMessages
+pub mod ReadHeads
+pub mod HeldHeads
+pub mod SentHeads
+pub mod SentRoom

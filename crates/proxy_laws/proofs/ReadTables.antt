@@ -1,10 +1,10 @@
 -- What is known of a table that was read: its name is a token, and its limits are below 2^24.
 use Rattle.std.proofs.Common.{◌≡◌, inl, inr, ℕ, ◌<◌, ◌≤◌, ◌^◌, Bool, true, false, not, cond, ◌&&◌, ◌||◌, ◌==◌, List, [], ◌∷◌, length, codes, Option, None, Some, refl, subst, arith}
-use Rattle.std.specs.Prelude.{Ok, nat_le, unwrap_or, ℤ, pos, negsuc}
+use Rattle.std.specs.Prelude.{Ok, nat_le, slice_index, unwrap_or, ℤ, pos, negsuc}
 use Rattle.std.specs.Char.{is_ascii_lowercase, is_ascii_digit}
 use Rattle.std.specs.List.{list_all}
 use Rattle.std.specs.Option.{option_and_then}
-use Rattle.std.proofs.lemmas.Bool.{leb-true}
+use Rattle.std.proofs.lemmas.Bool.{and_parts, leb-true}
 use Rattle.std.proofs.lemmas.Bool.Decides.{nat_tests}
 use Rattle.std.proofs.lemmas.List.Elements.{All-weaker}
 use Rattle.http_header.proofs.TokenLemmas.{AllPass-from_test}
@@ -40,6 +40,16 @@ name_is_token (b ∷ bytes) h =
     last true true u e = e
     last true false u e = cc
     last false t u e = cc
+
+name_is_short : (text : List ℕ) → is_name text ≡ true → length text ≤ 32
+unfolding is_name
+name_is_short text h =
+    let all = and_parts (nat_le (length text) 32 && is_ascii_lowercase (slice_index text 0)) (list_all is_name_byte text) h in
+    leb-true (length text) 32 (and_parts (nat_le (length text) 32) (is_ascii_lowercase (slice_index text 0)) all.0).0
+
+text_is_short : (o : Option (List ℕ)) → is_some_and is_name o ≡ true → length (unwrap_or o []) ≤ 32
+text_is_short None h = absurd cc
+text_is_short (Some text) h = name_is_short text h
 
 text_is_token : (o : Option (List ℕ)) → is_some_and is_name o ≡ true → IsToken (unwrap_or o [])
 text_is_token None h = absurd cc
@@ -93,6 +103,12 @@ unfolding table_of
 names_a_token table read =
     let is = read_as table read in
     subst (λ (u : Table). IsToken u.name) is.1 (text_is_token (text_at (codes "name") is.0) (name_stands is.0 is.2))
+
+pub names_are_short : (table : Table) → IsReadTable table → length table.name ≤ 32
+unfolding table_of
+names_are_short table read =
+    let is = read_as table read in
+    subst (λ (u : Table). length u.name ≤ 32) is.1 (text_is_short (text_at (codes "name") is.0) (name_stands is.0 is.2))
 
 pub stores_none_too_long : StoresNoneTooLong
 unfolding table_of

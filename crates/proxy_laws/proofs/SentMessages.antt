@@ -194,7 +194,7 @@ module _ (table : Table) (es : List Stored) (token : IsToken table.name) (fit : 
 -- ---- a stored response that is sent
 
 -- to the client that asked
-about_head : (x : Option Exchange) (event : Event) (now : ℕ) (asked : Asked) → IsAbout x event now asked → is_head asked ≡ is_to_head x event
+pub about_head : (x : Option Exchange) (event : Event) (now : ℕ) (asked : Asked) → IsAbout x event now asked → is_head asked ≡ is_to_head x event
 about_head x (Arrive t id a) now asked is = sym (ap is_head is.1)
 about_head (Some x) (Answer t id r) now asked is = sym (ap is_head is.1)
 about_head (Some x) (Fail t id kind) now asked is = sym (ap is_head is.1)

@@ -2,3 +2,4 @@ pub mod ClientConditions
 pub mod OneResponse
 pub mod StoredReplies
 pub mod SentMessages
+pub mod HeldHeads

@@ -1,5 +1,6 @@
 //! Laws on what a client gets. Each function's contract is a law, and its body is empty.
 ghost use Rattle.proxy_laws.specs.ClientConditions.{AnswersNoOther, AnswersTheCondition};
+ghost use Rattle.proxy_laws.specs.HeldHeads.{FitsAs304WhereRoomIsLeft, FitsWhereRoomIsLeft, FreshensWithRoom, HoldsBounded, KeepsBounded, SendsWhatLeavesRoom, StoresBounded};
 ghost use Rattle.proxy_laws.specs.OneResponse.{PassesOneResponse, RefusesAsOneResponse};
 ghost use Rattle.proxy_laws.specs.StoredReplies.{FreshensSendable, HoldsSendable, SendsA304AsOne, SendsWholeAsOne, StoresSendable};
 
@@ -25,4 +26,20 @@ pub fn a_stored_response_is_sent_as_one()
     ensures held { HoldsSendable }
     ensures whole { SendsWholeAsOne }
     ensures not_modified { SendsA304AsOne }
+{}
+
+/// A head that is held has a bound, however often its origin's 304s name new fields: what is stored has at most a line more than was
+/// read, and what is kept behind a 304 leaves room for what the proxy adds (RFC 9111, sections 3 and 4.3.4; the bound is own).
+pub fn a_held_head_has_a_bound()
+    ensures stored { StoresBounded }
+    ensures kept { KeepsBounded }
+    ensures freshened { FreshensWithRoom }
+    ensures held { HoldsBounded }
+{}
+
+/// So it is sent within the limits of a reader, and read back as one response, with no premise on its head.
+pub fn what_leaves_room_is_sent_as_one()
+    ensures whole { FitsWhereRoomIsLeft }
+    ensures not_modified { FitsAs304WhereRoomIsLeft }
+    ensures sent { SendsWhatLeavesRoom }
 {}
