@@ -1,5 +1,5 @@
 -- Whether the head of a stored response leaves room for what stands beside its lines where it is sent, so that the whole is within the
--- limits of a head (RFC 9112, sections 3 and 5, let a recipient have limits).
+-- limits of a head (RFC 9110, section 5.4, which sets none, and lets each recipient have its own).
 --
 -- leaves_room: it does     LeavesRoomForAll, LeavesRoomForNoMore: and what that means
 use Rattle.std.specs.Prelude.{◌≡◌, ℕ, ◌+◌, ◌≤◌, nat_le, ◌&&◌, Bool, true, List, ◌∷◌, ◌++◌, length, codes}
