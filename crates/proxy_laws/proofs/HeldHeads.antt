@@ -1,5 +1,5 @@
 -- Whatever is held has a head of so many lines and bytes, however often it was freshened.
-use Rattle.std.proofs.Common.{◌≡◌, ◌+◌, ℕ, Bool, true, false, not, ◌&&◌, ◌||◌, ◌==◌, cond, List, [], ◌∷◌, length, map, refl, sym, ap, ◌∙◌, subst, arith, nat_le}
+use Rattle.std.proofs.Common.{◌≡◌, ◌⊎◌, inl, inr, ◌+◌, ℕ, Bool, true, false, not, ◌&&◌, ◌||◌, ◌==◌, cond, List, [], ◌∷◌, length, map, refl, sym, ap, ◌∙◌, subst, arith, nat_le}
 use Rattle.std.specs.Prelude.{Option, Some, None, option_map, is_none}
 use Rattle.std.specs.List.{AllByRecursion}
 use Rattle.std.specs.Option.{option_and_then}
@@ -31,14 +31,14 @@ use Rattle.proxy_core.specs.Moments.{too_late}
 use Rattle.proxy_core.specs.Outcomes.{failed, fallback_for, fault_of, find_exchange, id_of, is_error_status, not_forwarded, outcome_of, passed_unless, revalidated}
 use Rattle.proxy_core.specs.ReadAnswers.{IsReadEvent}
 use Rattle.proxy_core.specs.State.{removed_in, stored_form, stored_in, used_form, used_in}
-use Rattle.proxy_core.specs.Storing.{is_unasked, made}
+use Rattle.proxy_core.specs.Storing.{is_unasked}
 use Rattle.proxy_core.specs.Traces.{Item, begun, left}
 use Rattle.proxy_core.specs.Validating.{as_get, head_of, if_answered, is_answered, is_answered_by, is_kept, is_validation, kept_facts, refreshed, serial_asked, validated}
 use Rattle.proxy_core.proofs.HeldEntries.{EachIs-find, held_found}
 use Rattle.proxy_core.proofs.HeldLaw.{entries_are_held, good_plain, stands_for}
 use Rattle.proxy_core.proofs.Leaving.{serial_stays, unanswered, validated_is}
 use Rattle.proxy_core.proofs.SentResponses.{sends_what_is_held}
-use Rattle.proxy_laws.specs.HeldHeads.{FreshensWithRoom, HoldsBounded, IsBounded, KeepsBounded}
+use Rattle.proxy_laws.specs.HeldHeads.{FreshensWithRoom, HoldsBounded, HoldsWithRoom, IsAsStored, IsBounded, KeepsBounded}
 use Rattle.proxy_laws.proofs.HeldReplies.{first_none, in_time}
 use Rattle.proxy_laws.proofs.ReadHeads.{stores_bounded}
 
@@ -55,6 +55,10 @@ pub keeps_bounded : KeepsBounded
 keeps_bounded table x r e kept =
     let parts = and_parts (is_none (storage_rule_of (as_get x.asked) (head_of e) (kept_facts table x r e))) (leaves_room e.fields) kept in
     (parts.1, roomy e parts.1)
+
+-- it leaves room, or is as it was stored
+abbrev IsEither : ℕ → Stored → Type 0
+IsEither s e = (leaves_room e.fields ≡ true) ⊎ IsAsStored s e
 
 -- ---- what is held under a serial
 
@@ -124,12 +128,12 @@ module _ (table : Table) (es : List Stored) (xs : List Exchange) (next : Option 
       in
       stays (is_kept table x r (refreshed x r now e)) s (refreshed x r now e).serial (serial_stays x r now e ∙ serial) (ap (λ o. is_in s (removed_in o)) (sym outcome) ∙ out)
 
-  used_so : (x : Option Exchange) (event : Event) (s : ℕ) (e : Stored) → find_entry s es ≡ Some e → IsBounded e
-      → is_in s (removed_in (outcome_of table es xs x next event)) ≡ false → IsBounded (used_form x event e)
+  used_so : (x : Option Exchange) (event : Event) (s : ℕ) (e : Stored) → find_entry s es ≡ Some e → IsEither s e
+      → is_in s (removed_in (outcome_of table es xs x next event)) ≡ false → IsEither s (used_form x event e)
   used_so (Some x) (Answer now id r) s e found is out = by_test (is_answered x r now e) refl
     where
-      by_test : (t : Bool) → is_answered x r now e ≡ t → IsBounded (cond t (refreshed x r now e) e)
-      by_test true h = (keeps_bounded table x r (refreshed x r now e) (kept_so x now id r s e h found out)).1
+      by_test : (t : Bool) → is_answered x r now e ≡ t → IsEither s (cond t (refreshed x r now e) e)
+      by_test true h = inl (keeps_bounded table x r (refreshed x r now e) (kept_so x now id r s e h found out)).0
       by_test false h = is
   used_so (Some x) (Arrive now id asked) s e found is out = is
   used_so (Some x) (Fail now id kind) s e found is out = is
@@ -139,11 +143,16 @@ module _ (table : Table) (es : List Stored) (xs : List Exchange) (next : Option 
 
 -- ---- what an answer makes
 
-made_so : (x : Option Exchange) (event : Event) (s : ℕ) (e : Stored) → fault_of x event ≡ None → IsReadEvent event → stored_form x event s ≡ Some e → IsBounded e
-made_so (Some x) (Answer now id r) s e allowed is h = subst IsBounded same (stores_bounded is.max_body s now is.to_head is.ended is.bytes is.rest x r is.reads (in_time now (first_none (too_late now) (not_forwarded x.stage) allowed)))
-  where
-    same : made s x r now ≡ e
-    same = cc
+made_so : (x : Option Exchange) (event : Event) (s : ℕ) (e : Stored) → fault_of x event ≡ None → IsReadEvent event → stored_form x event s ≡ Some e → IsEither s e
+made_so (Some x) (Answer now id r) s e allowed is h =
+    inr (record {
+      exchange = x;
+      response = r;
+      now = now;
+      was_read = is;
+      early = in_time now (first_none (too_late now) (not_forwarded x.stage) allowed);
+      is = some_same (sym h);
+    })
 made_so (Some x) (Arrive now id asked) s e allowed is h = absurd cc
 made_so (Some x) (Fail now id kind) s e allowed is h = absurd cc
 made_so (Some x) (Wake now id) s e allowed is h = absurd cc
@@ -183,13 +192,13 @@ module _ (table : Table) (limit : ℕ) (item : Item) (past : List Item) (s : ℕ
 
 module _ (table : Table) (limit first : ℕ) where
   abbrev Earlier : ℕ → List Item → Type 0
-  Earlier s past = (f : Stored) → is_in s (held_serials limit past) ≡ true → held_entry table limit past s ≡ Some f → IsBounded f
+  Earlier s past = (f : Stored) → is_in s (held_serials limit past) ≡ true → held_entry table limit past s ≡ Some f → IsEither s f
 
-  held_bounded : (trace : List Item) → IsGoodHistory table limit first trace → AllByRecursion (λ item. IsReadEvent item.event) trace → (s : ℕ) (e : Stored)
-      → is_in s (held_serials limit trace) ≡ true → held_entry table limit trace s ≡ Some e → IsBounded e
-  held_bounded [] good read s e inside h = absurd cc
-  held_bounded (item ∷ past) good read s e inside h =
-      by_tests (λ f k look. held_bounded past good.1 read.1 s f k look) (is_the (stored_in item.outcome) s) refl (is_the (used_in item.outcome) s) refl h
+  held_either : (trace : List Item) → IsGoodHistory table limit first trace → AllByRecursion (λ item. IsReadEvent item.event) trace → (s : ℕ) (e : Stored)
+      → is_in s (held_serials limit trace) ≡ true → held_entry table limit trace s ≡ Some e → IsEither s e
+  held_either [] good read s e inside h = absurd cc
+  held_either (item ∷ past) good read s e inside h =
+      by_tests (λ f k look. held_either past good.1 read.1 s f k look) (is_the (stored_in item.outcome) s) refl (is_the (used_in item.outcome) s) refl h
     where
       x : Option Exchange
       x = find_exchange (id_of item.event) (open_exchanges table limit past)
@@ -197,23 +206,32 @@ module _ (table : Table) (limit first : ℕ) where
       before : List Stored
       before = held_entries table limit past
 
-      by_used : Earlier s past → used_in item.outcome ≡ Some s → option_map (used_form x item.event) (held_entry table limit past s) ≡ Some e → IsBounded e
+      by_used : Earlier s past → used_in item.outcome ≡ Some s → option_map (used_form x item.event) (held_entry table limit past s) ≡ Some e → IsEither s e
       by_used earlier used k =
           let is = sends_what_is_held table limit first s item past good used in
           let look : held_entry table limit past s ≡ Some is.response = entry_of table limit first past good.1 s is.response is.is_held in
-          let bounded = earlier is.response (held_in table limit first past good.1 s is.response is.is_held) look in
+          let either = earlier is.response (held_in table limit first past good.1 s is.response is.is_held) look in
           let same : used_form x item.event is.response ≡ e = some_same (sym (ap (option_map (used_form x item.event)) look) ∙ k) in
-          subst IsBounded same (used_so table before (open_exchanges table limit past) (next_serial first past) x item.event s is.response is.is_held bounded
+          subst (IsEither s) same (used_so table before (open_exchanges table limit past) (next_serial first past) x item.event s is.response is.is_held either
           (ap (λ o. is_in s (removed_in o)) (sym good.0.outcome_is) ∙ not_removed table limit item past s inside))
 
       by_tests : Earlier s past → (t : Bool) → is_the (stored_in item.outcome) s ≡ t → (u : Bool) → is_the (used_in item.outcome) s ≡ u
-          → cond t (stored_form x item.event s) (cond u (option_map (used_form x item.event) (held_entry table limit past s)) (held_entry table limit past s)) ≡ Some e → IsBounded e
+          → cond t (stored_form x item.event s) (cond u (option_map (used_form x item.event) (held_entry table limit past s)) (held_entry table limit past s)) ≡ Some e → IsEither s e
       by_tests earlier true is u using k = made_so x item.event s e good.0.allowed read.0 k
       by_tests earlier false is true using k = by_used earlier (the_serial (used_in item.outcome) s using) k
       by_tests earlier false is false using k = earlier e ((stays_in table limit item past s inside).1 (both_false (is_the (stored_in item.outcome) s) (is_the (used_in item.outcome) s) is using)) k
 
+pub holds_with_room : HoldsWithRoom
+holds_with_room table limit first trace good read s e inside h = held_either table limit first trace good read s e inside h
+
 pub holds_bounded : HoldsBounded
-holds_bounded table limit first trace good read s e inside h = held_bounded table limit first trace good read s e inside h
+holds_bounded table limit first trace good read s e inside h = by_case (held_either table limit first trace good read s e inside h)
+  where
+    by_case : IsEither s e → IsBounded e
+    by_case (inl room) = roomy e room
+    by_case (inr as_stored) =
+        let read = as_stored.was_read in
+        subst IsBounded (sym as_stored.is) (stores_bounded read.max_body s as_stored.now read.to_head read.ended read.bytes read.rest as_stored.exchange as_stored.response read.reads as_stored.early)
 
 -- ---- what was freshened
 

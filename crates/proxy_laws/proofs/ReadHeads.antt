@@ -2,7 +2,7 @@
 use Rattle.std.proofs.Common.{◌≡◌, ℕ, zero, suc, ◌+◌, ◌*◌, ◌-◌, ◌≤◌, Bool, true, false, not, cond, List, [], ◌∷◌, ◌++◌, length, length-append, map, reverse, nat_lt, take, drop, refl, sym, ap, ◌∙◌, subst, arith}
 use Rattle.std.specs.Prelude.{Option, None, Some, Ok, Err, codes, nat_le, slice_index_or}
 use Rattle.std.specs.List.{filter, flat_map, list_all}
-use Rattle.std.proofs.lemmas.Bool.{and_parts, leb-true}
+use Rattle.std.proofs.lemmas.Bool.{and_from, and_parts, le-leb, leb-true}
 use Rattle.std.proofs.lemmas.Grind.{flat_map-append}
 use Rattle.std.proofs.lemmas.List.{length-map, length-reverse}
 use Rattle.httparse.specs.Grammar.{LineEnd, crlf, lf, ResponseHead, field_value, is_ows, print_blank, print_end, print_field, print_reason, print_response, print_section, print_version, skip_ows, trim_ows}
@@ -28,7 +28,9 @@ use Rattle.hx_hop.specs.Answering.{dated_of, has_one_date}
 use Rattle.hx_hop.specs.Forwarding.{line}
 use Rattle.hx_hop.specs.Moments.{civil_of, date_text_of}
 use Rattle.hx_hop.specs.Stripping.{is_hop_line, stripped}
-use Rattle.proxy_laws.specs.HeldHeads.{StoresBounded}
+use Rattle.proxy_core.specs.declared.exchange.Exchange.{Exchange}
+use Rattle.proxy_core.specs.Storing.{made}
+use Rattle.proxy_laws.specs.HeldHeads.{StoresBounded, StoresWithRoom}
 
 -- ---- the head that was read
 
@@ -216,8 +218,8 @@ date_line_short now =
     let parts = one_line (codes "Date") (date_text_of now) (length (field_lines (line (codes "Date") (date_text_of now) ∷ []))) refl in
     omega (arith, date, parts)
 
-dated_within : (fields : List Field) (now : ℕ) → AreWithin 100 32968 fields → AreWithin 101 33005 (dated_of fields now)
-dated_within fields now are = by_test (has_one_date fields)
+dated_within : (lines bytes : ℕ) (fields : List Field) (now : ℕ) → AreWithin lines bytes fields → AreWithin (lines + 1) (bytes + 37) (dated_of fields now)
+dated_within most longest fields now are = by_test (has_one_date fields)
   where
     date : List Field
     date = line (codes "Date") (date_text_of now) ∷ []
@@ -225,10 +227,13 @@ dated_within fields now are = by_test (has_one_date fields)
     others : List Field
     others = without_named fields (codes "Date")
 
-    by_test : (t : Bool) → AreWithin 101 33005 (cond t fields (without_named fields (codes "Date") ++ line (codes "Date") (date_text_of now) ∷ []))
-    by_test true = let few = are.few in let short = are.short in record { few = omega (arith, few); short = omega (arith, short) }
+    by_test : (t : Bool) → AreWithin (most + 1) (longest + 37) (cond t fields (without_named fields (codes "Date") ++ line (codes "Date") (date_text_of now) ∷ []))
+    by_test true =
+        let few = are.few in
+        let short = are.short in
+        record { few = omega (arith, few); short = omega (arith, short) }
     by_test false =
-        let rest = within_fewer 100 32968 (λ f. not (is_named (codes "Date") f)) fields are in
+        let rest = within_fewer most longest (λ f. not (is_named (codes "Date") f)) fields are in
         let few = rest.few in
         let short = rest.short in
         let one = date_line_short now in
@@ -236,10 +241,21 @@ dated_within fields now are = by_test (has_one_date fields)
         let lines = ap length (flat_map-append field_line others date) ∙ length-append (field_lines others) (field_lines date) in
         record { few = omega (arith, few, count); short = omega (arith, short, one, lines) }
 
+-- what is stored of an answer within so many lines and bytes
+stored_within : (lines bytes serial now : ℕ) (x : Exchange) (r : Response) → AreWithin lines bytes r.fields → AreWithin (lines + 1) (bytes + 37) (made serial x r now).fields
+stored_within lines bytes serial now x r are =
+    let own = within_fewer lines bytes (λ f. not (is_hop_line r.fields f)) r.fields are in
+    let dated = dated_within lines bytes (stripped r.fields) now own in
+    within_fewer (lines + 1) (bytes + 37) (λ f. not (is_named (codes "Age") f)) (dated_of (stripped r.fields) now) dated
+
 pub stores_bounded : StoresBounded
 stores_bounded max_body serial now h ended bytes rest x r reads early =
-    let is = read_within r (read_head max_body h ended bytes r rest reads) in
-    let own = within_fewer 100 32968 (λ f. not (is_hop_line r.fields f)) r.fields is in
-    let dated = dated_within (stripped r.fields) now own in
-    let kept = within_fewer 101 33005 (λ f. not (is_named (codes "Age") f)) (dated_of (stripped r.fields) now) dated in
+    let kept = stored_within 100 32968 serial now x r (read_within r (read_head max_body h ended bytes r rest reads)) in
     record { lines = kept.few; bytes = kept.short }
+
+pub stores_with_room : StoresWithRoom
+stores_with_room serial now x r few short =
+    let kept = stored_within 95 32475 serial now x r (record { few = few; short = short }) in
+    let lines = kept.few in
+    let bytes = kept.short in
+    and_from _ _ (le-leb (length (made serial x r now).fields + 4) 100 (omega (arith, lines))) (le-leb (length (field_lines (made serial x r now).fields) + 256) 32768 (omega (arith, bytes)))

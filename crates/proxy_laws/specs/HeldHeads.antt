@@ -2,9 +2,9 @@
 --
 -- IsBounded: a head of so many lines and bytes      StoresBounded, KeepsBounded, HoldsBounded: whatever is held has one
 -- FitsWhereRoomIsLeft, FitsAs304WhereRoomIsLeft: what leaves room is within the limits of a reader, as it is sent
--- IsOneAnyway: a reply is one response, with no premise on its head     FreshensWithRoom, SendsWhatLeavesRoom: so is what was freshened
+-- IsOneAnyway: a reply is one response, with no premise on its head     FreshensWithRoom, HoldsWithRoom, SendsWhatLeavesRoom: so is what was freshened
 use Rattle.std.specs.List.{AllByRecursion}
-use Rattle.std.specs.Prelude.{◌≡◌, ℕ, suc, ◌+◌, ◌*◌, ◌≤◌, ◌<◌, ◌^◌, ◌++◌, ℤ, pos, negsuc, Bool, true, List, ◌∷◌, length, IfSome, Some}
+use Rattle.std.specs.Prelude.{◌≡◌, ◌⊎◌, ℕ, suc, ◌+◌, ◌*◌, ◌≤◌, ◌<◌, ◌^◌, ◌++◌, ℤ, pos, negsuc, Bool, true, List, ◌∷◌, length, IfSome, Some}
 use Rattle.hx_fields.specs.declared.limits.TheConstants.{END_OF_TIME}
 use Rattle.hx_allow.specs.Lines.{Table}
 use Rattle.hx_framing.specs.declared.messages.Response.{Response}
@@ -26,7 +26,7 @@ use Rattle.proxy_core.specs.declared.outcome.Outcome.TheVariants.{Reply as Repli
 use Rattle.proxy_core.specs.declared.outcome.Reply.{Reply}
 use Rattle.proxy_core.specs.Histories.{IsGoodHistory, held_entries, held_entry, held_serials, open_exchanges}
 use Rattle.proxy_core.specs.Outcomes.{find_exchange, id_of}
-use Rattle.proxy_core.specs.ReadAnswers.{IsReadEvent}
+use Rattle.proxy_core.specs.ReadAnswers.{IsRead, IsReadEvent}
 use Rattle.proxy_core.specs.State.{used_form, used_in}
 use Rattle.proxy_core.specs.Storing.{made}
 use Rattle.proxy_core.specs.Traces.{Item}
@@ -56,6 +56,11 @@ abbrev pub StoresBounded : Type 0
 StoresBounded = (max_body serial now : ℕ) (to_head ended : Bool) (bytes rest : List ℕ) (x : Exchange) (r : Response)
     → Reads max_body to_head ended bytes (Spelled r rest) → now < END_OF_TIME → IsBounded (made serial x r now)
 
+-- an answer of at most 95 lines, and of so many bytes that a Date has room beside them, is stored with room
+abbrev pub StoresWithRoom : Type 0
+StoresWithRoom = (serial now : ℕ) (x : Exchange) (r : Response) → length r.fields ≤ 95 → length (field_lines r.fields) ≤ 32475
+    → leaves_room (made serial x r now).fields ≡ true
+
 -- what is kept behind a 304, however often: no premise on what was held, or on what the 304 brought
 abbrev pub KeepsBounded : Type 0
 KeepsBounded = (table : Table) (x : Exchange) (r : Response) (e : Stored) → is_kept table x r e ≡ true → (leaves_room e.fields ≡ true) × IsBounded e
@@ -67,7 +72,23 @@ FreshensWithRoom = (table : Table) (limit first now id : ℕ) (x : Exchange) (r 
     → validated (held_entries table limit past) x r now ≡ Some e → is_in e.serial (held_serials limit (item ∷ past)) ≡ true
     → leaves_room (refreshed x r now e).fields ≡ true
 
--- whatever is held at any moment of a good history whose answers were read
+-- it is what was made of an answer that was read, as it was stored
+pub record IsAsStored (serial : ℕ) (e : Stored) : Type 0 where
+  pub exchange : Exchange
+  pub response : Response
+  pub now : ℕ
+  pub was_read : IsRead response
+  pub early : now < END_OF_TIME
+  pub is : e ≡ made serial exchange response now
+
+-- so whatever is held at any moment of a good history whose answers were read leaves room, or is as it was stored
+abbrev pub HoldsWithRoom : Type 0
+HoldsWithRoom = (table : Table) (limit first : ℕ) (trace : List Item) → IsGoodHistory table limit first trace
+    → AllByRecursion (λ item. IsReadEvent item.event) trace → (serial : ℕ) (e : Stored)
+    → is_in serial (held_serials limit trace) ≡ true → held_entry table limit trace serial ≡ Some e
+    → (leaves_room e.fields ≡ true) ⊎ IsAsStored serial e
+
+-- and has such a head
 abbrev pub HoldsBounded : Type 0
 HoldsBounded = (table : Table) (limit first : ℕ) (trace : List Item) → IsGoodHistory table limit first trace
     → AllByRecursion (λ item. IsReadEvent item.event) trace → (serial : ℕ) (e : Stored)

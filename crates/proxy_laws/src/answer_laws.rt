@@ -1,6 +1,6 @@
 //! Laws on what a client gets. Each function's contract is a law, and its body is empty.
 ghost use Rattle.proxy_laws.specs.ClientConditions.{AnswersNoOther, AnswersTheCondition};
-ghost use Rattle.proxy_laws.specs.HeldHeads.{FitsAs304WhereRoomIsLeft, FitsWhereRoomIsLeft, FreshensWithRoom, HoldsBounded, KeepsBounded, SendsWhatLeavesRoom, StoresBounded};
+ghost use Rattle.proxy_laws.specs.HeldHeads.{FitsAs304WhereRoomIsLeft, FitsWhereRoomIsLeft, FreshensWithRoom, HoldsBounded, HoldsWithRoom, KeepsBounded, SendsWhatLeavesRoom, StoresBounded, StoresWithRoom};
 ghost use Rattle.proxy_laws.specs.OneResponse.{PassesOneResponse, RefusesAsOneResponse};
 ghost use Rattle.proxy_laws.specs.StoredReplies.{FreshensSendable, HoldsSendable, SendsA304AsOne, SendsWholeAsOne, StoresSendable};
 
@@ -34,6 +34,8 @@ pub fn a_held_head_has_a_bound()
     ensures stored { StoresBounded }
     ensures kept { KeepsBounded }
     ensures freshened { FreshensWithRoom }
+    ensures room { HoldsWithRoom }
+    ensures stored_with_room { StoresWithRoom }
     ensures held { HoldsBounded }
 {}
 
