@@ -1,13 +1,15 @@
 -- What a map from keys to sets of arrivals says of who asks for them.
-use Rattle.std.proofs.Common.{◌≡◌, ℕ, Bool, true, false, not, cond, ◌&&◌, ◌||◌, eqb, Option, refl, sym, ◌∙◌, ap, arith, inl, inr}
+use Rattle.std.proofs.Common.{◌≡◌, ℕ, Bool, true, false, not, cond, ◌&&◌, ◌||◌, eqb, Option, None, Some, refl, sym, ◌∙◌, ap, arith, inl, inr}
+use Rattle.std.specs.Option.{ForSome}
+use Rattle.std.specs.Map.{lookup}
 use Rattle.std.specs.Ordering.{nat_cmp}
 use Rattle.std.specs.BTreeMap.{get, is_at}
 use Rattle.std.specs.BTreeSet.{BTreeSet, contains}
 use Rattle.std.proofs.lemmas.Bool.{cases_Bool, false≢true, eqb-true}
 use Rattle.std.proofs.lemmas.Bool.Decides.{nat_tests}
 use Rattle.proxy_core.specs.declared.get_index.GetIndex.{GetIndex}
-use Rattle.proxy_core.specs.Waiters.{set_has}
-use Rattle.proxy_core.specs.Gets.{gets_in}
+use Rattle.proxy_core.specs.Waiters.{set_has, HasMembers}
+use Rattle.proxy_core.specs.Gets.{gets_in, AreTrim, AreTrimBeside}
 use Rattle.hx_target.specs.declared.keys.Key.{Key}
 use Rattle.hx_target.specs.Keys.{same_key}
 use Rattle.hx_target.specs.KeyOrder.{key_cmp, key_ties}
@@ -79,3 +81,32 @@ pub taken : (n : ℕ) (old new : BTreeSet ℕ) → ((q : ℕ) → contains nat_c
     (m : ℕ) → contains nat_cmp new m ≡ (not (eqb n m) && contains nat_cmp old m)
 taken n old new h m = h m ∙ ap (λ b. cond b false (contains nat_cmp old m)) (at_is n m)
     ∙ (elim (eqb n m) as (λ b. cond b false (contains nat_cmp old m) ≡ (not b && contains nat_cmp old m)) [ true ↦ refl | false ↦ refl ])
+
+-- ---- no key stands there for nothing
+
+pub trim-written : (key : Key) (old new : GetIndex) (w : Option (BTreeSet ℕ)) → Has key w old new → ForSome w HasMembers → AreTrim old → AreTrim new
+trim-written key old new w h n o q set e k =
+    let g = get key_cmp old.arrivals q in
+    elim (cases_Bool (is_at (key_cmp key) q)) [
+      | inl t ↦ n set (sym (h q ∙ ap (λ b. cond b w g) t) ∙ e) k
+      | inr f ↦ o q set (sym (h q ∙ ap (λ b. cond b w g) f) ∙ e) k
+    ]
+
+pub trim-beside : (key : Key) (old new : GetIndex) (w : Option (BTreeSet ℕ)) → Has key w old new → AreTrim old → AreTrimBeside key new
+trim-beside key old new w h o q f set e k =
+    let g = get key_cmp old.arrivals q in
+    o q set (sym (h q ∙ ap (λ b. cond b w g) (sym (key_ties key q) ∙ f)) ∙ e) k
+
+pub trim-removed : (key : Key) (mid new : GetIndex) → Has key None mid new → AreTrimBeside key mid → AreTrim new
+trim-removed key mid new h b q set e k =
+    let g = get key_cmp mid.arrivals q in
+    elim (cases_Bool (is_at (key_cmp key) q)) [
+      | inl t ↦ (
+          let n : None ≡ Some set = sym (h q ∙ ap (λ b. cond b None g) t) ∙ e in
+          absurd (cc)
+          )
+      | inr f ↦ b q (key_ties key q ∙ f) set (sym (h q ∙ ap (λ b. cond b None g) f) ∙ e) k
+    ]
+
+pub trim-same : (old new : GetIndex) → new.arrivals.entries ≡ old.arrivals.entries → AreTrim old → AreTrim new
+trim-same old new s o q set e k = o q set (ap (lookup (is_at (key_cmp q))) (sym s) ∙ e) k

@@ -1,4 +1,4 @@
--- The GETs for a key, among exchanges that were changed: each still has a number that passes. And the first that leads.
+-- The GETs for a key, among exchanges that were changed: the index still tells just them. And the first that leads.
 use Rattle.std.proofs.Common.{◌≡◌, ◌<◌, ℕ, Bool, true, false, cond, ◌&&◌, ◌||◌, eqb, None, Some, Option, List, [], ◌∷◌, ◌++◌, refl, sym, ◌∙◌, ap, arith, inl, inr}
 use Rattle.std.specs.Ordering.{nat_cmp}
 use Rattle.std.specs.BTreeMap.{is_at}
@@ -7,7 +7,7 @@ use Rattle.std.specs.List.Sorted.{IsStrictlySortedBy}
 use Rattle.std.specs.declared.cmp.Ordering.TheVariants.{Less}
 use Rattle.std.specs.Map.{lookup, remove_entry, keys_of, values_of}
 use Rattle.std.proofs.lemmas.Map.Keys.{sorted_head, sorted_tail}
-use Rattle.std.proofs.lemmas.Bool.{cases_Bool, eqb-true, eq-eqb, false≢true, or_left, or_right}
+use Rattle.std.proofs.lemmas.Bool.{cases_Bool, eqb-true, false≢true}
 use Rattle.std.proofs.lemmas.Bool.Decides.{nat_tests}
 use Rattle.std.proofs.lemmas.Option.{same_Some}
 use Rattle.hx_reuse.specs.declared.rule.ReuseRule.{ReuseRule}
@@ -19,9 +19,10 @@ use Rattle.proxy_core.specs.declared.get_index.GetIndex.{GetIndex}
 use Rattle.proxy_core.specs.declared.stage.Stage.TheVariants.{Released}
 use Rattle.proxy_core.specs.Leading.{is_get, is_uri_miss, is_forwarded, waits_for, leads, leader}
 use Rattle.proxy_core.specs.State.{release, overtake, goes_out, gone_out, sent_out}
-use Rattle.proxy_core.specs.Arrivals.{AreApart, Pass, on_all}
-use Rattle.proxy_core.specs.Gets.{asks_for, gets_in, GetsPass, IsGetEntered, AreSameBut}
-use Rattle.proxy_core.proofs.Waiters.{pass-more, pass-but, pass-opened, pass-removed, pass-on_all, none_has, none_behind, not_at, at_is}
+use Rattle.proxy_core.specs.Arrivals.{AreApart, Pass, Tells, on_all}
+use Rattle.proxy_core.specs.Gets.{asks_for, gets_in, GetsPass, IsGetEntered, GetHasLeft, AreSame, AreWithout}
+use Rattle.proxy_core.proofs.Told.{lookup-removed, not_told, tells-entered, tells-left, tells-on_all}
+use Rattle.proxy_core.proofs.Waiters.{pass-but, none_has, none_behind, not_at, at_is}
 
 abbrev Numbered : Type 0
 Numbered = List (ℕ × Exchange)
@@ -29,23 +30,27 @@ Numbered = List (ℕ × Exchange)
 abbrev at : ℕ → ℕ → Bool
 at n k = is_at (nat_cmp n) k
 
-abbrev AllPass : GetIndex → Numbered → Type 0
-AllPass index es = (key : Key) → GetsPass key (gets_in index key) es
+abbrev pub AllTold : GetIndex → Numbered → Type 0
+AllTold index es = (key : Key) → Tells (λ x. asks_for key x.asked) (gets_in index key) es
 
-pub gets-entered : (n : ℕ) (x : Exchange) (es : Numbered) (old new : GetIndex) → IsGetEntered x.asked n old new → AllPass old es → AllPass new (es ++ (n, x) ∷ [])
-gets-entered n x es old new k h key =
-    pass-opened (λ y. asks_for key y.asked) n x (gets_in new key) es
-    (λ w. k key n ∙ or_left _ _ (ap (λ b. b && eqb n n) w ∙ eq-eqb n n refl))
-    (pass-more (λ y. asks_for key y.asked) (gets_in old key) (gets_in new key) es (λ m t. k key m ∙ or_right _ _ t) (h key))
+pub gets-not : (n : ℕ) (es : Numbered) (index : GetIndex) → All (λ k. k < n) (keys_of es) → AllTold index es → AreWithout n index
+gets-not n es index l h key = not_told (λ x. asks_for key x.asked) (gets_in index key) n es (none_has n es l) (h key)
 
-pub gets-again : (n : ℕ) (es : Numbered) (old new : GetIndex) → All (λ k. k < n) (keys_of es) → AreSameBut n old new → AllPass old es → AllPass new es
-gets-again n es old new l k h key = pass-but (λ y. asks_for key y.asked) n (gets_in old key) (gets_in new key) es (none_has n es l) (λ m o t. k key m o ∙ t) (h key)
+pub gets-entered : (n : ℕ) (x : Exchange) (es : Numbered) (old new : GetIndex) → All (λ k. k < n) (keys_of es) → IsGetEntered x.asked n old new →
+    AllTold old es → AllTold new (es ++ (n, x) ∷ [])
+gets-entered n x es old new l k h key = tells-entered (λ y. asks_for key y.asked) n x (gets_in old key) (gets_in new key) es (none_has n es l) (k key) (h key)
 
-pub gets-closed : (n : ℕ) (es : Numbered) (old new : GetIndex) → AreApart es → AreSameBut n old new → AllPass old es → AllPass new (remove_entry (at n) es)
-gets-closed n es old new a k h key = pass-removed (λ y. asks_for key y.asked) n (gets_in old key) (gets_in new key) es a (λ m o t. k key m o ∙ t) (h key)
+pub gets-again : (es : Numbered) (old new : GetIndex) → AreSame old new → AllTold old es → AllTold new es
+gets-again es old new k h key m = k key m ∙ h key m
 
-pub gets-on_all : (f : Exchange → Exchange) → ((x : Exchange) → (f x).asked ≡ x.asked) → (es : Numbered) (index : GetIndex) → AllPass index es → AllPass index (on_all f es)
-gets-on_all f k es index h key = pass-on_all (λ y. asks_for key y.asked) (gets_in index key) f (λ x w. sym (ap (asks_for key) (k x)) ∙ w) es (h key)
+pub gets-closed : (n : ℕ) (x : Exchange) (es : Numbered) (old new : GetIndex) → AreApart es → lookup (at n) es ≡ Some x → GetHasLeft x.asked n old new →
+    AllTold old es → AllTold new (remove_entry (at n) es)
+gets-closed n x es old new a there k h key =
+    tells-left (λ y. asks_for key y.asked) n x None (gets_in old key) (gets_in new key) es (remove_entry (at n) es) there refl (λ m. lookup-removed m n es a) (k key) (h key)
+
+pub gets-on_all : (f : Exchange → Exchange) → ((x : Exchange) → (f x).asked ≡ x.asked) → (es : Numbered) (index : GetIndex) → AllTold index es → AllTold index (on_all f es)
+gets-on_all f k es index h key =
+    tells-on_all (λ x. asks_for key x.asked) f (λ b. b) (gets_in index key) (gets_in index key) es refl (λ x. ap (asks_for key) (k x)) (λ m. refl) (h key)
 
 pub sent_out-asked : (id now : ℕ) (rule : ReuseRule) (condition : Option Condition) (x : Exchange) → (sent_out id now rule condition x).asked ≡ x.asked
 sent_out-asked id now rule condition x = elim (eqb x.id id) as (λ b. (cond b (goes_out now rule condition x) x).asked ≡ x.asked) [ true ↦ refl | false ↦ refl ]

@@ -1,13 +1,17 @@
--- Who waits for an id, among exchanges that were changed: each still has a number that passes.
+-- Who waits for an id, among exchanges that were changed: each still has a number that passes, and the index of those that
+-- wait tells just them.
 use Rattle.std.proofs.Common.{◌≡◌, ◌<◌, ℕ, Bool, true, false, not, cond, ◌&&◌, ◌||◌, eqb, None, Some, Option, List, [], ◌∷◌, ◌++◌, refl, sym, ◌∙◌, ap, subst, is_eq, arith, inl, inr}
-use Rattle.std.specs.Ordering.{nat_cmp}
-use Rattle.std.specs.BTreeMap.{is_at}
+use Rattle.std.specs.Option.{ForSome}
+use Rattle.std.specs.Ordering.{nat_cmp, match_ordering}
+use Rattle.std.specs.BTreeMap.{get, is_at}
+use Rattle.std.specs.BTreeSet.{BTreeSet, insert_key}
 use Rattle.std.specs.List.{All, AllByRecursion, list_any}
 use Rattle.std.specs.List.Sorted.{IsStrictlySortedBy}
-use Rattle.std.specs.declared.cmp.Ordering.TheVariants.{Less}
+use Rattle.std.specs.declared.cmp.Ordering.{Ordering}
+use Rattle.std.specs.declared.cmp.Ordering.TheVariants.{Less, Equal, Greater}
 use Rattle.std.proofs.lemmas.Map.Keys.{sorted_head, sorted_tail}
 use Rattle.std.specs.Map.{lookup, remove_entry, set_value, keys_of}
-use Rattle.std.proofs.lemmas.Bool.{cases_Bool, eqb-true, eq-eqb, false≢true, or_left, or_right}
+use Rattle.std.proofs.lemmas.Bool.{cases_Bool, eqb-true, eq-eqb, false≢true, false_from_ne_true}
 use Rattle.std.proofs.lemmas.Bool.Decides.{nat_tests}
 use Rattle.std.proofs.lemmas.List.Elements.{All-head, All-tail}
 use Rattle.std.proofs.lemmas.Option.{same_Some}
@@ -15,16 +19,14 @@ use Rattle.proxy_core.specs.declared.exchange.Exchange.{Exchange}
 use Rattle.proxy_core.specs.declared.stage.Stage.{Stage}
 use Rattle.proxy_core.specs.declared.stage.Stage.TheVariants.{Forwarded, Waiting, Released}
 use Rattle.proxy_core.specs.declared.wait_index.WaitIndex.{WaitIndex}
-use Rattle.proxy_core.specs.Leading.{waits_for}
-use Rattle.hx_reuse.specs.declared.rule.ReuseRule.{ReuseRule}
+use Rattle.proxy_core.specs.Leading.{is_forwarded, waits_for}
 use Rattle.hx_target.specs.declared.keys.Key.{Key}
 use Rattle.hx_target.specs.Keys.{same_key}
-use Rattle.proxy_core.specs.declared.condition.Condition.{Condition}
-use Rattle.proxy_core.specs.State.{release, overtake, goes_out, gone_out, sent_out}
-use Rattle.proxy_core.specs.Waiters.{waits_in, IsEntered, IsSameBut, IsEmptied}
-use Rattle.proxy_core.specs.Arrivals.{on_all, AreApart, AreIndexed, Pass, WaitersPass}
+use Rattle.proxy_core.specs.State.{release, overtake}
+use Rattle.proxy_core.specs.Waiters.{waits_in, IsEntered, HasLeft, IsEmptied, IsSameIndex, IsNotIn, HasMembers, IsTrim, IsTrimBeside}
+use Rattle.proxy_core.specs.Arrivals.{on_all, AreApart, Pass, Tells, WaitersPass}
 use Rattle.proxy_core.proofs.ExchangeLists.{cond_none}
-use Rattle.proxy_core.proofs.Arrivals.{indexed_on_all}
+use Rattle.proxy_core.proofs.Told.{lookup-removed, lookup-set, not_told, tells-entered, tells-left, tells-on_all}
 
 abbrev Numbered : Type 0
 Numbered = List (ℕ × Exchange)
@@ -61,17 +63,6 @@ pub pass-opened : (which : Exchange → Bool) (n : ℕ) (x : Exchange) (p : ℕ 
 pass-opened which n x p [] k h = (k, tt)
 pass-opened which n x p (e ∷ es) k h = (h.0, pass-opened which n x p es k h.1)
 
-pub waiters-entered : (n : ℕ) (x : Exchange) (es : Numbered) (old new : WaitIndex) → IsEntered x.stage n old new →
-    ((id : ℕ) → WaitersPass id (waits_in old id) es) → (id : ℕ) → WaitersPass id (waits_in new id) (es ++ (n, x) ∷ [])
-waiters-entered n x es old new k h id =
-    pass-opened (λ x. waits_for id x.stage) n x (waits_in new id) es
-    (λ w. k id n ∙ or_left _ _ (ap (λ b. b && eqb n n) w ∙ eq-eqb n n refl))
-    (pass-more (λ x. waits_for id x.stage) (waits_in old id) (waits_in new id) es (λ m t. k id m ∙ or_right _ _ t) (h id))
-
-pub waiters-again : (n : ℕ) (es : Numbered) (old new : WaitIndex) → All (λ k. k < n) (keys_of es) → IsSameBut n old new →
-    ((id : ℕ) → WaitersPass id (waits_in old id) es) → (id : ℕ) → WaitersPass id (waits_in new id) es
-waiters-again n es old new l k h id = pass-but (λ x. waits_for id x.stage) n (waits_in old id) (waits_in new id) es (none_has n es l) (λ m o t. k id m o ∙ t) (h id)
-
 pub pass-removed : (which : Exchange → Bool) (n : ℕ) (p q : ℕ → Bool) (es : Numbered) → AreApart es → ((m : ℕ) → eqb n m ≡ false → p m ≡ true → q m ≡ true) →
     Pass which p es → Pass which q (remove_entry (at n) es)
 pass-removed which n p q [] a k h = tt
@@ -81,10 +72,6 @@ pass-removed which n p q (e ∷ es) a k h = elim (cases_Bool (at n e.0)) [
   | inr f ↦ subst (λ b. Pass which q (cond b es (e ∷ remove_entry (at n) es))) (sym f)
       (λ w. k e.0 (sym (at_is n e.0) ∙ f) (h.0 w), pass-removed which n p q es a.2 k h.1)
 ]
-
-pub waiters-closed : (n : ℕ) (es : Numbered) (old new : WaitIndex) → AreApart es → IsSameBut n old new →
-    ((id : ℕ) → WaitersPass id (waits_in old id) es) → (id : ℕ) → WaitersPass id (waits_in new id) (remove_entry (at n) es)
-waiters-closed n es old new a k h id = pass-removed (λ x. waits_for id x.stage) n (waits_in old id) (waits_in new id) es a (λ m o t. k id m o ∙ t) (h id)
 
 -- ---- changing
 
@@ -113,16 +100,6 @@ waits_on q id x h = elim (cases_Bool (waits_for q x.stage)) [
     other : (b : Bool) → eqb q id ≡ b → waits_for id x.stage ≡ true → waits_for q x.stage ≡ false → b ≡ false
     other true e w f = absurd (false≢true (sym f ∙ ap (λ i. waits_for i x.stage) (eqb-true q id e) ∙ w))
     other false e w f = refl
-
-waiters-kept : (q id : ℕ) (p r : ℕ → Bool) (es : Numbered) → (eqb q id ≡ false → (m : ℕ) → p m ≡ true → r m ≡ true) → WaitersPass id p es → WaitersPass id r (on_all (release q) es)
-waiters-kept q id p r [] k h = tt
-waiters-kept q id p r (e ∷ es) k h =
-    (λ w. let o = waits_on q id e.1 w in k o.1 e.0 (h.0 o.0), waiters-kept q id p r es k h.1)
-
-pub waiters-released : (q : ℕ) (es : Numbered) (old new : WaitIndex) → IsEmptied q old new →
-    ((id : ℕ) → WaitersPass id (waits_in old id) es) → (id : ℕ) → WaitersPass id (waits_in new id) (on_all (release q) es)
-waiters-released q es old new k h id =
-    waiters-kept q id (waits_in old id) (waits_in new id) es (λ o m t. k id m ∙ ap (λ b. not b && waits_in old id m) o ∙ t) (h id)
 
 -- where none waits a release changes nothing
 pub none_released : (q : ℕ) (es : Numbered) → WaitersPass q (λ n. false) es → on_all (release q) es ≡ es
@@ -200,27 +177,113 @@ rest-released q n x ns (e ∷ es) s there h = elim (cases_Bool (at n e.0)) [
       )
 ]
 
--- ---- all indexes
+-- ---- the index
 
-pub indexes-on_all : (f : Exchange → Exchange) → ((x : Exchange) → (f x).id ≡ x.id) → ((q : ℕ) (x : Exchange) → waits_for q (f x).stage ≡ true → waits_for q x.stage ≡ true) →
-    (es : Numbered) (arrivals : ℕ → Option ℕ) (waiting : ℕ → ℕ → Bool) → AreIndexed es arrivals waiting → AreIndexed (on_all f es) arrivals waiting
-indexes-on_all f i k es arrivals waiting s =
-    record { ids = indexed_on_all f i es arrivals s.ids; waiters = λ q. pass-on_all (λ x. waits_for q x.stage) (waiting q) f (k q) es (s.waiters q) }
+abbrev pub AllTold : WaitIndex → Numbered → Type 0
+AllTold index es = (id : ℕ) → Tells (λ x. waits_for id x.stage) (waits_in index id) es
 
-pub sent_out-waits : (id now : ℕ) (rule : ReuseRule) (condition : Option Condition) (q : ℕ) (x : Exchange) → waits_for q (sent_out id now rule condition x).stage ≡ true → waits_for q x.stage ≡ true
-sent_out-waits id now rule condition q x h = elim (cases_Bool (eqb x.id id)) [
-  | inl t ↦ absurd (false≢true (sym (ap (λ b. waits_for q (cond b (goes_out now rule condition x) x).stage) t) ∙ h))
-  | inr f ↦ sym (ap (λ b. waits_for q (cond b (goes_out now rule condition x) x).stage) f) ∙ h
-]
+pub waiters-not : (n : ℕ) (es : Numbered) (index : WaitIndex) → All (λ k. k < n) (keys_of es) → AllTold index es → IsNotIn n index
+waiters-not n es index l h id = not_told (λ x. waits_for id x.stage) (waits_in index id) n es (none_has n es l) (h id)
 
-pub gone_out-waits : (id now q : ℕ) (x : Exchange) → waits_for q (gone_out id now x).stage ≡ true → waits_for q x.stage ≡ true
-gone_out-waits id now q x h = elim (cases_Bool (eqb x.id id)) [
-  | inl t ↦ absurd (false≢true (sym (ap (λ b. waits_for q (cond b (goes_out now x.rule None x) x).stage) t) ∙ h))
-  | inr f ↦ sym (ap (λ b. waits_for q (cond b (goes_out now x.rule None x) x).stage) f) ∙ h
-]
+pub waiters-entered : (n : ℕ) (x : Exchange) (es : Numbered) (old new : WaitIndex) → All (λ k. k < n) (keys_of es) → IsEntered x.stage n old new →
+    AllTold old es → AllTold new (es ++ (n, x) ∷ [])
+waiters-entered n x es old new l k h id = tells-entered (λ y. waits_for id y.stage) n x (waits_in old id) (waits_in new id) es (none_has n es l) (k id) (h id)
 
-pub overtake-waits : (key : Key) (q : ℕ) (x : Exchange) → waits_for q (overtake key x).stage ≡ true → waits_for q x.stage ≡ true
-overtake-waits key q x h = elim (cases_Bool (same_key x.asked.target.key key)) [
-  | inl t ↦ sym (ap (λ b. waits_for q (cond b (record x { overtaken = true }) x).stage) t) ∙ h
-  | inr f ↦ sym (ap (λ b. waits_for q (cond b (record x { overtaken = true }) x).stage) f) ∙ h
-]
+pub waiters-again : (es : Numbered) (old new : WaitIndex) → IsSameIndex old new → AllTold old es → AllTold new es
+waiters-again es old new k h id m = k id m ∙ h id m
+
+pub waiters-closed : (n : ℕ) (x : Exchange) (es : Numbered) (old new : WaitIndex) → AreApart es → lookup (at n) es ≡ Some x → HasLeft x.stage n old new →
+    AllTold old es → AllTold new (remove_entry (at n) es)
+waiters-closed n x es old new a there k h id =
+    tells-left (λ y. waits_for id y.stage) n x None (waits_in old id) (waits_in new id) es (remove_entry (at n) es) there refl (λ m. lookup-removed m n es a) (k id) (h id)
+
+-- one that waits for none any more was written at its number
+pub waiters-written : (n : ℕ) (x y : Exchange) (es : Numbered) (old new : WaitIndex) → lookup (at n) es ≡ Some x → is_forwarded y.stage ≡ true → HasLeft x.stage n old new →
+    AllTold old es → AllTold new (set_value (at n) es y)
+waiters-written n x y es old new there out k h id =
+    tells-left (λ z. waits_for id z.stage) n x (Some y) (waits_in old id) (waits_in new id) es (set_value (at n) es y) there (at_the_origin y.stage out) (λ m. lookup-set m n x y es there) (k id) (h id)
+  where
+    at_the_origin : (s : Stage) → is_forwarded s ≡ true → waits_for id s ≡ false
+    at_the_origin Forwarded h = refl
+    at_the_origin (Waiting leader) h = absurd (false≢true h)
+    at_the_origin Released h = absurd (false≢true h)
+
+-- a change that leaves each where it stands
+pub waiters-on_all : (f : Exchange → Exchange) → ((x : Exchange) → (f x).stage ≡ x.stage) → (es : Numbered) (index : WaitIndex) → AllTold index es → AllTold index (on_all f es)
+waiters-on_all f k es index h id =
+    tells-on_all (λ x. waits_for id x.stage) f (λ b. b) (waits_in index id) (waits_in index id) es refl (λ x. ap (waits_for id) (k x)) (λ m. refl) (h id)
+
+pub waiters-released : (q : ℕ) (es : Numbered) (old new : WaitIndex) → IsEmptied q old new → AllTold old es → AllTold new (on_all (release q) es)
+waiters-released q es old new k h id =
+    tells-on_all (λ x. waits_for id x.stage) (release q) (λ b. not (eqb q id) && b) (waits_in old id) (waits_in new id) es (none (eqb q id)) (λ x. still_waits x) (k id) (h id)
+  where
+    none : (b : Bool) → (not b && false) ≡ false
+    none true = refl
+    none false = refl
+
+    no_more : (s : Stage) → waits_for q s ≡ true → (b : Bool) → eqb q id ≡ b → false ≡ (not b && waits_for id s)
+    no_more s t true e = refl
+    no_more s t false e = sym (false_from_ne_true _ (λ w. false≢true (sym e ∙ still id q s t w)))
+
+    as_before : (s : Stage) → waits_for q s ≡ false → (b : Bool) → eqb q id ≡ b → waits_for id s ≡ (not b && waits_for id s)
+    as_before s f true e = sym (ap (λ i. waits_for i s) (eqb-true q id e)) ∙ f
+    as_before s f false e = refl
+
+    still_waits : (x : Exchange) → waits_for id (release q x).stage ≡ (not (eqb q id) && waits_for id x.stage)
+    still_waits x = elim (cases_Bool (waits_for q x.stage)) [
+      | inl t ↦ ap (λ b. waits_for id (cond b (record x { stage = Released }) x).stage) t ∙ no_more x.stage t (eqb q id) refl
+      | inr f ↦ ap (λ b. waits_for id (cond b (record x { stage = Released }) x).stage) f ∙ as_before x.stage f (eqb q id) refl
+    ]
+
+pub overtake-stage : (key : Key) (x : Exchange) → (overtake key x).stage ≡ x.stage
+overtake-stage key x = elim (same_key x.asked.target.key key) as (λ b. (cond b (record x { overtaken = true }) x).stage ≡ x.stage) [ true ↦ refl | false ↦ refl ]
+
+-- ---- no id stands there for nothing
+
+abbrev WritesAt : ℕ → Option (BTreeSet ℕ) → WaitIndex → WaitIndex → Type 0
+WritesAt id w old new = (q : ℕ) → get nat_cmp new.arrivals q ≡ cond (is_at (nat_cmp id) q) w (get nat_cmp old.arrivals q)
+
+pub some_has : (set : BTreeSet ℕ) → HasMembers set → ForSome (Some set) HasMembers
+some_has set n x e k = n (ap (λ (s : BTreeSet ℕ). s.keys) (same_Some set x e) ∙ k)
+
+pub nothing_has : ForSome None HasMembers
+nothing_has x e k =
+    let no : None ≡ Some x = e in
+    absurd (cc)
+
+pub trim-written : (id : ℕ) (old new : WaitIndex) (w : Option (BTreeSet ℕ)) → WritesAt id w old new → ForSome w HasMembers → IsTrim old → IsTrim new
+trim-written id old new w h n o q set e k =
+    let g = get nat_cmp old.arrivals q in
+    elim (cases_Bool (is_at (nat_cmp id) q)) [
+      | inl t ↦ n set (sym (h q ∙ ap (λ b. cond b w g) t) ∙ e) k
+      | inr f ↦ o q set (sym (h q ∙ ap (λ b. cond b w g) f) ∙ e) k
+    ]
+
+pub trim-beside : (id : ℕ) (old new : WaitIndex) (w : Option (BTreeSet ℕ)) → WritesAt id w old new → IsTrim old → IsTrimBeside id new
+trim-beside id old new w h o q f set e k =
+    let g = get nat_cmp old.arrivals q in
+    o q set (sym (h q ∙ ap (λ b. cond b w g) (at_is id q ∙ f)) ∙ e) k
+
+pub trim-removed : (id : ℕ) (mid new : WaitIndex) → WritesAt id None mid new → IsTrimBeside id mid → IsTrim new
+trim-removed id mid new h b q set e k =
+    let g = get nat_cmp mid.arrivals q in
+    elim (cases_Bool (is_at (nat_cmp id) q)) [
+      | inl t ↦ (
+          let n : None ≡ Some set = sym (h q ∙ ap (λ b. cond b None g) t) ∙ e in
+          absurd (cc)
+          )
+      | inr f ↦ b q (sym (at_is id q) ∙ f) set (sym (h q ∙ ap (λ b. cond b None g) f) ∙ e) k
+    ]
+
+pub trim-same : (old new : WaitIndex) → new.arrivals.entries ≡ old.arrivals.entries → IsTrim old → IsTrim new
+trim-same old new s o q set e k = o q set (ap (lookup (is_at (nat_cmp q))) (sym s) ∙ e) k
+
+-- a number that was put in stands there
+pub not_nothing : (n : ℕ) (ks : List ℕ) → insert_key nat_cmp ks n ≡ [] → ⊥
+not_nothing n [] h = cc
+not_nothing n (k ∷ ks) h = by_order (nat_cmp n k) h
+  where
+    by_order : (o : Ordering) → match_ordering o (n ∷ k ∷ ks) (k ∷ ks) (k ∷ insert_key nat_cmp ks n) ≡ [] → ⊥
+    by_order Less h = cc
+    by_order Equal h = cc
+    by_order Greater h = cc

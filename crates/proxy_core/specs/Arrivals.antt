@@ -2,9 +2,10 @@
 --
 -- arrival_of: the arrival of an id     AreApart: no two have one number, no two one id
 -- IsIndexed: the index tells the arrival of each id     Pass: some exchanges have numbers that pass a test
--- WaitersPass: so those do that wait for an id
+-- WaitersPass: so those do that wait for an id     Tells: the numbers that pass are those of some open exchanges
 -- AreIndexed: what the indexes say of the exchanges
-use Rattle.std.specs.Prelude.{◌≡◌, ℕ, ◌==◌, Bool, true, List, [], ◌∷◌, map, Option, Some, None, cond}
+use Rattle.std.specs.Prelude.{◌≡◌, ℕ, ◌==◌, Bool, true, false, List, [], ◌∷◌, map, Option, Some, None, cond}
+use Rattle.std.specs.Option.{option_map_or}
 use Rattle.std.specs.Ordering.{nat_cmp}
 use Rattle.std.specs.BTreeMap.{is_at}
 use Rattle.std.specs.Map.{lookup}
@@ -31,6 +32,14 @@ abbrev pub Pass : (Exchange → Bool) → (ℕ → Bool) → List (ℕ × Exchan
 Pass which test [] = Unit {0}
 Pass which test (e ∷ es) = (which e.1 ≡ true → test e.0 ≡ true) × Pass which test es
 
+-- the number is that of an open exchange, and of such a one
+abbrev pub has : (Exchange → Bool) → List (ℕ × Exchange) → ℕ → Bool
+has which es n = option_map_or which (lookup (is_at (nat_cmp n)) es) false
+
+-- the numbers that pass are those of such exchanges: each of them, and none that is over
+abbrev pub Tells : (Exchange → Bool) → (ℕ → Bool) → List (ℕ × Exchange) → Type 0
+Tells which test es = (n : ℕ) → test n ≡ has which es n
+
 abbrev pub WaitersPass : ℕ → (ℕ → Bool) → List (ℕ × Exchange) → Type 0
 WaitersPass id test es = Pass (λ x. waits_for id x.stage) test es
 
@@ -38,7 +47,7 @@ WaitersPass id test es = Pass (λ x. waits_for id x.stage) test es
 abbrev pub on_all : (Exchange → Exchange) → List (ℕ × Exchange) → List (ℕ × Exchange)
 on_all f es = map (λ e. (e.0, f e.1)) es
 
--- the indexes tell the arrival of each id, and those that wait for it
+-- the indexes tell the arrival of each id, and who waits for it: nothing else stands there
 pub record AreIndexed (es : List (ℕ × Exchange)) (arrivals : ℕ → Option ℕ) (waiting : ℕ → ℕ → Bool) : Type 0 where
   pub ids : IsIndexed es arrivals
-  pub waiters : (id : ℕ) → WaitersPass id (waiting id) es
+  pub waiters : (id : ℕ) → Tells (λ x. waits_for id x.stage) (waiting id) es

@@ -2,6 +2,7 @@
 --
 -- asks_for: a request is a GET for a key     gets_in: the arrival is in the index at that key
 use Rattle.std.specs.Prelude.{◌≡◌, ℕ, ◌==◌, ◌&&◌, ◌||◌, not, Bool, true, false, List}
+use Rattle.std.specs.Option.{ForSome}
 use Rattle.std.specs.BTreeMap.{get}
 use Rattle.hx_target.specs.declared.keys.Key.{Key}
 use Rattle.hx_target.specs.Keys.{same_key}
@@ -10,7 +11,7 @@ use Rattle.hx_hop.specs.declared.request_view.Asked.{Asked}
 use Rattle.proxy_core.specs.declared.exchange.Exchange.{Exchange}
 use Rattle.proxy_core.specs.declared.get_index.GetIndex.{GetIndex}
 use Rattle.proxy_core.specs.Leading.{is_get}
-use Rattle.proxy_core.specs.Waiters.{set_has}
+use Rattle.proxy_core.specs.Waiters.{set_has, HasMembers}
 use Rattle.proxy_core.specs.Arrivals.{Pass}
 
 abbrev pub asks_for : Key → Asked → Bool
@@ -44,9 +45,16 @@ IsGetEntered asked n old new = (q : Key) (m : ℕ) → gets_in new q m ≡ ((ask
 abbrev pub GetHasLeft : Asked → ℕ → GetIndex → GetIndex → Type 0
 GetHasLeft asked n old new = (q : Key) (m : ℕ) → gets_in new q m ≡ (not (asks_for q asked && n == m) && gets_in old q m)
 
--- nothing was done but at this arrival
-abbrev pub AreSameBut : ℕ → GetIndex → GetIndex → Type 0
-AreSameBut n old new = (key : Key) (m : ℕ) → (n == m) ≡ false → gets_in new key m ≡ gets_in old key m
+-- the arrival isn't in the index
+abbrev pub AreWithout : ℕ → GetIndex → Type 0
+AreWithout n index = (key : Key) → gets_in index key n ≡ false
+
+-- no key is in the index for nothing, and the same of each key but this one
+abbrev pub AreTrim : GetIndex → Type 0
+AreTrim index = (key : Key) → ForSome (get key_cmp index.arrivals key) HasMembers
+
+abbrev pub AreTrimBeside : Key → GetIndex → Type 0
+AreTrimBeside key index = (q : Key) → same_key key q ≡ false → ForSome (get key_cmp index.arrivals q) HasMembers
 
 -- the GETs for a key have numbers that pass, and so those have that lead
 abbrev pub GetsPass : Key → (ℕ → Bool) → List (ℕ × Exchange) → Type 0

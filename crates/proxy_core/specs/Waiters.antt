@@ -1,9 +1,9 @@
 -- An index of the arrivals that wait, by the id that they wait for.
 use Rattle.std.specs.Prelude.{◌≡◌, ℕ, ◌==◌, ◌&&◌, ◌||◌, not, Bool, true, false, Option}
-use Rattle.std.specs.Option.{option_map_or}
+use Rattle.std.specs.Option.{option_map_or, ForSome}
 use Rattle.std.specs.Ordering.{nat_cmp}
 use Rattle.std.specs.BTreeMap.{get}
-use Rattle.std.specs.BTreeSet.{BTreeSet, contains}
+use Rattle.std.specs.BTreeSet.{BTreeSet, contains, IsEmpty}
 use Rattle.proxy_core.specs.declared.stage.Stage.{Stage}
 use Rattle.proxy_core.specs.declared.stage.Stage.TheVariants.{Waiting}
 use Rattle.proxy_core.specs.declared.wait_index.WaitIndex.{WaitIndex}
@@ -41,6 +41,16 @@ HasAll set id index = (m : ℕ) → set_has set m ≡ waits_in index id m
 abbrev pub IsEmptied : ℕ → WaitIndex → WaitIndex → Type 0
 IsEmptied id old new = (q m : ℕ) → waits_in new q m ≡ (not (id == q) && waits_in old q m)
 
--- nothing was done but at this arrival
-abbrev pub IsSameBut : ℕ → WaitIndex → WaitIndex → Type 0
-IsSameBut n old new = (id m : ℕ) → (n == m) ≡ false → waits_in new id m ≡ waits_in old id m
+-- the arrival isn't in the index
+abbrev pub IsNotIn : ℕ → WaitIndex → Type 0
+IsNotIn n index = (id : ℕ) → waits_in index id n ≡ false
+
+-- no id is in the index for nothing, and the same of each id but this one
+abbrev pub HasMembers : BTreeSet ℕ → Type 0
+HasMembers set = IsEmpty set → ⊥
+
+abbrev pub IsTrim : WaitIndex → Type 0
+IsTrim index = (id : ℕ) → ForSome (get nat_cmp index.arrivals id) HasMembers
+
+abbrev pub IsTrimBeside : ℕ → WaitIndex → Type 0
+IsTrimBeside id index = (q : ℕ) → (id == q) ≡ false → ForSome (get nat_cmp index.arrivals q) HasMembers

@@ -9,11 +9,12 @@ ghost use Rattle.proxy_core.specs.Waiting.{IsReady};
 ghost use Rattle.std.specs.List.{All};
 ghost use Rattle.std.specs.Ordering.{nat_cmp};
 ghost use Rattle.std.specs.Map.{remove_entry};
-ghost use Rattle.std.specs.BTreeMap.{keys, values, is_at};
-ghost use Rattle.proxy_core.specs.Gets.{GetsPass, IsGetEntered, AreSameBut};
+ghost use Rattle.std.specs.Option.{ForNone, ForSome};
+ghost use Rattle.std.specs.BTreeMap.{get, keys, values, is_at};
+ghost use Rattle.proxy_core.specs.Gets.{GetsPass, IsGetEntered, GetHasLeft, AreSame, AreWithout, AreTrim};
 ghost use Rattle.std.specs.BTreeSet.{contains};
 ghost use Rattle.proxy_core.specs.Arrivals.{WaitersPass, on_all};
-ghost use Rattle.proxy_core.specs.Waiters.{IsEntered, IsSameBut};
+ghost use Rattle.proxy_core.specs.Waiters.{IsEntered, HasLeft, IsSameIndex, IsNotIn, IsTrim};
 ghost use Rattle.proxy_core.specs.Outcomes.{find_exchange};
 ghost use Rattle.proxy_core.specs.Leading.{leader, ready_ids};
 ghost use Rattle.proxy_core.specs.State.{closed, release, overtake, left_open, gone_out, sent_out};
@@ -64,14 +65,12 @@ impl Model for Exchanges {
     ghost use Rattle.std.specs.BTreeMap.{get, values};
     ghost use Rattle.proxy_core.specs.declared.exchange.Exchange.{Exchange};
     ghost use Rattle.proxy_core.specs.Kept.{AreKept};
-    ghost use Rattle.proxy_core.specs.Gets.{gets_in};
-    ghost use Rattle.proxy_core.specs.Waiters.{waits_in};
 
     ghost Value = { List Exchange };
 
     ghost view = { λ x. values x.by_arrival };
 
-    ghost invariant = { λ x. AreKept x.by_arrival.entries (λ id. get nat_cmp x.arrivals id) (waits_in x.waiting) x.released (gets_in x.gets) };
+    ghost invariant = { λ x. AreKept x.by_arrival.entries (λ id. get nat_cmp x.arrivals id) x.waiting x.released x.gets };
 }
 
 impl Exchanges {
@@ -193,6 +192,7 @@ impl Exchanges {
     {
         if let Some(arrival) = self.arrivals.get(&id) {
             if let Some(x) = self.by_arrival.get_mut(arrival) {
+                self.waiting.leave(x.stage, *arrival);
                 let rule = x.rule;
                 x.go_out(now, rule, None);
                 self.released.settle(&self.by_arrival);
@@ -212,6 +212,7 @@ impl Exchanges {
     {
         if let Some(arrival) = self.arrivals.get(&id) {
             if let Some(x) = self.by_arrival.get_mut(arrival) {
+                self.waiting.leave(x.stage, *arrival);
                 x.go_out(now, rule, condition);
                 self.released.settle(&self.by_arrival);
             }
@@ -249,18 +250,20 @@ fn arrival_after(by_arrival: &BTreeMap<u64, Exchange>) -> Result<u64, AllocError
     }
 }
 
-/// Puts an exchange behind the others, and into the index of GETs.
+/// Puts an exchange behind the others, and into the index of GETs. Want of memory changes nothing.
 fn push(
     by_arrival: &mut BTreeMap<u64, Exchange>,
     gets: &mut GetIndex,
     arrival: u64,
     exchange: Exchange,
 ) -> Result<(), AllocError>
-    requires { All (λ k. k < arrival) (keys by_arrival.old) }
+    requires last { All (λ k. k < arrival) (keys by_arrival.old) }
+    requires asks_not { AreWithout arrival gets.old }
     ensures ok { OnOk result (by_arrival.new.entries ≡ by_arrival.old.entries ++ (arrival, exchange) ∷ []) }
     ensures entered { OnOk result (IsGetEntered exchange.asked arrival gets.old gets.new) }
     ensures err { OnErr result (by_arrival.new.entries ≡ by_arrival.old.entries) }
-    ensures left { OnErr result (AreSameBut arrival gets.old gets.new) }
+    ensures left { OnErr result (AreSame gets.old gets.new) }
+    ensures trim { AreTrim gets.old → AreTrim gets.new }
 {
     gets.enter(&exchange.asked, arrival)?;
     match by_arrival.insert(arrival, exchange) {
@@ -273,7 +276,8 @@ fn push(
     }
 }
 
-/// Puts an exchange behind the others, and into the indexes of GETs and of those that wait.
+/// Puts an exchange behind the others, and into the indexes of GETs and of those that wait. Want of memory changes
+/// nothing.
 fn enter(
     by_arrival: &mut BTreeMap<u64, Exchange>,
     waiting: &mut WaitIndex,
@@ -281,13 +285,17 @@ fn enter(
     arrival: u64,
     exchange: Exchange,
 ) -> Result<(), AllocError>
-    requires { All (λ k. k < arrival) (keys by_arrival.old) }
+    requires last { All (λ k. k < arrival) (keys by_arrival.old) }
+    requires waits_not { IsNotIn arrival waiting.old }
+    requires asks_not { AreWithout arrival gets.old }
     ensures ok { OnOk result (by_arrival.new.entries ≡ by_arrival.old.entries ++ (arrival, exchange) ∷ []) }
     ensures entered { OnOk result (IsEntered exchange.stage arrival waiting.old waiting.new) }
     ensures asks { OnOk result (IsGetEntered exchange.asked arrival gets.old gets.new) }
     ensures err { OnErr result (by_arrival.new.entries ≡ by_arrival.old.entries) }
-    ensures left { OnErr result (IsSameBut arrival waiting.old waiting.new) }
-    ensures asks_no_more { OnErr result (AreSameBut arrival gets.old gets.new) }
+    ensures left { OnErr result (IsSameIndex waiting.old waiting.new) }
+    ensures asks_no_more { OnErr result (AreSame gets.old gets.new) }
+    ensures trim_waits { IsTrim waiting.old → IsTrim waiting.new }
+    ensures trim_gets { AreTrim gets.old → AreTrim gets.new }
 {
     let stage = exchange.stage;
     waiting.enter(stage, arrival)?;
@@ -308,8 +316,12 @@ fn remove(
     arrival: u64,
 )
     ensures entries { by_arrival.new.entries ≡ remove_entry (is_at (nat_cmp arrival)) by_arrival.old.entries }
-    ensures left { IsSameBut arrival waiting.old waiting.new }
-    ensures asks_no_more { AreSameBut arrival gets.old gets.new }
+    ensures left { ForSome (get nat_cmp by_arrival.old arrival) (λ x. HasLeft x.stage arrival waiting.old waiting.new) }
+    ensures asks_no_more { ForSome (get nat_cmp by_arrival.old arrival) (λ x. GetHasLeft x.asked arrival gets.old gets.new) }
+    ensures waits_still { ForNone (get nat_cmp by_arrival.old arrival) (IsSameIndex waiting.old waiting.new) }
+    ensures asks_still { ForNone (get nat_cmp by_arrival.old arrival) (AreSame gets.old gets.new) }
+    ensures trim_waits { IsTrim waiting.old → IsTrim waiting.new }
+    ensures trim_gets { AreTrim gets.old → AreTrim gets.new }
 {
     if let Some(x) = by_arrival.remove(&arrival) {
         waiting.leave(x.stage, arrival);

@@ -2,10 +2,10 @@
 //!
 //! A call costs the logarithm of how many are open.
 ghost use Rattle.std.specs.Prelude.{◌≡◌, ℕ, false, IfOk, OnOk, OnErr, option_copied};
-ghost use Rattle.std.specs.Bool.{OnTrue};
+ghost use Rattle.std.specs.Bool.{OnFalse, OnTrue};
 ghost use Rattle.std.specs.BTreeMap.{get};
 ghost use Rattle.hx_target.specs.KeyOrder.{key_cmp};
-ghost use Rattle.proxy_core.specs.Gets.{gets_in, AreNone, IsPut, IsPutIf, IsTaken, IsGetEntered, GetHasLeft, AreSame};
+ghost use Rattle.proxy_core.specs.Gets.{gets_in, AreNone, IsPut, IsPutIf, IsTaken, IsGetEntered, GetHasLeft, AreSame, AreTrim, AreTrimBeside};
 
 use crate::leading::is_get;
 use hx_hop::Asked;
@@ -13,7 +13,7 @@ use hx_target::Key;
 use std::alloc::{AllocError, Global};
 use std::collections::{BTreeMap, BTreeSet};
 
-/// The numbers of the arrivals of GETs, by the key that they ask for.
+/// The numbers of the arrivals of GETs, by the key that they ask for, of which none stands there without an arrival.
 pub(crate) struct GetIndex {
     alloc: Global,
     arrivals: BTreeMap<Key, BTreeSet<u64>>,
@@ -32,7 +32,8 @@ impl Drop for GetIndex {
 impl GetIndex {
     /// No arrivals.
     pub(crate) fn new(alloc: Global) -> Self
-        ensures { AreNone result }
+        ensures none { AreNone result }
+        ensures trim { AreTrim result }
     {
         GetIndex {
             alloc,
@@ -51,6 +52,7 @@ impl GetIndex {
     pub(crate) fn enter(&mut self, asked: &Asked, arrival: u64) -> Result<(), AllocError>
         ensures ok { OnOk result (IsGetEntered asked.now arrival self.old self.new) }
         ensures err { OnErr result (AreSame self.old self.new) }
+        ensures trim { AreTrim self.old → AreTrim self.new }
     {
         if is_get(asked) {
             return self.insert(&asked.target.key, arrival);
@@ -60,7 +62,8 @@ impl GetIndex {
 
     /// Takes an arrival out, if it is a GET. No memory is taken.
     pub(crate) fn leave(&mut self, asked: &Asked, arrival: u64)
-        ensures { GetHasLeft asked.now arrival self.old self.new }
+        ensures left { GetHasLeft asked.now arrival self.old self.new }
+        ensures trim { AreTrim self.old → AreTrim self.new }
     {
         if is_get(asked) {
             self.remove(&asked.target.key, arrival);
@@ -70,6 +73,7 @@ impl GetIndex {
     fn insert(&mut self, key: &Key, arrival: u64) -> Result<(), AllocError>
         ensures ok { OnOk result (IsPut key.now arrival self.old self.new) }
         ensures err { OnErr result (AreSame self.old self.new) }
+        ensures trim { AreTrim self.old → AreTrim self.new }
     {
         if self.insert_beside(key, arrival)? {
             return Ok(());
@@ -84,6 +88,7 @@ impl GetIndex {
     fn insert_beside(&mut self, key: &Key, arrival: u64) -> Result<bool, AllocError>
         ensures ok { IfOk result (λ has. IsPutIf has key.now arrival self.old self.new) }
         ensures err { OnErr result (AreSame self.old self.new) }
+        ensures trim { AreTrim self.old → AreTrim self.new }
     {
         match self.arrivals.get_mut(key) {
             Some(arrivals) => {
@@ -95,7 +100,8 @@ impl GetIndex {
     }
 
     fn remove(&mut self, key: &Key, arrival: u64)
-        ensures { IsTaken key.now arrival self.old self.new }
+        ensures taken { IsTaken key.now arrival self.old self.new }
+        ensures trim { AreTrim self.old → AreTrim self.new }
     {
         if self.take_out(key, arrival) {
             self.arrivals.remove(key);
@@ -106,6 +112,8 @@ impl GetIndex {
     fn take_out(&mut self, key: &Key, arrival: u64) -> bool
         ensures taken { IsTaken key.now arrival self.old self.new }
         ensures last { OnTrue result ((m : ℕ) → gets_in self.new key.now m ≡ false) }
+        ensures trim_beside { AreTrim self.old → AreTrimBeside key.now self.new }
+        ensures trim { AreTrim self.old → OnFalse result (AreTrim self.new) }
     {
         match self.arrivals.get_mut(key) {
             Some(arrivals) => {

@@ -3,11 +3,11 @@
 //! The first of them is known, so nothing is looked for where it is asked for. It is looked for anew where it goes: from there
 //! on, and no farther than the last. So those that one close releases cost one walk over what stands between them, however
 //! many they are.
-ghost use Rattle.std.specs.Prelude.{◌≡◌, ℕ, true, Some};
+ghost use Rattle.std.specs.Prelude.{◌≡◌, ℕ, true, Some, if◌then◌else◌};
 ghost use Rattle.std.specs.Ordering.{nat_cmp};
 ghost use Rattle.std.specs.BTreeSet.{contains};
 ghost use Rattle.proxy_core.specs.Leading.{is_released as is_free};
-ghost use Rattle.proxy_core.specs.Releases.{first_released, is_between, is_within, ReleasedPass, IsSettled, IsNone, IsWidened, IsWidenedBy};
+ghost use Rattle.proxy_core.specs.Releases.{first_released, is_between, is_within, widened, ReleasedPass, IsSettled, IsNone, IsWidened, IsWidenedBy, IsWidenedTo};
 
 use crate::exchange::Exchange;
 use crate::leading::is_released;
@@ -49,6 +49,7 @@ impl Released {
     pub(crate) fn enter(&mut self, stage: Stage, arrival: u64)
         ensures widened { IsWidened self.old self.new }
         ensures entered { is_free stage ≡ true → is_within self.new arrival ≡ true }
+        ensures reach { self.new ≡ (if is_free stage then widened arrival arrival self.old else self.old) }
     {
         if is_released(stage) {
             self.widen(arrival, arrival);
@@ -59,6 +60,7 @@ impl Released {
     pub(crate) fn enter_all(&mut self, arrivals: &BTreeSet<u64>)
         ensures widened { IsWidened self.old self.new }
         ensures entered { (n : ℕ) → contains nat_cmp arrivals.now n ≡ true → is_within self.new n ≡ true }
+        ensures reach { IsWidenedTo arrivals.now self.old self.new }
     {
         if let Some(first) = arrivals.first() {
             if let Some(last) = arrivals.last() {
@@ -71,6 +73,7 @@ impl Released {
     fn widen(&mut self, first: u64, last: u64)
         ensures widened { IsWidened self.old self.new }
         ensures by { IsWidenedBy first last self.new }
+        ensures reach { self.new ≡ widened first last self.old }
     {
         match self.first {
             Some(other) => {
@@ -87,7 +90,8 @@ impl Released {
     /// Looks for the first of them.
     pub(crate) fn settle(&mut self, by_arrival: &BTreeMap<u64, Exchange>)
         requires { ReleasedPass (is_within self.old) by_arrival.now.entries }
-        ensures { IsSettled self.new by_arrival.now.entries }
+        ensures settled { IsSettled self.new by_arrival.now.entries }
+        ensures last { self.new.last ≡ self.old.last }
     {
         if let Some(first) = self.first {
             self.first = first_between(by_arrival, first, self.last);

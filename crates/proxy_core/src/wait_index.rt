@@ -2,15 +2,15 @@
 //!
 //! A call costs the logarithm of how many wait.
 ghost use Rattle.std.specs.Prelude.{◌≡◌, ℕ, false, IfOk, OnOk, OnErr};
-ghost use Rattle.std.specs.Bool.{OnTrue};
+ghost use Rattle.std.specs.Bool.{OnFalse, OnTrue};
 ghost use Rattle.proxy_core.specs.declared.stage.Stage.TheVariants as staged;
-ghost use Rattle.proxy_core.specs.Waiters.{waits_in, set_has, IsEntered, IsEnteredIf, HasLeft, IsEmptied, IsSameIndex, HasNone, HasAll};
+ghost use Rattle.proxy_core.specs.Waiters.{waits_in, set_has, IsEntered, IsEnteredIf, HasLeft, IsEmptied, IsSameIndex, IsTrim, IsTrimBeside, HasNone, HasAll};
 
 use crate::stage::Stage;
 use std::alloc::{AllocError, Global};
 use std::collections::{BTreeMap, BTreeSet};
 
-/// The numbers of the arrivals that wait, by the id that they wait for.
+/// The numbers of the arrivals that wait, by the id that they wait for, of which none stands there without an arrival.
 pub(crate) struct WaitIndex {
     alloc: Global,
     arrivals: BTreeMap<u64, BTreeSet<u64>>,
@@ -29,7 +29,8 @@ impl Drop for WaitIndex {
 impl WaitIndex {
     /// Nothing waits.
     pub(crate) fn new(alloc: Global) -> Self
-        ensures { HasNone result }
+        ensures none { HasNone result }
+        ensures trim { IsTrim result }
     {
         WaitIndex {
             alloc,
@@ -41,6 +42,7 @@ impl WaitIndex {
     pub(crate) fn enter(&mut self, stage: Stage, arrival: u64) -> Result<(), AllocError>
         ensures ok { OnOk result (IsEntered stage arrival self.old self.new) }
         ensures err { OnErr result (IsSameIndex self.old self.new) }
+        ensures trim { IsTrim self.old → IsTrim self.new }
     {
         match stage {
             Stage::Waiting(leader) => self.insert(leader, arrival),
@@ -50,7 +52,8 @@ impl WaitIndex {
 
     /// Takes an arrival out, if its exchange waits. No memory is taken.
     pub(crate) fn leave(&mut self, stage: Stage, arrival: u64)
-        ensures { HasLeft stage arrival self.old self.new }
+        ensures left { HasLeft stage arrival self.old self.new }
+        ensures trim { IsTrim self.old → IsTrim self.new }
     {
         match stage {
             Stage::Waiting(leader) => self.remove(leader, arrival),
@@ -62,6 +65,7 @@ impl WaitIndex {
     pub(crate) fn take(&mut self, id: u64) -> Option<BTreeSet<u64>>
         ensures all { HasAll result id self.old }
         ensures emptied { IsEmptied id self.old self.new }
+        ensures trim { IsTrim self.old → IsTrim self.new }
     {
         self.arrivals.remove(&id)
     }
@@ -69,6 +73,7 @@ impl WaitIndex {
     fn insert(&mut self, id: u64, arrival: u64) -> Result<(), AllocError>
         ensures ok { OnOk result (IsEntered (staged.Waiting id) arrival self.old self.new) }
         ensures err { OnErr result (IsSameIndex self.old self.new) }
+        ensures trim { IsTrim self.old → IsTrim self.new }
     {
         if self.insert_beside(id, arrival)? {
             return Ok(());
@@ -83,6 +88,7 @@ impl WaitIndex {
     fn insert_beside(&mut self, id: u64, arrival: u64) -> Result<bool, AllocError>
         ensures ok { IfOk result (λ has. IsEnteredIf has id arrival self.old self.new) }
         ensures err { OnErr result (IsSameIndex self.old self.new) }
+        ensures trim { IsTrim self.old → IsTrim self.new }
     {
         match self.arrivals.get_mut(&id) {
             Some(arrivals) => {
@@ -94,7 +100,8 @@ impl WaitIndex {
     }
 
     fn remove(&mut self, id: u64, arrival: u64)
-        ensures { HasLeft (staged.Waiting id) arrival self.old self.new }
+        ensures left { HasLeft (staged.Waiting id) arrival self.old self.new }
+        ensures trim { IsTrim self.old → IsTrim self.new }
     {
         if self.take_out(id, arrival) {
             self.arrivals.remove(&id);
@@ -105,6 +112,8 @@ impl WaitIndex {
     fn take_out(&mut self, id: u64, arrival: u64) -> bool
         ensures left { HasLeft (staged.Waiting id) arrival self.old self.new }
         ensures last { OnTrue result ((m : ℕ) → waits_in self.new id m ≡ false) }
+        ensures trim_beside { IsTrim self.old → IsTrimBeside id self.new }
+        ensures trim { IsTrim self.old → OnFalse result (IsTrim self.new) }
     {
         match self.arrivals.get_mut(&id) {
             Some(arrivals) => {

@@ -4,16 +4,14 @@ use Rattle.std.specs.BTreeMap.{get}
 use Rattle.std.specs.Map.{values_of}
 use Rattle.proxy_core.specs.declared.exchange.Exchange.{Exchange}
 use Rattle.proxy_core.specs.State.{overtake}
-use Rattle.hx_target.specs.declared.keys.Key.{Key}
-use Rattle.proxy_core.specs.Gets.{gets_in, GetsPass}
-use Rattle.proxy_core.proofs.Gets.{gets-on_all, overtake-asked}
+use Rattle.proxy_core.proofs.Gets.{AllTold, gets-on_all, overtake-asked}
 use Rattle.proxy_core.specs.Waiters.{waits_in}
 use Rattle.proxy_core.specs.Releases.{is_within, ReleasedPass}
 use Rattle.proxy_core.proofs.Releases.{pass-changed, released-overtaken}
-use Rattle.proxy_core.proofs.Waiters.{indexes-on_all, overtake-waits}
+use Rattle.proxy_core.proofs.Waiters.{waiters-on_all, overtake-stage}
 use Rattle.proxy_core.specs.Arrivals.{AreIndexed}
 use Rattle.proxy_core.proofs.ExchangeLists.{overtake-id}
-use Rattle.proxy_core.proofs.Arrivals.{values_on_all}
+use Rattle.proxy_core.proofs.Arrivals.{indexed_on_all, values_on_all}
 use Rattle.proxy_core.proofs.exchanges.Exchanges.overtake.Goals as goal
 
 pub settle-requires : goal.settle-requires
@@ -27,10 +25,15 @@ invariant_of-self c =
     let s = c.self.inside in
     record {
       indexes = subst (λ (zs : List (ℕ × Exchange)). AreIndexed zs (λ id. get nat_cmp s.arrivals id) (waits_in s.waiting)) (sym c.overtake_each.ensures)
-          (indexes-on_all (overtake c.args.key.now) (overtake-id c.args.key.now) (overtake-waits c.args.key.now) s.by_arrival.entries _ _ c.self.invariant.indexes);
-      releases = c.settle.ensures;
-      asking = subst (λ (zs : List (ℕ × Exchange)). (key : Key) → GetsPass key (gets_in s.gets key) zs) (sym c.overtake_each.ensures)
+          (record {
+            ids = indexed_on_all (overtake c.args.key.now) (overtake-id c.args.key.now) s.by_arrival.entries _ c.self.invariant.indexes.ids;
+            waiters = waiters-on_all (overtake c.args.key.now) (overtake-stage c.args.key.now) s.by_arrival.entries s.waiting c.self.invariant.indexes.waiters;
+          });
+      releases = c.settle.ensures.settled;
+      asking = subst (AllTold s.gets) (sym c.overtake_each.ensures)
           (gets-on_all (overtake c.args.key.now) (overtake-asked c.args.key.now) s.by_arrival.entries s.gets c.self.invariant.asking);
+      trim_waits = c.self.invariant.trim_waits;
+      trim_gets = c.self.invariant.trim_gets;
     }
 
 pub returns : goal.returns

@@ -7,15 +7,14 @@ use Rattle.proxy_core.specs.Leading.{waits_for}
 use Rattle.proxy_core.specs.State.{release}
 use Rattle.proxy_core.specs.Arrivals.{on_all, AreIndexed}
 use Rattle.std.specs.BTreeSet.{contains}
-use Rattle.hx_target.specs.declared.keys.Key.{Key}
-use Rattle.proxy_core.specs.Gets.{gets_in, GetsPass}
-use Rattle.proxy_core.proofs.Gets.{gets-on_all, release-asked}
+use Rattle.proxy_core.proofs.Gets.{AllTold, gets-on_all, release-asked}
 use Rattle.proxy_core.specs.Waiters.{waits_in}
 use Rattle.proxy_core.specs.Releases.{is_within, ReleasedPass}
 use Rattle.proxy_core.proofs.Releases.{pass-freed}
 use Rattle.proxy_core.proofs.ExchangeLists.{release-id}
 use Rattle.proxy_core.proofs.Arrivals.{indexed_on_all, values_on_all}
-use Rattle.proxy_core.proofs.Waiters.{none_released, pass-more, waiters-released}
+use Rattle.proxy_core.proofs.Told.{passes}
+use Rattle.proxy_core.proofs.Waiters.{none_released, waiters-released}
 use Rattle.proxy_core.proofs.exchanges.Exchanges.release.Goals as goal
 
 all_released : (q : ℕ) (es : List (ℕ × Exchange)) (xs : List Exchange) → values_of es ≡ xs → values_of (on_all (release q) es) ≡ map (release q) xs
@@ -23,15 +22,15 @@ all_released q es xs h = values_on_all (release q) es ∙ ap (map (release q)) h
 
 pub release_each-requires : goal.release_each-requires
 release_each-requires c =
-    pass-more (λ x. waits_for c.args.leader x.stage) (waits_in c.self.inside.waiting c.args.leader) _ c.self.inside.by_arrival.entries
-    (λ m t. c.in-Some.ensures.all m ∙ t) (c.self.invariant.indexes.waiters c.args.leader)
+    passes (λ x. waits_for c.args.leader x.stage) _ c.self.inside.by_arrival.entries c.self.invariant.indexes.ids.apart
+    (λ m. c.in-Some.ensures.all m ∙ c.self.invariant.indexes.waiters c.args.leader m)
 
 pub settle-requires : goal.settle-requires
 settle-requires c =
     let s = c.self.inside in
     subst (ReleasedPass (is_within c.enter_all.new.self)) (sym c.release_each.ensures)
     (pass-freed c.args.leader (contains nat_cmp c.in-Some.waiting) s.released c.enter_all.new.self s.by_arrival.entries c.enter_all.ensures.widened c.enter_all.ensures.entered
-    (pass-more (λ x. waits_for c.args.leader x.stage) (waits_in s.waiting c.args.leader) _ s.by_arrival.entries (λ m t. c.in-Some.ensures.all m ∙ t) (c.self.invariant.indexes.waiters c.args.leader))
+    (passes (λ x. waits_for c.args.leader x.stage) _ s.by_arrival.entries c.self.invariant.indexes.ids.apart (λ m. c.in-Some.ensures.all m ∙ c.self.invariant.indexes.waiters c.args.leader m))
     c.self.invariant.releases.within)
 
 pub invariant_of-self : goal.invariant_of-self
@@ -44,17 +43,18 @@ invariant_of-self c =
             ids = indexed_on_all (release q) (release-id q) s.by_arrival.entries _ c.self.invariant.indexes.ids;
             waiters = waiters-released q s.by_arrival.entries s.waiting c.take.new.self c.take.ensures.emptied c.self.invariant.indexes.waiters;
           });
-      releases = c.settle.ensures;
-      asking = subst (λ (zs : List (ℕ × Exchange)). (key : Key) → GetsPass key (gets_in s.gets key) zs) (sym c.release_each.ensures)
-          (gets-on_all (release q) (release-asked q) s.by_arrival.entries s.gets c.self.invariant.asking);
+      releases = c.settle.ensures.settled;
+      asking = subst (AllTold s.gets) (sym c.release_each.ensures) (gets-on_all (release q) (release-asked q) s.by_arrival.entries s.gets c.self.invariant.asking);
+      trim_waits = c.take.ensures.trim c.self.invariant.trim_waits;
+      trim_gets = c.self.invariant.trim_gets;
     }
 
 -- none waits for it
 nothing_done : (c : goal.In_default) → on_all (release c.args.leader) c.self.inside.by_arrival.entries ≡ c.self.inside.by_arrival.entries
 nothing_done c =
     none_released c.args.leader c.self.inside.by_arrival.entries
-    (pass-more (λ x. waits_for c.args.leader x.stage) (waits_in c.self.inside.waiting c.args.leader) (λ n. false) c.self.inside.by_arrival.entries
-    (λ m t. c.in_default.ensures.all m ∙ t) (c.self.invariant.indexes.waiters c.args.leader))
+    (passes (λ x. waits_for c.args.leader x.stage) (λ n. false) c.self.inside.by_arrival.entries c.self.invariant.indexes.ids.apart
+    (λ m. c.in_default.ensures.all m ∙ c.self.invariant.indexes.waiters c.args.leader m))
 
 pub invariant_of-self-in_default : goal.invariant_of-self-in_default
 invariant_of-self-in_default c =
@@ -68,6 +68,8 @@ invariant_of-self-in_default c =
           });
       releases = c.self.invariant.releases;
       asking = c.self.invariant.asking;
+      trim_waits = c.take.ensures.trim c.self.invariant.trim_waits;
+      trim_gets = c.self.invariant.trim_gets;
     }
 
 pub returns-in-Some : goal.returns-in-Some

@@ -5,16 +5,15 @@ use Rattle.std.specs.BTreeMap.{get}
 use Rattle.std.specs.Map.{values_of}
 use Rattle.proxy_core.specs.declared.exchange.Exchange.{Exchange}
 use Rattle.proxy_core.specs.State.{sent_out}
-use Rattle.hx_target.specs.declared.keys.Key.{Key}
-use Rattle.proxy_core.specs.Gets.{gets_in, GetsPass}
+use Rattle.proxy_core.specs.Leading.{is_forwarded}
+use Rattle.proxy_core.proofs.Gets as gets
 use Rattle.proxy_core.proofs.Gets.{gets-on_all, sent_out-asked}
-use Rattle.proxy_core.specs.Waiters.{waits_in}
 use Rattle.proxy_core.specs.Releases.{is_within, ReleasedPass}
 use Rattle.proxy_core.proofs.Releases.{pass-changed, released-sent}
-use Rattle.proxy_core.proofs.Waiters.{indexes-on_all, sent_out-waits}
-use Rattle.proxy_core.specs.Arrivals.{on_all, AreIndexed, arrival_of}
+use Rattle.proxy_core.proofs.Waiters.{AllTold, waiters-written}
+use Rattle.proxy_core.specs.Arrivals.{on_all, IsIndexed, arrival_of}
 use Rattle.proxy_core.proofs.ExchangeLists.{sent_out-id}
-use Rattle.proxy_core.proofs.Arrivals.{values_on_all, sent_out-others, sent_written, same_all, has_number}
+use Rattle.proxy_core.proofs.Arrivals.{indexed_on_all, values_on_all, sent_out-others, sent_written, same_all, has_number}
 use Rattle.proxy_core.proofs.exchanges.Exchanges.send_out.Goals as goal
 
 pub settle-requires : goal.settle-requires
@@ -35,11 +34,17 @@ invariant_of-self c =
     ∙ sent_written c.args.id c.args.now c.args.rule c.args.condition c.in-Some.arrival.now c.in-Some-get_mut.x.now c.go_out.new.self c.self.inside.by_arrival.entries (λ id. get nat_cmp c.self.inside.arrivals id) c.self.invariant.indexes.ids
     c.in-Some.ensures.value c.in-Some-get_mut.ensures.value c.go_out.ensures in
     record {
-      indexes = subst (λ (zs : List (ℕ × Exchange)). AreIndexed zs (λ id. get nat_cmp s.arrivals id) (waits_in s.waiting)) (sym is)
-          (indexes-on_all (sent_out c.args.id c.args.now c.args.rule c.args.condition) (sent_out-id c.args.id c.args.now c.args.rule c.args.condition) (sent_out-waits c.args.id c.args.now c.args.rule c.args.condition) s.by_arrival.entries _ _ c.self.invariant.indexes);
-      releases = c.settle.ensures;
-      asking = subst (λ (zs : List (ℕ × Exchange)). (key : Key) → GetsPass key (gets_in s.gets key) zs) (sym is)
-          (gets-on_all (sent_out c.args.id c.args.now c.args.rule c.args.condition) (sent_out-asked c.args.id c.args.now c.args.rule c.args.condition) s.by_arrival.entries s.gets c.self.invariant.asking);
+      indexes = record {
+        ids = subst (λ (zs : List (ℕ × Exchange)). IsIndexed zs (λ id. get nat_cmp s.arrivals id)) (sym is)
+            (indexed_on_all (sent_out c.args.id c.args.now c.args.rule c.args.condition) (sent_out-id c.args.id c.args.now c.args.rule c.args.condition) s.by_arrival.entries _ c.self.invariant.indexes.ids);
+        waiters = subst (AllTold c.leave.new.self) (sym (c.get_mut.follows.holds c.go_out.new.self).0)
+            (waiters-written c.in-Some.arrival.now c.in-Some-get_mut.x.now c.go_out.new.self s.by_arrival.entries s.waiting c.leave.new.self (sym c.in-Some-get_mut.ensures.value)
+            (ap (λ (x : Exchange). is_forwarded x.stage) c.go_out.ensures) c.leave.ensures.left c.self.invariant.indexes.waiters);
+      };
+      releases = c.settle.ensures.settled;
+      asking = subst (gets.AllTold s.gets) (sym is) (gets-on_all (sent_out c.args.id c.args.now c.args.rule c.args.condition) (sent_out-asked c.args.id c.args.now c.args.rule c.args.condition) s.by_arrival.entries s.gets c.self.invariant.asking);
+      trim_waits = c.leave.ensures.trim c.self.invariant.trim_waits;
+      trim_gets = c.self.invariant.trim_gets;
     }
 
 pub returns-in-Some-get_mut : goal.returns-in-Some-get_mut
