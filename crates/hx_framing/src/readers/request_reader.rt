@@ -1,9 +1,9 @@
 //! A reader of the requests of a connection. What it answers is said in `specs/RequestStream.antt`, of every
 //! stream that it stands for (`specs/RequestState.antt`).
-ghost use Rattle.std.specs.Prelude.{◌≡◌, ◌+◌, ◌*◌, ◌≤◌, false, IsOk, IfOk, OnOk, OnErr, length};
+ghost use Rattle.std.specs.Prelude.{◌≡◌, ◌+◌, ◌*◌, ◌≤◌, [], true, false, IsOk, IfOk, OnOk, OnErr, length};
 ghost use Rattle.hx_framing.specs.declared.messages.Request.{Request};
 ghost use Rattle.hx_framing.specs.Progress.{Progress, start, fed, finished, moved, cost};
-ghost use Rattle.hx_framing.specs.RequestStream.{Answers, NeedsMemory};
+ghost use Rattle.hx_framing.specs.RequestStream.{Answers, NeedsMemory, StreamSpells};
 
 use crate::contents::content::{Content, ContentProgress};
 use crate::fault::FrameFault;
@@ -155,6 +155,17 @@ impl RequestReader {
         ensures { result ≡ length (kept self.now) }
     {
         self.unread.len()
+    }
+
+    /// Whether each byte of the stream belongs to a request that was given: nothing of a next one has come.
+    pub fn is_between_requests(&self) -> bool
+        ensures { (p : Progress Request) → StandsFor self.now p → result ≡ true → StreamSpells p.max_body p.stream p.given [] }
+    {
+        match &self.phase {
+            RequestPhase::BeforeHead => self.unread.len() == 0,
+            RequestPhase::InContent(_, _) => false,
+            RequestPhase::Faulty(_) => false,
+        }
     }
 
     /// What is due before a head.
