@@ -2,7 +2,9 @@
 --
 -- is_open, is_read: of a connection    places_with: where a list has what is asked for
 -- ends_read, failed_links, open_count, next_connection: of a story
-use Rattle.std.specs.Prelude.{ℕ, ◌+◌, ◌^◌, List, [], ◌∷◌, ◌++◌, map, length, Bool, ◌&&◌, ◌||◌, not, nat_lt, Option, None, Some, is_some, if◌then◌else◌}
+-- IsBetween: a client is between two requests
+use Rattle.std.specs.Prelude.{◌≡◌, ℕ, ◌+◌, ◌^◌, List, [], ◌∷◌, ◌++◌, map, length, Bool, true, ◌&&◌, ◌||◌, not, nat_lt, Option, None, Some, is_some, if◌then◌else◌}
+use Rattle.hx_framing.specs.RequestStream.{StreamSpells}
 use Rattle.proxy_engine.specs.Activities.{has_exchange}
 use Rattle.proxy_engine.specs.Story.{Story, ConnStory, LinkStory, keeps_bytes, keeps_answer}
 use Rattle.proxy_engine.specs.declared.happening.End.{End}
@@ -45,3 +47,8 @@ open_count s = length (places_with is_open 0 s.connections)
 -- the number of the next connection, if one is left
 abbrev pub next_connection : Story → Option ℕ
 next_connection s = if nat_lt (length s.connections + 1) (2 ^ 64) then Some (length s.connections + 1) else None
+
+-- it is between two requests: it may send one, and each byte that it has sent belongs to a request that was used
+pub record IsBetween (c : ConnStory) : Type 0 where
+  pub read : is_read c ≡ true
+  pub used : StreamSpells c.progress.max_body c.progress.stream c.progress.given []

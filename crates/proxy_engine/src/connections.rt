@@ -4,7 +4,7 @@ ghost use Rattle.std.specs.Option.{option_copied_mut};
 ghost use Rattle.std.specs.Borrow.{LendsIf, sem};
 ghost use Rattle.proxy_engine.specs.Story.{ConnStory, no_connection};
 ghost use Rattle.proxy_engine.specs.Due.{IsFirst, Lost};
-ghost use Rattle.proxy_engine.specs.Reading.{places_with, is_open, is_read, client_end};
+ghost use Rattle.proxy_engine.specs.Reading.{places_with, is_open, is_read, client_end, IsBetween};
 ghost use Rattle.proxy_engine.specs.Room.{IsRoomy, piece};
 ghost use Rattle.proxy_engine.specs.Activities.{link_of, has_exchange};
 ghost use Rattle.proxy_engine.specs.Wiring.{activity_at, activity_of, activities_of};
@@ -89,6 +89,19 @@ impl Connections {
         }
     }
 
+    /// Whether the client at a place is between two requests.
+    pub(crate) fn is_between(&self, i: u64) -> bool
+        ensures { (ss : List ConnStory) → Both ConnStands self.now.items ss → result ≡ true → IsBetween (slice_index_or ss i no_connection) }
+    {
+        if i >= self.count {
+            return false;
+        }
+        match self.ends.get(&i) {
+            Some(connection) => reading::is_between(connection),
+            None => false,
+        }
+    }
+
     /// The connection at a place, to be changed, if it isn't over. Something may be due there afterwards.
     pub(crate) fn at_mut(&mut self, i: u64) -> Option<&mut Connection>
         requires { i < length self.old.items }
@@ -115,9 +128,8 @@ impl Connections {
         if self.ends.contains_key(&place) {
             return Ok(());
         }
-        let open = self.ends.len() + 1;
-        self.lost.reserve_for(open)?;
-        self.waiting.reserve_for(open)?;
+        self.lost.reserve_beside(&self.ends)?;
+        self.waiting.reserve_beside(&self.ends)?;
         let empty = Connection {
             reader: Peeked::new(RequestReader::new(alloc, 0)),
             ended: false,

@@ -1,8 +1,8 @@
 //! The engine: connections of clients, links to origins, and the core between them.
-ghost use Rattle.std.specs.Prelude.{◌≡◌, ◌≢◌, ◌<◌, ◌≤◌, [], IfOk, IfErr, OnOk, OnErr, Some, Err, true};
-ghost use Rattle.proxy_engine.specs.Story.{Story, keeps};
+ghost use Rattle.std.specs.Prelude.{◌≡◌, ◌≢◌, ◌<◌, ◌≤◌, ◌-◌, [], IfOk, IfErr, OnOk, OnErr, Some, Err, true};
+ghost use Rattle.proxy_engine.specs.Story.{Story, connection_at, keeps};
 ghost use Rattle.proxy_engine.specs.Happenings.{said, takes_memory};
-ghost use Rattle.proxy_engine.specs.Reading.{ends_read, failed_links, open_count, next_connection};
+ghost use Rattle.proxy_engine.specs.Reading.{ends_read, failed_links, open_count, next_connection, IsBetween};
 ghost use Rattle.proxy_engine.specs.Room.{Finds, HasRoom};
 ghost use Rattle.proxy_engine.specs.State.{State, Stands, Takes, TakeFault, begun};
 
@@ -130,6 +130,15 @@ impl<S: Shelf> Engine<S> {
         ensures { (s : Story) → Stands self.now s → result ≡ open_count s }
     {
         self.ends.connections.open_count()
+    }
+
+    /// Whether a client is between two requests: it is open, has no open exchange, its input hasn't ended, and each byte that it
+    /// has sent belongs to a request that was used. So nothing is lost where it is taken as gone, and its stream goes on under
+    /// another number.
+    pub fn is_between_requests(&self, n: u64) -> bool
+        ensures { (s : Story) → Stands self.now s → result ≡ true → IsBetween (connection_at s (n - 1)) }
+    {
+        self.ends.connections.is_between(n.saturating_sub(1))
     }
 
     /// The ends from which bytes may come: each link that isn't dropped, failed or shut, then each open client without

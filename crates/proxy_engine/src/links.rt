@@ -98,7 +98,7 @@ impl Links {
         if self.ends.contains_key(&place) {
             return Ok(());
         }
-        self.stirred.reserve_for(self.ends.len() + 1)?;
+        self.stirred.reserve_beside(&self.ends)?;
         let empty = Link {
             reader: Peeked::new(ResponseReader::new(alloc, 0, false)),
             ended: false,

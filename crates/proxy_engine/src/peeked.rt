@@ -1,16 +1,18 @@
 //! A reader that is asked ahead: its answer is kept until it is used, so that no act reads bytes twice, and a message that finds
 //! no memory on its way isn't lost.
-ghost use Rattle.std.specs.Prelude.{◌≡◌, ◌+◌, ◌*◌, ◌≤◌, length, true, false, IsOk, OnOk, OnErr, IfSome, is_some};
+ghost use Rattle.std.specs.Prelude.{◌≡◌, ◌+◌, ◌*◌, ◌≤◌, [], length, true, false, IsOk, OnOk, OnErr, IfSome, is_some};
 ghost use Rattle.hx_framing.specs.Progress.{Progress, fed, finished, moved};
 ghost use Rattle.hx_framing.specs.declared.messages.Next.{Next};
 ghost use Rattle.hx_framing.specs.declared.messages.Next.TheVariants as next;
 ghost use Rattle.proxy_engine.specs.Lookahead.{Shows, is_due, known, unsettled};
-ghost use Rattle.proxy_engine.specs.Peeked.{Stands, load};
+ghost use Rattle.hx_framing.specs.declared.messages.Request.{Request};
+ghost use Rattle.hx_framing.specs.RequestStream.{StreamSpells};
+ghost use Rattle.proxy_engine.specs.Peeked.{Stands, RequestStands, load};
 ghost use Rattle.proxy_engine.specs.Spent.{is_unknown};
 
 use crate::lookahead::Lookahead;
 use crate::readers::Reader;
-use hx_framing::Next;
+use hx_framing::{Next, RequestReader};
 use std::alloc::{AllocError, Global};
 
 /// A reader whose next answer is kept until it is used.
@@ -104,5 +106,18 @@ impl<R: Reader> Peeked<R> {
         ensures load { load R.weight self.new + known self.old.ahead ≤ load R.weight self.old }
     {
         self.ahead = Lookahead::Unknown;
+    }
+}
+
+impl Peeked<RequestReader> {
+    /// Whether each byte of the stream belongs to a request that was used.
+    pub(crate) fn is_between_requests(&self) -> bool
+        ensures { (p : Progress Request) → RequestStands self.now p → result ≡ true → StreamSpells p.max_body p.stream p.given [] }
+    {
+        match self.ahead {
+            Lookahead::Unknown => self.inner.is_between_requests(),
+            Lookahead::Quiet => self.inner.is_between_requests(),
+            Lookahead::Due(_) => false,
+        }
     }
 }

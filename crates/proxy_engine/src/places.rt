@@ -1,8 +1,9 @@
 //! Places at which something may be due: none is there twice, and the least is at hand.
-ghost use Rattle.std.specs.Prelude.{◌≡◌, ◌≢◌, ◌⊎◌, ℕ, ◌-◌, ◌<◌, ◌≤◌, [], length, Contains, IfSome, IfNone, IfOk, IfErr, OnOk, slice_index_or};
+ghost use Rattle.std.specs.Prelude.{◌≡◌, ◌≢◌, ◌⊎◌, ℕ, ◌+◌, ◌*◌, ◌-◌, ◌<◌, ◌≤◌, max, [], length, Contains, IfSome, IfNone, IfOk, IfErr, OnOk, slice_index_or};
 ghost use Rattle.proxy_engine.specs.Places.{Falls, IsBehind, IsLeast};
 
 use std::alloc::{AllocError, Global};
+use std::collections::BTreeMap;
 use std::marker::Model;
 
 /// Places, the greatest first. Where room was made, no memory is taken to add one.
@@ -47,14 +48,20 @@ impl Places {
         }
     }
 
-    /// Makes room for so many places.
-    pub(crate) fn reserve_for(&mut self, count: usize) -> Result<(), AllocError>
+    /// Makes room for the places of what is open and of one more: for twice as many, where there is less. So the room goes
+    /// by how many were open at a time, and not by how many ever were.
+    pub(crate) fn reserve_beside<T>(&mut self, open: &BTreeMap<u64, T>) -> Result<(), AllocError>
         ensures places { self.new.places ≡ self.old.places }
         ensures room { self.old.room ≤ self.new.room }
-        ensures ok { OnOk result (count ≤ self.new.room) }
+        ensures ok { OnOk result (length open.now.entries + 1 ≤ self.new.room) }
+        ensures most { self.new.room ≤ max self.old.room (2 * (length open.now.entries + 1)) }
     {
-        let missing = count.saturating_sub(self.items.len());
-        self.items.reserve(missing)
+        let wanted = open.len() + 1;
+        if wanted <= self.items.capacity() {
+            return Ok(());
+        }
+        let missing = wanted.saturating_mul(2).saturating_sub(self.items.len());
+        self.items.reserve_exact(missing)
     }
 
     /// Adds a place, if it isn't there.

@@ -1,11 +1,13 @@
 //! The ends that are open, one after another: from which of them bytes may come, and which have failed.
-ghost use Rattle.std.specs.Prelude.{◌≡◌, ◌≢◌, ℕ, ◌+◌, ◌≤◌, ◌^◌, ◌++◌, length, map, OnOk, OnErr};
+ghost use Rattle.std.specs.Prelude.{◌≡◌, ◌≢◌, ℕ, ◌+◌, ◌≤◌, ◌^◌, ◌++◌, length, map, true, OnOk, OnErr};
 ghost use Rattle.std.specs.Ordering.{nat_cmp};
 ghost use Rattle.std.specs.BTreeMap.{get};
 ghost use Rattle.proxy_engine.specs.Held.{flagged, connection_reads, connection_is_open, link_reads, link_failed};
 ghost use Rattle.proxy_engine.specs.Marked.{AtEach};
 ghost use Rattle.proxy_engine.specs.Places.{listed};
-ghost use Rattle.proxy_engine.specs.Reading.{places_with, client_end, link_end};
+ghost use Rattle.proxy_engine.specs.Reading.{places_with, client_end, link_end, IsBetween};
+ghost use Rattle.proxy_engine.specs.State.{ConnHolds};
+ghost use Rattle.proxy_engine.specs.Story.{ConnStory};
 ghost use Rattle.proxy_engine.specs.Room.{HasSpare, piece};
 
 use crate::endpoint::Endpoint;
@@ -22,6 +24,13 @@ fn reads(connection: &Connection) -> bool
     ensures { result ≡ connection_reads connection.now }
 {
     !connection.gone && !connection.ended && !connection.activity.has_exchange()
+}
+
+/// Whether the client is between two requests.
+pub(crate) fn is_between(connection: &Connection) -> bool
+    ensures { (c : ConnStory) → ConnHolds connection.now c → result ≡ true → IsBetween c }
+{
+    reads(connection) && connection.reader.is_between_requests()
 }
 
 /// Whether bytes may come from the origin.

@@ -8,26 +8,26 @@ use Rattle.proxy_engine.proofs.connections.Connections.reserve_one.Goals as goal
 
 pub invariant_of-self : goal.invariant_of-self
 invariant_of-self c = (
-  marked_room may_be_lost c.self.inside.ends c.self.inside.ends c.self.inside.lost c.reserve_for.new.self c.self.invariant.0 refl c.reserve_for.ensures.places c.reserve_for.ensures.room,
-  below_same c.self.inside.count _ _ c.self.invariant.1 c.reserve_for.ensures.places,
+  marked_room may_be_lost c.self.inside.ends c.self.inside.ends c.self.inside.lost c.reserve_beside.new.self c.self.invariant.0 refl c.reserve_beside.ensures.places c.reserve_beside.ensures.room,
+  below_same c.self.inside.count _ _ c.self.invariant.1 c.reserve_beside.ensures.places,
   c.self.invariant.2,
   c.self.invariant.3,
 )
 
-pub invariant_of-self-in_err-reserve_for-2 : goal.invariant_of-self-in_err-reserve_for-2
-invariant_of-self-in_err-reserve_for-2 c = (
-  marked_room may_be_lost c.self.inside.ends c.self.inside.ends c.self.inside.lost c.reserve_for.new.self c.self.invariant.0 refl c.reserve_for.ensures.places c.reserve_for.ensures.room,
-  below_same c.self.inside.count _ _ c.self.invariant.1 c.reserve_for.ensures.places,
-  marked_room may_want c.self.inside.ends c.self.inside.ends c.self.inside.waiting c.reserve_for-2.new.self c.self.invariant.2 refl c.reserve_for-2.ensures.places c.reserve_for-2.ensures.room,
-  below_same c.self.inside.count _ _ c.self.invariant.3 c.reserve_for-2.ensures.places,
+pub invariant_of-self-in_err-reserve_beside-2 : goal.invariant_of-self-in_err-reserve_beside-2
+invariant_of-self-in_err-reserve_beside-2 c = (
+  marked_room may_be_lost c.self.inside.ends c.self.inside.ends c.self.inside.lost c.reserve_beside.new.self c.self.invariant.0 refl c.reserve_beside.ensures.places c.reserve_beside.ensures.room,
+  below_same c.self.inside.count _ _ c.self.invariant.1 c.reserve_beside.ensures.places,
+  marked_room may_want c.self.inside.ends c.self.inside.ends c.self.inside.waiting c.reserve_beside-2.new.self c.self.invariant.2 refl c.reserve_beside-2.ensures.places c.reserve_beside-2.ensures.room,
+  below_same c.self.inside.count _ _ c.self.invariant.3 c.reserve_beside-2.ensures.places,
 )
 
 pub invariant_of-self-in_err-insert : goal.invariant_of-self-in_err-insert
 invariant_of-self-in_err-insert c = (
-  marked_room may_be_lost c.self.inside.ends c.insert.new.self c.self.inside.lost c.reserve_for.new.self c.self.invariant.0 c.in_err-insert.ensures.err c.reserve_for.ensures.places c.reserve_for.ensures.room,
-  below_same c.self.inside.count _ _ c.self.invariant.1 c.reserve_for.ensures.places,
-  marked_room may_want c.self.inside.ends c.insert.new.self c.self.inside.waiting c.reserve_for-2.new.self c.self.invariant.2 c.in_err-insert.ensures.err c.reserve_for-2.ensures.places c.reserve_for-2.ensures.room,
-  below_same c.self.inside.count _ _ c.self.invariant.3 c.reserve_for-2.ensures.places,
+  marked_room may_be_lost c.self.inside.ends c.insert.new.self c.self.inside.lost c.reserve_beside.new.self c.self.invariant.0 c.in_err-insert.ensures.err c.reserve_beside.ensures.places c.reserve_beside.ensures.room,
+  below_same c.self.inside.count _ _ c.self.invariant.1 c.reserve_beside.ensures.places,
+  marked_room may_want c.self.inside.ends c.insert.new.self c.self.inside.waiting c.reserve_beside-2.new.self c.self.invariant.2 c.in_err-insert.ensures.err c.reserve_beside-2.ensures.places c.reserve_beside-2.ensures.room,
+  below_same c.self.inside.count _ _ c.self.invariant.3 c.reserve_beside-2.ensures.places,
 )
 
 pub invariant_of-self-2 : goal.invariant_of-self-2
@@ -35,12 +35,12 @@ invariant_of-self-2 c =
     let n = c.self.inside.count in
     let updates = c.in_ok-insert.ensures.updates in
     let size = one_more _ _ _ c.in_ok-insert.ensures.len in (
-      marked_spare may_be_lost c.self.inside.ends c.insert.new.self c.self.inside.lost c.reserve_for.new.self n _ c.self.invariant.0 (λ q other. updates.2 q (elsewhere n q other)) updates.1 refl
-          (omega (arith, size, c.in_ok-reserve_for.ensures.ok, c.len-open.ensures.len)) c.reserve_for.ensures.places,
-      below_same n _ _ c.self.invariant.1 c.reserve_for.ensures.places,
-      marked_spare may_want c.self.inside.ends c.insert.new.self c.self.inside.waiting c.reserve_for-2.new.self n _ c.self.invariant.2 (λ q other. updates.2 q (elsewhere n q other)) updates.1 refl
-          (omega (arith, size, c.in_ok-reserve_for-2.ensures.ok, c.len-open.ensures.len)) c.reserve_for-2.ensures.places,
-      below_same n _ _ c.self.invariant.3 c.reserve_for-2.ensures.places,
+      marked_spare may_be_lost c.self.inside.ends c.insert.new.self c.self.inside.lost c.reserve_beside.new.self n _ c.self.invariant.0 (λ q other. updates.2 q (elsewhere n q other)) updates.1 refl
+          (omega (arith, size, c.in_ok-reserve_beside.ensures.ok)) c.reserve_beside.ensures.places,
+      below_same n _ _ c.self.invariant.1 c.reserve_beside.ensures.places,
+      marked_spare may_want c.self.inside.ends c.insert.new.self c.self.inside.waiting c.reserve_beside-2.new.self n _ c.self.invariant.2 (λ q other. updates.2 q (elsewhere n q other)) updates.1 refl
+          (omega (arith, size, c.in_ok-reserve_beside-2.ensures.ok)) c.reserve_beside-2.ensures.places,
+      below_same n _ _ c.self.invariant.3 c.reserve_beside-2.ensures.places,
     )
 
 pub returns-clause-items : goal.returns-clause-items

@@ -10,14 +10,14 @@ use Rattle.proxy_engine.proofs.links.Links.reserve_one.Goals as goal
 
 pub invariant_of-self : goal.invariant_of-self
 invariant_of-self c = (
-  marked_room may_stand c.self.inside.ends c.self.inside.ends c.self.inside.stirred c.reserve_for.new.self c.self.invariant.0 refl c.reserve_for.ensures.places c.reserve_for.ensures.room,
-  below_same c.self.inside.count _ _ c.self.invariant.1 c.reserve_for.ensures.places,
+  marked_room may_stand c.self.inside.ends c.self.inside.ends c.self.inside.stirred c.reserve_beside.new.self c.self.invariant.0 refl c.reserve_beside.ensures.places c.reserve_beside.ensures.room,
+  below_same c.self.inside.count _ _ c.self.invariant.1 c.reserve_beside.ensures.places,
 )
 
 pub invariant_of-self-in_err-insert : goal.invariant_of-self-in_err-insert
 invariant_of-self-in_err-insert c = (
-  marked_room may_stand c.self.inside.ends c.insert.new.self c.self.inside.stirred c.reserve_for.new.self c.self.invariant.0 c.in_err-insert.ensures.err c.reserve_for.ensures.places c.reserve_for.ensures.room,
-  below_same c.self.inside.count _ _ c.self.invariant.1 c.reserve_for.ensures.places,
+  marked_room may_stand c.self.inside.ends c.insert.new.self c.self.inside.stirred c.reserve_beside.new.self c.self.invariant.0 c.in_err-insert.ensures.err c.reserve_beside.ensures.places c.reserve_beside.ensures.room,
+  below_same c.self.inside.count _ _ c.self.invariant.1 c.reserve_beside.ensures.places,
 )
 
 pub invariant_of-self-2 : goal.invariant_of-self-2
@@ -25,9 +25,9 @@ invariant_of-self-2 c =
     let n = c.self.inside.count in
     let updates = c.in_ok-insert.ensures.updates in
     let size = one_more _ _ _ c.in_ok-insert.ensures.len in (
-      marked_spare may_stand c.self.inside.ends c.insert.new.self c.self.inside.stirred c.reserve_for.new.self n _ c.self.invariant.0 (λ q other. updates.2 q (elsewhere n q other)) updates.1 (ap (λ (l : Lookahead Response). may_show l || false) c.new-2.ensures.quiet)
-          (omega (arith, size, c.in_ok-reserve_for.ensures.ok, c.len.ensures.len)) c.reserve_for.ensures.places,
-      below_same n _ _ c.self.invariant.1 c.reserve_for.ensures.places,
+      marked_spare may_stand c.self.inside.ends c.insert.new.self c.self.inside.stirred c.reserve_beside.new.self n _ c.self.invariant.0 (λ q other. updates.2 q (elsewhere n q other)) updates.1 (ap (λ (l : Lookahead Response). may_show l || false) c.new-2.ensures.quiet)
+          (omega (arith, size, c.in_ok-reserve_beside.ensures.ok)) c.reserve_beside.ensures.places,
+      below_same n _ _ c.self.invariant.1 c.reserve_beside.ensures.places,
     )
 
 pub returns-clause-items : goal.returns-clause-items
