@@ -5,11 +5,14 @@ use hx_framing::{Next, Request, RequestReader};
 use hx_target::{Target, read_target};
 use itoa::Buffer;
 use std::alloc::{AllocError, Global};
+use std::collections::VecDeque;
 
 /// The stream of one client, as far as it was answered.
 #[derive(Drop)]
 pub struct Asked {
     reader: RequestReader,
+    /// The requests that have come whole and weren't answered, the oldest first. Their contents aren't kept.
+    questions: VecDeque<Question>,
     /// A piece was lost for want of memory: what follows can't be read.
     lost: bool,
 }
@@ -55,30 +58,43 @@ impl Asked {
     pub fn new(alloc: Global, max_body: u64) -> Asked {
         Asked {
             reader: RequestReader::new(alloc, max_body),
+            questions: VecDeque::new(alloc),
             lost: false,
         }
     }
 
     /// Takes the next piece of the stream.
-    pub fn hear(&mut self, piece: &[u8]) {
-        if self.reader.feed(piece).is_err() {
+    pub fn hear(&mut self, alloc: Global, piece: &[u8]) {
+        if self.lost {
+            return;
+        }
+        if self.take(alloc, piece).is_err() {
             self.lost = true;
         }
     }
 
-    /// What the next reply answers: the replies of a connection are in the order of its requests.
-    pub fn next_question(&mut self, alloc: Global) -> Result<Question, AllocError> {
-        if self.lost {
-            return Ok(no_question(alloc));
-        }
-        for _answer in 0..2 {
+    /// Keeps what the requests ask for that are whole with this piece.
+    fn take(&mut self, alloc: Global, piece: &[u8]) -> Result<(), AllocError> {
+        self.reader.feed(piece)?;
+        for _request in 0..u64::MAX {
             match self.reader.next(alloc)? {
-                Next::Message(request) => return question_of(alloc, &request),
-                // The interim response has gone out; the request follows.
+                Next::Message(request) => {
+                    let question = question_of(alloc, &request)?;
+                    self.questions.push_back(question)?;
+                }
+                // The interim response goes out; the request follows.
                 Next::NeedsContinue => {}
-                _ => return Ok(no_question(alloc)),
+                _ => return Ok(()),
             }
         }
-        Ok(no_question(alloc))
+        Ok(())
+    }
+
+    /// What the next reply answers: the replies of a connection are in the order of its requests.
+    pub fn next_question(&mut self, alloc: Global) -> Question {
+        match self.questions.pop_front() {
+            Some(question) => question,
+            None => no_question(alloc),
+        }
     }
 }
