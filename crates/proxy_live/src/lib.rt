@@ -6,16 +6,23 @@
 //! Where a log is kept, the sockets note each reply behind its write; who serves writes the lines between the turns.
 #![tactic(auto)]
 
+mod client;
+mod clients;
 mod closing;
+mod early;
 mod fault_texts;
+mod limits;
+mod lines;
+mod links;
 mod live_sockets;
+mod patience;
 mod peer;
-mod peers;
 mod recorder;
 mod recording;
 mod server;
 
-pub use crate::live_sockets::{LiveSockets, Silence};
+pub use crate::limits::Limits;
+pub use crate::live_sockets::LiveSockets;
 pub use crate::recorder::{RecordFault, Recorder};
 pub use crate::recording::Recording;
 pub use crate::server::{ServeFault, Server, Turned};

@@ -3,9 +3,10 @@ ghost use Rattle.std.specs.Prelude.{◌≡◌, ◌≤◌, length, IfOk};
 ghost use Rattle.proxy_turn.specs.Counts.{IsRise, failed};
 ghost use Rattle.proxy_turn.specs.Received.{IsReceived};
 
-use crate::closing::Closing;
+use crate::clients::Clients;
+use crate::limits::{Limits, SHARE};
+use crate::links::{Link, Links};
 use crate::peer::Peer;
-use crate::peers::Peers;
 use hx_status::FailKind;
 use mio::event::Event;
 use mio::net::{TcpListener, TcpStream};
@@ -22,23 +23,23 @@ use std::{io, str};
 const MOST_EVENTS: usize = 1024;
 
 /// The longest wait, in milliseconds: what has had its time is looked for once a second.
-const TICK: u64 = 1000;
+const TICK: u64 = SECOND;
 
-/// What a token stands for: a number times 4, and one of these.
+/// Milliseconds of a second.
+const SECOND: u64 = 1000;
+
+/// The most connections that are taken between two turns.
+const MOST_TAKEN: usize = 64;
+
+/// The most connections that are taken once no more are to come.
+const MOST_WAITING: usize = 65_536;
+
+/// What a token stands for: a key or a number times 4, and one of these.
 const CLIENT: usize = 0;
 
 const LINK: usize = 1;
 
 const LISTENER: usize = 2;
-
-/// After how many seconds without a byte an end counts as lost.
-#[derive(Clone, Copy, Debug, PartialEq, Eq)]
-pub struct Silence {
-    /// A link to an origin.
-    pub origin: u64,
-    /// A client without an exchange of its own.
-    pub client: u64,
-}
 
 /// A listener, its clients and the links to origins. No call waits but `wait`.
 #[derive(Drop)]
@@ -47,32 +48,33 @@ pub struct LiveSockets<'a, R: Net> {
     alloc: Global,
     poll: Poll,
     events: Events,
-    listener: TcpListener,
-    /// A connection may wait to be accepted.
+    /// No more connections are taken where it is gone.
+    listener: Option<TcpListener>,
+    address: SocketAddr,
+    /// A connection may wait to be taken.
     acceptable: bool,
-    clients: Peers,
-    links: Peers,
-    closing: Closing,
-    /// Ends that failed since the last turn, and how.
-    lost: Vec<(End, FailKind)>,
-    silence: Silence,
+    clients: Clients,
+    links: Links,
+    /// Links that failed since the last turn, and how.
+    lost: Vec<(u64, FailKind)>,
+    limits: Limits,
     /// Lines about replies, where a log is kept.
     log: Option<Lines>,
-    /// The most bytes of a content, for who reads for the log.
-    max_body: u64,
     /// The moment of the turn, for the log.
     moment: u64,
     /// Something may be left to be read that no event will tell of.
     more: bool,
-    /// Seconds of the clock that never goes back, at the last wait.
+    /// How many clients have given something in this turn.
+    given: usize,
+    /// Milliseconds of the clock that never goes back, at the last wait.
     now: u64,
     accepts: u64,
     reads: u64,
     failures: u64,
 }
 
-fn token_of(kind: usize, number: u64) -> Token {
-    Token((number as usize).wrapping_mul(4).wrapping_add(kind))
+fn token_of(kind: usize, key: usize) -> Token {
+    Token(key.wrapping_mul(4).wrapping_add(kind))
 }
 
 fn address_of(text: &[u8]) -> Option<SocketAddr> {
@@ -80,6 +82,11 @@ fn address_of(text: &[u8]) -> Option<SocketAddr> {
         Ok(text) => text.parse::<SocketAddr>().ok(),
         Err(_) => None,
     }
+}
+
+/// Whether a call failed since the process, or the system, has no descriptor left (ENFILE and EMFILE).
+fn wants_descriptors(error: &io::Error) -> bool {
+    matches!(error.raw_os_error(), Some(23 | 24))
 }
 
 /// Begins a connection to an origin. A refusal near by is known at once.
@@ -90,23 +97,23 @@ fn begin_link<R: Net>(
     l: u64,
     address: &[u8],
     now: u64,
-) -> io::Result<Peer> {
+) -> io::Result<Link> {
     let Some(address) = address_of(address) else {
         return Err(io::Error::from(ErrorKind::InvalidInput));
     };
     let stream = TcpStream::connect(net, address)?;
-    let mut peer = Peer::connecting(alloc, l, stream, now);
+    let mut peer = Peer::connecting(alloc, stream, now);
     if let Some(e) = peer.take_error()? {
         return Err(e);
     }
-    peer.register(poll, token_of(LINK, l))?;
-    Ok(peer)
+    peer.register(poll, token_of(LINK, l as usize))?;
+    Ok(Link::new(l, peer, now))
 }
 
-/// Reads from the stream of a number. After a failure it is dropped; of one that isn't there nothing comes.
-fn read_of(
-    peers: &mut Peers,
-    number: u64,
+/// Reads from the link of a number. After a failure it is dropped; of one that isn't there nothing comes.
+fn read_link(
+    links: &mut Links,
+    l: u64,
     buf: &mut [u8],
     now: u64,
     more: &mut bool,
@@ -114,20 +121,21 @@ fn read_of(
     ensures within { IfOk result (IsReceived (length buf.old)) }
     ensures length { length buf.new ≡ length buf.old }
 {
-    let Some(peer) = peers.get_mut(number) else {
+    let Some(link) = links.get_mut(l) else {
         return Ok(Received::Nothing);
     };
-    if let Ok(received) = peer.read(buf, now) {
-        *more = *more || peer.readable;
+    if let Ok(received) = link.peer.read(buf, now) {
+        *more = *more || link.peer.readable;
         return Ok(received);
     }
-    let _ = peers.remove(number);
+    links.remove(l);
     Err(SocketFailed)
 }
 
-/// Reads from a client, but for one that still has to take what was written.
+/// Reads from the client of a number, but for one that still has to take what was written. After a failure its stream is dropped;
+/// of one that isn't there nothing comes.
 fn read_client(
-    clients: &mut Peers,
+    clients: &mut Clients,
     n: u64,
     buf: &mut [u8],
     now: u64,
@@ -136,10 +144,18 @@ fn read_client(
     ensures within { IfOk result (IsReceived (length buf.old)) }
     ensures length { length buf.new ≡ length buf.old }
 {
-    match clients.get(n) {
-        Some(peer) if peer.has_unsent() => Ok(Received::Nothing),
-        _ => read_of(clients, n, buf, now, more),
+    let Some(client) = clients.get_mut(n) else {
+        return Ok(Received::Nothing);
+    };
+    if client.peer.has_unsent() {
+        return Ok(Received::Nothing);
     }
+    if let Ok(received) = client.read(buf, now) {
+        *more = *more || client.may_give();
+        return Ok(received);
+    }
+    clients.forget(n);
+    Err(SocketFailed)
 }
 
 /// Takes what an event told of a link; the answer is an error where its connection couldn't be made.
@@ -158,27 +174,23 @@ fn stir_link(peer: &mut Peer, event: &Event, now: u64) -> io::Result<()> {
     Ok(())
 }
 
-/// Takes what an event told of a client; the answer is an error where the connection is lost.
-fn stir_client(peer: &mut Peer, event: &Event, now: u64) -> io::Result<()> {
-    if event.is_error() {
-        return Err(io::Error::from(ErrorKind::ConnectionReset));
-    }
-    peer.stir(event);
-    if event.is_writable() {
-        return peer.flush(now);
-    }
-    Ok(())
+/// Whether these bytes are an interim response: the request isn't answered yet.
+fn is_interim(bytes: &[u8]) -> bool {
+    bytes.starts_with(b"HTTP/1.1 1")
 }
 
 /// Adds the line about a reply, where a log is kept.
-fn note_reply(log: &mut Option<Lines>, peer: &mut Peer, moment: u64, reply: &[u8]) {
+fn note_reply(log: &mut Option<Lines>, clients: &mut Clients, n: u64, moment: u64, reply: &[u8]) {
     let Some(lines) = log else {
         return;
     };
     let Some(told) = told_by(reply) else {
         return;
     };
-    match peer.line_about(moment, &told) {
+    let Some(client) = clients.get_mut(n) else {
+        return;
+    };
+    match client.line_about(moment, &told) {
         Ok(Some(line)) => lines.add(&line),
         Ok(None) => {}
         Err(_) => lines.lose(),
@@ -186,10 +198,10 @@ fn note_reply(log: &mut Option<Lines>, peer: &mut Peer, moment: u64, reply: &[u8
 }
 
 /// Hands what a client sent to who reads for the log.
-fn hear(clients: &mut Peers, end: End, received: &Result<Received, SocketFailed>, buf: &[u8]) {
+fn hear(clients: &mut Clients, end: End, received: &Result<Received, SocketFailed>, buf: &[u8]) {
     if let (End::Client(n), Ok(Received::Bytes(count))) = (end, received) {
-        if let (Some(peer), Some(piece)) = (clients.get_mut(n), buf.get(..*count)) {
-            peer.hear(piece);
+        if let (Some(client), Some(piece)) = (clients.get_mut(n), buf.get(..*count)) {
+            client.hear(piece);
         }
     }
 }
@@ -200,28 +212,30 @@ impl<'a, R: Net> LiveSockets<'a, R> {
         net: &'a R,
         alloc: Global,
         address: SocketAddr,
-        silence: Silence,
+        limits: Limits,
     ) -> io::Result<LiveSockets<'a, R>> {
         let poll = Poll::new(net)?;
         let mut listener = TcpListener::bind(net, address)?;
         poll.registry()
             .register(&mut listener, Token(LISTENER), Interest::READABLE)?;
+        let address = listener.local_addr()?;
+        let limits = limits.in_milliseconds();
         Ok(LiveSockets {
             net,
             alloc,
             poll,
             events: Events::with_capacity(alloc, MOST_EVENTS)?,
-            listener,
+            listener: Some(listener),
+            address,
             acceptable: true,
-            clients: Peers::new(alloc),
-            links: Peers::new(alloc),
-            closing: Closing::new(alloc),
+            clients: Clients::new(alloc, limits),
+            links: Links::new(alloc),
             lost: Vec::new(alloc),
-            silence,
+            limits,
             log: None,
-            max_body: 0,
             moment: 0,
             more: true,
+            given: 0,
             now: 0,
             accepts: 0,
             reads: 0,
@@ -229,15 +243,14 @@ impl<'a, R: Net> LiveSockets<'a, R> {
         })
     }
 
-    /// The address that is listened on.
-    pub fn address(&self) -> io::Result<SocketAddr> {
-        self.listener.local_addr()
+    /// The address that is listened on, or was.
+    pub fn address(&self) -> SocketAddr {
+        self.address
     }
 
-    /// Keeps a line about each reply from now on. Contents of requests have at most `max_body` bytes.
-    pub fn keep_log(&mut self, max_body: u64) {
+    /// Keeps a line about each reply from now on.
+    pub fn keep_log(&mut self) {
         self.log = Some(Lines::new(self.alloc));
-        self.max_body = max_body;
     }
 
     /// The lines about replies since they were last cleared.
@@ -257,138 +270,253 @@ impl<'a, R: Net> LiveSockets<'a, R> {
         self.moment = moment;
     }
 
+    /// Takes no more connections but those that wait now. Who is idle is let go.
+    pub fn drain(&mut self) {
+        for _ in 0..MOST_WAITING {
+            if !self.take_connection() {
+                break;
+            }
+        }
+        self.listener = None;
+    }
+
+    /// Whether no more connections are taken.
+    pub fn is_draining(&self) -> bool {
+        self.listener.is_none()
+    }
+
+    /// Whether no client waits for anything, and no link is open.
+    pub fn is_drained(&self) -> bool {
+        self.clients.is_done() && self.links.is_empty()
+    }
+
+    /// Seconds of the clock that never goes back, at the last wait.
+    pub fn second(&self) -> u64 {
+        self.now / SECOND
+    }
+
     /// Waits until something is ready, for a second at most, or not at all where something is left to be done.
     pub fn wait(&mut self, busy: bool) -> io::Result<()> {
-        let none = busy || self.more || self.closing.more || !self.lost.is_empty();
+        let none = busy || self.more || self.clients.more || self.lost_count() > 0;
         let limit = if none { 0 } else { TICK };
         self.more = false;
         self.poll
             .poll(&mut self.events, Some(Duration::from_millis(limit)))
     }
 
-    /// Takes what has come since the wait, without waiting. A signal may have ended the wait before it told of anything.
+    /// Takes what has come since the wait, without waiting: a signal may have ended the wait before it told of anything. Then lets
+    /// go of the clients without a place that have had their time.
     pub fn look_again(&mut self) -> io::Result<()> {
         self.poll
             .poll(&mut self.events, Some(Duration::from_millis(0)))?;
         self.take_events();
+        self.clients.sweep(self.now, self.listener.is_none());
+        // After a pause an accept is tried again.
+        self.acceptable = true;
+        self.take_connections();
         Ok(())
     }
 
-    /// Takes what the wait told, at this second of a clock that never goes back. Whether a new second has begun.
+    /// Takes what the wait told, at so many milliseconds of a clock that never goes back, and the connections that wait. Whether
+    /// a new second has begun.
     pub fn refresh(&mut self, now: u64) -> bool {
-        let ticked = now != self.now;
+        let ticked = now / SECOND != self.now / SECOND;
         self.now = now;
+        self.given = 0;
         self.take_events();
-        self.closing.go_on(now);
-        if ticked {
-            self.closing.sweep(now, self.silence.client);
-            // After a pause an accept is tried again.
-            self.acceptable = true;
-        }
+        self.clients.drop_inputs(now);
+        self.take_connections();
         ticked
     }
 
     fn take_events(&mut self) {
         for event in self.events.iter() {
             let token = event.token().0;
-            let number = (token / 4) as u64;
+            let key = token / 4;
             if token % 4 == LISTENER {
                 self.acceptable = true;
             } else if token % 4 == LINK {
-                if let Some(peer) = self.links.get_mut(number) {
-                    if stir_link(peer, event, self.now).is_err() {
-                        let _ = self.links.remove(number);
+                if let Some(link) = self.links.get_mut(key as u64) {
+                    if stir_link(&mut link.peer, event, self.now).is_err() {
+                        self.links.remove(key as u64);
                         // Where there is no memory for it, it counts as silent.
-                        let _ = self.lost.push((End::Link(number), FailKind::Refused));
+                        let _ = self.lost.push((key as u64, FailKind::Refused));
                     }
                 }
-            } else if let Some(peer) = self.clients.get_mut(number) {
-                if stir_client(peer, event, self.now).is_err() {
-                    let _ = self.clients.remove(number);
-                    let _ = self.lost.push((End::Client(number), FailKind::Closed));
-                }
             } else {
-                self.closing.stir(number, event, self.now);
+                self.clients.stir(key, event, self.now);
             }
         }
+    }
+
+    /// Takes connections that wait, as far as there is room for them.
+    fn take_connections(&mut self) {
+        for _ in 0..MOST_TAKEN {
+            if !self.acceptable || !self.take_connection() {
+                return;
+            }
+        }
+        self.more = true;
+    }
+
+    /// Takes a connection that waits. Whether another may wait, and be taken.
+    fn take_connection(&mut self) -> bool {
+        if !self.clients.may_add() {
+            self.acceptable = false;
+            return false;
+        }
+        match self.accept_one() {
+            Ok(()) => true,
+            Err(e) if e.kind() == ErrorKind::ConnectionAborted => true,
+            Err(e) if e.kind() == ErrorKind::Interrupted => true,
+            Err(e) => {
+                // Where descriptors have run out an idle client gives way, else it is tried again after a pause.
+                let again = wants_descriptors(&e) && self.clients.drop_idle();
+                self.acceptable = again;
+                again
+            }
+        }
+    }
+
+    /// Takes a connection that waits, and reads what its client has sent.
+    fn accept_one(&mut self) -> io::Result<()> {
+        let Some(listener) = &self.listener else {
+            return Err(io::Error::from(ErrorKind::WouldBlock));
+        };
+        let (stream, address) = listener.accept()?;
+        let peer = Peer::new(self.alloc, stream, self.now);
+        self.clients.make_room();
+        let Some(key) = self.clients.add(peer) else {
+            return Err(io::Error::from(ErrorKind::OutOfMemory));
+        };
+        if let Some(client) = self.clients.stream_mut(key) {
+            if self.log.is_some() {
+                client.keep_log(address);
+            }
+            if let Err(e) = client.peer.register(&self.poll, token_of(CLIENT, key)) {
+                self.clients.drop_stream(key);
+                return Err(e);
+            }
+        }
+        self.clients.hear_early(key, self.now);
+        Ok(())
     }
 
     /// Whether something is left that the next turn can take, behind one that freed an end.
     pub fn has_unread(&self) -> bool {
-        self.acceptable || self.clients.some_readable()
+        self.clients.crowd() > 0 || self.clients.some_readable()
+    }
+
+    /// Whether who waits for a place can have one in the next turn.
+    pub fn may_accept(&self) -> bool {
+        self.clients.may_open()
     }
 
     /// How many ends failed since they were last asked for.
     pub fn lost_count(&self) -> usize {
-        self.lost.len()
+        self.lost.len().saturating_add(self.clients.lost_count())
     }
 
     /// An end that failed since it was last asked, and how. Its stream is gone.
     pub fn next_lost(&mut self) -> Option<(End, FailKind)> {
-        self.lost.pop()
+        if let Some((l, kind)) = self.lost.pop() {
+            return Some((End::Link(l), kind));
+        }
+        let n = self.clients.next_lost()?;
+        Some((End::Client(n), FailKind::Closed))
     }
 
-    /// Whether no byte came from an end, or went to it, for longer than it may be silent.
-    pub fn is_silent(&self, end: End) -> bool {
-        match end {
-            End::Listener => false,
-            End::Client(n) => self.clients.is_silent(n, self.now, self.silence.client),
-            End::Link(l) => self.links.is_silent(l, self.now, self.silence.origin),
+    /// Whether the time of a link is over.
+    pub fn is_over(&self, l: u64) -> bool {
+        self.links.is_over(l, self.now, &self.limits)
+    }
+
+    /// Whether the request of a client has taken too long to come, or the client is silent.
+    pub fn is_late(&mut self, n: u64) -> bool {
+        self.clients.is_late(n, self.now)
+    }
+
+    /// Whether a client that is between two requests has been so for a while, or is to be let go.
+    pub fn is_idle(&self, n: u64) -> bool {
+        self.clients.may_park(n) && (self.is_draining() || self.clients.is_idle(n, self.now))
+    }
+
+    /// How many clients wait for a place that isn't free.
+    pub fn crowd(&self) -> usize {
+        self.clients.crowd()
+    }
+
+    /// Tells whose requests have come whole of those that wait for a place.
+    pub fn sort_waiting(&mut self) {
+        self.clients.sort(self.now);
+    }
+
+    /// Whether nothing waits to be read from a client.
+    pub fn may_park(&self, n: u64) -> bool {
+        self.clients.may_park(n)
+    }
+
+    /// A client between two requests leaves its place; its stream stays, unless no more connections are taken.
+    pub fn park(&mut self, n: u64) {
+        if self.is_draining() {
+            self.clients.close(n, self.now);
+        } else {
+            self.clients.park(n);
         }
+    }
+
+    /// A client that has left while it waits for its answer, for too long or, where places are short, at all. `reads` are the ends
+    /// that may be read.
+    pub fn abandoned(&self, reads: &[End], short: bool) -> Option<u64> {
+        self.clients.abandoned(reads, self.now, short)
+    }
+
+    /// Of the clients that may be read the one whose request has been incomplete for the longest, where it has to give way.
+    pub fn slowest_request(&self, reads: &[End]) -> Option<u64> {
+        self.clients.slowest_request(reads, self.now)
     }
 
     /// Drops the stream of an end.
     pub fn forget(&mut self, end: End) {
-        let _ = match end {
-            End::Listener => None,
-            End::Client(n) => self.clients.remove(n),
+        match end {
+            End::Listener => {}
+            End::Client(n) => self.clients.forget(n),
             End::Link(l) => self.links.remove(l),
-        };
+        }
     }
 
-    /// A connection that waits is taken under this number.
-    fn accept_one(&mut self, n: u64) -> io::Result<()>
+    /// Reads from a client, unless others are to be read first.
+    fn read_client(&mut self, n: u64, buf: &mut [u8]) -> Result<Received, SocketFailed>
+        ensures within { IfOk result (IsReceived (length buf.old)) }
+        ensures length { length buf.new ≡ length buf.old }
         ensures accepts { self.new.accepts ≡ self.old.accepts }
         ensures reads { self.new.reads ≡ self.old.reads }
         ensures failures { self.new.failures ≡ self.old.failures }
     {
-        let (stream, address) = self.listener.accept()?;
-        let mut peer = Peer::new(self.alloc, n, stream, self.now);
-        if self.log.is_some() {
-            peer.keep_log(address, self.max_body);
+        if self.given >= SHARE && self.clients.some_wait() {
+            self.more = true;
+            return Ok(Received::Nothing);
         }
-        peer.register(&self.poll, token_of(CLIENT, n))?;
-        match self.clients.put(peer) {
-            Ok(()) => Ok(()),
-            Err(_) => Err(io::Error::from(ErrorKind::OutOfMemory)),
+        let received = read_client(&mut self.clients, n, buf, self.now, &mut self.more);
+        if let Ok(Received::Bytes(_)) = received {
+            self.given = self.given.saturating_add(1);
         }
+        received
     }
 
-    /// Keeps a failure until the next turn begins.
-    fn lose(&mut self, end: End, kind: FailKind) -> Result<(), SocketFailed>
+    fn write_client(&mut self, n: u64, bytes: &[u8])
         ensures accepts { self.new.accepts ≡ self.old.accepts }
         ensures reads { self.new.reads ≡ self.old.reads }
         ensures failures { self.new.failures ≡ self.old.failures }
     {
-        if self.lost.push((end, kind)).is_ok() {
-            return Ok(());
+        if !self.clients.write_to(n, bytes, self.now) {
+            return;
         }
-        Err(SocketFailed)
-    }
-
-    fn write_client(&mut self, n: u64, bytes: &[u8]) -> Result<(), SocketFailed>
-        ensures accepts { self.new.accepts ≡ self.old.accepts }
-        ensures reads { self.new.reads ≡ self.old.reads }
-        ensures failures { self.new.failures ≡ self.old.failures }
-    {
-        if let Some(peer) = self.clients.get_mut(n) {
-            if peer.write(bytes, self.now).is_err() {
-                let _ = self.clients.remove(n);
-                return self.lose(End::Client(n), FailKind::Closed);
-            }
-            note_reply(&mut self.log, peer, self.moment, bytes);
+        note_reply(&mut self.log, &mut self.clients, n, self.moment, bytes);
+        if !is_interim(bytes) {
+            self.clients.answered(n);
         }
-        Ok(())
+        self.clients.keep_within();
     }
 
     fn write_link(&mut self, l: u64, bytes: &[u8]) -> Result<(), SocketFailed>
@@ -396,14 +524,40 @@ impl<'a, R: Net> LiveSockets<'a, R> {
         ensures reads { self.new.reads ≡ self.old.reads }
         ensures failures { self.new.failures ≡ self.old.failures }
     {
-        if let Some(peer) = self.links.get_mut(l) {
+        if let Some(link) = self.links.get_mut(l) {
             // What the origin had said before it broke off can still be read; its end is told then.
-            if peer.write(bytes, self.now).is_err() && peer.connecting {
-                let _ = self.links.remove(l);
-                return self.lose(End::Link(l), FailKind::Refused);
+            if link.peer.write(bytes, self.now).is_err() && link.peer.connecting {
+                self.links.remove(l);
+                return self.lose_link(l);
             }
         }
         Ok(())
+    }
+
+    /// Keeps until the next turn begins that a link was refused.
+    fn lose_link(&mut self, l: u64) -> Result<(), SocketFailed>
+        ensures accepts { self.new.accepts ≡ self.old.accepts }
+        ensures reads { self.new.reads ≡ self.old.reads }
+        ensures failures { self.new.failures ≡ self.old.failures }
+    {
+        if self.lost.push((l, FailKind::Refused)).is_ok() {
+            return Ok(());
+        }
+        Err(SocketFailed)
+    }
+
+    /// Begins a link. Where no descriptor is left an idle client gives way to it.
+    fn begin(&mut self, l: u64, address: &[u8]) -> io::Result<Link>
+        ensures accepts { self.new.accepts ≡ self.old.accepts }
+        ensures reads { self.new.reads ≡ self.old.reads }
+        ensures failures { self.new.failures ≡ self.old.failures }
+    {
+        match begin_link(self.net, self.alloc, &self.poll, l, address, self.now) {
+            Err(e) if wants_descriptors(&e) && self.clients.drop_idle() => {
+                begin_link(self.net, self.alloc, &self.poll, l, address, self.now)
+            }
+            begun => begun,
+        }
     }
 
     fn connect_link(&mut self, l: u64, address: &[u8]) -> Result<(), SocketFailed>
@@ -411,12 +565,15 @@ impl<'a, R: Net> LiveSockets<'a, R> {
         ensures reads { self.new.reads ≡ self.old.reads }
         ensures failures { self.new.failures ≡ self.old.failures }
     {
-        match begin_link(self.net, self.alloc, &self.poll, l, address, self.now) {
-            Ok(peer) => match self.links.put(peer) {
-                Ok(()) => Ok(()),
-                Err(_) => Err(SocketFailed),
-            },
-            Err(_) => self.lose(End::Link(l), FailKind::Refused),
+        match self.begin(l, address) {
+            Ok(link) => {
+                if self.links.put(link) {
+                    Ok(())
+                } else {
+                    Err(SocketFailed)
+                }
+            }
+            Err(_) => self.lose_link(l),
         }
     }
 }
@@ -437,37 +594,15 @@ impl<'a, R: Net> Sockets for LiveSockets<'a, R> {
 
     fn accept(&mut self, n: u64) -> Result<bool, SocketFailed> {
         self.accepts = self.accepts.saturating_add(1);
-        if !self.acceptable {
-            return Ok(false);
-        }
-        match self.accept_one(n) {
-            Ok(()) => {
-                self.more = true;
-                Ok(true)
-            }
-            Err(e) if e.kind() == ErrorKind::WouldBlock => {
-                self.acceptable = false;
-                Ok(false)
-            }
-            Err(e) if e.kind() == ErrorKind::ConnectionAborted => {
-                self.more = true;
-                Ok(false)
-            }
-            Err(_) => {
-                // Descriptors or memory have run out: it is tried again after a pause.
-                self.acceptable = false;
-                self.failures = self.failures.saturating_add(1);
-                Err(SocketFailed)
-            }
-        }
+        Ok(self.clients.open(n))
     }
 
     fn read(&mut self, end: End, buf: &mut [u8]) -> Result<Received, SocketFailed> {
         self.reads = self.reads.saturating_add(1);
         let received = match end {
             End::Listener => Ok(Received::Nothing),
-            End::Client(n) => read_client(&mut self.clients, n, buf, self.now, &mut self.more),
-            End::Link(l) => read_of(&mut self.links, l, buf, self.now, &mut self.more),
+            End::Client(n) => self.read_client(n, buf),
+            End::Link(l) => read_link(&mut self.links, l, buf, self.now, &mut self.more),
         };
         if self.log.is_some() {
             hear(&mut self.clients, end, &received, buf);
@@ -481,7 +616,10 @@ impl<'a, R: Net> Sockets for LiveSockets<'a, R> {
     fn write(&mut self, end: End, bytes: &[u8]) -> Result<(), SocketFailed> {
         let written = match end {
             End::Listener => Ok(()),
-            End::Client(n) => self.write_client(n, bytes),
+            End::Client(n) => {
+                self.write_client(n, bytes);
+                Ok(())
+            }
             End::Link(l) => self.write_link(l, bytes),
         };
         if written.is_err() {
@@ -500,14 +638,8 @@ impl<'a, R: Net> Sockets for LiveSockets<'a, R> {
 
     fn shut(&mut self, end: End) -> Result<(), SocketFailed> {
         match end {
-            End::Client(n) => {
-                if let Some(peer) = self.clients.remove(n) {
-                    self.closing.begin(peer, self.now);
-                }
-            }
-            End::Link(l) => {
-                let _ = self.links.remove(l);
-            }
+            End::Client(n) => self.clients.close(n, self.now),
+            End::Link(l) => self.links.remove(l),
             End::Listener => {}
         }
         Ok(())

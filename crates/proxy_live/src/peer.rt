@@ -2,16 +2,14 @@
 ghost use Rattle.std.specs.Prelude.{◌≡◌, ◌≤◌, length, IfOk};
 ghost use Rattle.proxy_turn.specs.Received.{IsReceived};
 
-use hx_fields::Bytes;
 use mio::event::Event;
 use mio::net::TcpStream;
 use mio::{Interest, Poll, Token};
-use proxy_log::{Asked, Line, Told};
 use proxy_turn::Received;
-use std::alloc::{AllocError, Global};
+use std::alloc::Global;
 use std::io;
 use std::io::{ErrorKind, Read, Write};
-use std::net::{Shutdown, SocketAddr};
+use std::net::Shutdown;
 
 /// The most bytes that wait for the peer of one stream.
 const MOST_UNSENT: usize = 67_108_864;
@@ -19,7 +17,6 @@ const MOST_UNSENT: usize = 67_108_864;
 /// A stream to a client or an origin.
 #[derive(Drop)]
 pub(crate) struct Peer {
-    pub(crate) number: u64,
     stream: TcpStream,
     alloc: Global,
     /// The connection isn't made yet.
@@ -27,7 +24,7 @@ pub(crate) struct Peer {
     /// Something may have come that wasn't read.
     pub(crate) readable: bool,
     /// The peer's end, or a failure, may stand behind what is to be read: a short read tells nothing.
-    hung: bool,
+    pub(crate) hung: bool,
     /// The peer's end was read.
     pub(crate) ended: bool,
     /// Nothing can be written any more.
@@ -35,21 +32,10 @@ pub(crate) struct Peer {
     /// Bytes that the system didn't take yet, behind `sent` of them that it did.
     unsent: Vec<u8>,
     sent: usize,
-    /// When a byte last came or went, in seconds of the clock that never goes back.
+    /// When a byte last came or went, in milliseconds of the clock that never goes back.
     pub(crate) heard: u64,
     /// Nothing is sent any more, and the peer was told so.
     half_closed: bool,
-    /// When it was closed.
-    pub(crate) closed: u64,
-    /// Who it is, and what it asks for, where a log is kept.
-    logged: Option<Logged>,
-}
-
-/// What a log needs of a client.
-#[derive(Drop)]
-struct Logged {
-    address: SocketAddr,
-    asked: Asked,
 }
 
 /// Writes as many of the bytes as the system takes; answers how many.
@@ -71,11 +57,10 @@ fn write_some(stream: &mut TcpStream, bytes: &[u8]) -> io::Result<usize> {
 }
 
 impl Peer {
-    pub(crate) fn new(alloc: Global, number: u64, stream: TcpStream, now: u64) -> Peer {
+    pub(crate) fn new(alloc: Global, stream: TcpStream, now: u64) -> Peer {
         // Where it isn't to be had, small pieces wait a little.
         let _ = stream.set_nodelay(true);
         Peer {
-            number,
             stream,
             alloc,
             connecting: false,
@@ -87,52 +72,12 @@ impl Peer {
             sent: 0,
             heard: now,
             half_closed: false,
-            closed: now,
-            logged: None,
         }
-    }
-
-    /// Reads what comes for a log too.
-    pub(crate) fn keep_log(&mut self, address: SocketAddr, max_body: u64) {
-        self.logged = Some(Logged {
-            address,
-            asked: Asked::new(self.alloc, max_body),
-        });
-    }
-
-    /// Takes what came, for a log.
-    pub(crate) fn hear(&mut self, piece: &[u8]) {
-        if let Some(logged) = &mut self.logged {
-            logged.asked.hear(piece);
-        }
-    }
-
-    /// The line about a reply, where a log is kept.
-    pub(crate) fn line_about(
-        &mut self,
-        moment: u64,
-        told: &Told<'_>,
-    ) -> Result<Option<Line>, AllocError> {
-        let alloc = self.alloc;
-        let Some(logged) = &mut self.logged else {
-            return Ok(None);
-        };
-        let question = logged.asked.next_question(alloc)?;
-        let address = logged.address.to_string(alloc)?;
-        Ok(Some(Line {
-            moment,
-            client: Bytes::copy_of(alloc, address.as_str().as_bytes())?,
-            method: question.method,
-            target: question.target,
-            status: told.status,
-            length: told.length,
-            reason: Bytes::copy_of(alloc, told.reason)?,
-        }))
     }
 
     /// A stream whose connection isn't made yet.
-    pub(crate) fn connecting(alloc: Global, number: u64, stream: TcpStream, now: u64) -> Peer {
-        let mut peer = Peer::new(alloc, number, stream, now);
+    pub(crate) fn connecting(alloc: Global, stream: TcpStream, now: u64) -> Peer {
+        let mut peer = Peer::new(alloc, stream, now);
         peer.connecting = true;
         peer.readable = false;
         peer
@@ -142,10 +87,15 @@ impl Peer {
         !self.unsent.is_empty()
     }
 
-    /// Whether no byte came or went for more than so many seconds. One that wasn't read yet has come.
-    pub(crate) fn is_silent(&self, now: u64, seconds: u64) -> bool {
+    /// How many bytes are kept for the peer.
+    pub(crate) fn unsent(&self) -> usize {
+        self.unsent.len()
+    }
+
+    /// Whether no byte came or went for more than so many milliseconds. One that wasn't read yet has come.
+    pub(crate) fn is_silent(&self, now: u64, limit: u64) -> bool {
         let waits = self.readable && !self.has_unsent();
-        !waits && now.saturating_sub(self.heard) > seconds
+        !waits && now.saturating_sub(self.heard) > limit
     }
 
     /// Marks what an event told of reading.
@@ -225,6 +175,15 @@ impl Peer {
         self.sent = 0;
     }
 
+    /// Drops what was sent, once it is most of what is kept.
+    fn move_up(&mut self) {
+        let waiting = self.unsent.len();
+        if self.sent < waiting && self.sent > waiting / 2 {
+            let _ = self.unsent.drain(..self.sent);
+            self.sent = 0;
+        }
+    }
+
     /// Writes of what was kept as much as the system takes now. After a failure nothing more is written.
     pub(crate) fn flush(&mut self, now: u64) -> io::Result<()> {
         if self.sent < self.unsent.len() {
@@ -233,6 +192,7 @@ impl Peer {
                 Ok(n) => {
                     self.heard = now;
                     self.sent = self.sent.saturating_add(n);
+                    self.move_up();
                 }
                 Err(e) => {
                     self.break_off();

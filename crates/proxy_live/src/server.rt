@@ -26,6 +26,9 @@ use std::time::Clock;
 /// The last moment.
 const LATEST: u64 = END_OF_TIME - 1;
 
+/// Clients that give way or have left, at a time.
+const MOST_OPEN: usize = 256;
+
 /// Why a server ends.
 #[derive(Clone, Copy, Debug, PartialEq, Eq)]
 pub enum ServeFault {
@@ -59,7 +62,7 @@ pub struct Server<'a, S: Shelf + Drop, R: Net, W: Write + Drop> {
     busy: bool,
     /// Nothing is due from the last turn.
     settled: bool,
-    /// Silent ends are to be looked for.
+    /// Ends whose time is over are to be looked for.
     sweeping: bool,
 }
 
@@ -85,10 +88,13 @@ fn moment<C: Clock>(clock: &C) -> Result<u64, ServeFault>
     }
 }
 
-/// Seconds of the clock that never goes back.
-fn seconds<C: Clock>(clock: &C) -> Result<u64, ServeFault> {
+/// Milliseconds of the clock that never goes back.
+fn elapsed<C: Clock>(clock: &C) -> Result<u64, ServeFault> {
     match clock.monotonic() {
-        Ok(now) => Ok(now.as_secs()),
+        Ok(now) => {
+            let whole = now.as_secs().saturating_mul(1000);
+            Ok(whole.saturating_add(u64::from(now.subsec_millis())))
+        }
         Err(_) => Err(ServeFault::Clock),
     }
 }
@@ -117,6 +123,11 @@ impl<'a, S: Shelf + Drop, R: Net, W: Write + Drop> Server<'a, S, R, W> {
             settled: true,
             sweeping: false,
         }
+    }
+
+    /// Seconds of the clock that never goes back, at the last turn.
+    pub fn second(&self) -> u64 {
+        self.ends.sockets.second()
     }
 
     /// Whether a record has ended before the limit of a script.
@@ -162,22 +173,22 @@ impl<'a, S: Shelf + Drop, R: Net, W: Write + Drop> Server<'a, S, R, W> {
         if self.ends.sockets.wait(self.busy).is_err() {
             return Err(ServeFault::Socket);
         }
-        let Ok(second) = seconds(clock) else {
+        let Ok(elapsed) = elapsed(clock) else {
             return Err(ServeFault::Clock);
         };
         let Ok(now) = moment(clock) else {
             return Err(ServeFault::Clock);
         };
-        self.serve_at(second, now)
+        self.serve_at(elapsed, now)
     }
 
-    /// Serves a turn at a second of the clock that never goes back, and a moment.
-    fn serve_at(&mut self, second: u64, now: u64) -> Result<Turned, ServeFault>
+    /// Serves a turn at so many milliseconds of the clock that never goes back, and a moment.
+    fn serve_at(&mut self, elapsed: u64, now: u64) -> Result<Turned, ServeFault>
         requires { now < END_OF_TIME }
         ensures { Answers self.old self.new result }
     {
-        if self.ends.sockets.refresh(second) {
-            // What came before this second counts before an end is called silent, though the proxy was halted meanwhile.
+        if self.ends.sockets.refresh(elapsed) {
+            // What came before counts before an end is called silent, though the proxy was halted meanwhile.
             if self.ends.sockets.look_again().is_err() {
                 return Err(ServeFault::Socket);
             }
@@ -205,10 +216,7 @@ impl<'a, S: Shelf + Drop, R: Net, W: Write + Drop> Server<'a, S, R, W> {
     {
         engines_live_on();
         a_turn_is_served_behind_losses();
-        self.hand_in_lost();
-        if self.sweeping {
-            self.hand_in_silent();
-        }
+        self.hand_in();
         turn(&mut self.engine, &mut self.ends, self.alloc, now)
     }
 
@@ -233,7 +241,8 @@ impl<'a, S: Shelf + Drop, R: Net, W: Write + Drop> Server<'a, S, R, W> {
                 self.busy = true;
             }
         }
-        self.busy = self.busy || self.sweeping || self.ends.has_passed();
+        let may_accept = self.ends.sockets.may_accept();
+        self.busy = self.busy || self.sweeping || may_accept || self.ends.has_passed();
     }
 
     /// The engine takes that an end is lost.
@@ -265,24 +274,176 @@ impl<'a, S: Shelf + Drop, R: Net, W: Write + Drop> Server<'a, S, R, W> {
         }
     }
 
-    /// Hands in the ends that were silent for too long: links as timed out, clients without an exchange as gone.
-    fn hand_in_silent(&mut self)
+    /// Hands in what is lost, whose time is over, and who gives way where places are short.
+    fn hand_in(&mut self)
         ensures { LosesOn self.old self.new }
     {
         a_turn_is_served_behind_losses();
+        self.hand_in_lost();
+        self.hand_in_late();
+        self.make_room();
+    }
+
+    /// Whether the time of an end is over. That of a client between two requests is after a while.
+    fn is_over(&mut self, end: End) -> bool
+        ensures { self.new ≡ self.old }
+    {
+        match end {
+            End::Listener => false,
+            End::Link(l) => self.ends.sockets.is_over(l),
+            End::Client(n) => {
+                if self.engine.is_between_requests(n) {
+                    self.ends.sockets.is_idle(n)
+                } else {
+                    self.ends.sockets.is_late(n)
+                }
+            }
+        }
+    }
+
+    /// Lets go of an end: the engine takes that it is lost. The stream of a client between two requests stays, and has another
+    /// number when its next request comes; any other is closed.
+    fn let_go(&mut self, end: End)
+        ensures { LosesOn self.old self.new }
+    {
+        match end {
+            End::Client(n) if self.engine.is_between_requests(n) => self.ends.sockets.park(n),
+            _ => self.ends.sockets.forget(end),
+        }
+        self.lose(end, FailKind::TimedOut);
+    }
+
+    /// Hands in the ends whose time is over: links as timed out, clients as gone.
+    fn hand_in_late(&mut self)
+        ensures { LosesOn self.old self.new }
+    {
+        a_turn_is_served_behind_losses();
+        if !self.sweeping {
+            return;
+        }
         // Where there is no memory for the list, they are looked for again.
-        let Ok(ends) = self.engine.readable_ends(self.alloc) else {
+        let Ok(reads) = self.engine.readable_ends(self.alloc) else {
             return;
         };
-        for end in &ends {
-            if self.ends.sockets.is_silent(*end) {
+        self.hand_in_over(&reads);
+        self.hand_in_left(&reads);
+        self.note_swept();
+    }
+
+    /// All whose time was over were handed in, unless no more could be in this turn.
+    fn note_swept(&mut self)
+        ensures { self.new ≡ self.old }
+    {
+        self.sweeping = !self.ends.may_happen();
+    }
+
+    /// Hands in those of the ends that may be read whose time is over.
+    fn hand_in_over(&mut self, reads: &[End])
+        ensures { LosesOn self.old self.new }
+    {
+        a_turn_is_served_behind_losses();
+        for end in reads {
+            if self.is_over(*end) {
                 if !self.ends.may_happen() {
                     return;
                 }
-                self.ends.sockets.forget(*end);
-                self.lose(*end, FailKind::TimedOut);
+                self.let_go(*end);
             }
         }
-        self.sweeping = false;
+    }
+
+    /// Hands in the clients that have left for too long while they wait for their answers.
+    fn hand_in_left(&mut self, reads: &[End])
+        ensures { LosesOn self.old self.new }
+    {
+        a_turn_is_served_behind_losses();
+        for _ in 0..MOST_OPEN {
+            if !self.ends.may_happen() {
+                return;
+            }
+            match self.ends.sockets.abandoned(reads, false) {
+                Some(n) => self.let_go(End::Client(n)),
+                None => return,
+            }
+        }
+    }
+
+    /// Makes room where somebody waits for a place that isn't free: clients between two requests leave theirs, then whoever has
+    /// left, or else the one whose request has been incomplete for the longest, gives way.
+    fn make_room(&mut self)
+        ensures { LosesOn self.old self.new }
+    {
+        a_turn_is_served_behind_losses();
+        if self.ends.sockets.crowd() == 0 {
+            return;
+        }
+        // Where there is no memory for the list, it is tried again.
+        let Ok(reads) = self.engine.readable_ends(self.alloc) else {
+            return;
+        };
+        self.park_idle(&reads);
+        self.ends.sockets.sort_waiting();
+        self.give_way(&reads);
+    }
+
+    /// Clients between two requests leave their places for those that wait.
+    fn park_idle(&mut self, reads: &[End])
+        ensures { LosesOn self.old self.new }
+    {
+        a_turn_is_served_behind_losses();
+        let mut crowd = self.ends.sockets.crowd();
+        for end in reads {
+            if crowd == 0 || !self.ends.may_happen() {
+                return;
+            }
+            if self.may_park(*end) {
+                self.let_go(*end);
+                crowd -= 1;
+            }
+        }
+    }
+
+    /// Whether an end is a client that may leave its place.
+    fn may_park(&self, end: End) -> bool {
+        match end {
+            End::Client(n) => self.ends.sockets.may_park(n) && self.engine.is_between_requests(n),
+            _ => false,
+        }
+    }
+
+    /// Who has left gives way, or else the one whose request has been incomplete for the longest.
+    fn give_way(&mut self, reads: &[End])
+        ensures { LosesOn self.old self.new }
+    {
+        a_turn_is_served_behind_losses();
+        for _ in 0..MOST_OPEN {
+            if self.ends.sockets.crowd() == 0 || !self.ends.may_happen() {
+                return;
+            }
+            match self.who_gives_way(reads) {
+                Some(n) => self.let_go(End::Client(n)),
+                None => return,
+            }
+        }
+    }
+
+    /// Who gives way where somebody waits for a place.
+    fn who_gives_way(&self, reads: &[End]) -> Option<u64> {
+        match self.ends.sockets.abandoned(reads, true) {
+            Some(n) => Some(n),
+            None => self.ends.sockets.slowest_request(reads),
+        }
+    }
+
+    /// No more connections are taken but those that wait now; who is idle is let go.
+    pub fn drain(&mut self)
+        ensures { self.new ≡ self.old }
+    {
+        self.ends.sockets.drain();
+    }
+
+    /// Whether no more connections are taken, and nobody waits for anything.
+    pub fn is_drained(&self) -> bool {
+        self.ends.sockets.is_draining() && self.ends.sockets.is_drained()
     }
 }

@@ -2,23 +2,35 @@
 
 use clap::builder::ValueParser;
 use clap::{Arg, ArgAction, ArgMatches, Command, Error};
-use proxy_live::Silence;
+use proxy_live::Limits;
 use std::alloc::Global;
 use std::net::SocketAddr;
 
 /// The program's version.
 const VERSION: &str = "0.1.0";
 
-/// The most seconds of silence that can be asked for: a day.
+/// The most seconds of a time-out that can be asked for: a day.
 const LONGEST: u64 = 86_400;
+
+/// The most connections of clients that can be asked for.
+const MOST_CONNECTIONS: u64 = 65_536;
+
+/// The most bytes that may wait for clients, of those that can be asked for: a tebibyte.
+const MOST_UNSENT: u64 = 1_099_511_627_776;
 
 /// How a server is to serve.
 #[derive(Clone, Copy, Debug)]
 pub(crate) struct Service<'a> {
     pub(crate) table: &'a str,
     pub(crate) listen: SocketAddr,
-    pub(crate) turns: u32,
-    pub(crate) silence: Silence,
+    /// How many turns it serves; without it, it stays until it is stopped.
+    pub(crate) turns: Option<u32>,
+    /// Its bounds, but for those of contents, which the table has.
+    pub(crate) limits: Limits,
+    /// Where this file is, no more connections are taken, and what is open is finished.
+    pub(crate) drain: Option<&'a str>,
+    /// How long that may take, in seconds.
+    pub(crate) drain_timeout: u64,
     /// The file that what happens is recorded in.
     pub(crate) record: Option<&'a str>,
     /// The file to which a line about each reply is added; a dash is standard output.
@@ -59,9 +71,9 @@ fn option<'a>(alloc: Global, name: &'a str, value: &'a str, help: &'a str) -> Ar
 }
 
 /// An option with a number of seconds.
-fn seconds<'a>(alloc: Global, name: &'a str, help: &'a str) -> Arg<'a> {
+fn seconds<'a>(alloc: Global, name: &'a str, default: &'a str, help: &'a str) -> Arg<'a> {
     option(alloc, name, "SECONDS", help)
-        .default_value("60")
+        .default_value(default)
         .value_parser(ValueParser::unsigned(1, LONGEST))
 }
 
@@ -72,10 +84,8 @@ fn check<'a>(alloc: Global) -> Result<Command<'a>, Error> {
     Ok(command)
 }
 
-fn serve<'a>(alloc: Global) -> Result<Command<'a>, Error> {
-    let turns = option(alloc, "turns", "N", "turns to serve, 1 to 4294967295")
-        .required(true)
-        .value_parser(ValueParser::unsigned(1, 4_294_967_295));
+/// What is served, and how much of it.
+fn served<'a>(alloc: Global) -> Result<Command<'a>, Error> {
     let listen = option(
         alloc,
         "listen",
@@ -83,26 +93,102 @@ fn serve<'a>(alloc: Global) -> Result<Command<'a>, Error> {
         "an IPv4 address and a port; port 0 lets the system choose",
     )
     .required(true);
+    let turns = option(
+        alloc,
+        "turns",
+        "N",
+        "ends after so many turns, 1 to 4294967295; without it the server stays until it is stopped",
+    )
+    .value_parser(ValueParser::unsigned(1, 4_294_967_295));
+    let connections = option(
+        alloc,
+        "connections",
+        "N",
+        "connections of clients, 1 to 65536",
+    )
+    .default_value("4096")
+    .value_parser(ValueParser::unsigned(1, MOST_CONNECTIONS));
+    let unsent = option(
+        alloc,
+        "unsent-limit",
+        "BYTES",
+        "bytes that clients haven't taken yet, of all of them; beyond it the slowest is cut off",
+    )
+    .default_value("268435456")
+    .value_parser(ValueParser::unsigned(1, MOST_UNSENT));
     let command = command(alloc, "serve")
-        .about("Serves clients by a table, for a number of turns")
+        .about("Serves clients by a table, until it is stopped")
         .arg(word(alloc, "table", "the table"))?
         .arg(listen)?
         .arg(turns)?
+        .arg(connections)?
+        .arg(unsent)?;
+    Ok(command)
+}
+
+/// How long clients may take.
+fn with_client_times<'a>(alloc: Global, command: Command<'a>) -> Result<Command<'a>, Error> {
+    let command = command
+        .arg(seconds(
+            alloc,
+            "client-timeout",
+            "60",
+            "how long a client that waits for nothing may send and take no byte",
+        ))?
+        .arg(seconds(
+            alloc,
+            "request-timeout",
+            "30",
+            "how long a request may take to come whole, from its first byte on",
+        ))?
+        .arg(seconds(
+            alloc,
+            "abandon-timeout",
+            "5",
+            "how long a client that has sent its end may wait for its answer",
+        ))?;
+    Ok(command)
+}
+
+/// How long origins may take.
+fn with_origin_times<'a>(alloc: Global, command: Command<'a>) -> Result<Command<'a>, Error> {
+    let command = command
+        .arg(seconds(
+            alloc,
+            "connect-timeout",
+            "5",
+            "how long a connection to an origin may take to be made",
+        ))?
         .arg(seconds(
             alloc,
             "origin-timeout",
+            "60",
             "how long an origin may send no byte",
         ))?
         .arg(seconds(
             alloc,
-            "client-timeout",
-            "how long a client that waits for nothing may send no byte",
+            "exchange-timeout",
+            "300",
+            "how long an exchange with an origin may take in all",
+        ))?;
+    Ok(command)
+}
+
+/// The files that a server looks for or writes.
+fn with_files<'a>(alloc: Global, command: Command<'a>) -> Result<Command<'a>, Error> {
+    let command = command
+        .arg(option(
+            alloc,
+            "drain",
+            "FILE",
+            "where this file is, takes no more connections, finishes what is open, and ends",
         ))?
+        .arg(seconds(alloc, "drain-timeout", "30", "how long that may take"))?
         .arg(option(
             alloc,
             "record",
             "FILE",
-            "writes what happens into a script, up to 16777216 bytes",
+            "writes what happens into a new file as a script, up to 16777216 bytes; %s is the moment of the start",
         ))?
         .arg(option(
             alloc,
@@ -111,6 +197,12 @@ fn serve<'a>(alloc: Global) -> Result<Command<'a>, Error> {
             "adds a line about each reply to a file; - is standard output",
         ))?;
     Ok(command)
+}
+
+fn serve<'a>(alloc: Global) -> Result<Command<'a>, Error> {
+    let command = with_client_times(alloc, served(alloc)?)?;
+    let command = with_origin_times(alloc, command)?;
+    with_files(alloc, command)
 }
 
 fn program<'a>(alloc: Global) -> Result<Command<'a>, Error> {
@@ -136,15 +228,29 @@ fn address_of(text: &str) -> Option<SocketAddr> {
     }
 }
 
+/// The bounds, but for those of contents, which the table has.
+fn limits_of(matches: &ArgMatches<'_>) -> Option<Limits> {
+    Some(Limits {
+        connections: matches.get_one::<usize>("connections")?,
+        client_timeout: matches.get_one::<u64>("client-timeout")?,
+        request_timeout: matches.get_one::<u64>("request-timeout")?,
+        abandon_timeout: matches.get_one::<u64>("abandon-timeout")?,
+        connect_timeout: matches.get_one::<u64>("connect-timeout")?,
+        origin_timeout: matches.get_one::<u64>("origin-timeout")?,
+        exchange_timeout: matches.get_one::<u64>("exchange-timeout")?,
+        unsent: matches.get_one::<usize>("unsent-limit")?,
+        max_body: 0,
+    })
+}
+
 fn service_of<'a>(matches: &ArgMatches<'a>) -> Option<Service<'a>> {
     Some(Service {
         table: matches.get_str("table")?,
         listen: address_of(matches.get_str("listen")?)?,
-        turns: matches.get_one::<u32>("turns")?,
-        silence: Silence {
-            origin: matches.get_one::<u64>("origin-timeout")?,
-            client: matches.get_one::<u64>("client-timeout")?,
-        },
+        turns: matches.get_one::<u32>("turns"),
+        limits: limits_of(matches)?,
+        drain: matches.get_str("drain"),
+        drain_timeout: matches.get_one::<u64>("drain-timeout")?,
         record: matches.get_str("record"),
         log: matches.get_str("log"),
     })

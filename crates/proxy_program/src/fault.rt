@@ -19,6 +19,8 @@ pub(crate) enum Fault {
     Read,
     /// A file or standard output can't be written.
     Write,
+    /// The file that a record was to begin is there already.
+    RecordExists,
     /// The address can't be listened on, or the system can't tell what is ready.
     Socket,
     /// No number of a link is left.
@@ -75,6 +77,9 @@ impl fmt::Display for Fault {
             Fault::Table(fault) => write!(f, "{fault}"),
             Fault::Read => f.write_str("read fault"),
             Fault::Write => f.write_str("write fault"),
+            Fault::RecordExists => f.write_str(
+                "write fault: the file of the record is there already; take another name, or %s in it for the moment of the start",
+            ),
             Fault::Socket => f.write_str("socket fault"),
             Fault::Spent => f.write_str("engine fault 4"),
             Fault::NoMemory => f.write_str("no memory"),

@@ -4,10 +4,12 @@
 #![tactic(auto)]
 
 mod command_line;
+mod descriptors;
 mod fault;
 mod files;
 mod journal;
 mod program;
 mod serving;
+mod watch;
 
 pub use crate::program::run;

@@ -1,20 +1,34 @@
 //! Serving: the table, the listener, the record and the log, and then turn after turn.
 
 use crate::command_line::Service;
+use crate::descriptors::{allowed, wanted};
 use crate::fault::{Fault, fault_of};
 use crate::files::read_table;
-use crate::journal::Journal;
+use crate::journal::{Journal, Target, log_file};
+use crate::watch::{Goes, Watch};
 use hx_allow::Config;
 use hx_store::{IndexedShelf, Shelf};
-use proxy_live::{LiveSockets, Recorder, Server};
+use proxy_live::{Limits, LiveSockets, Recorder, Server};
 use std::fs::OpenOptions;
-use std::io::Write;
+use std::io;
+use std::io::{ErrorKind, Write};
 use std::net::Net;
 use std::rt::{Clock, Files};
-use std::{fs, io};
 
-/// A record in a new file, if one is asked for.
-fn record_of<R: Files + AllocGlobal>(
+/// The name of a record: `%s` in it is the moment, in Unix seconds.
+fn record_name<R: Clock + AllocGlobal>(rt: &R, path: &str) -> Result<String, Fault> {
+    let Some((front, back)) = path.split_once("%s") else {
+        return Ok(String::from_str(rt.alloc(), path)?);
+    };
+    let Ok(now) = rt.since_1970() else {
+        return Err(Fault::Read);
+    };
+    let seconds = now.as_secs();
+    Ok(format!(in rt.alloc(); "{front}{seconds}{back}")?)
+}
+
+/// A record in a new file, if one is asked for. A file that is there stays as it is.
+fn record_of<R: Files + Clock + AllocGlobal>(
     rt: &R,
     path: Option<&str>,
     table: &[u8],
@@ -22,41 +36,44 @@ fn record_of<R: Files + AllocGlobal>(
     let Some(path) = path else {
         return Ok(None);
     };
-    match fs::create(rt, path) {
-        Ok(file) => Ok(Some(Recorder::begin(rt.alloc(), file, table)?)),
-        Err(e) => Err(fault_of(&e, Fault::Write)),
-    }
-}
-
-/// Tells on which address it listens.
-fn announce<R: Net + Eprint>(rt: &R, sockets: &LiveSockets<'_, R>) -> Result<(), Fault> {
-    match sockets.address() {
-        Ok(address) => {
-            // Where standard error fails there is nobody left to tell.
-            let _ = eprintln!(rt; "listening on {address}");
-            Ok(())
-        }
-        Err(_) => Err(Fault::Socket),
-    }
-}
-
-/// The file of a log, to whose end lines are added.
-fn log_file<R: Files>(rt: &R, path: &str) -> Result<R::File, Fault> {
+    let name = record_name(rt, path)?;
     let mut how = OpenOptions::new();
-    how.append(true).create(true);
-    match how.open(rt, path) {
-        Ok(file) => Ok(file),
+    how.write(true).create_new(true);
+    match how.open(rt, name.as_str()) {
+        Ok(file) => Ok(Some(Recorder::begin(rt.alloc(), file, table)?)),
+        Err(e) if e.kind() == ErrorKind::AlreadyExists => Err(Fault::RecordExists),
         Err(e) => Err(fault_of(&e, Fault::Write)),
     }
 }
 
-/// Serves as many turns as are asked for. Lines about replies are written behind each turn.
-fn serve_turns<'a, R: Net + Clock + Files + Eprint, S: Shelf + Drop, L: Write + Drop>(
+/// Tells on which address it listens, and where fewer descriptors are allowed than may be wanted.
+fn announce<R: Net + Files + Eprint + AllocGlobal>(
     rt: &R,
-    turns: u32,
+    sockets: &LiveSockets<'_, R>,
+    limits: &Limits,
+) {
+    // Where standard error fails there is nobody left to tell.
+    let address = sockets.address();
+    let _ = eprintln!(rt; "listening on {address}");
+    let wants = wanted(limits.connections as u64);
+    if let Some(allows) = allowed(rt) {
+        if allows < wants {
+            let _ = eprintln!(rt;
+                "warning: {allows} descriptors are allowed, and up to {wants} may be wanted"
+            );
+        }
+    }
+}
+
+/// Serves as many turns as are asked for, or until it is to end. Lines about replies are written behind each turn.
+fn serve_turns<'a, R: Net + Clock + Files + Eprint, S: Shelf + Drop, P: Write + Drop>(
+    rt: &R,
+    turns: u64,
+    watch: Watch<'_>,
     server: &mut Server<'a, S, R, R::File>,
-    journal: &mut Option<Journal<L>>,
+    journal: &mut Option<Journal<R::File, P>>,
 ) -> Result<(), Fault> {
+    let mut watch = watch;
     let mut told = false;
     let mut log_told = false;
     for _ in 0..turns {
@@ -70,14 +87,21 @@ fn serve_turns<'a, R: Net + Clock + Files + Eprint, S: Shelf + Drop, L: Write + 
             log_told = true;
             let _ = eprintln!(rt; "log fault");
         }
+        match watch.look(rt, server, journal) {
+            Goes::On => {}
+            Goes::Draining => {
+                let _ = eprintln!(rt; "draining");
+            }
+            Goes::Over => return Ok(()),
+        }
     }
     Ok(())
 }
 
 /// Writes the lines of a turn; answers how many lines were lost since the start.
-fn write_log<'a, S: Shelf + Drop, R: Net, F: Write + Drop, L: Write + Drop>(
+fn write_log<'a, S: Shelf + Drop, R: Net, F: Write + Drop, P: Write + Drop>(
     server: &mut Server<'a, S, R, F>,
-    journal: &mut Option<Journal<L>>,
+    journal: &mut Option<Journal<F, P>>,
 ) -> u64 {
     let Some(journal) = journal else {
         return 0;
@@ -91,50 +115,52 @@ fn write_log<'a, S: Shelf + Drop, R: Net, F: Write + Drop, L: Write + Drop>(
     lost
 }
 
-/// Serves with a log, and tells at the end how many of its lines were lost.
-fn serve_logged<'a, R: Net + Clock + Files + Eprint, S: Shelf + Drop, L: Write + Drop>(
+/// Where the lines of a log go, if one is kept.
+fn journal_of<R: Files, P: Write + Drop>(
     rt: &R,
-    turns: u32,
-    server: &mut Server<'a, S, R, R::File>,
-    log: Option<L>,
-) -> Result<(), Fault> {
-    let mut journal = match log {
-        Some(writer) => Some(Journal::new(writer)),
-        None => None,
-    };
-    let served = serve_turns(rt, turns, server, &mut journal);
-    let lost = write_log(server, &mut journal);
-    if lost > 0 {
-        let _ = eprintln!(rt; "log fault {lost}");
+    path: Option<&str>,
+    print: P,
+) -> Result<Option<Journal<R::File, P>>, Fault> {
+    match path {
+        None => Ok(None),
+        Some("-") => Ok(Some(Journal::new(Target::Print(print)))),
+        Some(path) => match log_file(rt, path) {
+            Ok(file) => Ok(Some(Journal::new(Target::File(file)))),
+            Err(e) => Err(fault_of(&e, Fault::Write)),
+        },
     }
-    served
 }
 
-/// Serves as many turns as are asked for.
+/// Serves, and tells at the end how many lines of the log were lost.
 pub(crate) fn serve<R: Net + Clock + Files + Print + Eprint + AllocGlobal>(
     rt: &R,
     service: &Service<'_>,
 ) -> Result<(), Fault> {
     let table = read_table(rt, service.table)?;
     let config = Config::read(rt.alloc(), table.as_slice())?;
-    let mut sockets = match LiveSockets::bind(rt, rt.alloc(), service.listen, service.silence) {
+    let mut limits = service.limits;
+    limits.max_body = config.max_body();
+    let mut sockets = match LiveSockets::bind(rt, rt.alloc(), service.listen, limits) {
         Ok(sockets) => sockets,
         Err(e) => return Err(fault_of(&e, Fault::Socket)),
     };
     let record = record_of(rt, service.record, table.as_slice())?;
     let shelf = IndexedShelf::new(rt.alloc(), config.capacity())?;
-    let file = match service.log {
-        Some(path) if path != "-" => Some(log_file(rt, path)?),
-        _ => None,
-    };
-    if service.log.is_some() {
-        sockets.keep_log(config.max_body());
+    let mut journal = journal_of(rt, service.log, io::writer(rt))?;
+    if journal.is_some() {
+        sockets.keep_log();
     }
-    announce(rt, &sockets)?;
+    announce(rt, &sockets, &limits);
     let mut server = Server::new(rt.alloc(), config, shelf, sockets, record);
-    if service.log == Some("-") {
-        serve_logged(rt, service.turns, &mut server, Some(io::writer(rt)))
-    } else {
-        serve_logged(rt, service.turns, &mut server, file)
+    let turns = match service.turns {
+        Some(turns) => u64::from(turns),
+        None => u64::MAX,
+    };
+    let watch = Watch::new(service.drain, service.drain_timeout, service.log);
+    let served = serve_turns(rt, turns, watch, &mut server, &mut journal);
+    let lost = write_log(&mut server, &mut journal);
+    if lost > 0 {
+        let _ = eprintln!(rt; "log fault {lost}");
     }
+    served
 }

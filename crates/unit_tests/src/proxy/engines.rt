@@ -192,3 +192,65 @@ fn many_clients_come_and_go(rt: HostRuntime) -> Result<(), Fail> {
     rests(&rt, rt.alloc(), &mut engine, 100);
     Ok(())
 }
+
+/// A client is between two requests where each byte that it has sent was used, and it waits for nothing.
+#[test]
+fn who_is_between_requests(rt: HostRuntime) -> Result<(), Fail> {
+    let mut engine = engine(rt.alloc(), 1)?;
+    assert!(&rt; !engine.is_between_requests(1));
+    takes(&rt, rt.alloc(), &mut engine, Happening::Accept(1));
+    assert!(&rt; engine.is_between_requests(1));
+    for piece in [
+        b"GET /a HTTP/1.1\r\n".as_slice(),
+        b"Host: h\r\n\r\n".as_slice(),
+    ] {
+        takes(&rt, rt.alloc(), &mut engine, Happening::Client(1, piece));
+        assert!(&rt; !engine.is_between_requests(1));
+    }
+    does(&rt, rt.alloc(), &mut engine, 100, FORWARDED);
+    assert!(&rt; !engine.is_between_requests(1));
+    takes(&rt, rt.alloc(), &mut engine, Happening::Link(1, ANSWER));
+    assert!(&rt; matches!(work(rt.alloc(), &mut engine, 100), Ok(Some(_))));
+    assert!(&rt; engine.is_between_requests(1));
+    let begun = b"POST /a HTTP/1.1\r\nHost: h\r\nContent-Length: 3\r\n\r\nab";
+    takes(&rt, rt.alloc(), &mut engine, Happening::Client(1, begun));
+    rests(&rt, rt.alloc(), &mut engine, 100);
+    assert!(&rt; !engine.is_between_requests(1));
+    takes(&rt, rt.alloc(), &mut engine, Happening::Client(1, b"cG"));
+    assert!(&rt; matches!(work(rt.alloc(), &mut engine, 100), Ok(Some(_))));
+    takes(&rt, rt.alloc(), &mut engine, Happening::Link(2, ANSWER));
+    assert!(&rt; matches!(work(rt.alloc(), &mut engine, 100), Ok(Some(_))));
+    // The first byte of a third request has come.
+    assert!(&rt; !engine.is_between_requests(1));
+    takes(&rt, rt.alloc(), &mut engine, Happening::Accept(2));
+    takes(&rt, rt.alloc(), &mut engine, Happening::End(2));
+    assert!(&rt; !engine.is_between_requests(2));
+    Ok(())
+}
+
+const FAR_FORWARDED: &[u8] = b"forward 5000000000 127.0.0.1:8081 62
+GET /a HTTP/1.1\r
+Host: h\r
+Via: 1.1 edge\r
+Connection: close\r
+\r
+
+";
+
+/// Numbers of links go on behind those of 32 bits.
+#[test]
+fn numbers_are_of_64_bits(rt: HostRuntime) -> Result<(), Fail> {
+    let mut engine = engine(rt.alloc(), 5_000_000_000)?;
+    takes(&rt, rt.alloc(), &mut engine, Happening::Accept(1));
+    takes(&rt, rt.alloc(), &mut engine, Happening::Client(1, ASK));
+    does(&rt, rt.alloc(), &mut engine, 100, FAR_FORWARDED);
+    takes(
+        &rt,
+        rt.alloc(),
+        &mut engine,
+        Happening::Link(5_000_000_000, ANSWER),
+    );
+    assert!(&rt; matches!(work(rt.alloc(), &mut engine, 100), Ok(Some(_))));
+    rests(&rt, rt.alloc(), &mut engine, 100);
+    Ok(())
+}

@@ -2,7 +2,7 @@
 
 use hx_allow::Config;
 use hx_store::ListShelf;
-use proxy_live::{LiveSockets, Server, Silence};
+use proxy_live::{Limits, LiveSockets, Server};
 use std::alloc::Global;
 use std::io::{ErrorKind, Read, Write};
 use std::net::{SocketAddr, TcpListener, TcpStream};
@@ -19,20 +19,31 @@ fn table_for(alloc: Global, origin: SocketAddr) -> Result<Config, Fail> {
     Ok(Config::read(alloc, text.as_bytes()).ok().ok_or("a table")?)
 }
 
-/// A server before that origin, which records nothing, and its address.
+/// A server before that origin, which records nothing, and its address. An end may be silent for so many seconds.
 fn server_before<'a>(
     rt: &'a HostRuntime,
     origin: SocketAddr,
-    silence: Silence,
+    silence: u64,
 ) -> Result<(Server<'a, ListShelf, HostRuntime, Vec<u8>>, SocketAddr), Fail> {
     let alloc = rt.alloc();
     let any = "127.0.0.1:0"
         .parse::<SocketAddr>()
         .ok()
         .ok_or("an address")?;
-    let sockets = LiveSockets::bind(rt, alloc, any, silence)?;
-    let address = sockets.address()?;
     let config = table_for(alloc, origin)?;
+    let limits = Limits {
+        connections: 1000,
+        client_timeout: silence,
+        request_timeout: 30,
+        abandon_timeout: 5,
+        connect_timeout: 5,
+        origin_timeout: silence,
+        exchange_timeout: 300,
+        unsent: 1_000_000,
+        max_body: config.max_body(),
+    };
+    let sockets = LiveSockets::bind(rt, alloc, any, limits)?;
+    let address = sockets.address();
     let shelf = ListShelf::new(alloc, config.capacity());
     Ok((Server::new(alloc, config, shelf, sockets, None), address))
 }
@@ -59,11 +70,7 @@ fn answer(stream: TcpStream) -> Result<(), Fail> {
 fn loopback_hit(rt: HostRuntime) -> Result<(), Fail> {
     let origin = TcpListener::bind(&rt, "127.0.0.1:0")?;
     origin.set_nonblocking(true)?;
-    let silence = Silence {
-        origin: 60,
-        client: 60,
-    };
-    let (mut server, address) = server_before(&rt, origin.local_addr()?, silence)?;
+    let (mut server, address) = server_before(&rt, origin.local_addr()?, 60)?;
     let mut asked = 0u64;
     for wanted in [
         b"fwd=uri-miss;ttl=600;stored".as_slice(),
@@ -98,11 +105,7 @@ fn loopback_hit(rt: HostRuntime) -> Result<(), Fail> {
 #[test]
 fn silent_ends_are_let_go(rt: HostRuntime) -> Result<(), Fail> {
     let origin = TcpListener::bind(&rt, "127.0.0.1:0")?;
-    let silence = Silence {
-        origin: 1,
-        client: 1,
-    };
-    let (mut server, address) = server_before(&rt, origin.local_addr()?, silence)?;
+    let (mut server, address) = server_before(&rt, origin.local_addr()?, 1)?;
     let mut idle = TcpStream::connect(&rt, address)?;
     let mut client = TcpStream::connect(&rt, address)?;
     client.write_all(b"GET /a HTTP/1.1\r\nHost: h\r\n\r\n")?;

@@ -1,5 +1,5 @@
 use Rattle.proxy_turn.specs.Served.{LosesOn}
-use Rattle.proxy_live.proofs.server.Server.hand_in_silent.Given as goal
+use Rattle.proxy_live.proofs.server.Server.park_idle.Given as goal
 
 -- nothing but what was lost has been taken so far
 abbrev pub invariant-loop-end : goal.invariant-loop-end

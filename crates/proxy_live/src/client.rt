@@ -1,0 +1,213 @@
+//! A client's stream: where it stands, what it asks for, and what a log needs of it.
+ghost use Rattle.std.specs.Prelude.{◌≡◌, length, IfOk};
+ghost use Rattle.proxy_turn.specs.Received.{IsReceived};
+
+use crate::early::{Came, Early};
+use crate::lines::Line;
+use crate::peer::Peer;
+use hx_fields::Bytes;
+use proxy_log::{Asked, Told};
+use proxy_turn::Received;
+use std::alloc::{AllocError, Global};
+use std::io;
+use std::net::SocketAddr;
+
+/// Where a client's stream stands.
+#[derive(Clone, Copy, Debug, PartialEq, Eq)]
+pub(crate) enum Place {
+    /// The engine knows it by this number.
+    Open(u64),
+    /// In a line, since it had this stamp.
+    In(Line, u64),
+}
+
+/// What a log needs of a client.
+#[derive(Drop)]
+struct Logged {
+    address: SocketAddr,
+    /// What it asks for, where it has a place.
+    asked: Option<Asked>,
+}
+
+/// A client's stream.
+#[derive(Drop)]
+pub(crate) struct Client {
+    pub(crate) peer: Peer,
+    alloc: Global,
+    pub(crate) place: Place,
+    /// What came before it had a place.
+    early: Option<Early>,
+    /// When the first byte of its request came, if its request is incomplete.
+    pub(crate) asked: Option<u64>,
+    /// When its end was seen.
+    pub(crate) left: Option<u64>,
+    /// It has sent a request, in all.
+    pub(crate) has_asked: bool,
+    /// When it was closed.
+    pub(crate) closed: u64,
+    logged: Option<Logged>,
+}
+
+impl Client {
+    /// A client from which nothing has come, in the line of those.
+    pub(crate) fn new(alloc: Global, peer: Peer, stamp: u64) -> Client {
+        Client {
+            peer,
+            alloc,
+            place: Place::In(Line::Idle, stamp),
+            early: None,
+            asked: None,
+            left: None,
+            has_asked: false,
+            closed: 0,
+            logged: None,
+        }
+    }
+
+    /// Who it is, for a log.
+    pub(crate) fn keep_log(&mut self, address: SocketAddr) {
+        self.logged = Some(Logged {
+            address,
+            asked: None,
+        });
+    }
+
+    /// It has a place: what it asks for is read for a log too, where one is kept.
+    pub(crate) fn open(&mut self, n: u64, max_body: u64) {
+        self.place = Place::Open(n);
+        self.has_asked = true;
+        if let Some(logged) = &mut self.logged {
+            logged.asked = Some(Asked::new(self.alloc, max_body));
+        }
+    }
+
+    /// It has no place any more, between two requests.
+    pub(crate) fn rest(&mut self) {
+        self.asked = None;
+        if let Some(logged) = &mut self.logged {
+            logged.asked = None;
+        }
+    }
+
+    /// Takes what came, for a log.
+    pub(crate) fn hear(&mut self, piece: &[u8]) {
+        let alloc = self.alloc;
+        if let Some(logged) = &mut self.logged {
+            if let Some(asked) = &mut logged.asked {
+                asked.hear(alloc, piece);
+            }
+        }
+    }
+
+    /// The line about a reply, where a log is kept.
+    pub(crate) fn line_about(
+        &mut self,
+        moment: u64,
+        told: &Told<'_>,
+    ) -> Result<Option<proxy_log::Line>, AllocError> {
+        let alloc = self.alloc;
+        let Some(logged) = &mut self.logged else {
+            return Ok(None);
+        };
+        let Some(asked) = &mut logged.asked else {
+            return Ok(None);
+        };
+        let question = asked.next_question(alloc);
+        let address = logged.address.to_string(alloc)?;
+        Ok(Some(proxy_log::Line {
+            moment,
+            client: Bytes::copy_of(alloc, address.as_str().as_bytes())?,
+            method: question.method,
+            target: question.target,
+            status: told.status,
+            length: told.length,
+            reason: Bytes::copy_of(alloc, told.reason)?,
+        }))
+    }
+
+    /// Keeps what came before it has a place.
+    pub(crate) fn keep_early(&mut self, piece: &[u8]) -> Result<(), AllocError> {
+        let mut early = match self.early.take() {
+            Some(early) => early,
+            None => Early::new(self.alloc),
+        };
+        early.keep(piece)?;
+        self.early = Some(early);
+        Ok(())
+    }
+
+    /// Whether more of its request is to be kept before it has a place.
+    pub(crate) fn takes_early(&self) -> bool {
+        match &self.early {
+            Some(early) => !early.is_full(),
+            None => true,
+        }
+    }
+
+    /// Whether something has come before it had a place, and wasn't taken.
+    pub(crate) fn has_early(&self) -> bool {
+        match &self.early {
+            Some(early) => !early.is_empty(),
+            None => false,
+        }
+    }
+
+    /// Drops what has come before it had a place.
+    pub(crate) fn drop_early(&mut self) {
+        self.early = None;
+    }
+
+    /// Whether its request has come whole, as far as what was kept tells.
+    pub(crate) fn look(&mut self, max_body: u64) -> Result<Came, AllocError> {
+        let alloc = self.alloc;
+        match &mut self.early {
+            Some(early) => early.look(alloc, max_body),
+            None => Ok(Came::Part),
+        }
+    }
+
+    /// Whether its request has been incomplete for more than so many milliseconds.
+    pub(crate) fn is_late(&self, now: u64, limit: u64) -> bool {
+        match self.asked {
+            Some(asked) => now.saturating_sub(asked) > limit,
+            None => false,
+        }
+    }
+
+    /// Whether it has sent its end, and for more than so many milliseconds nothing was written since; or at all, where places are
+    /// short.
+    pub(crate) fn has_left(&self, now: u64, limit: u64, short: bool) -> bool {
+        match self.left {
+            Some(left) => short || now.saturating_sub(left.max(self.peer.heard)) > limit,
+            None => false,
+        }
+    }
+
+    /// Whether there is something that a read would give, or may.
+    pub(crate) fn may_give(&self) -> bool {
+        !self.peer.has_unsent() && (self.peer.readable || self.has_early())
+    }
+
+    /// Reads what has come, if anything may have: what came before it had a place comes first.
+    pub(crate) fn read(&mut self, buf: &mut [u8], now: u64) -> io::Result<Received>
+        ensures within { IfOk result (IsReceived (length buf.old)) }
+        ensures length { length buf.new ≡ length buf.old }
+    {
+        if let Some(early) = &mut self.early {
+            let n = early.give(buf);
+            if early.is_empty() {
+                self.early = None;
+            }
+            if n > 0 {
+                return Ok(Received::Bytes(n));
+            }
+        }
+        let received = self.peer.read(buf, now)?;
+        if let Received::Bytes(_) = received {
+            if self.asked.is_none() {
+                self.asked = Some(now);
+            }
+        }
+        Ok(received)
+    }
+}

@@ -1,0 +1,165 @@
+//! Whose time is over, and who gives way where places are short.
+
+use crate::client::Client;
+use crate::clients::Clients;
+use crate::limits::{HASTE, IDLE, Limits, PATIENCE, QUIET};
+use crate::lines::Line;
+use proxy_turn::End;
+
+/// Whether who stands in a line has had its time.
+fn is_over(client: &Client, line: Line, limits: &Limits, now: u64, draining: bool) -> bool {
+    let quiet = now.saturating_sub(client.peer.heard);
+    match line {
+        Line::Idle => {
+            let is_done = draining && (client.has_asked || quiet > IDLE);
+            is_done || quiet > limits.client_timeout
+        }
+        Line::Taking => quiet > limits.client_timeout,
+        // What has come may be whole.
+        Line::Fresh => false,
+        Line::Whole => false,
+        Line::Long => client.is_late(now, limits.request_timeout),
+        Line::Partial => client.is_late(now, limits.request_timeout),
+        Line::Leaving => quiet > limits.client_timeout,
+        Line::Lingering => quiet > QUIET || now.saturating_sub(client.closed) > PATIENCE,
+    }
+}
+
+/// Whether nobody behind the first whose time isn't over has had its time: they came later.
+fn is_in_order(line: Line, draining: bool) -> bool {
+    match line {
+        Line::Idle => !draining,
+        Line::Long => true,
+        Line::Partial => true,
+        _ => false,
+    }
+}
+
+impl Clients {
+    /// Drops the streams without a place that have had their time.
+    pub(crate) fn sweep(&mut self, now: u64, draining: bool) {
+        self.sweep_line(Line::Idle, now, draining);
+        self.sweep_line(Line::Taking, now, draining);
+        self.sweep_line(Line::Long, now, draining);
+        self.sweep_line(Line::Partial, now, draining);
+        self.sweep_line(Line::Leaving, now, draining);
+        self.sweep_line(Line::Lingering, now, draining);
+    }
+
+    fn sweep_line(&mut self, line: Line, now: u64, draining: bool) {
+        let mut from = 0u64;
+        for _ in 0..self.lines.len(line) {
+            let Some((stamp, key)) = self.lines.next_from(line, from) else {
+                return;
+            };
+            from = stamp.saturating_add(1);
+            let limits = self.limits;
+            let over = match self.stream(key) {
+                Some(client) => is_over(client, line, &limits, now, draining),
+                None => true,
+            };
+            if over {
+                self.drop_stream(key);
+            } else if is_in_order(line, draining) {
+                return;
+            }
+        }
+    }
+
+    /// Whether there is room for one more stream, or can be made.
+    pub(crate) fn may_add(&self) -> bool {
+        let spare = self.lines.len_of(&[Line::Lingering, Line::Idle]);
+        self.len().saturating_sub(spare) < self.limits.connections
+    }
+
+    /// Makes room for one more stream, where there are as many as may be: of those that were closed, or else are idle, the first
+    /// is dropped.
+    pub(crate) fn make_room(&mut self) {
+        if self.len() < self.limits.connections {
+            return;
+        }
+        if let Some(key) = self.lines.first_of(&[Line::Lingering, Line::Idle]) {
+            self.drop_stream(key);
+        }
+    }
+
+    /// Whether a client may leave its place, if it is between two requests: nothing waits to be read. A number that isn't there
+    /// may.
+    pub(crate) fn may_park(&self, n: u64) -> bool {
+        match self.get(n) {
+            Some(client) => !client.may_give(),
+            None => true,
+        }
+    }
+
+    /// Whether a client has been idle for a while.
+    pub(crate) fn is_idle(&self, n: u64, now: u64) -> bool {
+        match self.get(n) {
+            Some(client) => now.saturating_sub(client.peer.heard) > IDLE,
+            None => true,
+        }
+    }
+
+    /// Whether the request of a client, which is incomplete, has taken too long, or the client is silent.
+    pub(crate) fn is_late(&mut self, n: u64, now: u64) -> bool {
+        let limits = self.limits;
+        let Some(client) = self.get_mut(n) else {
+            return true;
+        };
+        if client.peer.has_unsent() {
+            // It isn't read meanwhile.
+            client.asked = Some(now);
+        } else if client.asked.is_none() {
+            client.asked = Some(now);
+        }
+        client.is_late(now, limits.request_timeout)
+            || client.peer.is_silent(now, limits.client_timeout)
+    }
+
+    /// A client that has sent its end while it waits for its answer, for too long or, where places are short, at all. `reads` are
+    /// those that don't wait for one.
+    pub(crate) fn abandoned(&self, reads: &[End], now: u64, short: bool) -> Option<u64> {
+        for i in 0..self.open_count() {
+            let (n, key) = self.number_at(i)?;
+            if let Some(client) = self.stream(key) {
+                let has_left = client.has_left(now, self.limits.abandon_timeout, short);
+                if has_left && !reads.contains(&End::Client(n)) {
+                    return Some(n);
+                }
+            }
+        }
+        None
+    }
+
+    /// Of the clients that may be read the one whose request has been incomplete for the longest, where that is too long for who
+    /// waits.
+    pub(crate) fn slowest_request(&self, reads: &[End], now: u64) -> Option<u64> {
+        let mut first = self.waits_since(now)?;
+        let mut slowest = None;
+        for end in reads {
+            if let End::Client(n) = *end {
+                if let Some(client) = self.get(n) {
+                    if let Some(asked) = client.asked {
+                        if asked < first && now.saturating_sub(asked) > HASTE {
+                            first = asked;
+                            slowest = Some(n);
+                        }
+                    }
+                }
+            }
+        }
+        slowest
+    }
+
+    /// Since when the request has been incomplete that waits for a place: no older one gives way for it. A whole one has been so
+    /// since now.
+    fn waits_since(&self, now: u64) -> Option<u64> {
+        if self.lines.first(Line::Whole).is_some() {
+            return Some(now);
+        }
+        let key = self
+            .lines
+            .first_of(&[Line::Long, Line::Partial, Line::Fresh])?;
+        self.stream(key)?.asked
+    }
+}

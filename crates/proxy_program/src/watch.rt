@@ -1,0 +1,85 @@
+//! What a server looks for once a second: the file that has it end, and whether its log was moved.
+
+use crate::journal::Journal;
+use hx_store::Shelf;
+use proxy_live::Server;
+use std::fs;
+use std::io::Write;
+use std::net::Net;
+use std::rt::{Clock, Files};
+
+/// How a server is watched, and since when it is to end.
+#[derive(Clone, Copy, Debug)]
+pub(crate) struct Watch<'a> {
+    drain: Option<&'a str>,
+    drain_timeout: u64,
+    log: Option<&'a str>,
+    /// The second in which it was last looked.
+    looked: Option<u64>,
+    /// The second from which on nothing is waited for.
+    ends: Option<u64>,
+}
+
+/// Whether a server goes on.
+#[derive(Clone, Copy, Debug, PartialEq, Eq)]
+pub(crate) enum Goes {
+    On,
+    /// It begins to end.
+    Draining,
+    Over,
+}
+
+impl<'a> Watch<'a> {
+    pub(crate) fn new(
+        drain: Option<&'a str>,
+        drain_timeout: u64,
+        log: Option<&'a str>,
+    ) -> Watch<'a> {
+        Watch {
+            drain,
+            drain_timeout,
+            log,
+            looked: None,
+            ends: None,
+        }
+    }
+
+    /// Whether the file is there that has the server end.
+    fn is_to_end<R: Files>(&self, rt: &R) -> bool {
+        match self.drain {
+            Some(path) => match fs::exists(rt, path) {
+                Ok(there) => there,
+                Err(_) => false,
+            },
+            None => false,
+        }
+    }
+
+    /// Looks behind a turn.
+    pub(crate) fn look<'s, R: Net + Files + Clock, S: Shelf + Drop, P: Write + Drop>(
+        &mut self,
+        rt: &R,
+        server: &mut Server<'s, S, R, R::File>,
+        journal: &mut Option<Journal<R::File, P>>,
+    ) -> Goes {
+        let now = server.second();
+        if let Some(ends) = self.ends {
+            if now >= ends || server.is_drained() {
+                return Goes::Over;
+            }
+        }
+        if self.looked == Some(now) {
+            return Goes::On;
+        }
+        self.looked = Some(now);
+        if let (Some(journal), Some(path)) = (journal, self.log) {
+            journal.follow(rt, path);
+        }
+        if self.ends.is_none() && self.is_to_end(rt) {
+            self.ends = Some(now.saturating_add(self.drain_timeout));
+            server.drain();
+            return Goes::Draining;
+        }
+        Goes::On
+    }
+}
