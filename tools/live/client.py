@@ -26,21 +26,28 @@ class Response:
 
 
 class Client:
-    """A connection to the proxy. `number` is the one that the proxy gives it: connections are accepted in their order."""
+    """A connection to the proxy. `number` tells it from the others of its run; the proxy has numbers of its own. One with a
+    small `window` leaves what it doesn't read at the proxy, and not in the system's buffers."""
 
-    def __init__(self, port, number):
-        self.number, self.received, self.at = number, bytearray(), 0
-        self.has_left = self.has_ended = self.was_reset = False
-        self.socket = socket.create_connection(("127.0.0.1", port), timeout=PATIENCE)
+    def __init__(self, port, number, window=None):
+        self.number, self.sent, self.received, self.at = number, bytearray(), bytearray(), 0
+        # (one that is cut off while bytes wait for it lacks these, and says so here)
+        self.has_left = self.has_ended = self.was_reset = self.is_cut_off = False
+        self.socket = socket.socket()
+        self.socket.settimeout(PATIENCE)
+        if window:
+            self.socket.setsockopt(socket.SOL_SOCKET, socket.SO_RCVBUF, window)
+        self.socket.connect(("127.0.0.1", port))
         self.socket.setsockopt(socket.IPPROTO_TCP, socket.TCP_NODELAY, 1)
 
     def send(self, data):
+        self.sent += data
         self.socket.sendall(data)
 
-    def send_slowly(self, data):
+    def send_slowly(self, data, pause=0.001):
         for byte in data:
-            self.socket.sendall(bytes([byte]))
-            time.sleep(0.001)
+            self.send(bytes([byte]))
+            time.sleep(pause)
 
     def ask(self, target, *lines, method="GET", content=None):
         """Sends a request, and reads its response."""
@@ -90,6 +97,10 @@ class Client:
             self.read_some()
         return not self.was_reset and self.at == len(self.received)
 
+    def open_window(self):
+        """From now on it reads as fast as any: a small window makes for many small pieces."""
+        self.socket.setsockopt(socket.SOL_SOCKET, socket.SO_RCVBUF, 4 << 20)
+
     def has_nothing_to_read(self, seconds):
         return not select.select([self.socket], [], [], seconds)[0]
 
@@ -119,8 +130,8 @@ class Said:
     """What a program that is no `Client` got over a connection."""
 
     def __init__(self, number, received):
-        self.number, self.received = number, received
-        self.has_left, self.has_ended = False, True
+        self.number, self.sent, self.received = number, None, received
+        self.has_left, self.has_ended, self.is_cut_off = False, True, False
 
     def settle(self):
         pass

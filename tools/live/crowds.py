@@ -4,10 +4,11 @@ import time
 
 from live.client import request
 from live.expect import Unexpected, expect, expect_answer, expect_member, expect_within
-from live.origin import Origin, silent, whole
-from live.scenario import AT_ONCE, KEPT, LATEST, SHORT, scenario, timed
+from live.origin import Origin, held_back, silent, whole
+from live.scenario import AT_ONCE, KEPT, LATEST, scenario, timed
 
-MOST_CONNECTIONS = 256
+# The requests that are served at a time.
+MOST_AT_A_TIME = 256
 # The most bytes that are kept for an end that doesn't read.
 MOST_UNSENT = 64 << 20
 
@@ -71,29 +72,37 @@ def two_hundred_idle_connections(stage):
 
 
 @scenario
-def a_connection_beyond_256_waits_its_turn(stage):
-    """256 connections are open at a time. The next one is served when one of them ends."""
-    stage.origin(Origin({"/a": whole(200, KEPT, content=b"hello")}))
+def a_request_beyond_256_waits_its_turn(stage):
+    """256 requests are with their origin at a time. The next one, though it is stored, is answered when one of them is."""
+    go = threading.Event()
+    late = held_back(go, whole(200, "Cache-Control: no-store", content=b"late"))
+    origin = stage.origin(Origin({"/a": whole(200, KEPT, content=b"hello"), "/late": late}))
     proxy = stage.proxy()
-    idle = [proxy.client() for _ in range(MOST_CONNECTIONS)]
-    idle[0].ask("/a")
+    proxy.client().ask("/a")
+    busy = [proxy.client() for _ in range(MOST_AT_A_TIME)]
+    for i, it in enumerate(busy):
+        it.send(request(f"/late?{i}"))
+    origin.wait_for(MOST_AT_A_TIME + 1)
     last = proxy.client()
     last.send(request("/a"))
-    expect("an answer while 256 are open", False, not last.has_nothing_to_read(1.5))
-    idle[7].leave()
+    expect("an answer while 256 are served", False, not last.has_nothing_to_read(1.5))
+    go.set()
     expect_answer(last.response(), 200, "edge;hit;ttl=600", b"hello")
+    for it in busy:
+        expect_answer(it.response(), 200, "edge;fwd=uri-miss", b"late")
 
 
 @scenario
-def idle_clients_make_room_in_time(stage):
-    """256 connections that send nothing keep the next one out until the clients' time-out, and no longer."""
+def idle_clients_make_room(stage):
+    """Connections that send nothing keep nobody out, as many as there are places for requests."""
     stage.origin(Origin({"/a": whole(200, KEPT, content=b"hello")}))
-    proxy = stage.proxy(options=["--client-timeout", str(SHORT)])
-    for _ in range(MOST_CONNECTIONS):
-        proxy.client()
+    proxy = stage.proxy()
+    idle = [proxy.client() for _ in range(MOST_AT_A_TIME)]
     answer, seconds = timed(proxy.client(), "/a")
     expect_answer(answer, 200, "edge;fwd=uri-miss;ttl=600;stored", b"hello")
-    expect_within("the answer", 0, LATEST, seconds)
+    expect_within("the answer", 0, AT_ONCE, seconds)
+    for it in idle:
+        expect_answer(it.ask("/a"), 200, "edge;hit;ttl=600", b"hello")
 
 
 @scenario
@@ -154,23 +163,36 @@ def an_idle_server_does_nothing(stage):
 
 @scenario
 def descriptors_run_out(stage):
-    """Where the system gives no more descriptors, connections wait in the queue, the server doesn't spin, and those that
-    are open are served; when some end the others' turn comes."""
-    stage.origin(Origin({"/a": whole(200, KEPT, content=b"hello")}))
+    """Where the system gives no more descriptors, idle connections give way. Where none is idle further ones wait in the queue,
+    the server doesn't spin, and when those that are open have been answered the others' turn comes."""
+    go = threading.Event()
+    late = held_back(go, whole(200, KEPT, content=b"late"))
+    origin = stage.origin(Origin({"/a": whole(200, KEPT, content=b"hello"), "/late": late}))
     proxy = stage.proxy()
-    first = proxy.client()
-    first.ask("/a")
+    proxy.client().ask("/a")
     proxy.limit_descriptors(30)
-    others = [proxy.client() for _ in range(40)]
-    others[39].send(request("/a"))
-    time.sleep(0.5)
-    before = proxy.processor_seconds()
-    expect("an answer where no descriptor is left", False, not others[39].has_nothing_to_read(2))
-    expect_within("of two seconds without a descriptor the processor time", 0, 0.5, proxy.processor_seconds() - before)
-    expect_answer(first.ask("/a"), 200, "edge;hit;ttl=600", b"hello")
-    for it in others[:35]:
+    idle = [proxy.client() for _ in range(40)]
+    expect_answer(idle[-1].ask("/a"), 200, "edge;hit;ttl=600", b"hello")
+    for it in idle[20:]:
         it.leave()
-    expect_answer(others[39].response(), 200, "edge;hit;ttl=600", b"hello")
+    time.sleep(0.5)
+    waiting = [proxy.client()]
+    waiting[0].send(request("/late"))
+    origin.wait_for(2)
+    for _ in range(40):
+        waiting.append(proxy.client())
+        waiting[-1].send(request("/late"))
+        time.sleep(0.05)
+    last = proxy.client()
+    last.send(request("/a"))
+    time.sleep(1.5)
+    before = proxy.processor_seconds()
+    expect("an answer where no descriptor is left", False, not last.has_nothing_to_read(2))
+    expect_within("of two seconds without a descriptor the processor time", 0, 0.5, proxy.processor_seconds() - before)
+    go.set()
+    for it in waiting:
+        expect("status", 200, it.response().status)
+    expect_answer(last.response(), 200, "edge;hit;ttl=600", b"hello")
 
 
 @scenario

@@ -86,11 +86,11 @@ def a_refused_connection_is_502(stage):
 
 @scenario
 def an_origin_with_a_full_queue_times_out(stage):
-    """A connect that hangs is a silent origin; nobody else waits for it."""
+    """A connect that hangs has a time-out of its own; nobody else waits for it."""
     full = stage.origin(FullQueue())
     good = stage.origin(Origin({"/a": whole(200, KEPT, content=b"hello")}))
     lines = ("/full", ["*"], full.address), ("/", ["*"], good.address)
-    proxy = stage.proxy(*lines, options=["--origin-timeout", str(SHORT)])
+    proxy = stage.proxy(*lines, options=["--connect-timeout", str(SHORT), "--origin-timeout", "1"])
     waiting, other = proxy.client(), proxy.client()
     began = time.monotonic()
     waiting.send(request("/full"))

@@ -2,6 +2,8 @@
 import glob
 import http.client
 import os
+import resource
+import signal
 import socket
 import subprocess
 import sys
@@ -14,6 +16,9 @@ from live.scenario import KEPT, scenario
 
 TOOLS = os.path.dirname(os.path.dirname(os.path.realpath(__file__)))
 NO_ADDRESSES = ["localhost:0", "127.0.0.1", ":0", "[::1]:0", "127.0.0.1:65536", "127.0.0.1:08", "127.0.0.01:8", "127.0.0.1:+1"]
+# Options of `serve` whose number is outside of their range.
+NO_NUMBERS = [("--turns", "0"), ("--turns", "4294967296"), ("--connections", "0"), ("--connections", "65537")]
+NO_NUMBERS += [(f"--{it}-timeout", "0") for it in ("client", "request", "abandon", "connect", "origin", "exchange", "drain")]
 WRONG_CAPACITY = "capacity has to be a whole number from 1 to 65536, without quotes"
 # A table at fault, made of a good one by putting something in a text's place: the line on standard error, and a part of what
 # is said of it, which has what may stand there.
@@ -135,11 +140,9 @@ def the_command_line_checks_a_table(stage):
             (["check", f"{file}.none"], (1, "", "read fault\n")),
             (["check"], (64, "", "usage fault\n")),
             (["sing"], (64, "", "usage fault\n")),
-            ([*serve, "127.0.0.1:0", "--turns", "0"], (64, "", "usage fault\n")),
-            ([*serve, "127.0.0.1:0", "--turns", "4294967296"], (64, "", "usage fault\n")),
             *(([*serve, it, "--turns", "1"], (64, "", "usage fault\n")) for it in NO_ADDRESSES),
             (["check", file, file], (64, "", "usage fault\n")),
-            ([*serve, "127.0.0.1:0"], (64, "", "usage fault\n")),
+            *(([*serve, "127.0.0.1:0", *it], (64, "", "usage fault\n")) for it in NO_NUMBERS),
             ([*serve, address, "--turns", "1"], (1, "", "socket fault\n")),
             (["serve", wrong, "--listen", address, "--turns", "1"], (2, "", "config fault 4 key capacity\n")),
         ):
@@ -250,11 +253,16 @@ def a_record_is_cut_at_the_limit_of_a_script(stage):
 
 @scenario
 def a_record_that_cannot_be_written_ends_the_server(stage):
-    """A write fault of the record is the server's own."""
-    if not os.path.exists("/dev/full"):
-        raise Skipped("there is no /dev/full")
-    file = f"{stage.room.name}/table.toml"
+    """A write fault of the record is the server's own: here its file may not grow beyond its first bytes."""
+    file, record = f"{stage.room.name}/table.toml", f"{stage.room.name}/record"
     with open(file, "w", encoding="utf-8") as it:
         it.write(table_of(["127.0.0.1:1"]))
-    status, _, said = run(stage, "serve", file, "--listen", "127.0.0.1:0", "--turns", "3", "--record", "/dev/full")
-    expect("status, and the last line on standard error", (1, "write fault"), (status, said.rstrip("\n").rpartition("\n")[2]))
+    words = [stage.program, "serve", file, "--listen", "127.0.0.1:0", "--turns", "3", "--record", record]
+    ran = subprocess.run(words, stdin=subprocess.DEVNULL, capture_output=True, timeout=20, preexec_fn=allow_short_files_only)
+    expect("status, and the last line on standard error", (1, b"write fault"), (ran.returncode, ran.stderr.rstrip(b"\n").rpartition(b"\n")[2]))
+
+
+def allow_short_files_only():
+    """Of a process and those that it starts: a file beyond 100 bytes is one that can't be written."""
+    resource.setrlimit(resource.RLIMIT_FSIZE, (100, 100))
+    signal.signal(signal.SIGXFSZ, signal.SIG_IGN)

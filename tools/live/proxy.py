@@ -1,17 +1,17 @@
 """The built program in front of origins, with a record of what happens at its connections."""
+import itertools
 import os
 import resource
 import select
 import subprocess
 import tempfile
-import threading
 import time
 
 from live import record
 from live.client import PATIENCE, Client, Said
 from live.expect import Skipped, Unexpected, expect
+from live.script import numbers_with
 
-MOST_TURNS = 4294967295
 LISTENING = "listening on "
 
 
@@ -26,15 +26,18 @@ def table_of(lines, max_body=1000000, max_stored=100000, capacity=64):
 
 
 class Proxy:
-    """A running program. Its clients are numbered in the order in which they connect, as the program numbers them."""
+    """A running program, and the clients that connect to it. It stays until it is stopped, but where it is given turns."""
 
-    def __init__(self, program, folder, table, turns=MOST_TURNS, options=(), listen="127.0.0.1:0", record_to=None, records=True):
-        self.program, self.folder, self.clients, self.connecting = program, folder, [], threading.Lock()
-        self.record = record_to or f"{folder}/record"
+    def __init__(self, program, folder, table, turns=None, options=(), listen="127.0.0.1:0", records=True):
+        self.program, self.folder, self.clients, self.numbers = program, folder, [], itertools.count(1)
+        # (a record is never written over another one)
+        self.record = next(it for it in (f"{folder}/record-{i}" for i in itertools.count(1)) if not os.path.exists(it))
         with open(f"{folder}/table.toml", "w", encoding="utf-8") as it:
             it.write(table)
-        words = ["serve", f"{folder}/table.toml", "--listen", listen, "--turns", str(turns)]
+        words = ["serve", f"{folder}/table.toml", "--listen", listen]
+        words += ["--turns", str(turns)] if turns else []
         words += ["--record", self.record] if records else []
+        self.is_recorded = records
         how = {"stdin": subprocess.DEVNULL, "stdout": subprocess.PIPE, "stderr": subprocess.PIPE}
         self.process = subprocess.Popen([program, *words, *options], **how)
         self.port = self.read_port()
@@ -54,28 +57,25 @@ class Proxy:
             raise Unexpected("on standard error", "listening on 127.0.0.1:PORT", text)
         return int(text.rpartition(":")[2])
 
-    def client(self):
-        with self.connecting:
-            it = Client(self.port, len(self.clients) + 1)
-            self.clients.append(it)
+    def client(self, **more):
+        it = Client(self.port, next(self.numbers), **more)
+        self.clients.append(it)
         return it
 
     def curl(self, *words):
         """What curl wrote, with the heads that came in front. It makes one connection."""
-        with self.connecting:
-            words = ["curl", "--silent", "--show-error", "--noproxy", "*", "--max-time", str(PATIENCE), "--include", "--raw", *words]
-            try:
-                ran = subprocess.run(words, capture_output=True, timeout=2 * PATIENCE)
-            except FileNotFoundError:
-                raise Skipped("there is no curl") from None
-            self.clients.append(Said(len(self.clients) + 1, ran.stdout))
+        words = ["curl", "--silent", "--show-error", "--noproxy", "*", "--max-time", str(PATIENCE), "--include", "--raw", *words]
+        try:
+            ran = subprocess.run(words, capture_output=True, timeout=2 * PATIENCE)
+        except FileNotFoundError:
+            raise Skipped("there is no curl") from None
+        self.clients.append(Said(next(self.numbers), ran.stdout))
         expect("curl's status and its line on standard error", (0, b""), (ran.returncode, ran.stderr))
         return ran.stdout
 
     def unseen_client(self):
         """Counts a client that keeps no bytes."""
-        with self.connecting:
-            self.clients.append(Said(len(self.clients) + 1, None))
+        self.clients.append(Said(next(self.numbers), None))
 
     def url(self, target):
         return f"http://127.0.0.1:{self.port}{target}"
@@ -98,6 +98,10 @@ class Proxy:
             user, system = it.read().rpartition(")")[2].split()[11:13]
         return (int(user) + int(system)) / os.sysconf("SC_CLK_TCK")
 
+    def descriptors(self):
+        """How many the program has open."""
+        return len(os.listdir(f"/proc/{self.process.pid}/fd"))
+
     def limit_descriptors(self, count):
         resource.prlimit(self.process.pid, resource.RLIMIT_NOFILE, (count, count))
 
@@ -108,6 +112,20 @@ class Proxy:
         except subprocess.TimeoutExpired:
             raise Unexpected("the program's end", f"within {PATIENCE} s", "a running program") from None
         return self.process.returncode, out, err.decode()
+
+    def happened(self, word):
+        """The numbers that a word of the record came with so far, as those of `gone`."""
+        with open(self.record, "rb") as it:
+            return numbers_with(it.read(), word.encode())
+
+    def wait_until_happened(self, word, count, within=PATIENCE):
+        """Until a word stands in the record so often; the numbers that it came with."""
+        deadline = time.monotonic() + within
+        while len(found := self.happened(word)) < count:
+            if time.monotonic() > deadline:
+                raise Unexpected(f"in the record within {within} s", f"`{word}` {count} times", f"{len(found)} times")
+            time.sleep(0.05)
+        return found
 
     def wait_until_quiet(self):
         """Until the record has stopped growing: what it has last was carried out."""
@@ -133,7 +151,7 @@ class Proxy:
         for it in self.clients:
             it.drain()
         effects = record.replay(self.program, self.record)
-        record.compare_clients(effects, self.clients, is_cut)
+        record.compare_clients(self.record, effects, self.clients, is_cut)
         record.compare_origins(effects, origins, is_cut)
 
 
@@ -148,10 +166,10 @@ class Stage:
         self.origins.append(it)
         return it
 
-    def proxy(self, *lines, turns=MOST_TURNS, options=(), listen="127.0.0.1:0", **table):
+    def proxy(self, *lines, turns=None, options=(), listen="127.0.0.1:0", records=True, **table):
         """A program before the origins of these lines, or before the ones that were made."""
         text = table_of(lines or [it.address for it in self.origins], **table)
-        it = Proxy(self.program, self.room.name, text, turns, options, listen)
+        it = Proxy(self.program, self.room.name, text, turns, options, listen, records)
         self.proxies.append(it)
         return it
 
@@ -160,7 +178,7 @@ class Stage:
         running = [it for it in self.proxies if it.process.returncode is None]
         for it in running:
             it.stop(self.lines)
-        for it in running:
+        for it in (one for one in running if one.is_recorded):
             it.compare([one for one in self.origins if hasattr(one, "fetches")], self.is_cut)
 
     def clear(self):

@@ -2,6 +2,7 @@
 import subprocess
 
 from live.expect import Unexpected, expect
+from live.matching import match, numbers_of
 
 
 class Effects:
@@ -33,21 +34,13 @@ def replay(program, file):
     return Effects(ran.stdout)
 
 
-def compare_clients(effects, clients, is_cut):
-    """Each client got the bytes of the replay: all of them, but where it went away itself. A record that was cut has
-    the first part of what happened."""
-    unknown = sorted({*effects.clients} - {it.number for it in clients})
-    expect("from the replay no bytes for clients that never came", [], unknown)
-    for it in clients:
-        if it.received is None:
-            continue
-        wanted, got = bytes(effects.clients.get(it.number, b"")), bytes(it.received)
-        if is_cut:
-            got = got[: len(wanted)]
-        elif it.has_left:
-            wanted = wanted[: len(got)]
-        expect(f"for client {it.number}, by the replay,", wanted, got)
-        if it.number in effects.closed and not it.has_left and not it.has_ended:
+def compare_clients(file, effects, clients, is_cut):
+    """Each client got the bytes of the replay, those of its numbers one behind the other: all of them, but where it went away
+    itself or was cut off. A record that was cut has the first part of what happened."""
+    with open(file, "rb") as script:
+        numbers = numbers_of(script.read(), effects)
+    for it, chain in zip(clients, match(numbers, clients, is_cut)):
+        if effects.closed.intersection(chain) and not it.has_left and not it.has_ended:
             raise Unexpected(f"client {it.number}, by the replay,", "to be closed", "an open connection")
 
 

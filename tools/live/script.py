@@ -18,6 +18,19 @@ def ends_of(script):
     return ends
 
 
+def numbers_with(script, word):
+    """The numbers that a word stands with, as those of `gone`, in a script that may be amid its next happening."""
+    at, found = 0, []
+    while (end := script.find(b"\n", at)) >= 0:
+        line, at = script[at:end], end + 1
+        has_block = BLOCK.fullmatch(line)
+        if has_block:
+            at += int(has_block[1]) + 1
+        elif line.startswith(word + b" "):
+            found.append(int(line.split(b" ")[1]))
+    return found
+
+
 def is_effects(text):
     """Whether a text is whole effects, one behind the other."""
     at = 0
