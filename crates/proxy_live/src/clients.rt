@@ -483,9 +483,9 @@ impl Clients {
         self.next_in().is_some()
     }
 
-    /// Whether somebody waits for a place with a request that may have come whole, or is long.
+    /// Whether somebody waits for a place with a request that may have come whole.
     pub(crate) fn some_wait(&self) -> bool {
-        self.lines.len_of(&[Line::Fresh, Line::Whole, Line::Long]) > 0
+        self.lines.len_of(&[Line::Fresh, Line::Whole]) > 0
     }
 
     /// How many wait for a place that isn't free.

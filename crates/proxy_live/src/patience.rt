@@ -131,24 +131,36 @@ impl Clients {
         None
     }
 
-    /// Of the clients that may be read the one whose request has been incomplete for the longest, where that is too long for who
-    /// waits.
+    /// Of the clients that may be read the one whose request has been incomplete for the longest, where it gives way to who waits.
     pub(crate) fn slowest_request(&self, reads: &[End], now: u64) -> Option<u64> {
+        let is_whole = self.lines.first(Line::Whole).is_some();
         let mut first = self.waits_since(now)?;
         let mut slowest = None;
         for end in reads {
             if let End::Client(n) = *end {
-                if let Some(client) = self.get(n) {
-                    if let Some(asked) = client.asked {
-                        if asked < first && now.saturating_sub(asked) > HASTE {
-                            first = asked;
-                            slowest = Some(n);
-                        }
+                if let Some(asked) = self.slow_since(n, now, is_whole) {
+                    if asked < first {
+                        first = asked;
+                        slowest = Some(n);
                     }
                 }
             }
         }
         slowest
+    }
+
+    /// Since when a request has been incomplete, where that is more than a second. Where who waits isn't whole either, only one of
+    /// which nothing has come for as long gives way: one that goes on coming is as good.
+    fn slow_since(&self, n: u64, now: u64, is_whole: bool) -> Option<u64> {
+        let client = self.get(n)?;
+        let asked = client.asked?;
+        let is_slow = now.saturating_sub(asked) > HASTE;
+        let rests = !client.may_give() && now.saturating_sub(client.peer.heard) > HASTE;
+        if is_slow && (is_whole || rests) {
+            Some(asked)
+        } else {
+            None
+        }
     }
 
     /// Since when the request has been incomplete that waits for a place: no older one gives way for it. A whole one has been so
