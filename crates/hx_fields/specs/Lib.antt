@@ -4,3 +4,4 @@ pub mod Lines
 pub mod Tokens
 pub mod Numbers
 pub mod Examples
+pub mod Folded

@@ -10,6 +10,7 @@ mod cutting;
 mod digits;
 mod field_line;
 mod field_lines;
+mod folded_names;
 mod laws;
 mod limits;
 mod member_list;
@@ -20,6 +21,7 @@ pub use crate::cutting::{cut_at, is_same_name, next_member, trim_blanks};
 pub use crate::digits::{digit_value, number_up_to};
 pub use crate::field_line::Field;
 pub use crate::field_lines::Fields;
+pub use crate::folded_names::FoldedName;
 pub use crate::laws::{
     a_text_is_cut_at_the_first_of_a_byte, members_are_cut_outside_quotes,
     one_line_has_the_only_value, values_are_joined,

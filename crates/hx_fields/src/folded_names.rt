@@ -1,0 +1,99 @@
+//! Names in lower case, by which lines are looked up: two names are one exactly where they are folded to the same bytes.
+ghost use Rattle.std.specs.Prelude.{◌≡◌, [], IfOk, OnOk, OnErr, Some, bytes_eq, refl};
+ghost use Rattle.std.specs.Cmp.{partial_equiv_from_equiv, partial_order_from_agreeing_total};
+ghost use Rattle.std.specs.Cmp.Lexicographic.{nat_list_eq_equiv};
+ghost use Rattle.hx_fields.specs.Folded.{folded, folded_cmp, folded_cmp_total, folded_ties};
+
+use std::alloc::{AllocError, Global};
+use std::cmp::Ordering;
+use std::marker::Model;
+
+/// A name in lower case, of which contracts see the bytes.
+///
+/// Its order is that of a map in which the lines of a head are found by their names, whatever a peer chose for them: shorter names
+/// come first, since lengths tell most of them apart.
+#[derive(Debug, Drop)]
+pub struct FoldedName {
+    text: Vec<u8>,
+}
+
+impl Model for FoldedName {
+    ghost use Rattle.std.specs.Prelude.{List, ℕ};
+
+    ghost Value = { List ℕ };
+
+    ghost view = { λ n. n.text.items };
+}
+
+impl FoldedName {
+    /// No bytes, to be set to names.
+    pub fn new(alloc: Global) -> FoldedName
+        ensures { result ≡ [] }
+    {
+        FoldedName {
+            text: Vec::new(alloc),
+        }
+    }
+
+    /// A name, folded. Fails for want of memory alone.
+    pub fn of(alloc: Global, name: &[u8]) -> Result<FoldedName, AllocError>
+        ensures { IfOk result (λ it. it ≡ folded name.now) }
+    {
+        let mut text = Vec::from_slice(alloc, name)?;
+        text.as_mut_slice().make_ascii_lowercase();
+        Ok(FoldedName { text })
+    }
+
+    /// Becomes another name, in the memory that it has where that is enough. Want of memory changes nothing.
+    pub fn set(&mut self, name: &[u8]) -> Result<(), AllocError>
+        ensures ok { OnOk result (self.new ≡ folded name.now) }
+        ensures err { OnErr result (self.new ≡ self.old) }
+    {
+        self.text.reserve(name.len())?;
+        self.text.clear();
+        self.text.extend_from_slice(name)?;
+        self.text.as_mut_slice().make_ascii_lowercase();
+        Ok(())
+    }
+}
+
+impl PartialEq for FoldedName {
+    ghost eq = { bytes_eq };
+
+    ghost laws = { partial_equiv_from_equiv nat_list_eq_equiv };
+
+    fn eq(&self, other: &FoldedName) -> bool {
+        self.text.as_slice() == other.text.as_slice()
+    }
+}
+
+impl Eq for FoldedName {
+    ghost laws = { nat_list_eq_equiv };
+}
+
+impl PartialOrd for FoldedName {
+    ghost partial_cmp = { λ a b. Some (folded_cmp a b) };
+
+    ghost laws = { partial_order_from_agreeing_total folded_cmp folded_cmp_total (λ _ _. refl) folded_ties };
+
+    fn partial_cmp(&self, other: &FoldedName) -> Option<Ordering> {
+        Some(self.cmp(other))
+    }
+}
+
+impl Ord for FoldedName {
+    ghost cmp = { folded_cmp };
+
+    ghost total = { folded_cmp_total };
+
+    ghost matches_partial_cmp = { λ _ _. refl };
+
+    ghost matches_eq = { folded_ties };
+
+    fn cmp(&self, other: &FoldedName) -> Ordering {
+        self.text
+            .len()
+            .cmp(&other.text.len())
+            .then_with(|| self.text.as_slice().cmp(other.text.as_slice()))
+    }
+}
