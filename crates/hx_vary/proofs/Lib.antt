@@ -1,1 +1,3 @@
 pub mod MarkLemmas
+pub mod OnceLemmas
+pub mod ValueLemmas

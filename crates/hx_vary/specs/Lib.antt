@@ -1,3 +1,4 @@
 pub mod Vary
 pub mod Marks
+pub mod Combined
 pub mod Cases

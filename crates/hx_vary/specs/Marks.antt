@@ -1,40 +1,63 @@
 -- Numbers that tell most of what a request can't match, with no look at the values that were kept.
 --
--- hash_of: a number of a value                          mark_of: of what is kept of an earlier request
--- marks_of: the marks of what a request may match       may_match: a mark is among them
-use Rattle.std.specs.Prelude.{◌≡◌, ℕ, ◌+◌, ◌*◌, ◌%◌, ◌^◌, ◌==◌, Bool, true, ◌||◌, List, [], ◌∷◌, map, Option, Some, None}
-use Rattle.std.specs.List.{fold, list_any}
+-- tag_of: a number of a value, by a seed                  tags_of: those of the values that are kept of an earlier request
+-- mark_of: the first four of them                         may_match: each of these is among the tags of a request
+use Rattle.std.specs.Prelude.{◌≡◌, ℕ, ◌-◌, ◌==◌, if◌then◌else◌, Bool, true, false, ◌||◌, ◌&&◌, List, [], ◌∷◌, Option, Some, None}
+use Rattle.std.specs.List.{fold}
+use Rattle.std.specs.Hash.{u64}
+use Rattle.std.specs.Hash.DefaultHasher.{initial, write, finish}
+use Rattle.std.specs.BTreeSet.{contains, BTreeSet}
+use Rattle.std.specs.Ordering.{nat_cmp}
 use Rattle.hx_fields.specs.Lines.{combined_of}
 use Rattle.hx_fields.specs.declared.field_line.Field.{Field}
+use Rattle.hx_vary.specs.declared.marks.Mark.{Mark}
 use Rattle.hx_vary.specs.declared.nominated_values.NominatedValue.{NominatedValue}
 use Rattle.hx_vary.specs.Vary.{vary_matches}
 
--- the numbers of FNV-1 at 64 bits, whose exclusive or is a sum here
-abbrev pub hashed : ℕ → ℕ → ℕ
-hashed hash byte = ((hash * 1099511628211) % 2 ^ 64 + byte) % 2 ^ 64
+-- the SipHash of the seed and the value, but never 0, which marks the absence of a value
+unfoldable pub tag_of : ℕ → List ℕ → ℕ
+tag_of seed value =
+    let hash = finish (write (fold write initial (u64 seed)) value) in
+    if hash == 0 then 1 else hash
 
-unfoldable pub hash_of : List ℕ → ℕ
-hash_of value = fold hashed 14695981039346656037 value
+-- a tag in front of others, where there is a value
+abbrev pub tag_before : ℕ → List ℕ → Option (List ℕ) → List ℕ
+tag_before seed tags None = tags
+tag_before seed tags (Some value) = tag_of seed value ∷ tags
 
--- the mark of a value, or else this one
-abbrev pub mark_or : ℕ → Option (List ℕ) → ℕ
-mark_or rest None = rest
-mark_or rest (Some value) = hash_of value
+-- of the nominated fields that are present, in order
+abbrev pub tags_of : ℕ → List NominatedValue → List ℕ
+tags_of seed [] = []
+tags_of seed (kept ∷ more) = tag_before seed (tags_of seed more) kept.value
 
--- of the first nominated field that is present; 0 where none is, or by chance
-abbrev pub mark_of : List NominatedValue → ℕ
-mark_of [] = 0
-mark_of (kept ∷ more) = mark_or (mark_of more) kept.value
+-- the tag at this place, from 0, and 0 behind the last
+abbrev pub tag_at : ℕ → List ℕ → ℕ
+tag_at n [] = 0
+tag_at n (tag ∷ tags) = if n == 0 then tag else tag_at (n - 1) tags
 
--- of the combined value of each line's name
-abbrev pub marks_of : List Field → List ℕ
-marks_of request = map (λ line. mark_or 0 (combined_of request line.name)) request
+-- the first four tags
+abbrev pub mark_of : ℕ → List NominatedValue → Mark
+mark_of seed kept =
+    let tags = tags_of seed kept in
+    record { first = tag_at 0 tags; second = tag_at 1 tags; third = tag_at 2 tags; fourth = tag_at 3 tags }
 
--- own: what is kept with the mark 0 has to be looked at ("Variants are told apart by marks")
-abbrev pub may_match : ℕ → List ℕ → Bool
-may_match mark marks = (mark == 0) || list_any (λ m. m == mark) marks
+-- no value stands there, or one that the request may have
+abbrev pub may_be : (ℕ → Bool) → ℕ → Bool
+may_be has tag = (tag == 0) || has tag
 
--- what a request matches has a mark among its own; two values of one mark cost a look, and change nothing
+-- a request that has values of these tags may have those of the mark
+abbrev pub may_match : (ℕ → Bool) → Mark → Bool
+may_match has mark = may_be has mark.first && may_be has mark.second && may_be has mark.third && may_be has mark.fourth
+
+-- each value of the request has its tag among these
+abbrev pub HasTags : ℕ → List Field → (ℕ → Bool) → Type 0
+HasTags seed request has = (name value : List ℕ) → combined_of request name ≡ Some value → has (tag_of seed value) ≡ true
+
+-- what a request matches isn't passed over by its mark; two values of one tag cost a look, and change nothing
 abbrev pub MarksMissNothing : Type 0
-MarksMissNothing = (kept : List NominatedValue) (request : List Field) →
-    vary_matches kept request ≡ true → may_match (mark_of kept) (marks_of request) ≡ true
+MarksMissNothing = (seed : ℕ) (kept : List NominatedValue) (request : List Field) (has : ℕ → Bool) → HasTags seed request has →
+    vary_matches kept request ≡ true → may_match has (mark_of seed kept) ≡ true
+
+-- a value that is there is never marked as absence
+abbrev pub NoValueIsUnmarked : Type 0
+NoValueIsUnmarked = (seed : ℕ) (value : List ℕ) → (tag_of seed value == 0) ≡ false

@@ -3,9 +3,10 @@
 -- nominated_of: what is kept of the earlier request
 -- vary_matches: a later request's values are those that were kept
 -- selects_both: the same question, asked of the whole earlier request
-use Rattle.std.specs.Prelude.{◌≡◌, ℕ, Bool, true, false, if◌then◌else◌, ◌||◌, not, List, map, codes, bytes_eq, Option, Some, None}
+use Rattle.std.specs.Prelude.{◌≡◌, ℕ, Bool, true, false, if◌then◌else◌, ◌||◌, not, List, [], ◌∷◌, map, filter, codes, bytes_eq, Option, Some, None}
 use Rattle.std.specs.List.{list_all, list_any}
 use Rattle.hx_fields.specs.Lines.{combined_of, members_of}
+use Rattle.hx_fields.specs.Names.{is_same_name}
 use Rattle.hx_fields.specs.Tokens.{is_token}
 use Rattle.hx_fields.specs.declared.field_line.Field.{Field}
 use Rattle.hx_vary.specs.declared.nominated_values.NominatedValue.{NominatedValue}
@@ -15,6 +16,11 @@ use Rattle.hx_vary.specs.declared.nominations.Nomination.TheVariants.{Star, Name
 -- the members of the response's Vary
 abbrev pub vary_names : List Field → List (List ℕ)
 vary_names response = members_of response (codes "Vary")
+
+-- these names, each where it stands first: one that stands again nominates nothing more
+abbrev pub each_once : List (List ℕ) → List (List ℕ)
+each_once [] = []
+each_once (name ∷ names) = name ∷ filter (λ other. not (is_same_name name other)) (each_once names)
 
 -- the member nominates more than the field that it names
 -- own: a member that is no token is read as `*`
@@ -38,7 +44,7 @@ kept_value request name = record { name = name; value = combined_of request name
 
 -- each nominated name with the value of the request
 abbrev pub kept_values : List Field → List Field → List NominatedValue
-kept_values response request = map (kept_value request) (vary_names response)
+kept_values response request = map (kept_value request) (each_once (vary_names response))
 
 -- what is kept of the request that a response answers
 abbrev pub nominated_of : List Field → List Field → Nomination

@@ -1,8 +1,8 @@
 //! What the definitions say of the standard's cases and of worked ones.
 
 ghost use Rattle.std.specs.Prelude.{◌≡◌, true, false, [], ◌∷◌, codes};
-ghost use Rattle.hx_vary.specs.Vary.{KeepsEachName, KeepsNothingOfAStar, KeptIsEnough, MatchesItself, is_star, nominated_of, vary_matches};
-ghost use Rattle.hx_vary.specs.Marks.{MarksMissNothing};
+ghost use Rattle.hx_vary.specs.Vary.{KeepsEachName, KeepsNothingOfAStar, KeptIsEnough, MatchesItself, each_once, is_star, nominated_of, vary_matches};
+ghost use Rattle.hx_vary.specs.Marks.{MarksMissNothing, NoValueIsUnmarked};
 ghost use Rattle.hx_vary.specs.Cases.{kept_for, speaks, varying};
 
 use crate::nominations::Nomination;
@@ -22,6 +22,11 @@ pub fn marks_miss_nothing()
     ensures { MarksMissNothing }
 {}
 
+/// A value that is there has a mark.
+pub fn no_value_is_unmarked()
+    ensures { NoValueIsUnmarked }
+{}
+
 /// Nothing is kept for a response with a star, and else each nominated name with its value (RFC 9111, section 4.1).
 pub fn a_star_is_kept_as_one()
     ensures star { KeepsNothingOfAStar }
@@ -36,6 +41,7 @@ pub fn vary_values_are_compared()
     ensures both_absent { vary_matches (kept_for []) [] ≡ true }
     ensures two_lines { vary_matches (kept_for (speaks (codes "de") ∷ [])) (speaks (codes "de") ∷ speaks (codes "en") ∷ [])
         ≡ false }
+    ensures twice { each_once (codes "a" ∷ codes "B" ∷ codes "A" ∷ codes "b" ∷ []) ≡ codes "a" ∷ codes "B" ∷ [] }
     ensures no_vary { nominated_of [] (speaks (codes "de") ∷ []) ≡ Nomination.Names [] }
 {}
 

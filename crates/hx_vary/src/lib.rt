@@ -9,11 +9,13 @@ mod laws;
 mod marks;
 mod nominated_values;
 mod nominations;
+mod request_values;
 
 pub use laws::{
     a_request_matches_itself, a_star_is_kept_as_one, kept_is_enough, marks_miss_nothing,
-    star_nominates_everything, vary_values_are_compared,
+    no_value_is_unmarked, star_nominates_everything, vary_values_are_compared,
 };
-pub use marks::Marks;
+pub use marks::Mark;
 pub use nominated_values::NominatedValue;
 pub use nominations::{Nominated, Nomination, matches};
+pub use request_values::RequestValues;

@@ -2,7 +2,7 @@
 
 ghost use Rattle.std.specs.Prelude.{◌≡◌, IfOk, option_copied};
 ghost use Rattle.hx_fields.specs.Lines.{combined_of};
-ghost use Rattle.hx_vary.specs.Vary.{is_same_value, kept_value};
+ghost use Rattle.hx_vary.specs.Vary.{is_same_value};
 
 use hx_fields::{Bytes, Fields};
 use std::alloc::{AllocError, Global};
@@ -15,17 +15,21 @@ pub struct NominatedValue {
 }
 
 impl NominatedValue {
-    /// What a request has of a name.
+    /// A name, and a copy of the value that a request has of it.
     pub(crate) fn of(
         alloc: Global,
-        request: &Fields,
-        name: &[u8],
+        name: &Bytes,
+        value: Option<&[u8]>,
     ) -> Result<NominatedValue, AllocError>
-        ensures { IfOk result (λ kept. kept ≡ kept_value request.now name.now) }
+        ensures { IfOk result (λ kept. kept ≡ record { name = name.now; value = option_copied value.entry }) }
     {
+        let value = match value {
+            Some(value) => Some(Bytes::copy_of(alloc, value)?),
+            None => None,
+        };
         Ok(NominatedValue {
-            name: Bytes::copy_of(alloc, name)?,
-            value: request.combined(alloc, name)?,
+            name: name.copy(alloc)?,
+            value,
         })
     }
 
@@ -65,7 +69,7 @@ pub(crate) fn slice_of(value: &Option<Bytes>) -> Option<&[u8]>
     }
 }
 
-fn is_same_value(a: Option<&[u8]>, b: Option<&[u8]>) -> bool
+pub(crate) fn is_same_value(a: Option<&[u8]>, b: Option<&[u8]>) -> bool
     ensures { result ≡ is_same_value (option_copied a.entry) (option_copied b.entry) }
 {
     match (a, b) {

@@ -1,15 +1,20 @@
 //! What a response's Vary nominates.
 
-ghost use Rattle.std.specs.Prelude.{◌≡◌, IfOk};
+ghost use Rattle.std.specs.Prelude.{◌≡◌, map, IfOk};
 ghost use Rattle.std.specs.List.{list_any};
-ghost use Rattle.hx_vary.specs.Vary.{is_star_member, vary_matches};
+ghost use Rattle.hx_vary.specs.Vary.{each_once, is_star_member, kept_value, vary_matches};
 ghost use Rattle.hx_vary.specs.Marks.{mark_of};
 
-use crate::marks::hash_of;
+use crate::marks::{Mark, tag_at};
 use crate::nominated_values::NominatedValue;
-use hx_fields::{Bytes, Fields, is_token};
+use crate::request_values::RequestValues;
+use hx_fields::{Bytes, Fields, FoldedName, is_token};
 use std::alloc::{AllocError, Global};
+use std::collections::BTreeSet;
 use std::marker::Model;
+
+/// So many nominated values are looked for among the lines one by one; more by their names.
+const FEW: usize = 4;
 
 /// The nominated fields of the request that a response answered, with their values.
 #[derive(Debug, Drop)]
@@ -46,11 +51,9 @@ impl Nominated {
         if has_star(names.as_slice()) {
             return Ok(Nomination::Star);
         }
-        let mut values = Vec::with_capacity(alloc, names.len())?;
-        for name in names.as_slice() {
-            values.push(NominatedValue::of(alloc, request, name.as_slice())?)?;
-        }
-        Ok(Nomination::Names(Nominated { values }))
+        Ok(Nomination::Names(Nominated {
+            values: kept_values(alloc, names.as_slice(), request)?,
+        }))
     }
 
     /// A copy of these values. Fails for want of memory alone.
@@ -64,24 +67,67 @@ impl Nominated {
         Ok(Nominated { values })
     }
 
-    /// The mark of these values, by which a request that can't match is told. No memory is taken.
-    pub fn mark(&self) -> u64
-        ensures { result ≡ mark_of self.now }
+    /// The mark of these values by a seed, by which a request that can't match is told. No memory is taken.
+    pub fn mark(&self, seed: u64) -> Mark
+        ensures { result ≡ mark_of seed self.now }
     {
-        for kept in &self.values {
-            if let Some(value) = &kept.value {
-                return hash_of(value.as_slice());
-            }
+        let values = self.values.as_slice();
+        Mark {
+            first: tag_at(values, seed, 0),
+            second: tag_at(values, seed, 1),
+            third: tag_at(values, seed, 2),
+            fourth: tag_at(values, seed, 3),
         }
-        0
     }
+
+    /// The values, in order.
+    pub(crate) fn as_slice(&self) -> &[NominatedValue]
+        ensures { result.now ≡ self.now }
+    {
+        self.values.as_slice()
+    }
+}
+
+/// Each name once, with what a request has of it. Fails for want of memory alone.
+fn kept_values(
+    alloc: Global,
+    names: &[Bytes],
+    request: &Fields,
+) -> Result<Vec<NominatedValue>, AllocError>
+    ensures { IfOk result (λ kept. kept.items ≡ map (kept_value request.now) (each_once names.now)) }
+{
+    let asked = RequestValues::of(alloc, request, 0)?;
+    let mut kept = Vec::new(alloc);
+    let mut seen = BTreeSet::new(alloc);
+    for name in names {
+        let folded = FoldedName::of(alloc, name.as_slice())?;
+        if !seen.contains(&folded) {
+            kept.push(NominatedValue::of(alloc, name, asked.value(&folded))?)?;
+            seen.insert(folded)?;
+        }
+    }
+    Ok(kept)
 }
 
 /// Whether a request has each value that was kept. Fails for want of memory alone.
 pub fn matches(alloc: Global, nominated: &Nominated, request: &Fields) -> Result<bool, AllocError>
     ensures { IfOk result (λ same. same ≡ vary_matches nominated.now request.now) }
 {
-    for kept in &nominated.values {
+    if nominated.values.len() > FEW {
+        return RequestValues::of(alloc, request, 0)?.matches(nominated);
+    }
+    matches_few(alloc, nominated.as_slice(), request)
+}
+
+/// The same of values that are few: each looks at all lines.
+fn matches_few(
+    alloc: Global,
+    nominated: &[NominatedValue],
+    request: &Fields,
+) -> Result<bool, AllocError>
+    ensures { IfOk result (λ same. same ≡ vary_matches nominated.now request.now) }
+{
+    for kept in nominated {
         if !kept.is_of(alloc, request)? {
             return Ok(false);
         }

@@ -3,7 +3,7 @@ use Rattle.std.specs.Prelude.{map, Option, Some, None}
 use Rattle.std.proofs.lemmas.Slice.Eq.{bytes_eq-Decides}
 use Rattle.hx_fields.specs.Lines.{combined_of}
 use Rattle.hx_fields.specs.declared.field_line.Field.{Field}
-use Rattle.hx_vary.specs.Vary.{is_same_value, kept_value, vary_matches, vary_names}
+use Rattle.hx_vary.specs.Vary.{each_once, is_same_value, kept_value, vary_matches, vary_names}
 use Rattle.hx_vary.proofs.laws.a_request_matches_itself.Goals as goal
 
 same_as_itself : (value : Option (List ℕ)) → is_same_value value value ≡ true
@@ -15,4 +15,4 @@ over_names request [] = refl
 over_names request (name ∷ names) = rw (same_as_itself (combined_of request name), over_names request names) refl
 
 pub returns : goal.returns
-returns c = λ response request. over_names request (vary_names response)
+returns c = λ response request. over_names request (each_once (vary_names response))

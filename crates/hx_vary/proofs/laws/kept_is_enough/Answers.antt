@@ -1,9 +1,10 @@
-use Rattle.std.proofs.Common.{◌≡◌, ℕ, List, [], ◌∷◌, ap, refl}
+use Rattle.std.proofs.Common.{◌≡◌, ℕ, List, [], ◌∷◌, ap, refl, ◌∙◌}
 use Rattle.std.specs.Prelude.{map, ◌&&◌}
 use Rattle.std.specs.List.{list_all}
 use Rattle.hx_fields.specs.Lines.{combined_of}
 use Rattle.hx_fields.specs.declared.field_line.Field.{Field}
-use Rattle.hx_vary.specs.Vary.{is_same_value, kept_value, vary_matches, vary_names}
+use Rattle.hx_vary.specs.Vary.{each_once, is_same_value, kept_value, vary_matches, vary_names}
+use Rattle.hx_vary.proofs.OnceLemmas.{once_all, one_value}
 use Rattle.hx_vary.proofs.laws.kept_is_enough.Goals as goal
 
 over_names : (earlier later : List Field) (names : List (List ℕ)) →
@@ -14,4 +15,8 @@ over_names earlier later (name ∷ names) =
     ap (λ rest. is_same_value (combined_of earlier name) (combined_of later name) && rest) (over_names earlier later names)
 
 pub returns : goal.returns
-returns c = λ response earlier later. over_names earlier later (vary_names response)
+returns c = λ response earlier later.
+    over_names earlier later (each_once (vary_names response))
+    ∙ once_all (λ name. is_same_value (combined_of earlier name) (combined_of later name))
+    (λ a b e. ap (λ o. is_same_value o (combined_of later a)) (one_value earlier a b e) ∙ ap (is_same_value (combined_of earlier b)) (one_value later a b e))
+    (vary_names response)

@@ -1,0 +1,108 @@
+//! What a request has of each of its names, made once and compared with what many variants keep.
+
+ghost use Rattle.std.specs.Prelude.{◌≡◌, IfOk, option_copied};
+ghost use Rattle.std.specs.BTreeMap.{get};
+ghost use Rattle.std.specs.BTreeSet.{contains};
+ghost use Rattle.std.specs.Ordering.{nat_cmp};
+ghost use Rattle.hx_fields.specs.Folded.{folded, folded_cmp};
+ghost use Rattle.hx_vary.specs.Combined.{all_kept_by, folded_value, HasEachValue};
+ghost use Rattle.hx_vary.specs.Marks.{HasTags, may_be, may_match};
+ghost use Rattle.hx_vary.specs.Vary.{is_same_value};
+
+use crate::marks::{Mark, tag_of};
+use crate::nominated_values::{NominatedValue, is_same_value, slice_of};
+use crate::nominations::Nominated;
+use hx_fields::{Bytes, Fields, FoldedName};
+use std::alloc::{AllocError, Global};
+use std::collections::{BTreeMap, BTreeSet};
+
+/// The combined value of each name, and the tags of these values. It costs as much as the request has bytes.
+pub struct RequestValues {
+    alloc: Global,
+    values: BTreeMap<FoldedName, Bytes>,
+    tags: BTreeSet<u64>,
+}
+
+/// One call drops it, wherever that is.
+impl Drop for RequestValues {
+    fn drop(self) {
+        let RequestValues {
+            alloc: _,
+            values: _,
+            tags: _,
+        } = self;
+    }
+}
+
+impl RequestValues {
+    /// Those of a request, with tags by a seed. Fails for want of memory alone.
+    pub fn of(alloc: Global, request: &Fields, seed: u64) -> Result<RequestValues, AllocError>
+        ensures values { IfOk result (λ asked. HasEachValue request.now asked.values) }
+        ensures tags { IfOk result (λ asked. HasTags seed request.now (contains nat_cmp asked.tags)) }
+    {
+        let mut values = BTreeMap::new(alloc);
+        let mut tags = BTreeSet::new(alloc);
+        let mut name = FoldedName::new(alloc);
+        for line in request.as_slice() {
+            name.set(line.name.as_slice())?;
+            if values.get(&name).is_none() {
+                if let Some(value) = request.combined(alloc, line.name.as_slice())? {
+                    tags.insert(tag_of(seed, value.as_slice()))?;
+                    values.insert(FoldedName::of(alloc, line.name.as_slice())?, value)?;
+                }
+            }
+        }
+        Ok(RequestValues {
+            alloc,
+            values,
+            tags,
+        })
+    }
+
+    /// Whether what was kept with this mark has to be looked at.
+    pub fn may_match(&self, mark: &Mark) -> bool
+        ensures { result ≡ may_match (contains nat_cmp self.now.tags) mark.now }
+    {
+        self.may_be(mark.first)
+            && self.may_be(mark.second)
+            && self.may_be(mark.third)
+            && self.may_be(mark.fourth)
+    }
+
+    fn may_be(&self, tag: u64) -> bool
+        ensures { result ≡ may_be (contains nat_cmp self.now.tags) tag }
+    {
+        tag == 0 || self.tags.contains(&tag)
+    }
+
+    /// Whether the request has each value that was kept. Fails for want of memory alone.
+    pub fn matches(&self, nominated: &Nominated) -> Result<bool, AllocError>
+        ensures { IfOk result (λ same. same ≡ all_kept_by self.now.values nominated.now) }
+    {
+        let mut name = FoldedName::new(self.alloc);
+        for kept in nominated.as_slice() {
+            name.set(kept.name.as_slice())?;
+            if !self.has(&name, kept) {
+                return Ok(false);
+            }
+        }
+        Ok(true)
+    }
+
+    /// Whether the value at a name is the one that was kept.
+    fn has(&self, name: &FoldedName, kept: &NominatedValue) -> bool
+        ensures { result ≡ is_same_value kept.now.value (get folded_cmp self.now.values name.now) }
+    {
+        is_same_value(slice_of(&kept.value), self.value(name))
+    }
+
+    /// The value at a name.
+    pub(crate) fn value(&self, name: &FoldedName) -> Option<&[u8]>
+        ensures { option_copied result ≡ get folded_cmp self.now.values name.now }
+    {
+        match self.values.get(name) {
+            Some(value) => Some(value.as_slice()),
+            None => None,
+        }
+    }
+}
