@@ -15,6 +15,7 @@ use Rattle.hx_store.specs.Serials.{is_in, Distinct, insert_ascending}
 use Rattle.hx_store.specs.Stored.{Stored}
 use Rattle.hx_store.specs.Shelf.{serials, holds, find_entry, without, serials_of, promoted, in_front, without_key}
 use Rattle.hx_store.specs.Found.{NoneBelow, IsAscending}
+use Rattle.hx_vary.specs.declared.marks.Mark.{Mark}
 use Rattle.hx_vary.specs.Marks.{mark_of}
 use Rattle.hx_store.specs.Index.{AreMarks, IsIndexOf, IsMarked, IsMarkedAnew, IsPutIn, IsTakenOut, but, indexed, marks_at, without_others}
 use Rattle.hx_store.proofs.EntryLists.{eqb_comm, not_only, without_none, without_gone, find_none, find-serial, find_holds, Distinct-filter, length-filter_le, length-without}
@@ -196,7 +197,7 @@ Gains old key s new = (q : Key) → indexed new q ≡ cond (same_key key q) (ins
 abbrev Loses : KeyIndex → Key → ℕ → KeyIndex → Type 0
 Loses old key s new = (q : Key) → indexed new q ≡ cond (same_key key q) (but s (indexed old q)) (indexed old q)
 
-gains : (key : Key) (s m : ℕ) (es : List Stored) (old new : KeyIndex) → holds s es ≡ false → IsIndexOf es old → IsPutIn old key s m new → Gains old key s new
+gains : (key : Key) (s : ℕ) (m : Mark) (es : List Stored) (old new : KeyIndex) → holds s es ≡ false → IsIndexOf es old → IsPutIn old key s m new → Gains old key s new
 gains key s m es old new n i p q =
     let ps = marks_at old q in
     let none : is_in s (keys_of ps) ≡ false = ap (is_in s) (i q) ∙ not_of_key s q es n in
@@ -242,7 +243,7 @@ index_back key s es old mid new i p t q =
     ])
     ∙ i q
 
-pub index-again : (key : Key) (s m : ℕ) (es : List Stored) (old mid new : KeyIndex) → holds s es ≡ false → IsIndexOf es old → IsPutIn old key s m mid →
+pub index-again : (key : Key) (s : ℕ) (m : Mark) (es : List Stored) (old mid new : KeyIndex) → holds s es ≡ false → IsIndexOf es old → IsPutIn old key s m mid →
     IsTakenOut mid key s new → IsIndexOf es new
 index-again key s m es old mid new n i p t = index_back key s es old mid new i (gains key s m es old mid n i p) (loses key s mid new t)
 
@@ -304,7 +305,7 @@ kept-front : (s : ℕ) (es : List Stored) (e x : Stored) (index : KeyIndex) → 
 kept-front s es e x index h is same k = (distinct-front s x es is k.0, index-front s es e x index k.0 h is same k.1)
 
 -- a new mark changes no serial
-same_serials : (key : Key) (s m : ℕ) (old new : KeyIndex) → IsMarkedAnew old key s m new → (q : Key) → indexed new q ≡ indexed old q
+same_serials : (key : Key) (s : ℕ) (m : Mark) (old new : KeyIndex) → IsMarkedAnew old key s m new → (q : Key) → indexed new q ≡ indexed old q
 same_serials key s m old new a q =
     let ps = marks_at old q in
     ap keys_of (a q)
@@ -313,7 +314,7 @@ same_serials key s m old new a q =
       | false ↦ refl
     ])
 
-pub kept-anew : (key : Key) (s m : ℕ) (es : List Stored) (e x : Stored) (old new : KeyIndex) → find_entry s es ≡ Some e → x.serial ≡ s →
+pub kept-anew : (key : Key) (s : ℕ) (m : Mark) (es : List Stored) (e x : Stored) (old new : KeyIndex) → find_entry s es ≡ Some e → x.serial ≡ s →
     same_key e.key x.key ≡ true → IsMarkedAnew old key s m new → IsKept es old → IsKept (x ∷ without (s ∷ []) es) new
 kept-anew key s m es e x old new h is same a k =
     kept-front s es e x new h is same (k.0, λ q. same_serials key s m old new a q ∙ k.1 q)
@@ -332,81 +333,81 @@ kept-last es e old new h t k =
     let l = last-is es e k.0 h in
     subst (λ zs. IsKept zs new) l.rest (kept-without e.serial es e old new l.found t k)
 
-pub kept-more : (e : Stored) (m : ℕ) (es : List Stored) (old new : KeyIndex) → holds e.serial es ≡ false → IsPutIn old e.key e.serial m new →
+pub kept-more : (e : Stored) (m : Mark) (es : List Stored) (old new : KeyIndex) → holds e.serial es ≡ false → IsPutIn old e.key e.serial m new →
     IsKept es old → IsKept (e ∷ es) new
 kept-more e m es old new n p k = ((n, k.0), index-more e es old new k.1 (gains e.key e.serial m es old new n k.1 p))
 
 -- ---- what keeps the marks
 
-pub marked-part : (es zs : List Stored) (index : KeyIndex) → IsPart zs es → IsMarked es index → IsMarked zs index
-marked-part es zs index part k q = marks-part es zs (marks_at index q) part (k q)
+pub marked-part : (seed : ℕ) (es zs : List Stored) (index : KeyIndex) → IsPart zs es → IsMarked seed es index → IsMarked seed zs index
+marked-part seed es zs index part k q = marks-part seed es zs (marks_at index q) part (k q)
 
-pub marked-taken : (key : Key) (s : ℕ) (es : List Stored) (old new : KeyIndex) → IsTakenOut old key s new → IsMarked es old → IsMarked es new
-marked-taken key s es old new t k q =
+pub marked-taken : (seed : ℕ) (key : Key) (s : ℕ) (es : List Stored) (old new : KeyIndex) → IsTakenOut old key s new → IsMarked seed es old → IsMarked seed es new
+marked-taken seed key s es old new t k q =
     let ps = marks_at old q in
-    let Are : Bool → Type 0 = λ b. AreMarks es (cond b (remove_entry (is_at (nat_cmp s)) ps) ps) in
-    let are : Are (same_key key q) = elim (same_key key q) as Are [ true ↦ marks-removed (is_at (nat_cmp s)) es ps (k q) | false ↦ k q ] in
-    subst (AreMarks es) (sym (t q)) are
+    let Are : Bool → Type 0 = λ b. AreMarks seed es (cond b (remove_entry (is_at (nat_cmp s)) ps) ps) in
+    let are : Are (same_key key q) = elim (same_key key q) as Are [ true ↦ marks-removed seed (is_at (nat_cmp s)) es ps (k q) | false ↦ k q ] in
+    subst (AreMarks seed es) (sym (t q)) are
 
-marked-put : (key : Key) (s m : ℕ) (es : List Stored) (old new : KeyIndex) → IfSome (find_entry s es) (λ e. m ≡ mark_of e.nominated) →
-    IsPutIn old key s m new → IsMarked es old → IsMarked es new
-marked-put key s m es old new f p k q =
+marked-put : (seed : ℕ) (key : Key) (s : ℕ) (m : Mark) (es : List Stored) (old new : KeyIndex) → IfSome (find_entry s es) (λ e. m ≡ mark_of seed e.nominated) →
+    IsPutIn old key s m new → IsMarked seed es old → IsMarked seed es new
+marked-put seed key s m es old new f p k q =
     let ps = marks_at old q in
-    let Are : Bool → Type 0 = λ b. AreMarks es (cond b (insert_entry nat_cmp ps s m) ps) in
-    let are : Are (same_key key q) = elim (same_key key q) as Are [ true ↦ marks-put es s m ps f (k q) | false ↦ k q ] in
-    subst (AreMarks es) (sym (p q)) are
+    let Are : Bool → Type 0 = λ b. AreMarks seed es (cond b (insert_entry nat_cmp ps s m) ps) in
+    let are : Are (same_key key q) = elim (same_key key q) as Are [ true ↦ marks-put seed es s m ps f (k q) | false ↦ k q ] in
+    subst (AreMarks seed es) (sym (p q)) are
 
-pub marked-more : (x : Stored) (es : List Stored) (old new : KeyIndex) → holds x.serial es ≡ false → IsIndexOf es old →
-    IsPutIn old x.key x.serial (mark_of x.nominated) new → IsMarked es old → IsMarked (x ∷ es) new
-marked-more x es old new n i p k =
-    let first : IfSome (find_entry x.serial (x ∷ es)) (λ e. mark_of x.nominated ≡ mark_of e.nominated) = rw (eq-eqb x.serial x.serial refl) refl in
-    marked-put x.key x.serial (mark_of x.nominated) (x ∷ es) old new first p
-    (λ q. marks-more x es (marks_at old q) (ap (is_in x.serial) (i q) ∙ not_of_key x.serial q es n) (k q))
+pub marked-more : (seed : ℕ) (x : Stored) (es : List Stored) (old new : KeyIndex) → holds x.serial es ≡ false → IsIndexOf es old →
+    IsPutIn old x.key x.serial (mark_of seed x.nominated) new → IsMarked seed es old → IsMarked seed (x ∷ es) new
+marked-more seed x es old new n i p k =
+    let first : IfSome (find_entry x.serial (x ∷ es)) (λ e. mark_of seed x.nominated ≡ mark_of seed e.nominated) = rw (eq-eqb x.serial x.serial refl) refl in
+    marked-put seed x.key x.serial (mark_of seed x.nominated) (x ∷ es) old new first p
+    (λ q. marks-more seed x es (marks_at old q) (ap (is_in x.serial) (i q) ∙ not_of_key x.serial q es n) (k q))
 
 -- put in and taken out again
-pub marked-again : (key : Key) (s m : ℕ) (es : List Stored) (old mid new : KeyIndex) → holds s es ≡ false → IsPutIn old key s m mid →
-    IsTakenOut mid key s new → IsMarked es old → IsMarked es new
-marked-again key s m es old mid new n p t k =
-    let none : IfSome (find_entry s es) (λ e. m ≡ mark_of e.nominated) = rw (find_none s es n) tt in
-    marked-taken key s es mid new t (marked-put key s m es old mid none p k)
+pub marked-again : (seed : ℕ) (key : Key) (s : ℕ) (m : Mark) (es : List Stored) (old mid new : KeyIndex) → holds s es ≡ false → IsPutIn old key s m mid →
+    IsTakenOut mid key s new → IsMarked seed es old → IsMarked seed es new
+marked-again seed key s m es old mid new n p t k =
+    let none : IfSome (find_entry s es) (λ e. m ≡ mark_of seed e.nominated) = rw (find_none s es n) tt in
+    marked-taken seed key s es mid new t (marked-put seed key s m es old mid none p k)
 
-pub marked-without : (key : Key) (s : ℕ) (es : List Stored) (old new : KeyIndex) → IsTakenOut old key s new → IsMarked es old →
-    IsMarked (without (s ∷ []) es) new
-marked-without key s es old new t k = marked-taken key s (without (s ∷ []) es) old new t (marked-part es (without (s ∷ []) es) old (part-without s es) k)
+pub marked-without : (seed : ℕ) (key : Key) (s : ℕ) (es : List Stored) (old new : KeyIndex) → IsTakenOut old key s new → IsMarked seed es old →
+    IsMarked seed (without (s ∷ []) es) new
+marked-without seed key s es old new t k = marked-taken seed key s (without (s ∷ []) es) old new t (marked-part seed es (without (s ∷ []) es) old (part-without s es) k)
 
-pub marked-none : (s : ℕ) (es : List Stored) (index : KeyIndex) → IsMarked es index → IsMarked (without (s ∷ []) es) index
-marked-none s es index k = marked-part es (without (s ∷ []) es) index (part-without s es) k
+pub marked-none : (seed : ℕ) (s : ℕ) (es : List Stored) (index : KeyIndex) → IsMarked seed es index → IsMarked seed (without (s ∷ []) es) index
+marked-none seed s es index k = marked-part seed es (without (s ∷ []) es) index (part-without s es) k
 
-pub marked-last : (es : List Stored) (e : Stored) (old new : KeyIndex) → Distinct (serials es) → slice_get es (length es - 1) ≡ Some e →
-    IsTakenOut old e.key e.serial new → IsMarked es old → IsMarked (take (length es - 1) es) new
-marked-last es e old new d h t k =
+pub marked-last : (seed : ℕ) (es : List Stored) (e : Stored) (old new : KeyIndex) → Distinct (serials es) → slice_get es (length es - 1) ≡ Some e →
+    IsTakenOut old e.key e.serial new → IsMarked seed es old → IsMarked seed (take (length es - 1) es) new
+marked-last seed es e old new d h t k =
     let l = last-is es e d h in
-    subst (λ zs. IsMarked zs new) l.rest (marked-without e.key e.serial es old new t k)
+    subst (λ zs. IsMarked seed zs new) l.rest (marked-without seed e.key e.serial es old new t k)
 
 -- a new form of a held entry in its place
-pub marked-anew : (s : ℕ) (es : List Stored) (e x : Stored) (old new : KeyIndex) → find_entry s es ≡ Some e → x.serial ≡ s → same_key e.key x.key ≡ true →
-    IsMarkedAnew old x.key s (mark_of x.nominated) new → IsKept es old → IsMarked es old → IsMarked (x ∷ without (s ∷ []) es) new
-marked-anew s es e x old new h is same a kept k q =
+pub marked-anew : (seed : ℕ) (s : ℕ) (es : List Stored) (e x : Stored) (old new : KeyIndex) → find_entry s es ≡ Some e → x.serial ≡ s → same_key e.key x.key ≡ true →
+    IsMarkedAnew old x.key s (mark_of seed x.nominated) new → IsKept es old → IsMarked seed es old → IsMarked seed (x ∷ without (s ∷ []) es) new
+marked-anew seed s es e x old new h is same a kept k q =
     let ps = marks_at old q in
     let zs = without (s ∷ []) es in
-    let rest : AreMarks zs ps = marks-part es zs ps (part-without s es) (k q) in
+    let rest : AreMarks seed zs ps = marks-part seed es zs ps (part-without s es) (k q) in
     let once : is_in s (but s (keys_of ps)) ≡ false =
     ap (λ xs. is_in s (but s xs)) (kept.1 q) ∙ ap (is_in s) (sym (serials-without s q es kept.0)) ∙ not_of_key s q zs (without_gone s es) in
-    let Are : Bool → Type 0 = λ b. AreMarks (x ∷ zs) (cond b (set_value (is_at (nat_cmp s)) ps (mark_of x.nominated)) ps) in
-    subst (AreMarks (x ∷ zs)) (sym (a q)) (elim (cases_Bool (same_key x.key q)) [
-      | inl y ↦ subst Are (sym y) (marks-anew s x zs ps is once rest)
-      | inr n ↦ subst Are (sym n) (marks-more x zs ps (
+    let Are : Bool → Type 0 = λ b. AreMarks seed (x ∷ zs) (cond b (set_value (is_at (nat_cmp s)) ps (mark_of seed x.nominated)) ps) in
+    subst (AreMarks seed (x ∷ zs)) (sym (a q)) (elim (cases_Bool (same_key x.key q)) [
+      | inl y ↦ subst Are (sym y) (marks-anew seed s x zs ps is once rest)
+      | inr n ↦ subst Are (sym n) (marks-more seed x zs ps (
           ap (λ z. is_in z (keys_of ps)) is ∙ ap (is_in s) (kept.1 q) ∙ of_its_key s q es e kept.0 h ∙ ap (λ y. same_key y q) (one_key e.key x.key same) ∙ n
           ) rest)
     ])
 
-marked_promoted_by : (s : ℕ) (es : List Stored) (index : KeyIndex) (o : Option Stored) → find_entry s es ≡ o → IsMarked es index →
-    IsMarked (in_front o (without (s ∷ []) es)) index
-marked_promoted_by s es index None h k = marked-none s es index k
-marked_promoted_by s es index (Some e) h k = marked-part es (e ∷ without (s ∷ []) es) index (part-front s es e h) k
+marked_promoted_by : (seed : ℕ) (s : ℕ) (es : List Stored) (index : KeyIndex) (o : Option Stored) → find_entry s es ≡ o → IsMarked seed es index →
+    IsMarked seed (in_front o (without (s ∷ []) es)) index
+marked_promoted_by seed s es index None h k = marked-none seed s es index k
+marked_promoted_by seed s es index (Some e) h k = marked-part seed es (e ∷ without (s ∷ []) es) index (part-front s es e h) k
 
-pub marked-promoted : (s : ℕ) (es : List Stored) (index : KeyIndex) → IsMarked es index → IsMarked (promoted s es) index
-marked-promoted s es index k = marked_promoted_by s es index (find_entry s es) refl k
+pub marked-promoted : (seed : ℕ) (s : ℕ) (es : List Stored) (index : KeyIndex) → IsMarked seed es index → IsMarked seed (promoted s es) index
+marked-promoted seed s es index k = marked_promoted_by seed s es index (find_entry s es) refl k
 
 -- ---- entries that go
 

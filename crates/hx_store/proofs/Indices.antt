@@ -10,6 +10,7 @@ use Rattle.std.specs.BTreeMap.{get, insert_entry, is_at}
 use Rattle.std.proofs.lemmas.Bool.{cases_Bool, false≢true, eqb-true, eq-eqb, or_left}
 use Rattle.std.specs.Map.{lookup}
 use Rattle.std.proofs.lemmas.Option.{same_Some}
+use Rattle.hx_vary.specs.declared.marks.Mark.{Mark}
 use Rattle.hx_target.specs.declared.keys.Key.{Key}
 use Rattle.hx_target.specs.Keys.{same_key}
 use Rattle.hx_target.specs.KeyOrder.{key_cmp, key_ties}
@@ -32,11 +33,11 @@ one_key a b h =
     let path_query = (bytes_decides a.path_query b.path_query).0 p.1 in
     λ i. record { host = host i; port = port i; path_query = path_query i }
 
-abbrev pub entries_or_none : Option (List (ℕ × ℕ)) → List (ℕ × ℕ)
+abbrev pub entries_or_none : Option (List (ℕ × Mark)) → List (ℕ × Mark)
 entries_or_none o = unwrap_or o []
 
 -- a map that has w at a key, and else what it had
-pub written : (key : Key) (old new : KeyIndex) (w : Option (List (ℕ × ℕ))) →
+pub written : (key : Key) (old new : KeyIndex) (w : Option (List (ℕ × Mark))) →
     ((q : Key) → get key_cmp new.serials q ≡ cond (is_at (key_cmp key) q) w (get key_cmp old.serials q)) →
     (q : Key) → marks_at new q ≡ cond (same_key key q) (entries_or_none w) (marks_at old q)
 written key old new w h q =
@@ -46,7 +47,7 @@ written key old new w h q =
     ∙ (elim (same_key key q) as (λ b. entries_or_none (cond b w g) ≡ cond b (entries_or_none w) (entries_or_none g)) [ true ↦ refl | false ↦ refl ])
 
 -- what is at the key is what f makes of what was there
-pub changed : (f : List (ℕ × ℕ) → List (ℕ × ℕ)) (key : Key) (old new : KeyIndex) (ks : List (ℕ × ℕ)) →
+pub changed : (f : List (ℕ × Mark) → List (ℕ × Mark)) (key : Key) (old new : KeyIndex) (ks : List (ℕ × Mark)) →
     ((q : Key) → marks_at new q ≡ cond (same_key key q) ks (marks_at old q)) → ks ≡ f (marks_at old key) →
     (q : Key) → marks_at new q ≡ cond (same_key key q) (f (marks_at old q)) (marks_at old q)
 changed f key old new ks h e q = elim (cases_Bool (same_key key q)) [
@@ -58,7 +59,7 @@ changed f key old new ks h e q = elim (cases_Bool (same_key key q)) [
 ]
 
 -- the same where f leaves it as it was
-pub unchanged : (key : Key) (old new : KeyIndex) (ks : List (ℕ × ℕ)) →
+pub unchanged : (key : Key) (old new : KeyIndex) (ks : List (ℕ × Mark)) →
     ((q : Key) → marks_at new q ≡ cond (same_key key q) ks (marks_at old q)) → ks ≡ marks_at old key → IsSameIndex old new
 unchanged key old new ks h e q =
     changed (λ xs. xs) key old new ks h e q
@@ -66,7 +67,7 @@ unchanged key old new ks h e q =
 
 -- ---- no key is in the index for nothing
 
-abbrev pub HasSome : List (ℕ × ℕ) → Type 0
+abbrev pub HasSome : List (ℕ × Mark) → Type 0
 HasSome marks = marks ≡ [] → ⊥
 
 pub not_nothing : (s : ℕ) (xs : List ℕ) → insert_ascending s xs ≡ [] → ⊥
@@ -76,20 +77,20 @@ not_nothing s xs h = false≢true (
     ∙ or_left _ _ (eq-eqb s s refl)
     )
 
-not_empty : (s m : ℕ) (p : ℕ × ℕ) (ps : List (ℕ × ℕ)) (o : Ordering) →
+not_empty : (s : ℕ) (m : Mark) (p : ℕ × Mark) (ps : List (ℕ × Mark)) (o : Ordering) →
     match_ordering o ((s, m) ∷ p ∷ ps) ((p.0, m) ∷ ps) (p ∷ insert_entry nat_cmp ps s m) ≡ [] → ⊥
 not_empty s m p ps Less h = cc
 not_empty s m p ps Equal h = cc
 not_empty s m p ps Greater h = cc
 
-pub not_unmarked : (s m : ℕ) (ps : List (ℕ × ℕ)) → insert_entry nat_cmp ps s m ≡ [] → ⊥
+pub not_unmarked : (s : ℕ) (m : Mark) (ps : List (ℕ × Mark)) → insert_entry nat_cmp ps s m ≡ [] → ⊥
 not_unmarked s m [] h = cc
 not_unmarked s m (p ∷ ps) h = not_empty s m p ps (nat_cmp s p.0) h
 
-pub some_has : (set : List (ℕ × ℕ)) → HasSome set → ForSome (Some set) HasSome
+pub some_has : (set : List (ℕ × Mark)) → HasSome set → ForSome (Some set) HasSome
 some_has set n x e k = n (same_Some set x e ∙ k)
 
-pub trim-written : (key : Key) (old new : KeyIndex) (w : Option (List (ℕ × ℕ))) →
+pub trim-written : (key : Key) (old new : KeyIndex) (w : Option (List (ℕ × Mark))) →
     ((q : Key) → get key_cmp new.serials q ≡ cond (is_at (key_cmp key) q) w (get key_cmp old.serials q)) → ForSome w HasSome → IsTrim old → IsTrim new
 trim-written key old new w h n o q set e k =
     let g = get key_cmp old.serials q in
@@ -98,7 +99,7 @@ trim-written key old new w h n o q set e k =
       | inr f ↦ o q set (sym (h q ∙ ap (λ b. cond b w g) f) ∙ e) k
     ]
 
-pub trim-beside : (key : Key) (old new : KeyIndex) (w : Option (List (ℕ × ℕ))) →
+pub trim-beside : (key : Key) (old new : KeyIndex) (w : Option (List (ℕ × Mark))) →
     ((q : Key) → get key_cmp new.serials q ≡ cond (is_at (key_cmp key) q) w (get key_cmp old.serials q)) → IsTrim old → IsTrimBeside key new
 trim-beside key old new w h o q f set e k =
     let g = get key_cmp old.serials q in

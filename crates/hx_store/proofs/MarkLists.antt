@@ -6,30 +6,34 @@ use Rattle.std.specs.Map.{keys_of, lookup, values_of, remove_entry, set_value}
 use Rattle.std.specs.Ordering.{nat_cmp, match_ordering}
 use Rattle.std.specs.declared.cmp.Ordering.{Ordering}
 use Rattle.std.specs.declared.cmp.Ordering.TheVariants.{Less, Equal, Greater}
-use Rattle.std.specs.BTreeMap.{insert_entry, is_at}
+use Rattle.std.specs.BTreeMap.{BTreeMap, insert_entry, is_at}
 use Rattle.std.proofs.lemmas.Bool.{cases_Bool, eq-eqb, eqb-true, false≢true, or_parts}
 use Rattle.std.proofs.lemmas.Bool.Decides.{nat_tests}
 use Rattle.hx_fields.specs.declared.field_line.Field.{Field}
-use Rattle.hx_vary.specs.Marks.{mark_of, marks_of, may_match}
-use Rattle.hx_vary.proofs.MarkLemmas.{misses_nothing}
+use Rattle.hx_vary.specs.declared.marks.Mark.{Mark}
+use Rattle.hx_vary.specs.Marks.{mark_of, may_match}
+use Rattle.hx_vary.specs.Combined.{HasEachValue}
+use Rattle.hx_vary.specs.Vary.{vary_matches}
+use Rattle.hx_vary.specs.declared.nominated_values.NominatedValue.{NominatedValue}
+use Rattle.hx_vary.proofs.ValueLemmas.{kept_alike}
 use Rattle.hx_store.specs.Serials.{is_in, insert_ascending}
 use Rattle.hx_store.specs.Stored.{Stored}
 use Rattle.hx_store.specs.Shelf.{find_entry, is_match, without, holds}
-use Rattle.hx_store.specs.Index.{AreMarks, but, may_be_of}
+use Rattle.hx_store.specs.Index.{AreMarks, but, is_match_by, may_be_of}
 use Rattle.hx_store.proofs.EntryLists.{eqb_comm, not_only, find_none, find-serial, without_gone}
 
 -- ---- the serials alone
 
-put-step : (s m : ℕ) (p : ℕ × ℕ) (ps : List (ℕ × ℕ)) → keys_of (insert_entry nat_cmp ps s m) ≡ insert_ascending s (keys_of ps) → eqb p.0 s ≡ false →
+put-step : (s : ℕ) (m : Mark) (p : ℕ × Mark) (ps : List (ℕ × Mark)) → keys_of (insert_entry nat_cmp ps s m) ≡ insert_ascending s (keys_of ps) → eqb p.0 s ≡ false →
     keys_of (insert_entry nat_cmp (p ∷ ps) s m) ≡ insert_ascending s (keys_of (p ∷ ps))
 put-step s m p ps h n = grind (arith, nat_tests, h)
 
-pub keys-put : (s m : ℕ) (ps : List (ℕ × ℕ)) → is_in s (keys_of ps) ≡ false →
+pub keys-put : (s : ℕ) (m : Mark) (ps : List (ℕ × Mark)) → is_in s (keys_of ps) ≡ false →
     keys_of (insert_entry nat_cmp ps s m) ≡ insert_ascending s (keys_of ps)
 keys-put s m [] h = refl
 keys-put s m (p ∷ ps) h = let q = or_parts (eqb p.0 s) (is_in s (keys_of ps)) h in put-step s m p ps (keys-put s m ps q.1) q.0
 
-pub keys-marked : (test : ℕ → Bool) (m : ℕ) (ps : List (ℕ × ℕ)) → keys_of (set_value test ps m) ≡ keys_of ps
+pub keys-marked : (test : ℕ → Bool) (m : Mark) (ps : List (ℕ × Mark)) → keys_of (set_value test ps m) ≡ keys_of ps
 keys-marked test m [] = refl
 keys-marked test m (p ∷ ps) =
     elim (test p.0) as (λ b. keys_of (cond b ((p.0, m) ∷ ps) (p ∷ set_value test ps m)) ≡ p.0 ∷ keys_of ps) [
@@ -40,7 +44,7 @@ keys-marked test m (p ∷ ps) =
 pub at-eqb : (s t : ℕ) → is_at (nat_cmp s) t ≡ eqb t s
 at-eqb s t = grind (arith, nat_tests)
 
-pub keys-removed : (s : ℕ) (ps : List (ℕ × ℕ)) → keys_of (remove_entry (is_at (nat_cmp s)) ps) ≡ but s (keys_of ps)
+pub keys-removed : (s : ℕ) (ps : List (ℕ × Mark)) → keys_of (remove_entry (is_at (nat_cmp s)) ps) ≡ but s (keys_of ps)
 keys-removed s [] = refl
 keys-removed s (p ∷ ps) =
     ap (λ b. keys_of (cond b ps (p ∷ remove_entry (is_at (nat_cmp s)) ps))) (at-eqb s p.0)
@@ -55,7 +59,7 @@ has-first (x ∷ xs) = grind (arith, nat_tests)
 
 -- ---- a new mark
 
-pub set_absent : (test : ℕ → Bool) (ps : List (ℕ × ℕ)) (m : ℕ) → lookup test ps ≡ None → set_value test ps m ≡ ps
+pub set_absent : (test : ℕ → Bool) (ps : List (ℕ × Mark)) (m : Mark) → lookup test ps ≡ None → set_value test ps m ≡ ps
 set_absent test [] m h = refl
 set_absent test (p ∷ ps) m h = elim (cases_Bool (test p.0)) [
   | inl t ↦ (
@@ -66,79 +70,79 @@ set_absent test (p ∷ ps) m h = elim (cases_Bool (test p.0)) [
       ∙ ap (λ qs. p ∷ qs) (set_absent test ps m (sym (ap (λ b. cond b (Some p.1) (lookup test ps)) f) ∙ h))
 ]
 
-not_cleared : (b : Bool) (p q : ℕ × ℕ) (ps qs : List (ℕ × ℕ)) → cond b (p ∷ ps) (q ∷ qs) ≡ [] → ⊥
+not_cleared : (b : Bool) (p q : ℕ × Mark) (ps qs : List (ℕ × Mark)) → cond b (p ∷ ps) (q ∷ qs) ≡ [] → ⊥
 not_cleared true p q ps qs h = cc
 not_cleared false p q ps qs h = cc
 
-pub set_nothing : (test : ℕ → Bool) (ps : List (ℕ × ℕ)) (m : ℕ) → set_value test ps m ≡ [] → ps ≡ []
+pub set_nothing : (test : ℕ → Bool) (ps : List (ℕ × Mark)) (m : Mark) → set_value test ps m ≡ [] → ps ≡ []
 set_nothing test [] m h = refl
 set_nothing test (p ∷ ps) m h = absurd (not_cleared (test p.0) (p.0, m) p ps (set_value test ps m) h)
 
 -- ---- the marks
 
 -- this mark is that of the entry that the serial finds, if it finds one
-abbrev pub Fits : List Stored → ℕ → ℕ → Type 0
-Fits es s m = IfSome (find_entry s es) (λ e. m ≡ mark_of e.nominated)
+abbrev pub Fits : ℕ → List Stored → ℕ → Mark → Type 0
+Fits seed es s m = IfSome (find_entry s es) (λ e. m ≡ mark_of seed e.nominated)
 
-put_by : (es : List Stored) (s m : ℕ) (p : ℕ × ℕ) (ps : List (ℕ × ℕ)) (o : Ordering) → (o ≡ Equal → s ≡ p.0) → Fits es s m → AreMarks es (p ∷ ps) →
-    AreMarks es (insert_entry nat_cmp ps s m) → AreMarks es (match_ordering o ((s, m) ∷ p ∷ ps) ((p.0, m) ∷ ps) (p ∷ insert_entry nat_cmp ps s m))
-put_by es s m p ps Less e f h more = (f, h)
-put_by es s m p ps Equal e f h more = (subst (λ t. Fits es t m) (e refl) f, h.1)
-put_by es s m p ps Greater e f h more = (h.0, more)
+put_by : (seed : ℕ) (es : List Stored) (s : ℕ) (m : Mark) (p : ℕ × Mark) (ps : List (ℕ × Mark)) (o : Ordering) → (o ≡ Equal → s ≡ p.0) → Fits seed es s m → AreMarks seed es (p ∷ ps) →
+    AreMarks seed es (insert_entry nat_cmp ps s m) → AreMarks seed es (match_ordering o ((s, m) ∷ p ∷ ps) ((p.0, m) ∷ ps) (p ∷ insert_entry nat_cmp ps s m))
+put_by seed es s m p ps Less e f h more = (f, h)
+put_by seed es s m p ps Equal e f h more = (subst (λ t. Fits seed es t m) (e refl) f, h.1)
+put_by seed es s m p ps Greater e f h more = (h.0, more)
 
 same_number : (s t : ℕ) → nat_cmp s t ≡ Equal → s ≡ t
 same_number s t h = grind (arith, nat_tests)
 
-pub marks-put : (es : List Stored) (s m : ℕ) (ps : List (ℕ × ℕ)) → Fits es s m → AreMarks es ps → AreMarks es (insert_entry nat_cmp ps s m)
-marks-put es s m [] f h = (f, tt)
-marks-put es s m (p ∷ ps) f h = put_by es s m p ps (nat_cmp s p.0) (same_number s p.0) f h (marks-put es s m ps f h.1)
+pub marks-put : (seed : ℕ) (es : List Stored) (s : ℕ) (m : Mark) (ps : List (ℕ × Mark)) → Fits seed es s m → AreMarks seed es ps → AreMarks seed es (insert_entry nat_cmp ps s m)
+marks-put seed es s m [] f h = (f, tt)
+marks-put seed es s m (p ∷ ps) f h = put_by seed es s m p ps (nat_cmp s p.0) (same_number s p.0) f h (marks-put seed es s m ps f h.1)
 
-pub marks-removed : (test : ℕ → Bool) (es : List Stored) (ps : List (ℕ × ℕ)) → AreMarks es ps → AreMarks es (remove_entry test ps)
-marks-removed test es [] h = tt
-marks-removed test es (p ∷ ps) h =
-    elim (test p.0) as (λ b. AreMarks es (cond b ps (p ∷ remove_entry test ps))) [ true ↦ h.1 | false ↦ (h.0, marks-removed test es ps h.1) ]
+pub marks-removed : (seed : ℕ) (test : ℕ → Bool) (es : List Stored) (ps : List (ℕ × Mark)) → AreMarks seed es ps → AreMarks seed es (remove_entry test ps)
+marks-removed seed test es [] h = tt
+marks-removed seed test es (p ∷ ps) h =
+    elim (test p.0) as (λ b. AreMarks seed es (cond b ps (p ∷ remove_entry test ps))) [ true ↦ h.1 | false ↦ (h.0, marks-removed seed test es ps h.1) ]
 
 -- each serial finds in zs what it finds in es, or nothing
 abbrev pub IsPart : List Stored → List Stored → Type 0
 IsPart zs es = (s : ℕ) → (find_entry s zs ≡ None) ⊎ (find_entry s zs ≡ find_entry s es)
 
-pub marks-part : (es zs : List Stored) (ps : List (ℕ × ℕ)) → IsPart zs es → AreMarks es ps → AreMarks zs ps
-marks-part es zs [] part h = tt
-marks-part es zs (p ∷ ps) part h =
-    let at : Fits zs p.0 p.1 = elim (part p.0) [
+pub marks-part : (seed : ℕ) (es zs : List Stored) (ps : List (ℕ × Mark)) → IsPart zs es → AreMarks seed es ps → AreMarks seed zs ps
+marks-part seed es zs [] part h = tt
+marks-part seed es zs (p ∷ ps) part h =
+    let at : Fits seed zs p.0 p.1 = elim (part p.0) [
       | inl n ↦ rw n tt
       | inr e ↦ rw e h.0
     ] in
-    (at, marks-part es zs ps part h.1)
+    (at, marks-part seed es zs ps part h.1)
 
 -- an entry in front whose serial isn't there
-pub marks-more : (x : Stored) (es : List Stored) (ps : List (ℕ × ℕ)) → is_in x.serial (keys_of ps) ≡ false → AreMarks es ps → AreMarks (x ∷ es) ps
-marks-more x es [] n h = tt
-marks-more x es (p ∷ ps) n h =
+pub marks-more : (seed : ℕ) (x : Stored) (es : List Stored) (ps : List (ℕ × Mark)) → is_in x.serial (keys_of ps) ≡ false → AreMarks seed es ps → AreMarks seed (x ∷ es) ps
+marks-more seed x es [] n h = tt
+marks-more seed x es (p ∷ ps) n h =
     let q = or_parts (eqb p.0 x.serial) (is_in x.serial (keys_of ps)) n in
     let apart : eqb x.serial p.0 ≡ false = eqb_comm x.serial p.0 ∙ q.0 in
-    (rw apart h.0, marks-more x es ps q.1 h.1)
+    (rw apart h.0, marks-more seed x es ps q.1 h.1)
 
 -- an entry in front whose serial stands there once, and is marked anew
-pub marks-anew : (s : ℕ) (x : Stored) (es : List Stored) (ps : List (ℕ × ℕ)) → x.serial ≡ s → is_in s (but s (keys_of ps)) ≡ false → AreMarks es ps →
-    AreMarks (x ∷ es) (set_value (is_at (nat_cmp s)) ps (mark_of x.nominated))
-marks-anew s x es [] is n h = tt
-marks-anew s x es (p ∷ ps) is n h =
-    let m = mark_of x.nominated in
-    let New : Bool → Type 0 = λ b. AreMarks (x ∷ es) (cond b ((p.0, m) ∷ ps) (p ∷ set_value (is_at (nat_cmp s)) ps m)) in
+pub marks-anew : (seed : ℕ) (s : ℕ) (x : Stored) (es : List Stored) (ps : List (ℕ × Mark)) → x.serial ≡ s → is_in s (but s (keys_of ps)) ≡ false → AreMarks seed es ps →
+    AreMarks seed (x ∷ es) (set_value (is_at (nat_cmp s)) ps (mark_of seed x.nominated))
+marks-anew seed s x es [] is n h = tt
+marks-anew seed s x es (p ∷ ps) is n h =
+    let m = mark_of seed x.nominated in
+    let New : Bool → Type 0 = λ b. AreMarks seed (x ∷ es) (cond b ((p.0, m) ∷ ps) (p ∷ set_value (is_at (nat_cmp s)) ps m)) in
     subst New (sym (at-eqb s p.0)) (elim (cases_Bool (eqb p.0 s)) [
       | inl t ↦ (
           let found : eqb x.serial p.0 ≡ true = eq-eqb _ _ (is ∙ sym (eqb-true p.0 s t)) in
           let others : is_in x.serial (keys_of ps) ≡ false =
           ap (λ z. is_in z (keys_of ps)) is ∙ sym (ap (λ b. is_in s (cond b (keys_of ps) (p.0 ∷ but s (keys_of ps)))) t) ∙ n in
-          let here : Fits (x ∷ es) p.0 m = rw found refl in
-          subst New (sym t) (here, marks-more x es ps others h.1)
+          let here : Fits seed (x ∷ es) p.0 m = rw found refl in
+          subst New (sym t) (here, marks-more seed x es ps others h.1)
           )
       | inr f ↦ (
           let apart : eqb x.serial p.0 ≡ false = ap (λ z. eqb z p.0) is ∙ eqb_comm s p.0 ∙ f in
           let rest = or_parts (eqb p.0 s) (is_in s (but s (keys_of ps))) (sym (ap (λ b. is_in s (cond b (keys_of ps) (p.0 ∷ but s (keys_of ps)))) f) ∙ n) in
-          let here : Fits (x ∷ es) p.0 p.1 = rw apart h.0 in
-          subst New (sym f) (here, marks-anew s x es ps is rest.1 h.1)
+          let here : Fits seed (x ∷ es) p.0 p.1 = rw apart h.0 in
+          subst New (sym f) (here, marks-anew seed s x es ps is rest.1 h.1)
           )
     ])
 
@@ -180,39 +184,46 @@ part-front s es x h t =
 
 -- ---- what a request may match
 
-mark_passes : (request : List Field) (es : List Stored) (s m : ℕ) → Fits es s m → is_match request (find_entry s es) ≡ true → may_match m (marks_of request) ≡ true
-mark_passes request es s m f h = by (find_entry s es) f h
+-- the tags of a request pass each mark of what it matches
+abbrev pub PassesMatches : ℕ → List Field → (ℕ → Bool) → Type 0
+PassesMatches seed request has = (kept : List NominatedValue) → vary_matches kept request ≡ true → may_match has (mark_of seed kept) ≡ true
+
+mark_passes : (seed : ℕ) (request : List Field) (has : ℕ → Bool) → PassesMatches seed request has → (es : List Stored) (s : ℕ) (m : Mark) → Fits seed es s m →
+    is_match request (find_entry s es) ≡ true → may_match has m ≡ true
+mark_passes seed request has passes es s m f h = by (find_entry s es) f h
   where
-    by : (o : Option Stored) → IfSome o (λ (e : Stored). m ≡ mark_of e.nominated) → is_match request o ≡ true → may_match m (marks_of request) ≡ true
+    by : (o : Option Stored) → IfSome o (λ (e : Stored). m ≡ mark_of seed e.nominated) → is_match request o ≡ true → may_match has m ≡ true
     by None f h = absurd (false≢true h)
-    by (Some e) f h = ap (λ z. may_match z (marks_of request)) f ∙ misses_nothing e.nominated request h
+    by (Some e) f h = ap (may_match has) f ∙ passes e.nominated h
 
 -- what isn't looked at doesn't match
-pub looks_enough : (request : List Field) (es : List Stored) (ps : List (ℕ × ℕ)) → AreMarks es ps →
-    filter (λ s. is_match request (find_entry s es)) (may_be_of (marks_of request) ps) ≡ filter (λ s. is_match request (find_entry s es)) (keys_of ps)
-looks_enough request es [] h = refl
-looks_enough request es (p ∷ ps) h =
-    let asked = marks_of request in
+pub looks_enough : (seed : ℕ) (request : List Field) (has : ℕ → Bool) → PassesMatches seed request has → (es : List Stored) (ps : List (ℕ × Mark)) → AreMarks seed es ps →
+    filter (λ s. is_match request (find_entry s es)) (may_be_of has ps) ≡ filter (λ s. is_match request (find_entry s es)) (keys_of ps)
+looks_enough seed request has passes es [] h = refl
+looks_enough seed request has passes es (p ∷ ps) h =
     let is : ℕ → Bool = λ s. is_match request (find_entry s es) in
-    let more = looks_enough request es ps h.1 in
-    elim (cases_Bool (may_match p.1 asked)) [
-      | inl y ↦ ap (λ b. filter is (keys_of (cond b (p ∷ filter (λ (q : ℕ × ℕ). may_match q.1 asked) ps) (filter (λ (q : ℕ × ℕ). may_match q.1 asked) ps)))) y
+    let more = looks_enough seed request has passes es ps h.1 in
+    elim (cases_Bool (may_match has p.1)) [
+      | inl y ↦ ap (λ b. filter is (keys_of (cond b (p ∷ filter (λ (q : ℕ × Mark). may_match has q.1) ps) (filter (λ (q : ℕ × Mark). may_match has q.1) ps)))) y
           ∙ ap (λ xs. cond (is p.0) (p.0 ∷ xs) xs) more
       | inr n ↦ (
           let no : is p.0 ≡ false = elim (cases_Bool (is p.0)) [
-            | inl t ↦ absurd (false≢true (sym n ∙ mark_passes request es p.0 p.1 h.0 t))
+            | inl t ↦ absurd (false≢true (sym n ∙ mark_passes seed request has passes es p.0 p.1 h.0 t))
             | inr f ↦ f
           ] in
-          ap (λ b. filter is (keys_of (cond b (p ∷ filter (λ (q : ℕ × ℕ). may_match q.1 asked) ps) (filter (λ (q : ℕ × ℕ). may_match q.1 asked) ps)))) n
+          ap (λ b. filter is (keys_of (cond b (p ∷ filter (λ (q : ℕ × Mark). may_match has q.1) ps) (filter (λ (q : ℕ × Mark). may_match has q.1) ps)))) n
           ∙ more ∙ sym (ap (λ b. cond b (p.0 ∷ filter is (keys_of ps)) (filter is (keys_of ps))) no)
           )
     ]
 
--- where no mark is another than 0, each serial may match
-pub unmarked : (asked : List ℕ) (ps : List (ℕ × ℕ)) → list_any (λ m. not (eqb m 0)) (values_of ps) ≡ false → may_be_of asked ps ≡ keys_of ps
-unmarked asked [] h = refl
-unmarked asked (p ∷ ps) h =
-    let q = or_parts (not (eqb p.1 0)) (list_any (λ m. not (eqb m 0)) (values_of ps)) h in
-    let zero_is : eqb p.1 0 ≡ true = elim (cases_Bool (eqb p.1 0)) [ inl t ↦ t | inr f ↦ absurd (false≢true (sym q.0 ∙ ap not f)) ] in
-    ap (λ b. keys_of (cond (b || list_any (λ m. eqb m p.1) asked) (p ∷ filter (λ (r : ℕ × ℕ). may_match r.1 asked) ps) (filter (λ (r : ℕ × ℕ). may_match r.1 asked) ps))) zero_is
-    ∙ ap (λ xs. p.0 ∷ xs) (unmarked asked ps q.1)
+-- values that are the request's decide as it would
+pub by_values : (request : List Field) (values : BTreeMap (List ℕ) (List ℕ)) → HasEachValue request values → (es : List Stored) (ss : List ℕ) →
+    filter (λ s. is_match_by values (find_entry s es)) ss ≡ filter (λ s. is_match request (find_entry s es)) ss
+by_values request values h es [] = refl
+by_values request values h es (s ∷ ss) =
+    ap (λ b. cond b (s ∷ filter (λ (t : ℕ). is_match_by values (find_entry t es)) ss) (filter (λ (t : ℕ). is_match_by values (find_entry t es)) ss)) (same (find_entry s es))
+    ∙ ap (λ xs. cond (is_match request (find_entry s es)) (s ∷ xs) xs) (by_values request values h es ss)
+  where
+    same : (o : Option Stored) → is_match_by values o ≡ is_match request o
+    same None = refl
+    same (Some e) = kept_alike request values h e.nominated

@@ -1,30 +1,37 @@
 -- An index from keys to serials, each beside the mark of its entry.
-use Rattle.std.specs.Prelude.{◌≡◌, ℕ, Bool, true, false, not, ◌||◌, ◌==◌, List, [], ◌∷◌, if◌then◌else◌, IfSome, unwrap_or}
+use Rattle.std.specs.Prelude.{◌≡◌, ℕ, Bool, true, false, not, ◌||◌, ◌==◌, List, [], ◌∷◌, if◌then◌else◌, IfSome, unwrap_or, Option, Some, None}
 use Rattle.std.specs.List.{filter}
 use Rattle.std.specs.Map.{keys_of, remove_entry, set_value}
 use Rattle.std.specs.Option.{ForSome}
 use Rattle.std.specs.Ordering.{nat_cmp}
-use Rattle.std.specs.BTreeMap.{get, insert_entry, is_at}
+use Rattle.std.specs.BTreeMap.{BTreeMap, get, insert_entry, is_at}
 use Rattle.hx_target.specs.declared.keys.Key.{Key}
 use Rattle.hx_target.specs.Keys.{same_key}
 use Rattle.hx_target.specs.KeyOrder.{key_cmp}
 use Rattle.hx_store.specs.declared.key_index.KeyIndex.{KeyIndex}
 use Rattle.hx_vary.specs.Marks.{mark_of, may_match}
+use Rattle.hx_vary.specs.declared.marks.Mark.{Mark}
+use Rattle.hx_vary.specs.Combined.{all_kept_by}
 use Rattle.hx_store.specs.Serials.{is_in}
 use Rattle.hx_store.specs.Stored.{Stored}
 use Rattle.hx_store.specs.Shelf.{find_entry, serials_of}
 
 -- the serials that the index has at a key, beside their marks
-abbrev pub marks_at : KeyIndex → Key → List (ℕ × ℕ)
+abbrev pub marks_at : KeyIndex → Key → List (ℕ × Mark)
 marks_at index key = unwrap_or (get key_cmp index.serials key) []
 
 -- the serials alone
 abbrev pub indexed : KeyIndex → Key → List ℕ
 indexed index key = keys_of (marks_at index key)
 
--- the serials whose marks are among these
-abbrev pub may_be_of : List ℕ → List (ℕ × ℕ) → List ℕ
-may_be_of asked marks = keys_of (filter (λ p. may_match p.1 asked) marks)
+-- the serials whose marks a request with these tags may match
+abbrev pub may_be_of : (ℕ → Bool) → List (ℕ × Mark) → List ℕ
+may_be_of has marks = keys_of (filter (λ p. may_match has p.1) marks)
+
+-- the entry that was found nominates what these values have
+abbrev pub is_match_by : BTreeMap (List ℕ) (List ℕ) → Option Stored → Bool
+is_match_by values None = false
+is_match_by values (Some e) = all_kept_by values e.nominated
 
 -- serials but the first that is this one
 abbrev pub but : ℕ → List ℕ → List ℕ
@@ -33,11 +40,11 @@ but s (x ∷ xs) = if x == s then xs else x ∷ but s xs
 
 -- at a key, what is there once a serial was put in at another with its mark, once it was marked anew there, and once it
 -- was taken out there
-abbrev pub IsPutIn : KeyIndex → Key → ℕ → ℕ → KeyIndex → Type 0
+abbrev pub IsPutIn : KeyIndex → Key → ℕ → Mark → KeyIndex → Type 0
 IsPutIn old key s mark new =
     (q : Key) → marks_at new q ≡ (if same_key key q then insert_entry nat_cmp (marks_at old q) s mark else marks_at old q)
 
-abbrev pub IsMarkedAnew : KeyIndex → Key → ℕ → ℕ → KeyIndex → Type 0
+abbrev pub IsMarkedAnew : KeyIndex → Key → ℕ → Mark → KeyIndex → Type 0
 IsMarkedAnew old key s mark new =
     (q : Key) → marks_at new q ≡ (if same_key key q then set_value (is_at (nat_cmp s)) (marks_at old q) mark else marks_at old q)
 
@@ -49,7 +56,7 @@ abbrev pub IsSameIndex : KeyIndex → KeyIndex → Type 0
 IsSameIndex old new = (q : Key) → marks_at new q ≡ marks_at old q
 
 -- the serial was put in where its key has others, and else nothing was done
-abbrev pub IsPutInIf : Bool → KeyIndex → Key → ℕ → ℕ → KeyIndex → Type 0
+abbrev pub IsPutInIf : Bool → KeyIndex → Key → ℕ → Mark → KeyIndex → Type 0
 IsPutInIf true old key s mark new = IsPutIn old key s mark new
 IsPutInIf false old key s mark new = IsSameIndex old new × (marks_at old key ≡ [])
 
@@ -65,13 +72,13 @@ IsTrimBeside key index = (q : Key) → same_key key q ≡ false → ForSome (get
 abbrev pub IsIndexOf : List Stored → KeyIndex → Type 0
 IsIndexOf es index = (q : Key) → indexed index q ≡ serials_of q es
 
--- each mark is that of the entry that its serial finds, if it finds one
-abbrev pub AreMarks : List Stored → List (ℕ × ℕ) → Type 0
-AreMarks es [] = Unit {0}
-AreMarks es (p ∷ ps) = IfSome (find_entry p.0 es) (λ e. p.1 ≡ mark_of e.nominated) × AreMarks es ps
+-- each mark is that of the entry that its serial finds, by the seed, if it finds one
+abbrev pub AreMarks : ℕ → List Stored → List (ℕ × Mark) → Type 0
+AreMarks seed es [] = Unit {0}
+AreMarks seed es (p ∷ ps) = IfSome (find_entry p.0 es) (λ e. p.1 ≡ mark_of seed e.nominated) × AreMarks seed es ps
 
-abbrev pub IsMarked : List Stored → KeyIndex → Type 0
-IsMarked es index = (q : Key) → AreMarks es (marks_at index q)
+abbrev pub IsMarked : ℕ → List Stored → KeyIndex → Type 0
+IsMarked seed es index = (q : Key) → AreMarks seed es (marks_at index q)
 
 -- the entries but those with these serials, and that of the serial `kept` in any case
 abbrev pub without_others : ℕ → List ℕ → List Stored → List Stored

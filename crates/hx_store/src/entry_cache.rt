@@ -4,12 +4,13 @@
 
 ghost use Rattle.std.specs.Prelude.{◌≡◌, ◌-◌, ◌∷◌, [], false, true, length, take, slice_get, option_copied, IfOk, IfErr, OnErr, OnOk, Some};
 ghost use Rattle.std.specs.List.{filter, list_all};
+ghost use Rattle.hx_store.specs.Index.{is_match_by};
 ghost use Rattle.hx_store.specs.Shelf.{holds, find_entry, is_match, without, promoted};
 
 use crate::entries::Entry;
 use crate::serial_list::Serials;
 use hx_fields::Fields;
-use hx_vary::matches;
+use hx_vary::{RequestValues, matches};
 use lru::LruCache;
 use std::alloc::{AllocError, Global};
 use std::marker::Model;
@@ -128,6 +129,34 @@ impl EntryCache {
     {
         match self.peek(serial) {
             Some(entry) => matches(alloc, &entry.nominated, request),
+            None => Ok(false),
+        }
+    }
+
+    /// Those of some serials whose entries nominate what these values have. Fails for want of memory alone.
+    pub(crate) fn matching_by(
+        &self,
+        alloc: Global,
+        serials: &[u64],
+        asked: &RequestValues,
+    ) -> Result<Serials, AllocError>
+        ensures { IfOk result (λ found. found ≡ filter (λ s. is_match_by asked.now.values (find_entry s self.now)) serials.now) }
+    {
+        let mut found = Serials::new(alloc);
+        for serial in serials {
+            if self.is_match_by(*serial, asked)? {
+                found.push(*serial)?;
+            }
+        }
+        Ok(found)
+    }
+
+    /// Whether the entry of this serial is here and nominates what these values have. Fails for want of memory alone.
+    fn is_match_by(&self, serial: u64, asked: &RequestValues) -> Result<bool, AllocError>
+        ensures { IfOk result (λ is. is ≡ is_match_by asked.now.values (find_entry serial self.now)) }
+    {
+        match self.peek(serial) {
+            Some(entry) => asked.matches(&entry.nominated),
             None => Ok(false),
         }
     }

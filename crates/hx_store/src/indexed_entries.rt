@@ -15,12 +15,15 @@ use crate::key_index::KeyIndex;
 use crate::serial_list::Serials;
 use hx_fields::Fields;
 use hx_target::Key;
+use hx_vary::RequestValues;
 use std::alloc::{AllocError, Global};
 use std::marker::Model;
 
 /// Entries, of which callers see the list.
 pub(crate) struct IndexedEntries {
     alloc: Global,
+    /// That of the marks.
+    seed: u64,
     entries: EntryCache,
     index: KeyIndex,
 }
@@ -30,6 +33,7 @@ impl Drop for IndexedEntries {
     fn drop(self) {
         let IndexedEntries {
             alloc: _,
+            seed: _,
             entries: _,
             index: _,
         } = self;
@@ -47,16 +51,17 @@ impl Model for IndexedEntries {
 
     ghost view = { λ s. s.entries };
 
-    ghost invariant = { λ s. (Distinct (serials s.entries) × IsIndexOf s.entries s.index) × IsTrim s.index × IsMarked s.entries s.index };
+    ghost invariant = { λ s. (Distinct (serials s.entries) × IsIndexOf s.entries s.index) × IsTrim s.index × IsMarked s.seed s.entries s.index };
 }
 
 impl IndexedEntries {
-    /// None. Fails for want of memory alone.
-    pub(crate) fn new(alloc: Global) -> Result<IndexedEntries, AllocError>
+    /// None, to be marked by a seed. Fails for want of memory alone.
+    pub(crate) fn new(alloc: Global, seed: u64) -> Result<IndexedEntries, AllocError>
         ensures { IfOk result (λ held. held ≡ []) }
     {
         Ok(IndexedEntries {
             alloc,
+            seed,
             entries: EntryCache::new(alloc)?,
             index: KeyIndex::new(alloc),
         })
@@ -106,8 +111,8 @@ impl IndexedEntries {
         self.index.has(key)
     }
 
-    /// The serials of the entries with this key whose nominated values the request has, ascending. An entry is looked at
-    /// only where its mark may match. Fails for want of memory alone.
+    /// The serials of the entries with this key whose nominated values the request has, ascending. Where there
+    /// are several, an entry is looked at only where its mark may match. Fails for want of memory alone.
     pub(crate) fn find_matching(
         &self,
         alloc: Global,
@@ -117,8 +122,13 @@ impl IndexedEntries {
         ensures found { IfOk result (λ found. found ≡ matching_serials key.now request.now self.now) }
         ensures distinct { Distinct (serials self.now) }
     {
-        let marked = self.index.find_marked(alloc, key, request)?;
-        self.entries.matching(alloc, marked, request)
+        if !self.index.has_several(key) {
+            let found = self.index.find(alloc, key)?;
+            return self.entries.matching(alloc, found, request);
+        }
+        let asked = RequestValues::of(alloc, request, self.seed)?;
+        let marked = self.index.find_marked(alloc, key, &asked)?;
+        self.entries.matching_by(alloc, marked.as_slice(), &asked)
     }
 
     /// Puts an entry first. Want of memory changes nothing and hands it back.
@@ -129,7 +139,7 @@ impl IndexedEntries {
         ensures given_back { IfErr result (λ e. e ≡ entry) }
     {
         let serial = entry.serial;
-        let mark = entry.nominated.mark();
+        let mark = entry.nominated.mark(self.seed);
         if self
             .index
             .insert(self.alloc, &entry.key, serial, mark)
@@ -153,8 +163,8 @@ impl IndexedEntries {
         ensures value { find_entry entry.serial self.old ≡ Some result }
         ensures entries { self.new ≡ entry ∷ without (entry.serial ∷ []) self.old }
     {
-        self.index
-            .mark(&entry.key, entry.serial, entry.nominated.mark());
+        let mark = entry.nominated.mark(self.seed);
+        self.index.mark(&entry.key, entry.serial, mark);
         self.entries.replace(entry)
     }
 

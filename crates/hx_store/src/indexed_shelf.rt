@@ -45,9 +45,17 @@ impl IndexedShelf {
     pub fn new(alloc: Global, capacity: usize) -> Result<IndexedShelf, AllocError>
         ensures { IfOk result (λ shelf. shelf ≡ record { limit = capacity; entries = []; room = 0 }) }
     {
+        IndexedShelf::seeded(alloc, capacity, 0)
+    }
+
+    /// The same, with a seed for what tells variants apart before they are looked at. It changes no answer; where nobody knows
+    /// it, nobody can choose requests that cost more than others. Fails for want of memory alone.
+    pub fn seeded(alloc: Global, capacity: usize, seed: u64) -> Result<IndexedShelf, AllocError>
+        ensures { IfOk result (λ shelf. shelf ≡ record { limit = capacity; entries = []; room = 0 }) }
+    {
         Ok(IndexedShelf {
             capacity,
-            held: IndexedEntries::new(alloc)?,
+            held: IndexedEntries::new(alloc, seed)?,
         })
     }
 }

@@ -3,16 +3,17 @@
 //! A call costs the logarithm of what is held, but that `find` also costs what it finds, and `find_marked` a comparison of
 //! numbers for each serial at the key.
 
-ghost use Rattle.std.specs.Prelude.{◌≡◌, ◌==◌, [], not, length, IfOk, OnOk, OnErr, slice_get};
+ghost use Rattle.std.specs.Prelude.{◌≡◌, ◌==◌, nat_lt, [], not, length, IfOk, OnOk, OnErr, slice_get};
 ghost use Rattle.std.specs.Bool.{OnFalse, OnTrue};
 ghost use Rattle.hx_target.specs.declared.keys.Key.{Key as StoreKey};
-ghost use Rattle.hx_vary.specs.Marks.{marks_of};
+ghost use Rattle.std.specs.BTreeSet.{contains};
+ghost use Rattle.std.specs.Ordering.{nat_cmp};
 ghost use Rattle.hx_store.specs.Index.{indexed, marks_at, may_be_of, IsMarkedAnew, IsPutIn, IsPutInIf, IsTakenOut, IsSameIndex, IsTrim, IsTrimBeside};
 
 use crate::key_marks::KeyMarks;
 use crate::serial_list::Serials;
-use hx_fields::Fields;
 use hx_target::Key;
+use hx_vary::{Mark, RequestValues};
 use std::alloc::{AllocError, Global};
 use std::collections::BTreeMap;
 
@@ -49,17 +50,27 @@ impl KeyIndex {
         }
     }
 
+    /// Whether several serials stand at a key.
+    pub(crate) fn has_several(&self, key: &Key) -> bool
+        ensures { result ≡ nat_lt 1 (length (marks_at self.now key.now)) }
+    {
+        match self.serials.get(key) {
+            Some(marks) => marks.is_several(),
+            None => false,
+        }
+    }
+
     /// The serials at a key whose marks don't keep the request from matching, ascending. Fails for want of memory alone.
     pub(crate) fn find_marked(
         &self,
         alloc: Global,
         key: &Key,
-        request: &Fields,
+        asked: &RequestValues,
     ) -> Result<Serials, AllocError>
-        ensures { IfOk result (λ found. found ≡ may_be_of (marks_of request.now) (marks_at self.now key.now)) }
+        ensures { IfOk result (λ found. found ≡ may_be_of (contains nat_cmp asked.now.tags) (marks_at self.now key.now)) }
     {
         match self.serials.get(key) {
-            Some(marks) => marks.list_marked(alloc, request),
+            Some(marks) => marks.list_marked(alloc, asked),
             None => Ok(Serials::new(alloc)),
         }
     }
@@ -87,7 +98,7 @@ impl KeyIndex {
         alloc: Global,
         key: &Key,
         serial: u64,
-        mark: u64,
+        mark: Mark,
     ) -> Result<(), AllocError>
         ensures ok { OnOk result (IsPutIn self.old key.now serial mark self.new) }
         ensures err { OnErr result (IsSameIndex self.old self.new) }
@@ -108,7 +119,7 @@ impl KeyIndex {
         alloc: Global,
         key: &Key,
         serial: u64,
-        mark: u64,
+        mark: Mark,
     ) -> Result<bool, AllocError>
         ensures ok { IfOk result (λ has. IsPutInIf has self.old key.now serial mark self.new) }
         ensures err { OnErr result (IsSameIndex self.old self.new) }
@@ -124,7 +135,7 @@ impl KeyIndex {
     }
 
     /// Puts another mark beside a serial that stands at a key. No memory is taken.
-    pub(crate) fn mark(&mut self, key: &Key, serial: u64, mark: u64)
+    pub(crate) fn mark(&mut self, key: &Key, serial: u64, mark: Mark)
         ensures marked { IsMarkedAnew self.old key.now serial mark self.new }
         ensures trim { IsTrim self.old → IsTrim self.new }
     {

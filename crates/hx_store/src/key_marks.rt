@@ -3,17 +3,15 @@
 //! Most keys have one serial, which stands in its place: a node of a map, of some 200 bytes, is taken where there are more.
 //! A call costs the logarithm of how many there are, but that a list costs what it lists.
 
-ghost use Rattle.std.specs.Prelude.{◌≡◌, ◌∷◌, ◌==◌, [], not, length, IfOk, OnOk, OnErr, slice_get};
-ghost use Rattle.std.specs.List.{list_any};
-ghost use Rattle.std.specs.Map.{keys_of, remove_entry, set_value, values_of};
+ghost use Rattle.std.specs.Prelude.{◌≡◌, ◌∷◌, ◌==◌, nat_lt, [], length, IfOk, OnOk, OnErr, slice_get};
+ghost use Rattle.std.specs.Map.{keys_of, remove_entry, set_value};
 ghost use Rattle.std.specs.Ordering.{nat_cmp};
 ghost use Rattle.std.specs.BTreeMap.{insert_entry, is_at};
-ghost use Rattle.hx_vary.specs.Marks.{marks_of};
+ghost use Rattle.std.specs.BTreeSet.{contains};
 ghost use Rattle.hx_store.specs.Index.{may_be_of};
 
 use crate::serial_list::Serials;
-use hx_fields::Fields;
-use hx_vary::Marks;
+use hx_vary::{Mark, RequestValues};
 use std::alloc::{AllocError, Global};
 use std::collections::BTreeMap;
 use std::marker::Model;
@@ -21,9 +19,9 @@ use std::marker::Model;
 /// Serials and marks, of which callers see the list of pairs.
 pub(crate) struct KeyMarks {
     /// The pair that stands alone.
-    only: Option<(u64, u64)>,
+    only: Option<(u64, Mark)>,
     /// The pairs where none stands alone.
-    more: BTreeMap<u64, u64>,
+    more: BTreeMap<u64, Mark>,
 }
 
 /// One call drops it, wherever that is.
@@ -36,8 +34,9 @@ impl Drop for KeyMarks {
 impl Model for KeyMarks {
     ghost use Rattle.std.specs.Prelude.{List, ℕ};
     ghost use Rattle.hx_store.specs.KeptMarks.{kept_marks, IsAloneOrMore};
+    ghost use Rattle.hx_vary.specs.declared.marks.Mark.{Mark};
 
-    ghost Value = { List (ℕ × ℕ) };
+    ghost Value = { List (ℕ × Mark) };
 
     ghost view = { λ m. kept_marks m.only m.more.entries };
 
@@ -46,7 +45,7 @@ impl Model for KeyMarks {
 
 impl KeyMarks {
     /// One serial with its mark. No memory is taken.
-    pub(crate) fn one(alloc: Global, serial: u64, mark: u64) -> KeyMarks
+    pub(crate) fn one(alloc: Global, serial: u64, mark: Mark) -> KeyMarks
         ensures { result ≡ (serial, mark) ∷ [] }
     {
         KeyMarks {
@@ -82,19 +81,29 @@ impl KeyMarks {
         }
     }
 
-    /// The serials whose marks don't keep the request from matching. The request is read only where a mark may. Fails for
-    /// want of memory alone.
-    pub(crate) fn list_marked(&self, alloc: Global, request: &Fields) -> Result<Serials, AllocError>
-        ensures { IfOk result (λ list. list ≡ may_be_of (marks_of request.now) self.now) }
+    /// Whether there are several.
+    pub(crate) fn is_several(&self) -> bool
+        ensures { result ≡ nat_lt 1 (length self.now) }
     {
-        match self.only {
-            Some((serial, mark)) => marked_of_one(alloc, serial, mark, request),
-            None => marked_of(alloc, &self.more, request),
+        self.only.is_none() && self.more.len() > 1
+    }
+
+    /// The serials whose marks don't keep the request from matching. Fails for want of memory alone.
+    pub(crate) fn list_marked(
+        &self,
+        alloc: Global,
+        asked: &RequestValues,
+    ) -> Result<Serials, AllocError>
+        ensures { IfOk result (λ list. list ≡ may_be_of (contains nat_cmp asked.now.tags) self.now) }
+    {
+        match &self.only {
+            Some((serial, mark)) => marked_of_one(alloc, *serial, mark, asked),
+            None => list_of_marked(alloc, &self.more, asked),
         }
     }
 
     /// Puts a serial in with its mark. Want of memory changes nothing.
-    pub(crate) fn insert(&mut self, alloc: Global, serial: u64, mark: u64) -> Result<(), AllocError>
+    pub(crate) fn insert(&mut self, alloc: Global, serial: u64, mark: Mark) -> Result<(), AllocError>
         ensures ok { OnOk result (self.new ≡ insert_entry nat_cmp self.old serial mark) }
         ensures err { OnErr result (self.new ≡ self.old) }
     {
@@ -107,7 +116,7 @@ impl KeyMarks {
     }
 
     /// Puts another mark beside a serial, if it stands here. No memory is taken.
-    pub(crate) fn set_mark(&mut self, serial: u64, mark: u64)
+    pub(crate) fn set_mark(&mut self, serial: u64, mark: Mark)
         ensures { self.new ≡ set_value (is_at (nat_cmp serial)) self.old mark }
     {
         match self.only {
@@ -138,10 +147,10 @@ impl KeyMarks {
 fn two(
     alloc: Global,
     first: u64,
-    its: u64,
+    its: Mark,
     serial: u64,
-    mark: u64,
-) -> Result<BTreeMap<u64, u64>, AllocError>
+    mark: Mark,
+) -> Result<BTreeMap<u64, Mark>, AllocError>
     ensures { IfOk result (λ marks. marks.entries ≡ insert_entry nat_cmp ((first, its) ∷ []) serial mark) }
 {
     let mut marks = BTreeMap::new(alloc);
@@ -151,7 +160,7 @@ fn two(
 }
 
 /// Puts a serial in with its mark. Want of memory changes nothing.
-fn insert_mark(marks: &mut BTreeMap<u64, u64>, serial: u64, mark: u64) -> Result<(), AllocError>
+fn insert_mark(marks: &mut BTreeMap<u64, Mark>, serial: u64, mark: Mark) -> Result<(), AllocError>
     ensures ok { OnOk result (marks.new.entries ≡ insert_entry nat_cmp marks.old.entries serial mark) }
     ensures err { OnErr result (marks.new.entries ≡ marks.old.entries) }
 {
@@ -160,7 +169,7 @@ fn insert_mark(marks: &mut BTreeMap<u64, u64>, serial: u64, mark: u64) -> Result
 }
 
 /// Puts another mark beside a serial, if it stands here.
-fn set_mark(marks: &mut BTreeMap<u64, u64>, serial: u64, mark: u64)
+fn set_mark(marks: &mut BTreeMap<u64, Mark>, serial: u64, mark: Mark)
     ensures { marks.new.entries ≡ set_value (is_at (nat_cmp serial)) marks.old.entries mark }
 {
     if let Some(old) = marks.get_mut(&serial) {
@@ -169,14 +178,14 @@ fn set_mark(marks: &mut BTreeMap<u64, u64>, serial: u64, mark: u64)
 }
 
 /// Takes a serial out, if it stands here.
-fn remove_mark(marks: &mut BTreeMap<u64, u64>, serial: u64)
+fn remove_mark(marks: &mut BTreeMap<u64, Mark>, serial: u64)
     ensures { marks.new.entries ≡ remove_entry (is_at (nat_cmp serial)) marks.old.entries }
 {
     marks.remove(&serial);
 }
 
 /// The least serial of a map.
-fn first_of(marks: &BTreeMap<u64, u64>) -> Option<u64>
+fn first_of(marks: &BTreeMap<u64, Mark>) -> Option<u64>
     ensures { result ≡ slice_get (keys_of marks.now.entries) 0 }
 {
     match marks.first_key_value() {
@@ -195,7 +204,7 @@ fn list_of_one(alloc: Global, serial: u64) -> Result<Serials, AllocError>
 }
 
 /// The serials of a map, in their order.
-fn list_of(alloc: Global, marks: &BTreeMap<u64, u64>) -> Result<Serials, AllocError>
+fn list_of(alloc: Global, marks: &BTreeMap<u64, Mark>) -> Result<Serials, AllocError>
     ensures { IfOk result (λ list. list ≡ keys_of marks.now.entries) }
 {
     let mut list = Serials::with_capacity(alloc, marks.len())?;
@@ -209,52 +218,29 @@ fn list_of(alloc: Global, marks: &BTreeMap<u64, u64>) -> Result<Serials, AllocEr
 fn marked_of_one(
     alloc: Global,
     serial: u64,
-    mark: u64,
-    request: &Fields,
+    mark: &Mark,
+    asked: &RequestValues,
 ) -> Result<Serials, AllocError>
-    ensures { IfOk result (λ list. list ≡ may_be_of (marks_of request.now) ((serial, mark) ∷ [])) }
+    ensures { IfOk result (λ list. list ≡ may_be_of (contains nat_cmp asked.now.tags) ((serial, mark.now) ∷ [])) }
 {
-    if mark == 0 || Marks::of(alloc, request)?.may_match(mark) {
+    if asked.may_match(mark) {
         list_of_one(alloc, serial)
     } else {
         Ok(Serials::new(alloc))
     }
 }
 
-/// The serials of a map whose marks don't keep the request from matching.
-fn marked_of(
-    alloc: Global,
-    marks: &BTreeMap<u64, u64>,
-    request: &Fields,
-) -> Result<Serials, AllocError>
-    ensures { IfOk result (λ list. list ≡ may_be_of (marks_of request.now) marks.now.entries) }
-{
-    if has_marks(marks) {
-        let asked = Marks::of(alloc, request)?;
-        list_of_marked(alloc, marks, &asked)
-    } else {
-        list_of(alloc, marks)
-    }
-}
-
-/// Whether a mark is another than 0.
-fn has_marks(marks: &BTreeMap<u64, u64>) -> bool
-    ensures { result ≡ list_any (λ mark. not (mark == 0)) (values_of marks.now.entries) }
-{
-    marks.values().any(|mark| *mark != 0)
-}
-
 /// The serials of a map whose marks may match these, in their order.
 fn list_of_marked(
     alloc: Global,
-    marks: &BTreeMap<u64, u64>,
-    asked: &Marks,
+    marks: &BTreeMap<u64, Mark>,
+    asked: &RequestValues,
 ) -> Result<Serials, AllocError>
-    ensures { IfOk result (λ list. list ≡ may_be_of asked.now marks.now.entries) }
+    ensures { IfOk result (λ list. list ≡ may_be_of (contains nat_cmp asked.now.tags) marks.now.entries) }
 {
     let mut list = Serials::new(alloc);
     for (serial, mark) in marks {
-        if asked.may_match(*mark) {
+        if asked.may_match(mark) {
             list.push(*serial)?;
         }
     }

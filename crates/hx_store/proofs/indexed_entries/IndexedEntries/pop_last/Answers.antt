@@ -12,7 +12,7 @@ invariant_of-self c =
     rw c.pop_last.ensures.entries (
       kept-last es c.in-Some.entry c.self.inside.index c.remove.new.self last taken c.self.invariant.0,
       c.remove.ensures.trim c.self.invariant.1,
-      marked-last es c.in-Some.entry c.self.inside.index c.remove.new.self c.self.invariant.0.0 last taken c.self.invariant.2,
+      marked-last c.self.inside.seed es c.in-Some.entry c.self.inside.index c.remove.new.self c.self.invariant.0.0 last taken c.self.invariant.2,
     )
 
 pub invariant_of-self-in-None : goal.invariant_of-self-in-None
@@ -22,5 +22,5 @@ invariant_of-self-in-None c =
     rw c.pop_last.ensures.entries (
       subst (λ zs. IsKept zs c.self.inside.index) (sym same) c.self.invariant.0,
       c.self.invariant.1,
-      subst (λ zs. IsMarked zs c.self.inside.index) (sym same) c.self.invariant.2,
+      subst (λ zs. IsMarked c.self.inside.seed zs c.self.inside.index) (sym same) c.self.invariant.2,
     )

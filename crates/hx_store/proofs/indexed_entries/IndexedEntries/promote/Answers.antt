@@ -5,5 +5,5 @@ pub invariant_of-self : goal.invariant_of-self
 invariant_of-self c = rw c.promote.ensures.entries (
   kept-promoted c.args.serial c.self.inside.entries c.self.inside.index c.self.invariant.0,
   c.self.invariant.1,
-  marked-promoted c.args.serial c.self.inside.entries c.self.inside.index c.self.invariant.2,
+  marked-promoted c.self.inside.seed c.args.serial c.self.inside.entries c.self.inside.index c.self.invariant.2,
 )

@@ -13,9 +13,9 @@ invariant_of-self c =
     rw c.remove.ensures.entries (
       kept-without c.args.serial es c.in-Some.entry c.self.inside.index c.remove-in-Some.new.self found taken c.self.invariant.0,
       c.remove-in-Some.ensures.trim c.self.invariant.1,
-      marked-without c.in-Some.entry.key c.args.serial es c.self.inside.index c.remove-in-Some.new.self taken c.self.invariant.2,
+      marked-without c.self.inside.seed c.in-Some.entry.key c.args.serial es c.self.inside.index c.remove-in-Some.new.self taken c.self.invariant.2,
     )
 
 pub invariant_of-self-in-None : goal.invariant_of-self-in-None
 invariant_of-self-in-None c =
-    rw c.remove.ensures.entries (kept-none c.args.serial c.self.inside.entries c.self.inside.index (sym c.remove.ensures.value ∙ c.in-None.is) c.self.invariant.0, c.self.invariant.1, marked-none c.args.serial c.self.inside.entries c.self.inside.index c.self.invariant.2)
+    rw c.remove.ensures.entries (kept-none c.args.serial c.self.inside.entries c.self.inside.index (sym c.remove.ensures.value ∙ c.in-None.is) c.self.invariant.0, c.self.invariant.1, marked-none c.self.inside.seed c.args.serial c.self.inside.entries c.self.inside.index c.self.invariant.2)

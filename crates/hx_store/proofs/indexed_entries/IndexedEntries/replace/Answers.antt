@@ -11,10 +11,10 @@ invariant_of-self c =
     let x = c.args.entry in
     let found = c.replace.ensures.value in
     let same : same_key c.replace.result.key x.key ≡ true = search rules in
-    let anew : IsMarkedAnew c.self.inside.index x.key x.serial (mark_of x.nominated) c.mark-2.new.self =
-    subst (λ e. IsMarkedAnew c.self.inside.index e.key e.serial (mark_of e.nominated) c.mark-2.new.self) c.entry.view_is (search rules) in
+    let anew : IsMarkedAnew c.self.inside.index x.key x.serial (mark_of c.self.inside.seed x.nominated) c.mark.new.self =
+    subst (λ e. IsMarkedAnew c.self.inside.index e.key e.serial (mark_of c.self.inside.seed e.nominated) c.mark.new.self) c.entry.view_is (search rules) in
     rw c.replace.ensures.entries (
-      kept-anew x.key x.serial (mark_of x.nominated) es c.replace.result x c.self.inside.index c.mark-2.new.self found refl same anew c.self.invariant.0,
-      c.mark-2.ensures.trim c.self.invariant.1,
-      marked-anew x.serial es c.replace.result x c.self.inside.index c.mark-2.new.self found refl same anew c.self.invariant.0 c.self.invariant.2,
+      kept-anew x.key x.serial (mark_of c.self.inside.seed x.nominated) es c.replace.result x c.self.inside.index c.mark.new.self found refl same anew c.self.invariant.0,
+      c.mark.ensures.trim c.self.invariant.1,
+      marked-anew c.self.inside.seed x.serial es c.replace.result x c.self.inside.index c.mark.new.self found refl same anew c.self.invariant.0 c.self.invariant.2,
     )

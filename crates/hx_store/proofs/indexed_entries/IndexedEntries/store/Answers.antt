@@ -10,7 +10,7 @@ pub invariant_of-self-in-Err : goal.invariant_of-self-in-Err
 invariant_of-self-in-Err c =
     let es = c.self.inside.entries in
     let index = c.self.inside.index in
-    let mark = mark_of c.entry.inside.nominated in
+    let mark = mark_of c.self.inside.seed c.entry.inside.nominated in
     let put : IsPutIn index c.entry.inside.key c.entry.inside.serial mark c.insert.new.self = search rules in
     let back : c.entry-in-Err.inside.key ≡ c.entry.inside.key = search rules in
     let taken : IsTakenOut c.insert.new.self c.entry.inside.key c.entry.inside.serial c.remove.new.self =
@@ -20,7 +20,7 @@ invariant_of-self-in-Err c =
     rw c.in-Err.ensures.err (
       (c.self.invariant.0.0, index-again c.entry.inside.key c.entry.inside.serial mark es index c.insert.new.self c.remove.new.self new c.self.invariant.0.1 put taken),
       c.remove.ensures.trim (c.insert.ensures.trim c.self.invariant.1),
-      marked-again c.entry.inside.key c.entry.inside.serial mark es index c.insert.new.self c.remove.new.self new put taken c.self.invariant.2,
+      marked-again c.self.inside.seed c.entry.inside.key c.entry.inside.serial mark es index c.insert.new.self c.remove.new.self new put taken c.self.invariant.2,
     )
 
 pub invariant_of-self : goal.invariant_of-self
@@ -28,19 +28,19 @@ invariant_of-self c =
     let same : IsSameIndex c.self.inside.index c.insert.new.self = search rules in (
       (c.self.invariant.0.0, λ q. ap keys_of (same q) ∙ c.self.invariant.0.1 q),
       c.insert.ensures.trim c.self.invariant.1,
-      λ q. subst (AreMarks c.self.inside.entries) (sym (same q)) (c.self.invariant.2 q),
+      λ q. subst (AreMarks c.self.inside.seed c.self.inside.entries) (sym (same q)) (c.self.invariant.2 q),
     )
 
 pub invariant_of-self-in-Ok : goal.invariant_of-self-in-Ok
 invariant_of-self-in-Ok c =
     let es = c.self.inside.entries in
     let index = c.self.inside.index in
-    let put : IsPutIn index c.entry.inside.key c.entry.inside.serial (mark_of c.entry.inside.nominated) c.insert.new.self = search rules in
-    let put_as : IsPutIn index c.args.entry.key c.args.entry.serial (mark_of c.args.entry.nominated) c.insert.new.self =
-    subst (λ e. IsPutIn index e.key e.serial (mark_of e.nominated) c.insert.new.self) c.entry.view_is put in
+    let put : IsPutIn index c.entry.inside.key c.entry.inside.serial (mark_of c.self.inside.seed c.entry.inside.nominated) c.insert.new.self = search rules in
+    let put_as : IsPutIn index c.args.entry.key c.args.entry.serial (mark_of c.self.inside.seed c.args.entry.nominated) c.insert.new.self =
+    subst (λ e. IsPutIn index e.key e.serial (mark_of c.self.inside.seed e.nominated) c.insert.new.self) c.entry.view_is put in
     let new = ap (holds c.args.entry.serial) c.self.view_is ∙ c.requires in
     rw c.in-Ok.ensures.ok (
-      kept-more c.args.entry (mark_of c.args.entry.nominated) es index c.insert.new.self new put_as c.self.invariant.0,
+      kept-more c.args.entry (mark_of c.self.inside.seed c.args.entry.nominated) es index c.insert.new.self new put_as c.self.invariant.0,
       c.insert.ensures.trim c.self.invariant.1,
-      marked-more c.args.entry es index c.insert.new.self new c.self.invariant.0.1 put_as c.self.invariant.2,
+      marked-more c.self.inside.seed c.args.entry es index c.insert.new.self new c.self.invariant.0.1 put_as c.self.invariant.2,
     )
