@@ -4,3 +4,4 @@ pub mod Stripped
 pub mod Dating
 pub mod Forwards
 pub mod SentLines
+pub mod NamedLemmas

@@ -6,3 +6,4 @@ pub mod Forwarding
 pub mod Meaning
 pub mod Moments
 pub mod Stripping
+pub mod NamedLines

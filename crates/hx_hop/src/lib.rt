@@ -11,6 +11,7 @@ mod answering;
 mod asking;
 mod forwarding;
 mod laws;
+mod named_lines;
 mod request_view;
 mod response_view;
 mod stripping;

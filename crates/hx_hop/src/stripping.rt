@@ -2,9 +2,11 @@
 //!
 //! The definitions are in `specs/Stripping.antt`.
 ghost use Rattle.std.specs.Prelude.{◌≡◌, codes, IfOk};
-ghost use Rattle.hx_fields.specs.Names.{members_of_value};
-ghost use Rattle.hx_hop.specs.Stripping.{connection_names, is_among, is_hop_name, lists_cache_field, stripped};
+ghost use Rattle.std.specs.List.{list_any};
+ghost use Rattle.hx_fields.specs.Names.{is_same_name, members_of_value};
+ghost use Rattle.hx_hop.specs.Stripping.{cache_names, connection_names, is_among, is_hop_name, lists_cache_field, stripped};
 
+use crate::named_lines::{has_many_members, strip_many};
 use hx_fields::{Fields, Members, is_same_name, next_member};
 use std::alloc::{AllocError, Global};
 
@@ -37,7 +39,7 @@ pub(crate) fn connection_names(fields: &Fields, name: &[u8]) -> bool
 }
 
 /// Whether a field of this name never goes on.
-fn is_hop_name(name: &[u8]) -> bool
+pub(crate) fn is_hop_name(name: &[u8]) -> bool
     ensures { result ≡ is_hop_name name.now }
 {
     is_same_name(b"Connection", name)
@@ -67,6 +69,16 @@ fn is_among(names: &Members, name: &[u8]) -> bool
 pub fn strip(alloc: Global, fields: &Fields) -> Result<Fields, AllocError>
     ensures { IfOk result (λ kept. kept ≡ stripped fields.now) }
 {
+    if has_many_members(fields) {
+        return strip_many(alloc, fields);
+    }
+    strip_few(alloc, fields)
+}
+
+/// The same of few members: each line is compared with each of them.
+fn strip_few(alloc: Global, fields: &Fields) -> Result<Fields, AllocError>
+    ensures { IfOk result (λ kept. kept ≡ stripped fields.now) }
+{
     let named = fields.members(alloc, b"Connection")?;
     let mut kept = Fields::with_capacity(alloc, fields.len())?;
     for line in fields.as_slice() {
@@ -77,17 +89,45 @@ pub fn strip(alloc: Global, fields: &Fields) -> Result<Fields, AllocError>
     Ok(kept)
 }
 
+/// Whether a name is that of a field by which a cache decides.
+fn is_cache_name(name: &[u8]) -> bool
+    ensures { result ≡ list_any (is_same_name name.now) cache_names }
+{
+    is_same_name(name, b"Age")
+        || is_same_name(name, b"Cache-Control")
+        || is_same_name(name, b"Date")
+        || is_same_name(name, b"ETag")
+        || is_same_name(name, b"Expires")
+        || is_same_name(name, b"Last-Modified")
+        || is_same_name(name, b"Set-Cookie")
+        || is_same_name(name, b"Vary")
+}
+
+/// Whether a member of this value is such a name.
+fn value_lists_cache_field(value: &[u8]) -> bool
+    ensures { result ≡ list_any (λ member. list_any (is_same_name member) cache_names) (members_of_value value.now) }
+{
+    let mut rest = value;
+    while let Some((member, behind)) = next_member(rest) {
+        if is_cache_name(member) {
+            return true;
+        }
+        rest = behind;
+    }
+    false
+}
+
 /// Whether a member of Connection names a field by which a cache decides. It is asked of fields before they
 /// are stripped, and takes no memory.
 pub fn lists_cache_field(fields: &Fields) -> bool
     ensures { result ≡ lists_cache_field fields.now }
 {
-    connection_names(fields, b"Age")
-        || connection_names(fields, b"Cache-Control")
-        || connection_names(fields, b"Date")
-        || connection_names(fields, b"ETag")
-        || connection_names(fields, b"Expires")
-        || connection_names(fields, b"Last-Modified")
-        || connection_names(fields, b"Set-Cookie")
-        || connection_names(fields, b"Vary")
+    for line in fields.as_slice() {
+        if is_same_name(line.name.as_slice(), b"Connection")
+            && value_lists_cache_field(line.value.as_slice())
+        {
+            return true;
+        }
+    }
+    false
 }

@@ -1,0 +1,155 @@
+-- Names of lines that members of Connection give.
+use Rattle.std.proofs.Common.{◌≡◌, ℕ, ◌++◌, Bool, true, false, not, cond, ◌||◌, ◌&&◌, List, [], ◌∷◌, Option, None, Some, refl, sym, ◌∙◌, ap, subst, inl, inr, BTreeMap, codes}
+use Rattle.std.specs.Prelude.{map, filter, bytes_eq}
+use Rattle.std.specs.List.{list_any}
+use Rattle.std.specs.BTreeMap.{get, is_at}
+use Rattle.std.proofs.lemmas.Bool.{cases_Bool, false≢true, or_left, or_right}
+use Rattle.std.proofs.lemmas.List.Folds.{list_any-append}
+use Rattle.std.proofs.lemmas.Slice.Eq.{bytes_eq-Decides}
+use Rattle.hx_fields.specs.Folded.{folded, folded_cmp, folded_ties}
+use Rattle.hx_fields.specs.Lines.{is_named, members_of}
+use Rattle.hx_fields.specs.Names.{flatten, is_same_name, members_of_value}
+use Rattle.hx_fields.specs.declared.field_line.Field.{Field}
+use Rattle.hx_hop.specs.Stripping.{cache_names, connection_names, is_among, is_hop_line, is_hop_name, lists_cache_field, stripped}
+use Rattle.hx_hop.specs.NamedLines.{AreLineNames, AreMarkedBy, gives, is_marked, is_unmarked, marked_too, marks_of_members, marks_of_value, stands}
+
+abbrev pub Marked : Type 0
+Marked = BTreeMap (List ℕ) Bool
+
+-- ---- cache names among members, or members among cache names
+
+abbrev pub any_is_cache_name : List (List ℕ) → Bool
+any_is_cache_name members = list_any (λ member. list_any (is_same_name member) cache_names) members
+
+none_of_all : {X : Type 0} (xs : List X) → list_any (λ x. false) xs ≡ false
+none_of_all [] = refl
+none_of_all (x ∷ xs) = none_of_all xs
+
+either_way : (a b c d : Bool) → ((a || b) || (c || d)) ≡ ((a || c) || (b || d))
+either_way true b c d = refl
+either_way false true true d = refl
+either_way false true false d = refl
+either_way false false true d = refl
+either_way false false false d = refl
+
+either_of : {X : Type 0} (p q : X → Bool) (xs : List X) → list_any (λ x. p x || q x) xs ≡ (list_any p xs || list_any q xs)
+either_of p q [] = refl
+either_of p q (x ∷ xs) = ap (λ b. (p x || q x) || b) (either_of p q xs) ∙ either_way (p x) (q x) (list_any p xs) (list_any q xs)
+
+swapped : (names members : List (List ℕ)) → list_any (λ name. is_among members name) names ≡ list_any (λ member. list_any (is_same_name member) names) members
+swapped names [] = none_of_all names
+swapped names (member ∷ members) =
+    either_of (is_same_name member) (λ name. is_among members name) names ∙ ap (λ b. list_any (is_same_name member) names || b) (swapped names members)
+
+pub lists_by_members : (fields : List Field) → any_is_cache_name (members_of fields (codes "Connection")) ≡ lists_cache_field fields
+lists_by_members fields = sym (swapped cache_names (members_of fields (codes "Connection")))
+
+-- ---- the names of lines
+
+one : (a b : List ℕ) → bytes_eq a b ≡ true → a ≡ b
+one a b h = (bytes_eq-Decides a b).0 h
+
+pub at_name : {X : Type 0} (name : List ℕ) (v : X) (old new : BTreeMap (List ℕ) X) →
+    ((q : List ℕ) → get folded_cmp new q ≡ cond (is_at (folded_cmp name) q) (Some v) (get folded_cmp old q)) →
+    (q : List ℕ) → get folded_cmp new q ≡ cond (bytes_eq name q) (Some v) (get folded_cmp old q)
+at_name name v old new h q = h q ∙ ap (λ b. cond b (Some v) (get folded_cmp old q)) (sym (folded_ties name q))
+
+by_put : (s n : Bool) (g : Option Bool) → g ≡ cond s (Some false) None → cond n (Some false) g ≡ cond (s || (n || false)) (Some false) None
+by_put true true g h = refl
+by_put true false g h = h
+by_put false true g h = refl
+by_put false false g h = h
+
+pub one_name_more : (done : List Field) (line : Field) (old new : Marked) →
+    ((q : List ℕ) → get folded_cmp new q ≡ cond (is_at (folded_cmp (folded line.name)) q) (Some false) (get folded_cmp old q)) →
+    AreLineNames done old → AreLineNames (done ++ line ∷ []) new
+one_name_more done line old new u h q =
+    at_name (folded line.name) false old new u q
+    ∙ by_put (stands done q) (bytes_eq (folded line.name) q) (get folded_cmp old q) (h q)
+    ∙ sym (ap (λ b. cond b (Some false) None) (list_any-append (λ (l : Field). bytes_eq (folded l.name) q) done (line ∷ [])))
+
+-- ---- marks
+
+-- what members that are left mark of what there is, is what all mark of what there was
+abbrev pub MarksOn : (List ℕ → Bool) → Marked → (List ℕ → Bool) → Marked → Type 0
+MarksOn left now all start = (q : List ℕ) → marked_too (left q) (get folded_cmp now q) ≡ marked_too (all q) (get folded_cmp start q)
+
+marks_once : (n b : Bool) (g : Option Bool) → (n ≡ true → g ≡ Some false) → marked_too b (cond n (Some true) g) ≡ marked_too (n || b) g
+marks_once true b g h = sym (ap (marked_too true) (h refl))
+marks_once false b g h = refl
+
+marks_none : (n b : Bool) (g : Option Bool) → (n ≡ true → is_unmarked g ≡ false) → marked_too b g ≡ marked_too (n || b) g
+marks_none true b None h = refl
+marks_none true b (Some true) h = refl
+marks_none true b (Some false) h = absurd (false≢true (sym (h refl)))
+marks_none false b g h = refl
+
+unmarked_is : (g : Option Bool) → is_unmarked g ≡ true → g ≡ Some false
+unmarked_is None h = absurd (false≢true h)
+unmarked_is (Some true) h = absurd (false≢true h)
+unmarked_is (Some false) h = refl
+
+-- a member marks the name that it is
+pub member_marks : (member : List ℕ) (behind : List (List ℕ)) (all : List ℕ → Bool) (start old new : Marked) → is_unmarked (get folded_cmp old (folded member)) ≡ true →
+    ((q : List ℕ) → get folded_cmp new q ≡ cond (is_at (folded_cmp (folded member)) q) (Some true) (get folded_cmp old q)) →
+    MarksOn (gives (member ∷ behind)) old all start → MarksOn (gives behind) new all start
+member_marks member behind all start old new un u h q =
+    ap (marked_too (gives behind q)) (at_name (folded member) true old new u q)
+    ∙ marks_once (bytes_eq (folded member) q) (gives behind q) (get folded_cmp old q)
+    (λ n. ap (get folded_cmp old) (sym (one (folded member) q n)) ∙ unmarked_is (get folded_cmp old (folded member)) un)
+    ∙ h q
+
+-- one that is no line's name, or was marked, changes nothing
+pub member_passes : (member : List ℕ) (behind : List (List ℕ)) (all : List ℕ → Bool) (start old : Marked) → is_unmarked (get folded_cmp old (folded member)) ≡ false →
+    MarksOn (gives (member ∷ behind)) old all start → MarksOn (gives behind) old all start
+member_passes member behind all start old un h q =
+    marks_none (bytes_eq (folded member) q) (gives behind q) (get folded_cmp old q)
+    (λ n. ap (λ z. is_unmarked (get folded_cmp old z)) (sym (one (folded member) q n)) ∙ un)
+    ∙ h q
+
+nothing_marks : (g : Option Bool) → marked_too false g ≡ g
+nothing_marks None = refl
+nothing_marks (Some true) = refl
+nothing_marks (Some false) = refl
+
+pub all_marked : (all : List ℕ → Bool) (start now : Marked) → MarksOn (gives []) now all start → AreMarkedBy all start now
+all_marked all start now h q = sym (nothing_marks (get folded_cmp now q)) ∙ h q
+
+twice : (a b : Bool) (g : Option Bool) → marked_too b (marked_too a g) ≡ marked_too (a || b) g
+twice a b None = refl
+twice true b (Some true) = refl
+twice true b (Some false) = refl
+twice false b (Some true) = refl
+twice false b (Some false) = refl
+
+-- the members of a line mark before those behind it
+pub line_marks : (members behind : List (List ℕ)) (all : List ℕ → Bool) (start old new : Marked) → AreMarkedBy (gives members) old new →
+    MarksOn (gives (members ++ behind)) old all start → MarksOn (gives behind) new all start
+line_marks members behind all start old new m h q =
+    ap (marked_too (gives behind q)) (m q)
+    ∙ twice (gives members q) (gives behind q) (get folded_cmp old q)
+    ∙ ap (λ b. marked_too b (get folded_cmp old q)) (sym (list_any-append (λ (n : List ℕ). bytes_eq (folded n) q) members behind))
+    ∙ h q
+
+-- ---- what is kept
+
+marked_line : (there given : Bool) → there ≡ true → is_marked (marked_too given (cond there (Some false) None)) ≡ given
+marked_line true given h = refl
+marked_line false given h = absurd (false≢true h)
+
+kept_alike : (all rest : List Field) (names : Marked) → ((q : List ℕ) → get folded_cmp names q ≡ marked_too (marks_of_members all q) (cond (stands all q) (Some false) None)) →
+    ((q : List ℕ) → stands rest q ≡ true → stands all q ≡ true) →
+    filter (λ (line : Field). not (is_hop_name line.name || is_marked (get folded_cmp names (folded line.name)))) rest ≡ filter (λ line. not (is_hop_line all line)) rest
+kept_alike all [] names h within = refl
+kept_alike all (line ∷ lines) names h within =
+    let q = folded line.name in
+    let p : Field → Bool = λ l. not (is_hop_name l.name || is_marked (get folded_cmp names (folded l.name))) in
+    let more = kept_alike all lines names h (λ z e. within z (or_right (bytes_eq (folded line.name) z) (stands lines z) e)) in
+    let there = within q (or_left (bytes_eq q q) (stands lines q) ((bytes_eq-Decides q q).1 refl)) in
+    let same : is_marked (get folded_cmp names q) ≡ connection_names all line.name = ap is_marked (h q) ∙ marked_line (stands all q) (marks_of_members all q) there in
+    ap (λ b. cond (not (is_hop_name line.name || b)) (line ∷ filter p lines) (filter p lines)) same
+    ∙ ap (λ zs. cond (not (is_hop_line all line)) (line ∷ zs) zs) more
+
+pub keeps_stripped : (fields : List Field) (start names : Marked) → AreLineNames fields start → AreMarkedBy (marks_of_members fields) start names →
+    filter (λ (line : Field). not (is_hop_name line.name || is_marked (get folded_cmp names (folded line.name)))) fields ≡ stripped fields
+keeps_stripped fields start names l m = kept_alike fields fields names (λ q. m q ∙ ap (marked_too (marks_of_members fields q)) (l q)) (λ q e. e)

@@ -1,0 +1,137 @@
+//! Which lines members of Connection name, where members and lines may be many.
+//!
+//! Names are looked up, so the cost grows with the bytes and not with members times lines.
+ghost use Rattle.std.specs.Prelude.{◌≡◌, ◌==◌, ◌||◌, not, ◌&&◌, codes, filter, nat_lt, length, IfOk, OnOk};
+ghost use Rattle.std.specs.List.{list_any};
+ghost use Rattle.std.specs.BTreeMap.{get};
+ghost use Rattle.hx_fields.specs.Folded.{folded, folded_cmp};
+ghost use Rattle.hx_fields.specs.Lines.{count_of, is_named};
+ghost use Rattle.hx_fields.specs.Names.{members_of_value};
+ghost use Rattle.hx_hop.specs.Stripping.{is_hop_name, stripped};
+ghost use Rattle.hx_hop.specs.NamedLines.{AreLineNames, AreMarkedBy, is_marked, is_unmarked, has_many_members, marks_of_members, marks_of_value};
+
+use crate::stripping::is_hop_name;
+use hx_fields::{Field, Fields, FoldedName, is_same_name, next_member};
+use std::alloc::{AllocError, Global};
+use std::collections::BTreeMap;
+
+/// A longer value of Connection, in bytes, has many members.
+const MANY: usize = 64;
+
+/// Whether Connection may have so many members that they are to be looked up.
+pub(crate) fn has_many_members(fields: &Fields) -> bool
+    ensures { result ≡ has_many_members fields.now }
+{
+    fields.count(b"Connection") > 1 || has_long_line(fields.as_slice())
+}
+
+fn has_long_line(lines: &[Field]) -> bool
+    ensures { result ≡ list_any (λ line. nat_lt 64 (length line.value) && is_named (codes "Connection") line) lines.now }
+{
+    lines
+        .iter()
+        .any(|line| line.value.len() > MANY && is_same_name(line.name.as_slice(), b"Connection"))
+}
+
+/// The lines that go on. Its only error is want of memory.
+pub(crate) fn strip_many(alloc: Global, fields: &Fields) -> Result<Fields, AllocError>
+    ensures { IfOk result (λ kept. kept ≡ stripped fields.now) }
+{
+    let mut names = line_names(alloc, fields)?;
+    mark_members(alloc, &mut names, fields)?;
+    keep_unmarked(alloc, &names, fields)
+}
+
+/// The names of the lines, none of them marked yet.
+fn line_names(alloc: Global, fields: &Fields) -> Result<BTreeMap<FoldedName, bool>, AllocError>
+    ensures { IfOk result (λ names. AreLineNames fields.now names) }
+{
+    let mut names = BTreeMap::new(alloc);
+    for line in fields.as_slice() {
+        names.insert(FoldedName::of(alloc, line.name.as_slice())?, false)?;
+    }
+    Ok(names)
+}
+
+/// Marks the names that members of Connection give.
+fn mark_members(
+    alloc: Global,
+    names: &mut BTreeMap<FoldedName, bool>,
+    fields: &Fields,
+) -> Result<(), AllocError>
+    ensures { OnOk result (AreMarkedBy (marks_of_members fields.now) names.old names.new) }
+{
+    let mut name = FoldedName::new(alloc);
+    for line in fields.as_slice() {
+        if is_same_name(line.name.as_slice(), b"Connection") {
+            mark_value(alloc, names, &mut name, line.value.as_slice())?;
+        }
+    }
+    Ok(())
+}
+
+/// Marks the names that members of one value give.
+fn mark_value(
+    alloc: Global,
+    names: &mut BTreeMap<FoldedName, bool>,
+    name: &mut FoldedName,
+    value: &[u8],
+) -> Result<(), AllocError>
+    ensures { OnOk result (AreMarkedBy (marks_of_value value.now) names.old names.new) }
+{
+    let mut rest = value;
+    while let Some((member, behind)) = next_member(rest) {
+        name.set(member)?;
+        if is_unmarked(names, name) {
+            names.insert(FoldedName::of(alloc, member)?, true)?;
+        }
+        rest = behind;
+    }
+    Ok(())
+}
+
+/// Whether a name is here and not marked.
+fn is_unmarked(names: &BTreeMap<FoldedName, bool>, name: &FoldedName) -> bool
+    ensures { result ≡ is_unmarked (get folded_cmp names.now name.now) }
+{
+    match names.get(name) {
+        Some(is_marked) => !*is_marked,
+        None => false,
+    }
+}
+
+/// Whether a name is here and marked.
+fn is_marked(names: &BTreeMap<FoldedName, bool>, name: &FoldedName) -> bool
+    ensures { result ≡ is_marked (get folded_cmp names.now name.now) }
+{
+    match names.get(name) {
+        Some(is_marked) => *is_marked,
+        None => false,
+    }
+}
+
+/// The lines whose names aren't marked, without those of the connection alone.
+fn keep_unmarked(
+    alloc: Global,
+    names: &BTreeMap<FoldedName, bool>,
+    fields: &Fields,
+) -> Result<Fields, AllocError>
+    ensures { IfOk result (λ kept. kept ≡ filter (λ line. not (is_hop_name line.name || is_marked (get folded_cmp names.now (folded line.name)))) fields.now) }
+{
+    let mut kept = Fields::with_capacity(alloc, fields.len())?;
+    let mut name = FoldedName::new(alloc);
+    for line in fields.as_slice() {
+        name.set(line.name.as_slice())?;
+        if goes_on(names, &name, line) {
+            kept.push_line(line.copy(alloc)?)?;
+        }
+    }
+    Ok(kept)
+}
+
+/// Whether a line of this folded name goes on.
+fn goes_on(names: &BTreeMap<FoldedName, bool>, name: &FoldedName, line: &Field) -> bool
+    ensures { result ≡ not (is_hop_name line.now.name || is_marked (get folded_cmp names.now name.now)) }
+{
+    !is_hop_name(line.name.as_slice()) && !is_marked(names, name)
+}
