@@ -50,13 +50,13 @@ impl Places {
 
     /// Makes room for the places of what is open and of one more: for twice as many, where there is less. So the room goes
     /// by how many were open at a time, and not by how many ever were.
-    pub(crate) fn reserve_beside<T>(&mut self, open: &BTreeMap<u64, T>) -> Result<(), AllocError>
+    pub(crate) fn reserve_beside<T>(&mut self, ends: &BTreeMap<u64, T>) -> Result<(), AllocError>
         ensures places { self.new.places ≡ self.old.places }
         ensures room { self.old.room ≤ self.new.room }
-        ensures ok { OnOk result (length open.now.entries + 1 ≤ self.new.room) }
-        ensures most { self.new.room ≤ max self.old.room (2 * (length open.now.entries + 1)) }
+        ensures ok { OnOk result (length ends.now.entries + 1 ≤ self.new.room) }
+        ensures most { self.new.room ≤ max self.old.room (2 * (length ends.now.entries + 1)) }
     {
-        let wanted = open.len() + 1;
+        let wanted = ends.len() + 1;
         if wanted <= self.items.capacity() {
             return Ok(());
         }
