@@ -1,17 +1,17 @@
 -- Names of lines that members of Connection give.
-use Rattle.std.proofs.Common.{◌≡◌, ℕ, ◌++◌, Bool, true, false, not, cond, ◌||◌, ◌&&◌, List, [], ◌∷◌, Option, None, Some, refl, sym, ◌∙◌, ap, subst, inl, inr, BTreeMap, codes}
-use Rattle.std.specs.Prelude.{map, filter, bytes_eq}
+use Rattle.std.proofs.Common.{◌≡◌, ℕ, ◌++◌, Bool, true, false, not, cond, ◌||◌, List, [], ◌∷◌, Option, None, Some, refl, sym, ◌∙◌, ap, BTreeMap, codes}
+use Rattle.std.specs.Prelude.{filter, bytes_eq}
 use Rattle.std.specs.List.{list_any}
 use Rattle.std.specs.BTreeMap.{get, is_at}
-use Rattle.std.proofs.lemmas.Bool.{cases_Bool, false≢true, or_left, or_right}
+use Rattle.std.proofs.lemmas.Bool.{false≢true, or_left, or_right}
 use Rattle.std.proofs.lemmas.List.Folds.{list_any-append}
 use Rattle.std.proofs.lemmas.Slice.Eq.{bytes_eq-Decides}
 use Rattle.hx_fields.specs.Folded.{folded, folded_cmp, folded_ties}
-use Rattle.hx_fields.specs.Lines.{is_named, members_of}
-use Rattle.hx_fields.specs.Names.{flatten, is_same_name, members_of_value}
+use Rattle.hx_fields.specs.Lines.{members_of}
+use Rattle.hx_fields.specs.Names.{is_same_name}
 use Rattle.hx_fields.specs.declared.field_line.Field.{Field}
 use Rattle.hx_hop.specs.Stripping.{cache_names, connection_names, is_among, is_hop_line, is_hop_name, lists_cache_field, stripped}
-use Rattle.hx_hop.specs.NamedLines.{AreLineNames, AreMarkedBy, gives, is_marked, is_unmarked, marked_too, marks_of_members, marks_of_value, stands}
+use Rattle.hx_hop.specs.NamedLines.{AreLineNames, AreMarkedBy, gives, is_marked, is_unmarked, marked_too, marks_of_members, stands}
 
 abbrev pub Marked : Type 0
 Marked = BTreeMap (List ℕ) Bool

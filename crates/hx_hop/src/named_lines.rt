@@ -28,9 +28,8 @@ pub(crate) fn has_many_members(fields: &Fields) -> bool
 fn has_long_line(lines: &[Field]) -> bool
     ensures { result ≡ list_any (λ line. nat_lt 64 (length line.value) && is_named (codes "Connection") line) lines.now }
 {
-    lines
-        .iter()
-        .any(|line| line.value.len() > MANY && is_same_name(line.name.as_slice(), b"Connection"))
+    lines.iter().any(|line| line.value.len() > MANY
+        && is_same_name(line.name.as_slice(), b"Connection"))
 }
 
 /// The lines that go on. Its only error is want of memory.

@@ -103,7 +103,12 @@ impl KeyMarks {
     }
 
     /// Puts a serial in with its mark. Want of memory changes nothing.
-    pub(crate) fn insert(&mut self, alloc: Global, serial: u64, mark: Mark) -> Result<(), AllocError>
+    pub(crate) fn insert(
+        &mut self,
+        alloc: Global,
+        serial: u64,
+        mark: Mark,
+    ) -> Result<(), AllocError>
         ensures ok { OnOk result (self.new ≡ insert_entry nat_cmp self.old serial mark) }
         ensures err { OnErr result (self.new ≡ self.old) }
     {

@@ -59,10 +59,10 @@ once_more (x ∷ xs) y =
     ∙ (elim any as (λ b. x ∷ filter p (cond b ys (ys ++ y ∷ [])) ≡ cond (is_same_name x y || b) (x ∷ filter p ys) (x ∷ (filter p ys ++ y ∷ []))) [
       | true ↦ elim (is_same_name x y) as (λ c. x ∷ filter p ys ≡ cond (c || true) (x ∷ filter p ys) (x ∷ (filter p ys ++ y ∷ []))) [ true ↦ refl | false ↦ refl ]
       | false ↦ ap (λ zs. x ∷ zs) (filter_more p ys y)
-        ∙ (elim (is_same_name x y) as (λ c. x ∷ (filter p ys ++ cond (not c) (y ∷ []) []) ≡ cond (c || false) (x ∷ filter p ys) (x ∷ (filter p ys ++ y ∷ []))) [
-          | true ↦ ap (λ zs. x ∷ zs) (nothing_more (filter p ys))
-          | false ↦ refl
-        ])
+          ∙ (elim (is_same_name x y) as (λ c. x ∷ (filter p ys ++ cond (not c) (y ∷ []) []) ≡ cond (c || false) (x ∷ filter p ys) (x ∷ (filter p ys ++ y ∷ []))) [
+            | true ↦ ap (λ zs. x ∷ zs) (nothing_more (filter p ys))
+            | false ↦ refl
+          ])
     ])
   where
     nothing_more : (zs : List (List ℕ)) → zs ++ [] ≡ zs

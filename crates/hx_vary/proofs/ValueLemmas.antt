@@ -1,7 +1,7 @@
 -- The values of a request by its names, gathered line by line.
-use Rattle.std.proofs.Common.{◌≡◌, ℕ, ◌+◌, ◌<◌, ◌++◌, Bool, true, false, cond, ◌||◌, ◌&&◌, List, [], ◌∷◌, Option, None, Some, is_some, take, get_or, length, refl, sym, ◌∙◌, ap, inl, inr, BTreeMap}
+use Rattle.std.proofs.Common.{◌≡◌, ℕ, ◌++◌, Bool, true, false, cond, ◌||◌, ◌&&◌, List, [], ◌∷◌, Option, None, Some, is_some, refl, sym, ◌∙◌, ap, inl, inr, BTreeMap}
 use Rattle.std.specs.Prelude.{map, filter, bytes_eq}
-use Rattle.std.specs.List.{list_all, list_any}
+use Rattle.std.specs.List.{list_any}
 use Rattle.std.specs.BTreeMap.{get, is_at}
 use Rattle.std.proofs.lemmas.Bool.{cases_Bool, false≢true}
 use Rattle.std.proofs.lemmas.List.Folds.{list_any-append}
@@ -11,7 +11,7 @@ use Rattle.hx_fields.specs.Lines.{combined_of}
 use Rattle.hx_fields.specs.Names.{joined}
 use Rattle.hx_fields.specs.declared.field_line.Field.{Field}
 use Rattle.hx_vary.specs.declared.nominated_values.NominatedValue.{NominatedValue}
-use Rattle.hx_vary.specs.Combined.{HasEachValue, all_kept_by, folded_value}
+use Rattle.hx_vary.specs.Combined.{HasEachValue, all_kept_by}
 use Rattle.hx_vary.specs.Vary.{is_same_value, vary_matches}
 
 abbrev pub Values : Type 0
@@ -45,16 +45,16 @@ pub has_it : (request done : List Field) (line : Field) (values : Values) → is
     Gathered request done values → Gathered request (done ++ line ∷ []) values
 has_it request done line values there h q =
     by_cases (stands done q) (bytes_eq (folded line.name) q) (get folded_cmp values q) (combined_at request q) None (h q) (λ s n.
-        let is = one (folded line.name) q n in
-        let gone : get folded_cmp values q ≡ None = h q ∙ ap (λ b. cond b (combined_at request q) None) s in
-        absurd (false≢true (sym (ap is_some gone) ∙ ap (λ z. is_some (get folded_cmp values z)) (sym is) ∙ there)))
+    let is = one (folded line.name) q n in
+    let gone : get folded_cmp values q ≡ None = h q ∙ ap (λ b. cond b (combined_at request q) None) s in
+    absurd (false≢true (sym (ap is_some gone) ∙ ap (λ z. is_some (get folded_cmp values z)) (sym is) ∙ there)))
     ∙ sym (ap (λ b. cond b (combined_at request q) None) (stands_more done line q))
 
 pub has_none : (request done : List Field) (line : Field) (values : Values) → combined_at request (folded line.name) ≡ None →
     Gathered request done values → Gathered request (done ++ line ∷ []) values
 has_none request done line values none h q =
     by_cases (stands done q) (bytes_eq (folded line.name) q) (get folded_cmp values q) (combined_at request q) None (h q) (λ s n.
-        h q ∙ ap (λ b. cond b (combined_at request q) None) s ∙ sym none ∙ ap (combined_at request) (one (folded line.name) q n))
+    h q ∙ ap (λ b. cond b (combined_at request q) None) s ∙ sym none ∙ ap (combined_at request) (one (folded line.name) q n))
     ∙ sym (ap (λ b. cond b (combined_at request q) None) (stands_more done line q))
 
 -- the name of a line at its value
@@ -74,7 +74,7 @@ pub put_it : (request done : List Field) (line : Field) (v : List ℕ) (old new 
 put_it request done line v old new is u h q =
     written (folded line.name) v old new u q
     ∙ by_put (stands done q) (bytes_eq (folded line.name) q) (get folded_cmp old q) (combined_at request q) (Some v) None (h q) (λ n.
-        sym is ∙ ap (combined_at request) (one (folded line.name) q n))
+    sym is ∙ ap (combined_at request) (one (folded line.name) q n))
     ∙ sym (ap (λ b. cond b (combined_at request q) None) (stands_more done line q))
 
 -- each value that is there is tagged
@@ -88,6 +88,7 @@ tagged_more tag name v old new had has u it more h q w e = by (bytes_eq name q) 
   where
     some : (a b : List ℕ) → Some a ≡ Some b → a ≡ b
     some a b e = cc
+
     by : (b : Bool) → cond b (Some v) (get folded_cmp old q) ≡ Some w → has (tag w) ≡ true
     by true e = ap (λ z. has (tag z)) (sym (some v w e)) ∙ it
     by false e = more (tag w) (h q w e)

@@ -6,8 +6,6 @@ use Rattle.std.specs.Prelude.{◌≡◌, ℕ, ◌-◌, ◌==◌, if◌then◌els
 use Rattle.std.specs.List.{fold}
 use Rattle.std.specs.Hash.{u64}
 use Rattle.std.specs.Hash.DefaultHasher.{initial, write, finish}
-use Rattle.std.specs.BTreeSet.{contains, BTreeSet}
-use Rattle.std.specs.Ordering.{nat_cmp}
 use Rattle.hx_fields.specs.Lines.{combined_of}
 use Rattle.hx_fields.specs.declared.field_line.Field.{Field}
 use Rattle.hx_vary.specs.declared.marks.Mark.{Mark}

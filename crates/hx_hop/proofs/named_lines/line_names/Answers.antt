@@ -16,6 +16,6 @@ loop-line-preserved c =
     let next : take (c.loop-line.line-index + 1) fields ≡ done ++ line ∷ [] = search (rules, take_more) in
     let key : c.in_ok-of.field-0 ≡ folded line.name = search rules in
     let u : (q : List ℕ) → get folded_cmp new q ≡ cond (is_at (folded_cmp (folded line.name)) q) (Some false) (get folded_cmp old q) =
-        subst (λ k. (q : List ℕ) → get folded_cmp new q ≡ cond (is_at (folded_cmp k) q) (Some false) (get folded_cmp old q)) key
-        c.in_ok-insert.ensures.updates.0 in
+    subst (λ k. (q : List ℕ) → get folded_cmp new q ≡ cond (is_at (folded_cmp k) q) (Some false) (get folded_cmp old q)) key
+    c.in_ok-insert.ensures.updates.0 in
     subst (λ z. AreLineNames z new) (sym next) (one_name_more done line old new u c.loop-line.invariant)

@@ -17,9 +17,9 @@ loop-member-preserved-in_ok-insert c =
     let members : members_of_value c.loop-member.rest.now ≡ member ∷ behind = search rules in
     let name : c.set.new.self ≡ folded member = search rules in
     let un : is_unmarked (get folded_cmp old (folded member)) ≡ true =
-        ap (λ z. is_unmarked (get folded_cmp old z)) (sym name) ∙ sym c.is_unmarked.ensures ∙ c.if-is_unmarked.true in
+    ap (λ z. is_unmarked (get folded_cmp old z)) (sym name) ∙ sym c.is_unmarked.ensures ∙ c.if-is_unmarked.true in
     let key : c.in_ok-of.field-0 ≡ folded member = search rules in
     let u : (q : List ℕ) → get folded_cmp new q ≡ cond (is_at (folded_cmp (folded member)) q) (Some true) (get folded_cmp old q) =
-        subst (λ k. (q : List ℕ) → get folded_cmp new q ≡ cond (is_at (folded_cmp k) q) (Some true) (get folded_cmp old q)) key
-        c.in_ok-insert.ensures.updates.0 in
+    subst (λ k. (q : List ℕ) → get folded_cmp new q ≡ cond (is_at (folded_cmp k) q) (Some true) (get folded_cmp old q)) key
+    c.in_ok-insert.ensures.updates.0 in
     member_marks member behind all start old new un u (subst (λ ms. MarksOn (gives ms) old all start) members c.loop-member.invariant)

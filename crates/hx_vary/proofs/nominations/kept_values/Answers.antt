@@ -1,4 +1,4 @@
-use Rattle.std.proofs.Common.{rules, ◌≡◌, ℕ, ◌+◌, ◌<◌, ◌++◌, length, Bool, true, false, cond, ◌||◌, not, List, [], ◌∷◌, Some, None, take, map, ap, sym, subst, refl, ◌∙◌}
+use Rattle.std.proofs.Common.{rules, ◌≡◌, ℕ, ◌+◌, ◌++◌, true, false, cond, List, [], ◌∷◌, take, map, ap, sym, ◌∙◌}
 use Rattle.std.specs.Prelude.{bytes_eq}
 use Rattle.std.specs.List.{list_any}
 use Rattle.std.specs.Prelude.{Option}
@@ -27,9 +27,9 @@ loop-name-preserved c =
           let new : contains folded_cmp c.loop-name.seen (folded name) ≡ false = search rules in
           let with : Option (List ℕ) → NominatedValue = λ o. record { name = name; value = o } in
           let its : w.in_ok-of.field-0 ≡ kept_value request name =
-              w.in_ok-of.ensures ∙ ap with (w.value.ensures ∙ ap (get folded_cmp c.in_ok-asked.asked.values) key ∙ c.in_ok-asked.ensures.values name) in
+          w.in_ok-of.ensures ∙ ap with (w.value.ensures ∙ ap (get folded_cmp c.in_ok-asked.asked.values) key ∙ c.in_ok-asked.ensures.values name) in
           let pushed : c.if-not-contains.kept.items ≡ c.loop-name.kept.items ++ kept_value request name ∷ [] =
-              ap (λ k. k.items) w.kept-is ∙ w.in_ok-push.ensures.items ∙ ap (λ k. c.loop-name.kept.items ++ k ∷ []) its in
+          ap (λ k. k.items) w.kept-is ∙ w.in_ok-push.ensures.items ∙ ap (λ k. c.loop-name.kept.items ++ k ∷ []) its in
           let absent = sym (c.loop-name.invariant.seen (folded name)) ∙ new in
           record {
             kept = pushed ∙ ap (λ z. z ++ kept_value request name ∷ []) c.loop-name.invariant.kept

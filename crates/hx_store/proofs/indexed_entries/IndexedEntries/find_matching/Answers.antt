@@ -22,8 +22,8 @@ returns-clause-found c =
     let is : ℕ → Bool = λ s. is_match request (find_entry s es) in
     let marked : c.as_slice.result.now ≡ may_be_of has marks = search rules in
     let all : filter by c.as_slice.result.now ≡ matching_serials key request c.args.self.now =
-        ap (filter by) marked ∙ by_values request values c.in_ok-asked.ensures.values es (may_be_of has marks)
-        ∙ looks_enough seed request has (λ kept. misses_nothing seed kept request has c.in_ok-asked.ensures.tags) es marks (c.self.invariant.2 key)
-        ∙ ap (filter is) (c.self.invariant.0.1 key)
-        ∙ ap (matching_serials key request) c.self.view_is in
+    ap (filter by) marked ∙ by_values request values c.in_ok-asked.ensures.values es (may_be_of has marks)
+    ∙ looks_enough seed request has (λ kept. misses_nothing seed kept request has c.in_ok-asked.ensures.tags) es marks (c.self.invariant.2 key)
+    ∙ ap (filter is) (c.self.invariant.0.1 key)
+    ∙ ap (matching_serials key request) c.self.view_is in
     subst (λ (xs : List ℕ). IfOk c.matching_by.result (λ found. found ≡ xs)) all c.matching_by.ensures

@@ -1,13 +1,12 @@
-use Rattle.std.proofs.Common.{rules, ◌≡◌, ℕ, ◌+◌, ◌<◌, ◌++◌, length, true, List, [], ◌∷◌, Some, None, is_some, take, cond, ap, sym, subst, refl, ◌∙◌, false}
+use Rattle.std.proofs.Common.{rules, ◌≡◌, ℕ, ◌+◌, ◌++◌, true, List, [], ◌∷◌, Some, None, is_some, take, cond, ap, sym, subst, refl, ◌∙◌, false}
 use Rattle.std.specs.BTreeMap.{get, is_at}
 use Rattle.std.specs.BTreeSet.{contains}
 use Rattle.std.specs.Ordering.{nat_cmp}
 use Rattle.std.proofs.lemmas.List.{take_all, take_more}
 use Rattle.hx_fields.specs.Folded.{folded, folded_cmp}
 use Rattle.hx_fields.specs.Lines.{combined_of}
-use Rattle.hx_fields.specs.declared.field_line.Field.{Field}
 use Rattle.hx_vary.specs.Marks.{tag_of}
-use Rattle.hx_vary.proofs.ValueLemmas.{Gathered, Tagged, Values, all_gathered, combined_at, has_it, has_none, put_it, tagged_more}
+use Rattle.hx_vary.proofs.ValueLemmas.{Gathered, Tagged, all_gathered, combined_at, has_it, has_none, put_it, tagged_more}
 use Rattle.hx_vary.proofs.request_values.RequestValues.of.Goals as goal
 use Rattle.hx_vary.proofs.request_values.RequestValues.of.Goals.{then-is_none+in_ok-value+in-Some+in_ok-insert+in_ok-of+in_ok-insert-2+in-Some-1, then-is_none+in_ok-value+in-Some+in_ok-insert+in_ok-of+in_ok-insert-2+in-None-1, then-is_none+in_ok-value+in_default, else-is_none}
 
@@ -26,17 +25,17 @@ loop-line-preserved c =
       | then-is_none+in_ok-value+in-Some+in_ok-insert+in_ok-of+in_ok-insert-2+in-Some-1 w ↦ (
           let v = w.in-Some.value in
           let is : combined_at request (folded line.name) ≡ Some v =
-              ap (combined_of request) (sym w.as_slice-then-is_none.ensures) ∙ sym w.in_ok-value.ensures ∙ w.in-Some.is in
+          ap (combined_of request) (sym w.as_slice-then-is_none.ensures) ∙ sym w.in_ok-value.ensures ∙ w.in-Some.is in
           let key : w.in_ok-of.field-0 ≡ folded line.name = search rules in
           let put = w.insert-in-Some.new.self in
           let tags = w.insert.new.self in
           let u : (q : List ℕ) → get folded_cmp put q ≡ cond (is_at (folded_cmp (folded line.name)) q) (Some v) (get folded_cmp old q) =
-              subst (λ k. (q : List ℕ) → get folded_cmp put q ≡ cond (is_at (folded_cmp k) q) (Some v) (get folded_cmp old q)) key
-              w.in_ok-insert-2.ensures.updates.0 in
+          subst (λ k. (q : List ℕ) → get folded_cmp put q ≡ cond (is_at (folded_cmp k) q) (Some v) (get folded_cmp old q)) key
+          w.in_ok-insert-2.ensures.updates.0 in
           let has : contains nat_cmp tags (tag v) ≡ true = search rules in
           let more : (t : ℕ) → contains nat_cmp c.loop-line.tags t ≡ true → contains nat_cmp tags t ≡ true =
-              λ t h. w.in_ok-insert.ensures.updates.0 t
-              ∙ (elim (is_at (nat_cmp w.tag_of.result) t) as (λ b. cond b true (contains nat_cmp c.loop-line.tags t) ≡ true) [ true ↦ refl | false ↦ h ]) in
+          λ t h. w.in_ok-insert.ensures.updates.0 t
+          ∙ (elim (is_at (nat_cmp w.tag_of.result) t) as (λ b. cond b true (contains nat_cmp c.loop-line.tags t) ≡ true) [ true ↦ refl | false ↦ h ]) in
           record {
             values = subst (λ z. Gathered request z new) (sym next)
                 (subst (λ m. Gathered request (done ++ line ∷ []) m) (sym w.values-is) (put_it request done line v old put is u c.loop-line.invariant.values));
@@ -48,17 +47,17 @@ loop-line-preserved c =
       | then-is_none+in_ok-value+in-Some+in_ok-insert+in_ok-of+in_ok-insert-2+in-None-1 w ↦ (
           let v = w.in-Some.value in
           let is : combined_at request (folded line.name) ≡ Some v =
-              ap (combined_of request) (sym w.as_slice-then-is_none.ensures) ∙ sym w.in_ok-value.ensures ∙ w.in-Some.is in
+          ap (combined_of request) (sym w.as_slice-then-is_none.ensures) ∙ sym w.in_ok-value.ensures ∙ w.in-Some.is in
           let key : w.in_ok-of.field-0 ≡ folded line.name = search rules in
           let put = w.insert-in-Some.new.self in
           let tags = w.insert.new.self in
           let u : (q : List ℕ) → get folded_cmp put q ≡ cond (is_at (folded_cmp (folded line.name)) q) (Some v) (get folded_cmp old q) =
-              subst (λ k. (q : List ℕ) → get folded_cmp put q ≡ cond (is_at (folded_cmp k) q) (Some v) (get folded_cmp old q)) key
-              w.in_ok-insert-2.ensures.updates.0 in
+          subst (λ k. (q : List ℕ) → get folded_cmp put q ≡ cond (is_at (folded_cmp k) q) (Some v) (get folded_cmp old q)) key
+          w.in_ok-insert-2.ensures.updates.0 in
           let has : contains nat_cmp tags (tag v) ≡ true = search rules in
           let more : (t : ℕ) → contains nat_cmp c.loop-line.tags t ≡ true → contains nat_cmp tags t ≡ true =
-              λ t h. w.in_ok-insert.ensures.updates.0 t
-              ∙ (elim (is_at (nat_cmp w.tag_of.result) t) as (λ b. cond b true (contains nat_cmp c.loop-line.tags t) ≡ true) [ true ↦ refl | false ↦ h ]) in
+          λ t h. w.in_ok-insert.ensures.updates.0 t
+          ∙ (elim (is_at (nat_cmp w.tag_of.result) t) as (λ b. cond b true (contains nat_cmp c.loop-line.tags t) ≡ true) [ true ↦ refl | false ↦ h ]) in
           record {
             values = subst (λ z. Gathered request z new) (sym next)
                 (subst (λ m. Gathered request (done ++ line ∷ []) m) (sym w.values-is) (put_it request done line v old put is u c.loop-line.invariant.values));

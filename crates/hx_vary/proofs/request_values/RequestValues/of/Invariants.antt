@@ -1,4 +1,4 @@
-use Rattle.std.proofs.Common.{take, ◌≡◌}
+use Rattle.std.proofs.Common.{take}
 use Rattle.std.specs.BTreeSet.{contains}
 use Rattle.std.specs.Ordering.{nat_cmp}
 use Rattle.hx_vary.specs.Marks.{tag_of}
