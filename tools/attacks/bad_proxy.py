@@ -1,5 +1,6 @@
-"""A small proxy of Python that holds every rule that the attack looks at but one, so that a self-test sees each of them told. It reads
-strictly, sends each request over a connection of its own, and stores nothing."""
+"""A small proxy of Python that holds every rule that the attack looks at but one, so that a
+self-test sees each of them told. It reads strictly, sends each request over a connection of its
+own, and stores nothing."""
 import contextlib
 import itertools
 import re
@@ -26,8 +27,9 @@ class Request:
 
     def __init__(self, data):
         self.head = Head(data)
-        first = REQUEST_LINE.fullmatch(self.head.first)
-        if not first or not first[2].startswith(b"/") or len(self.head.values(b"host")) != 1 or not HOST.fullmatch(self.head.values(b"host")[0]):
+        first, hosts = REQUEST_LINE.fullmatch(self.head.first), self.head.values(b"host")
+        is_good = first and first[2].startswith(b"/") and len(hosts) == 1 and HOST.fullmatch(hosts[0])
+        if not is_good:
             raise Fault("request")
         self.method, self.target = first.groups()
         rest = data[self.head.length :]
@@ -41,7 +43,8 @@ class Request:
 
 
 def unchunked(data):
-    """The content of chunks without extensions or trailers, and how many bytes they take; None where they aren't whole."""
+    """The content of chunks without extensions or trailers, and how many bytes they take; None
+    where they aren't whole."""
     at, content = 0, b""
     while True:
         found = CHUNK.match(data, at)

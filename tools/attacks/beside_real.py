@@ -11,10 +11,11 @@ BLOCK = 500
 
 
 def play_block(cases, proxy, origin, tally, name):
-    """Plays some cases; where the log then has a /smug, they are played one by one to tell whose it is."""
+    """Plays some cases; where the log then has a /smug, they are played one by one to tell whose it
+    is."""
     for case in cases:
         try:
-            tally.counts[f"{name}: answers"] += len(hold_answers(case, play(proxy.port, case.pieces())))
+            tally.counts[f"{name}: answers"] += len(hold_answers(case, play(proxy.port, case.pieces(), case.is_late)))
         except Found as found:
             tally.find(found, f"{name}, {case.name}")
         except OSError as fault:

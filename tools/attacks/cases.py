@@ -1,5 +1,6 @@
-"""The cases of smuggling: messages made of the spellings, each alone, then several in one by chance, then bytes changed by chance.
-Each ends in a GET /smug, which no origin may get as a request."""
+"""The cases of smuggling: messages made of the spellings, each alone, then several in one by
+chance, then bytes changed by chance. Each ends in a GET /smug, which no origin may get as a
+request."""
 import random
 import re
 
@@ -11,15 +12,18 @@ UNNUMBERED = b"/smug?00000"
 SMUG = b"GET %s HTTP/1.1\r\nHost: h\r\n\r\n" % UNNUMBERED
 LINE = b"POST /a HTTP/1.1"
 HOST = b"Host: h"
+# One case in so many keeps its sending side open for a while: what comes back comes without it.
+LATE = 1 / 16
 # What stands for the number in the spelling of a length.
 MEANT = re.compile(rb"(?<![A-Za-wyz])N")
 
 
 class Case:
-    """What one client sends over one connection, and where its bytes are cut into pieces."""
+    """What one client sends over one connection, where its bytes are cut into pieces, and whether
+    its end comes later."""
 
-    def __init__(self, name, data, cuts=()):
-        self.name, self.data, self.cuts = name, data, sorted(cuts)
+    def __init__(self, name, data, cuts=(), is_late=False):
+        self.name, self.data, self.cuts, self.is_late = name, data, sorted(cuts), is_late
 
     def pieces(self):
         ends = [*self.cuts, len(self.data)]
@@ -40,7 +44,8 @@ def with_length(spelling, number):
 
 
 def lengths(smug):
-    """A length that is meant to be 0, that of a short content, and that of all that follows; the versions 1.1 and 1.0."""
+    """A length that is meant to be 0, that of a short content, and that of all that follows; the
+    versions 1.1 and 1.0."""
     for it in how.LENGTHS:
         for version in (b"1.1", b"1.0"):
             line = b"POST /a HTTP/" + version
@@ -61,7 +66,8 @@ def codings(smug):
 
 
 def both(smug):
-    """A length and a coding in both orders: who believes one finds /smug in the content of who believes the other."""
+    """A length and a coding in both orders: who believes one finds /smug in the content of who
+    believes the other."""
     for it in how.CODINGS:
         inside, outside = b"0\r\n\r\n" + smug, chunk(smug) + b"0\r\n\r\n"
         for content, length in ((inside, len(inside)), (outside, 4), (inside, 0)):
@@ -88,11 +94,13 @@ def hosts(smug):
 
 
 def line_ends(smug):
-    """An unusual end behind the start line, between two lines, and amid a value whose rest spells a length, a coding or /smug."""
+    """An unusual end behind the start line, between two lines, and amid a value whose rest spells a
+    length, a coding or /smug."""
     for it in how.LINE_ENDS:
         yield b"GET /a HTTP/1.1" + it + b"Host: h\r\n\r\n" + smug
         yield b"GET /a HTTP/1.1\r\nHost: h" + it + b"X: y\r\n\r\n" + smug
-        for rest in (b"Content-Length: %d" % len(smug), b"Transfer-Encoding: chunked", b"Host: i", b"GET /smug HTTP/1.1"):
+        size = b"Content-Length: %d" % len(smug)
+        for rest in (size, b"Transfer-Encoding: chunked", b"Host: i", b"GET /smug HTTP/1.1"):
             yield message(LINE, b"X: y" + it + rest, content=smug)
         yield message(LINE, b"X: y" + it + b"Content-Length: 5", b"Content-Length: 0", content=smug)
         yield message(b"GET /a?b" + it + b"GET HTTP/1.1") + smug
@@ -154,21 +162,31 @@ def alone():
     return [(family.__name__, data) for family in FAMILIES for data in family(SMUG)]
 
 
+LAST = b"0\r\n\r\n"
+CONTENTS = [b"", b"hello", SMUG, LAST, chunk(SMUG) + LAST, chunk(b"hello") + LAST + SMUG]
+
+
 def spliced(dice):
     """One to three messages behind one another, each with several spellings in one."""
-    text = b""
-    for _ in range(dice.choice([1, 1, 2, 3])):
-        line = dice.choice([LINE, LINE, b"GET /a HTTP/1.1", dice.choice(how.REQUEST_LINES)])
-        host = dice.choice([HOST, HOST, HOST, dice.choice(how.HOST_LINES).replace(b"{}", dice.choice(how.HOSTS))])
-        contents = [b"", b"hello", SMUG, b"0\r\n\r\n", chunk(SMUG) + b"0\r\n\r\n", chunk(b"hello") + b"0\r\n\r\n" + SMUG]
-        contents += [dice.choice(how.SIZES) + b"\r\nhello\r\n" + dice.choice(how.LAST_CHUNKS) + b"\r\n" + dice.choice(how.TRAILERS) + b"\r\n"]
-        content = dice.choice(contents)
-        length = with_length(dice.choice(how.LENGTHS), dice.choice([0, 5, len(content), len(content) + len(SMUG)]))
-        lines = [dice.choice([length, dice.choice(how.CODINGS), dice.choice(how.TRICKS)]) for _ in range(dice.choice([1, 2, 2, 3]))]
-        if dice.random() < 0.3:
-            lines = [dice.choice(how.LINE_ENDS).join(lines)]
-        text += message(line, *lines, host=host, end=dice.choice([b"\r\n\r\n", b"\r\n\r\n", dice.choice(how.HEAD_ENDS)]), content=content)
-    return text + SMUG
+    return b"".join(spliced_message(dice) for _ in range(dice.choice([1, 1, 2, 3]))) + SMUG
+
+
+def spliced_message(dice):
+    line = dice.choice([LINE, LINE, b"GET /a HTTP/1.1", dice.choice(how.REQUEST_LINES)])
+    host = dice.choice([HOST, HOST, HOST, dice.choice(how.HOST_LINES).replace(b"{}", dice.choice(how.HOSTS))])
+    end = dice.choice([b"\r\n\r\n", b"\r\n\r\n", dice.choice(how.HEAD_ENDS)])
+    content = dice.choice([*CONTENTS, spliced_chunks(dice)])
+    length = with_length(dice.choice(how.LENGTHS), dice.choice([0, 5, len(content), len(content) + len(SMUG)]))
+    several = range(dice.choice([1, 2, 2, 3]))
+    lines = [dice.choice([length, dice.choice(how.CODINGS), dice.choice(how.TRICKS)]) for _ in several]
+    if dice.random() < 0.3:
+        lines = [dice.choice(how.LINE_ENDS).join(lines)]
+    return message(line, *lines, host=host, end=end, content=content)
+
+
+def spliced_chunks(dice):
+    last = dice.choice(how.LAST_CHUNKS) + b"\r\n" + dice.choice(how.TRAILERS) + b"\r\n"
+    return dice.choice(how.SIZES) + b"\r\nhello\r\n" + last
 
 
 def mutated(whole, dice):
@@ -179,8 +197,8 @@ def mutated(whole, dice):
     return f"{name}, changed", data + (SMUG if dice.random() < 0.5 else b"")
 
 
-def cases(seed, splices, mutations, only=None):
-    """All cases of a seed: each has its number in its /smug, and most go out in one piece. `only` takes one of so many."""
+def cases(seed, splices, mutations):
+    """All cases of a seed: each has its number in its /smug, and most go out in one piece."""
     dice = random.Random(seed)
     whole = alone()
     made = [*whole, *(("spliced", spliced(dice)) for _ in range(splices))]
@@ -189,5 +207,6 @@ def cases(seed, splices, mutations, only=None):
     for number, (name, data) in enumerate(made):
         count = min(len(data) - 1, dice.choice([0, 0, 0, 1, 3])) if data else 0
         cuts = dice.sample(range(1, len(data)), count) if count > 0 else []
-        found.append(Case(f"{name} {number}", data.replace(UNNUMBERED, b"/smug?%05d" % number), cuts))
-    return found[:: only or 1]
+        text = data.replace(UNNUMBERED, b"/smug?%05d" % number)
+        found.append(Case(f"{name} {number}", text, cuts, dice.random() < LATE))
+    return found

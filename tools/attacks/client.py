@@ -1,4 +1,5 @@
 """One connection of a client that sends bytes as they are and keeps what it gets."""
+import contextlib
 import select
 import socket
 import time
@@ -7,6 +8,8 @@ import time
 WAIT = 10
 # Between two pieces: the proxy reads them one by one.
 PAUSE = 0.001
+# How long a client that is late with its end waits for what comes without it.
+LATE = 0.05
 
 
 class Got:
@@ -16,25 +19,29 @@ class Got:
         self.data, self.is_ended, self.was_reset = data, is_ended, was_reset
 
 
-def send(it, pieces):
-    """Sends the pieces and the end; False where the other end has closed meanwhile."""
-    try:
+def send(it, pieces, is_late):
+    """Sends the pieces and the end, which the other end may have closed meanwhile; what came before
+    a late end."""
+    data = bytearray()
+    with contextlib.suppress(OSError):
         for i, piece in enumerate(pieces):
             if i:
                 time.sleep(PAUSE)
             it.sendall(piece)
+        while is_late and select.select([it], [], [], LATE)[0]:
+            piece = it.recv(1 << 18)
+            data += piece
+            is_late = bool(piece)
         it.shutdown(socket.SHUT_WR)
-        return True
-    except OSError:
-        return False
+    return data
 
 
-def play(port, pieces):
+def play(port, pieces, is_late=False):
     """Sends all, then its end, and reads to the end."""
-    data, was_reset = bytearray(), False
+    was_reset = False
     with socket.create_connection(("127.0.0.1", port), timeout=WAIT) as it:
         it.setsockopt(socket.IPPROTO_TCP, socket.TCP_NODELAY, 1)
-        send(it, pieces)
+        data = send(it, pieces, is_late)
         try:
             while piece := it.recv(1 << 18):
                 data += piece
@@ -43,7 +50,3 @@ def play(port, pieces):
         except OSError:
             was_reset = True
     return Got(bytes(data), True, was_reset)
-
-
-def has_something(it, seconds):
-    return bool(select.select([it], [], [], seconds)[0])

@@ -1,4 +1,5 @@
-"""Origins of every kind, each of whose answers names the target that it was asked for and has a content of its own."""
+"""Origins of every kind, each of whose answers names the target that it was asked for and has a
+content of its own."""
 import time
 import zlib
 
@@ -11,7 +12,8 @@ SECOND = b"HTTP/1.1 200 OK\r\nX-Target: second\r\nContent-Length: 6\r\n\r\nsecon
 
 
 def content_of(target):
-    """The content of a target: another one for each, some kilobytes, and a hundred for those of /large."""
+    """The content of a target: another one for each, some kilobytes, and a hundred for those of
+    /large."""
     seed = zlib.crc32(target.encode())
     size = 100000 + seed % 9999 if target.startswith("/large") else seed % 5000 + 1
     text = f"{target}:{seed};".encode()
@@ -30,7 +32,8 @@ def sized(fetch, status, *lines):
 def chunked(fetch, last=b"0\r\nX: y\r\n\r\n"):
     content, size = content_of(fetch.target), 700
     parts = (content[at : at + size] for at in range(0, len(content), size))
-    return head(fetch, 200, "Transfer-Encoding: chunked") + b"".join(b"%x;a=b\r\n%s\r\n" % (len(it), it) for it in parts) + last
+    chunks = b"".join(b"%x;a=b\r\n%s\r\n" % (len(it), it) for it in parts)
+    return head(fetch, 200, "Transfer-Encoding: chunked") + chunks + last
 
 
 def piece_by_piece(fetch):
@@ -80,7 +83,8 @@ ANSWERS = {
     "/reset": lambda fetch: fetch.reset(),
 }
 # The status that a client gets, where it isn't 200.
-STATUSES = {"/failing": 500, "/unchanged": 304, "/early": 401, "/cut": 502, "/cut-chunks": 502, "/gone": 502, "/reset": 502}
+STATUSES = {"/failing": 500, "/unchanged": 304, "/early": 401}
+STATUSES |= {it: 502 for it in ("/cut", "/cut-chunks", "/gone", "/reset")}
 
 
 class Echo(Origin):

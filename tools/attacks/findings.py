@@ -11,7 +11,8 @@ MOST_SHOWN = 1000
 
 
 class Found(Exception):
-    """Something that may not be: a word for its kind, what came, and the bytes that brought it about."""
+    """Something that may not be: a word for its kind, what came, and the bytes that brought it
+    about."""
 
     def __init__(self, word, what, case=b""):
         super().__init__(f"{word}: {what}")
@@ -38,7 +39,7 @@ class Tally:
 def again(name, path):
     """How a case is run again."""
     if name.startswith("interleavings"):
-        return "what one client sent and got; `--only interleavings` with the same seed has others at the same time again"
+        return "what one client sent and got; the same seed has all of them do the same again"
     return f"`tools/attack {'--answer' if name.startswith('hostile') else '--case'} {path}` plays them again"
 
 

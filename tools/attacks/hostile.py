@@ -1,5 +1,5 @@
-"""Origins that mean harm: the client gets one whole well-formed answer or a 502, nothing of a second response, and the answer to its next
-request behind it."""
+"""Origins that mean harm: the client gets one whole well-formed answer or a 502, nothing of a
+second response, and the answer to its next request behind it."""
 import random
 import re
 import socket
@@ -18,6 +18,8 @@ METHODS = ("GET", "HEAD", "POST")
 # An upload that is answered before it is read.
 UPLOAD = b"GET /smug HTTP/1.1\r\nHost: h\r\n\r\n" * 28000
 EARLY = b"HTTP/1.1 401 No\r\nContent-Length: 4\r\n\r\ngood" + SECOND
+# What stands for the answer to the request behind.
+NEXT = b"HTTP/1.1 200 OK\r\nX-After: yes\r\nContent-Length: 5\r\n\r\nafter"
 WAIT = 10
 
 
@@ -33,7 +35,8 @@ def cut(data, how):
 
 
 class HostileOrigin:
-    """Answers by the number of the target, cut as its query says, and ends the connection behind that."""
+    """Answers by the number of the target, cut as its query says, and ends the connection behind
+    that."""
 
     def __init__(self):
         self.listener = socket.create_server(("127.0.0.1", 0), backlog=512)
@@ -78,7 +81,7 @@ class HostileOrigin:
         found = TARGET.match(head)
         if not found:
             is_early = head.split(b" ")[1].startswith(b"/early")
-            connection.sendall(EARLY if is_early else b"HTTP/1.1 200 OK\r\nX-After: yes\r\nContent-Length: 5\r\n\r\nafter")
+            connection.sendall(EARLY if is_early else NEXT)
             return
         length = re.search(rb"(?i)\r\nContent-Length: (\d+)", head)
         while length and len(rest) < int(length[1]):
@@ -130,7 +133,8 @@ def exchange(port, name, method, how):
     """One hostile answer, and behind it a good one on the same connection, in one pipeline."""
     text, allowed = ANSWERS[name]
     content = b"Content-Length: 32\r\n\r\n" + UPLOAD[:32] if method == "POST" else b"\r\n"
-    got = play(port, [b"%s /%d?%s HTTP/1.1\r\nHost: h\r\n" % (method.encode(), NAMES.index(name), how.encode()) + content + AFTER])
+    asked = b"%s /%d?%s HTTP/1.1\r\nHost: h\r\n" % (method.encode(), NAMES.index(name), how.encode())
+    got = play(port, [asked + content + AFTER])
     judge(name, [method, "GET"], got, allowed, text)
     return got
 
@@ -149,7 +153,8 @@ def judge(name, methods, got, allowed, text):
 
 
 def upload(port, times):
-    """An upload that the origin answers before it has read it, with a second response behind; and the next request."""
+    """An upload that the origin answers before it has read it, with a second response behind; and
+    the next request."""
     head = b"POST /early?%d HTTP/1.1\r\nHost: h\r\nContent-Length: %d\r\n\r\n" % (times, len(UPLOAD))
     got = play(port, [head + UPLOAD + AFTER])
     judge("an early answer to an upload", ["POST", "GET"], got, [b"good"], EARLY)
@@ -158,8 +163,9 @@ def upload(port, times):
 def plan(seed, cuts, names):
     """Which answers are given, to which methods and cut how."""
     how = ["whole", "bytes", *(f"s{seed}c{i}" for i in range(cuts))]
+    all_of_them = [(name, method, it) for name in names for method in METHODS for it in how]
     # (an answer of 40,000 bytes isn't sent byte by byte)
-    return [(name, method, it) for name in names for method in METHODS for it in how if it != "bytes" or len(ANSWERS[name][0]) < 5000]
+    return [it for it in all_of_them if it[2] != "bytes" or len(ANSWERS[it[0]][0]) < 5000]
 
 
 def work(planned, port, tally):

@@ -1,5 +1,6 @@
-"""What hostile origins answer: for each a name, the bytes, and the contents that a client may be given of them. No content means that
-the client has to be told 502; where there are contents, it may be told so too: a proxy may refuse what it could read."""
+"""What hostile origins answer: for each a name, the bytes, and the contents that a client may be
+given of them. No content means that the client has to be told 502; where there are contents, it may
+be told so too: a proxy may refuse what it could read."""
 
 SECOND = b"HTTP/1.1 200 OK\r\nX-Second: yes\r\nContent-Length: 6\r\n\r\nsecond"
 GOOD = b"HTTP/1.1 200 OK\r\nContent-Length: 4\r\n\r\ngood"
@@ -19,7 +20,7 @@ def first_line(line):
 
 
 TE = b"Transfer-Encoding: chunked"
-# What stands behind the end of an answer, or in it.
+KEPT = b"Cache-Control: max-age=60"
 LENGTHS = {
     "both": (ok(b"Content-Length: 14", TE, content=CHUNKS) + SECOND, [b"good"]),
     "both, coding first": (ok(TE, b"Content-Length: 4", content=CHUNKS) + SECOND, [b"good"]),
@@ -72,7 +73,7 @@ CODINGS = {
     "coding and a control byte": (coded(b"Transfer-Encoding: \x0bchunked"), []),
     "coding, folded": (coded(b"Transfer-Encoding:\r\n chunked"), []),
     "coding, space before the colon": (coded(b"Transfer-Encoding : chunked"), []),
-    "coding in 1.0": (b"HTTP/1.0 200 OK\r\nTransfer-Encoding: chunked\r\n\r\n" + CHUNKS + SECOND, [b"good", CHUNKS + SECOND]),
+    "coding in 1.0": (coded(TE).replace(b"HTTP/1.1", b"HTTP/1.0", 1), [b"good", CHUNKS + SECOND]),
 }
 HEADS = {
     "bare CR": (ok(b"X: y\rX-Second: yes", b"Content-Length: 4") + SECOND, []),
@@ -97,8 +98,11 @@ HEADS = {
     "nothing": (b"", []),
     "empty lines": (b"\r\n\r\n\r\n", []),
     "empty line in front": (b"\r\n" + GOOD + SECOND, [b"good"]),
-    "names its Cache-Control": (ok(b"Connection: Cache-Control", b"Cache-Control: max-age=60", b"Content-Length: 4") + SECOND, [b"good"]),
-    "names its Set-Cookie": (ok(b"Connection: Set-Cookie", b"Set-Cookie: a=b", b"Cache-Control: max-age=60", b"Content-Length: 4") + SECOND, [b"good"]),
+    "names its Cache-Control": (ok(b"Connection: Cache-Control", KEPT, b"Content-Length: 4") + SECOND, [b"good"]),
+    "names its Set-Cookie": (
+        ok(b"Connection: Set-Cookie", b"Set-Cookie: a=b", KEPT, b"Content-Length: 4") + SECOND,
+        [b"good"],
+    ),
     "names its Content-Length": (ok(b"Connection: Content-Length", b"Content-Length: 4") + SECOND, [b"good"]),
     "upgrade": (ok(b"Connection: Upgrade", b"Upgrade: h2c", b"Content-Length: 4") + SECOND, [b"good"]),
 }

@@ -1,5 +1,6 @@
-"""Many clients at once, whose requests come in pipelines cut by chance and some of whom leave amid them: each answer has to be the one
-to its own request, in order and whole. What a client asks for names it, and the origin's answer names what was asked."""
+"""Many clients at once, whose requests come in pipelines cut by chance and some of whom leave amid
+them: each answer has to be the one to its own request, in order and whole. What a client asks for
+names it, and the origin's answer names what was asked."""
 import random
 import time
 
@@ -11,11 +12,12 @@ from live.client import request
 from live.expect import Unexpected
 
 CLIENTS = 80
-KINDS = ["/plain"] * 4 + ["/kept"] * 4 + ["/large", "/old", "/old", "/hints", "/chunks", "/extra", "/slow", "/close", "/failing", "/unchanged"]
-KINDS += ["/early", "/cut", "/cut-chunks", "/gone", "/reset"]
+KINDS = ["/plain"] * 4 + ["/kept"] * 4 + ["/large", "/old", "/old", "/hints", "/chunks", "/extra", "/slow", "/close"]
+KINDS += ["/failing", "/unchanged", "/early", "/cut", "/cut-chunks", "/gone", "/reset"]
 # Targets that several clients ask for, so that answers are stored, waited for and validated.
 SHARED = 12
-GARBAGE = [b"GET /a/../b HTTP/1.1\r\nHost: h\r\n\r\n", b"GET / HTTP/3.0\r\nHost: h\r\n\r\n", b"hello\r\n\r\n", b"GET / HTTP/1.1\r\nHost: h\r\nA: \0\r\n\r\n"]
+GARBAGE = [b"GET / HTTP/3.0\r\nHost: h\r\n\r\n", b"hello\r\n\r\n", b"GET / HTTP/1.1\r\nHost: h\r\nA: \0\r\n\r\n"]
+METHODS = ["GET"] * 6 + ["POST"]
 
 
 class Asked:
@@ -24,7 +26,8 @@ class Asked:
     def __init__(self, kind, token, dice):
         self.kind, self.target = kind, f"{kind}?{token}"
         self.status = STATUSES.get(kind, 200)
-        self.method = "POST" if kind == "/early" else dice.choice(["GET"] * 6 + ["POST"] + (["HEAD"] if kind in ("/plain", "/kept") else []))
+        methods = METHODS + ["HEAD"] if kind in ("/plain", "/kept") else METHODS
+        self.method = "POST" if kind == "/early" else dice.choice(methods)
         lines = ['If-None-Match: "w"'] if kind == "/unchanged" else []
         content = None
         if self.method == "POST":
@@ -35,13 +38,16 @@ class Asked:
     def hold(self, answer):
         """Whether the answer is the one to this request: None, or what is wrong."""
         if answer.status != self.status:
-            return f"{self.method} {self.target}: {self.status} is expected, {answer.status} {answer.value(b'refusal')} came"
+            told = f"{answer.status} {answer.value(b'refusal')}"
+            return f"{self.method} {self.target}: {self.status} is expected, {told} came"
         if self.status == 502:
             return None if answer.is_own else f"{self.target}: a 502 of the origin's"
         if answer.value(b"x-target") != self.target:
             return f"{self.target}: the answer is to {answer.value(b'x-target')}"
         wanted = b"" if self.method == "HEAD" or self.status == 304 else content_of(self.target)
-        return None if answer.content == wanted else f"{self.target}: another content of {len(answer.content)} bytes, {answer.content[:80]!r}"
+        if answer.content != wanted:
+            return f"{self.target}: another content of {len(answer.content)} bytes, {answer.content[:80]!r}"
+        return None
 
 
 def some(dice, name, kinds):
@@ -76,8 +82,8 @@ class Walk:
     """What one client does, by a seed of its own."""
 
     def __init__(self, proxy, seed, name, steps, tally, kinds):
-        self.proxy, self.dice, self.name, self.steps, self.tally = proxy, random.Random(f"{seed}-{name}"), name, steps, tally
-        self.kinds = kinds
+        self.proxy, self.name, self.steps, self.tally, self.kinds = proxy, name, steps, tally, kinds
+        self.dice = random.Random(f"{seed}-{name}")
         self.client = None
 
     def count(self, what, number=1):
@@ -105,7 +111,8 @@ class Walk:
                 self.fail("missing", repr(fault))
 
     def step(self):
-        """A pipeline whose answers are all read, or one that is left; at times no request at all."""
+        """A pipeline whose answers are all read, or one that is left; at times no request at
+        all."""
         way = self.dice.random()
         asked = [some(self.dice, self.name, self.kinds) for _ in range(self.dice.choice([1, 1, 2, 3, 6]))]
         self.count("requests", len(asked))
@@ -147,7 +154,8 @@ class Walk:
             self.client.drain()
             self.client = None
         else:
-            self.fail("answer, more", f"behind the last answer: {bytes(self.client.received[self.client.at :])[:200]!r}, or no end")
+            more = bytes(self.client.received[self.client.at :])[:200]
+            self.fail("answer, more", f"behind the last answer: {more!r}, or no end")
 
     def leave(self, data, is_reset):
         """Goes away behind a part of what it sends, or behind all of it."""

@@ -1,4 +1,5 @@
-"""One case again: what a client or an origin sends, whole, byte by byte and cut by chance; what came of it is printed."""
+"""One case again: what a client or an origin sends, whole, byte by byte and cut by chance; what
+came of it is printed."""
 import random
 
 from attacks import beside_real, hostile, hostile_answers, smuggling
@@ -29,7 +30,8 @@ def ways(data):
 
 
 def play_case(text, start, tally, names):
-    """What a client sends: what came at a recording origin and back is shown for the whole, and judged for each way."""
+    """What a client sends: what came at a recording origin and back is shown for the whole, and
+    judged for each way."""
     data, recorder = bytes_of(text), Recorder()
     with start(recorder) as proxy:
         for case in ways(data):

@@ -1,4 +1,5 @@
-"""Origins that others wrote, each with a configuration and a log of its own: a line for each request that it has read."""
+"""Origins that others wrote, each with a configuration and a log of its own: a line for each
+request that it has read."""
 import contextlib
 import os
 import shutil
@@ -20,7 +21,8 @@ events {{ worker_connections 512; }}
 http {{
     log_format request '$request';
     access_log {0}/log request;
-    client_body_temp_path {0}/body; proxy_temp_path {0}/proxy; fastcgi_temp_path {0}/fastcgi; uwsgi_temp_path {0}/uwsgi; scgi_temp_path {0}/scgi;
+    client_body_temp_path {0}/body; proxy_temp_path {0}/proxy; fastcgi_temp_path {0}/fastcgi;
+    uwsgi_temp_path {0}/uwsgi; scgi_temp_path {0}/scgi;
     server {{ listen 127.0.0.1:{1}; location / {{ root {0}/files; }} }}
 }}
 """

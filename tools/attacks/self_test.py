@@ -1,5 +1,6 @@
-"""Whether the attack finds what it looks for: against bad heads, and against proxies that each break one rule."""
-from attacks import client, hostile, interleavings, smuggling
+"""Whether the attack finds what it looks for: against bad heads, and against proxies that each
+break one rule."""
+from attacks import beside_real, client, hostile, interleavings, smuggling
 from attacks.bad_proxy import bad_proxy
 from attacks.cases import SMUG, Case, message
 from attacks.findings import Tally
@@ -53,18 +54,21 @@ BAD_ANSWERS = [
     (b"HTTP/1.1 999 \r\nContent-Length: 2\r\n\r\nok", "status line"),
     (b"HTTP/1.1 200 \r\nContent-Length: 1\r\n\r\nok", "status line"),
 ]
-# What each proxy is found by, where it breaks the rule of this name; a proxy without a fault has nothing to find.
+# What each proxy is found by, where it breaks the rule of this name; one without a fault has nothing to find.
 SMUGGLING = {
-    None: None, "smuggled": "smuggled", "host": "host", "lengths": "lengths", "coding": "coding", "value": "value", "line": "line", "connection": "connection",
-    "request line": "request line", "hop-by-hop": "hop-by-hop", "content": "content", "twice": "answers", "cut": "answer, cut", "no end": "no end",
+    None: None, "smuggled": "smuggled", "host": "host", "lengths": "lengths", "coding": "coding", "value": "value",
+    "line": "line", "connection": "connection", "request line": "request line", "hop-by-hop": "hop-by-hop",
+    "content": "content", "twice": "answers", "cut": "answer, cut", "no end": "no end",
     "answer length": "answer, lengths", "answer value": "answer, value",
 }
 INTERLEAVINGS = {None: None, "swapped": "wrong", "cut": "missing"}
 # (and for which hostile answer)
 HOSTILE = [
-    ("raw", "extra answer", "more"), ("raw", "short", "missing"), ("raw", "both", "coding"), ("raw", "two lengths", "lengths"), ("raw", "bare CR", "value"),
-    ("raw", "folded", "line"), ("raw", "HTTP/2.0", "status line"), ("raw", "204 with a content", "lengths"), (None, "names its Set-Cookie", "named"),
-    ("lenient", "plus", "not refused"), ("swapped", "length 0", "next"), (None, "plus", None), (None, "extra answer", None),
+    ("raw", "extra answer", "more"), ("raw", "short", "missing"), ("raw", "both", "coding"),
+    ("raw", "two lengths", "lengths"), ("raw", "bare CR", "value"), ("raw", "folded", "line"),
+    ("raw", "HTTP/2.0", "status line"), ("raw", "204 with a content", "lengths"),
+    (None, "names its Set-Cookie", "named"), ("lenient", "plus", "not refused"), ("swapped", "length 0", "next"),
+    (None, "plus", None), (None, "extra answer", None),
 ]
 # The kinds of the echoing origin that this proxy can read.
 KINDS = ["/plain", "/kept", "/hints", "/extra", "/slow", "/failing", "/gone"]
@@ -85,7 +89,8 @@ def checker():
         yield f"a forwarded {data!r}", word, word_of(hold_forwarded, data)
     for data, word in BAD_ANSWERS:
         yield f"an answer {data!r}", word, word_of(read_answers, data)
-    yield "a cut answer", b"HTTP/1.1 200 \r\nContent-Length: 3\r\n\r\nok", read_answers(b"HTTP/1.1 200 \r\nContent-Length: 3\r\n\r\nok")[1]
+    cut = b"HTTP/1.1 200 \r\nContent-Length: 3\r\n\r\nok"
+    yield "a cut answer", cut, read_answers(cut)[1]
     lines = [b"GET /smug?1 HTTP/1.1", b"GET /a?/smug HTTP/1.1", b"- 400", b"POST /smug"]
     yield "a log", [lines[0], lines[3]], smuggled(lines)
 
@@ -104,11 +109,22 @@ def found_by(play):
 
 def smuggling_words():
     """One good request, and one with a content and a /smug behind it."""
-    cases = [Case("good", message(b"GET /a HTTP/1.1")), Case("behind", message(b"POST /a HTTP/1.1", b"Content-Length: 5", content=b"hello") + SMUG)]
+    upload = message(b"POST /a HTTP/1.1", b"Content-Length: 5", content=b"hello")
+    cases = [Case("good", message(b"GET /a HTTP/1.1")), Case("behind", upload + SMUG)]
     for fault, word in SMUGGLING.items():
         start = lambda origin: bad_proxy(origin, fault)  # noqa: B023,E731
         tally = found_by(lambda tally: smuggling.work(cases, start, tally))  # noqa: B023
         yield f"smuggling, a proxy with the fault {fault!r}", *told(word, tally)
+
+
+def real_origin_words():
+    """A proxy that denies nothing, before an origin whose log tells it; and which of the cases it was."""
+    cases = [Case("good", message(b"GET /a HTTP/1.1")), Case("smuggled", message(b"GET /a HTTP/1.1") + SMUG)]
+    for fault, word in (("smuggled", "smuggled"), (None, None)):
+        start = lambda origin: bad_proxy(origin, fault)  # noqa: B023,E731
+        tally = found_by(lambda tally: beside_real.run(["python"], cases, start, tally))  # noqa: B023
+        yield f"a real origin, a proxy with the fault {fault!r}", *told(word, tally)
+        yield "the case", [cases[1].data] if fault else [], [it.case for _, it in tally.found]
 
 
 def interleavings_words():
@@ -128,7 +144,7 @@ def hostile_words():
 def run():
     """Prints what isn't as it should be; whether all is."""
     count, wrong, client.WAIT = 0, 0, 2
-    for part in (checker, smuggling_words, interleavings_words, hostile_words):
+    for part in (checker, smuggling_words, real_origin_words, interleavings_words, hostile_words):
         for what, expected, got in part():
             count += 1
             if expected != got:

@@ -1,4 +1,5 @@
-"""Plays the cases of smuggling before an origin that keeps every byte, and reads strictly what came there and what came back."""
+"""Plays the cases of smuggling before an origin that keeps every byte, and reads strictly what came
+there and what came back."""
 from attacks.client import play
 from attacks.findings import Found
 from attacks.recorder import Recorder
@@ -36,7 +37,7 @@ def hold(case, seen, got):
 
 
 def play_case(case, port, recorder):
-    got = play(port, case.pieces())
+    got = play(port, case.pieces(), case.is_late)
     return hold(case, recorder.take(), got)
 
 
@@ -56,10 +57,7 @@ def work(cases, start, tally):
                 tally.find(Found("connection", repr(fault), case.data), f"smuggling, {case.name}")
                 continue
             with tally.lock:
-                tally.counts["heads"] += len(heads)
-                tally.counts["look-alikes"] += sum(b"_" in name or b"." in name for it in heads for name, _ in it.fields)
-                tally.counts["answers"] += len(answers)
-                tally.counts["cases"] += 1
+                tally.counts.update(heads=len(heads), answers=len(answers), cases=1)
     recorder.close()
 
 

@@ -1,4 +1,5 @@
-"""A reader of messages that takes nothing but what RFC 9110 and 9112 spell, and names the first thing that is otherwise."""
+"""A reader of messages that takes nothing but what RFC 9110 and 9112 spell, and names the first
+thing that is otherwise."""
 import re
 
 TOKEN = rb"[!#$%&'*+\-.^_`|~0-9A-Za-z]+"
@@ -75,7 +76,8 @@ def is_denied(target):
 
 
 def hold_forwarded(data):
-    """Reads what came over one connection from the proxy: one request, which this returns, and nothing behind it."""
+    """Reads what came over one connection from the proxy: one request, which this returns, and
+    nothing behind it."""
     head = Head(data)
     first = REQUEST_LINE.fullmatch(head.first)
     if not first or not first[2].startswith(b"/"):
@@ -114,7 +116,8 @@ class Answer:
 
 
 def content_of(head, status, method, rest):
-    """How many bytes of content stand behind the head of a response to this method; where it isn't known, by what stands there."""
+    """How many bytes of content stand behind the head of a response to this method; where it isn't
+    known, by what stands there."""
     length = head.content_length()
     if status < 200 or status in (204, 304):
         if length is not None and status != 304:
@@ -131,7 +134,8 @@ def content_of(head, status, method, rest):
 
 
 def read_answer(data, method=None):
-    """The response that the bytes begin with, and how many of them it takes; None where it isn't whole yet."""
+    """The response that the bytes begin with, and how many of them it takes; None where it isn't
+    whole yet."""
     if b"\r\n\r\n" not in data:
         if data and not b"HTTP/1.1 ".startswith(data[:9]) and not data.startswith(b"HTTP/1.1 "):
             raise Fault("status line", repr(data[:200]))
@@ -149,7 +153,8 @@ def read_answer(data, method=None):
 
 
 def read_answers(data):
-    """All responses to requests of unknown methods, and what is left where the last one isn't whole."""
+    """All responses to requests of unknown methods, and what is left where the last one isn't
+    whole."""
     answers = []
     while data and (found := read_answer(data)):
         answers.append(found[0])

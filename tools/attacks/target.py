@@ -7,23 +7,26 @@ from live.expect import Unexpected
 from live.proxy import Proxy, table_of
 from attacks.findings import Found
 
-# On a busy machine an answer may take a while, and a client that has sent its end isn't to be given up meanwhile.
+# On a busy machine an answer may take a while: who has sent its end isn't to be given up meanwhile.
 OPTIONS = ["--abandon-timeout", "60"]
-# Nobody reaches /smug: whatever comes to an origin as a request for it was hidden in another message.
+# Nobody reaches /smug: what comes to an origin as a request for it was hidden in another message.
 DENIED = ("/smug", ["*"], "deny")
 
 
 class Target:
-    """How the program is started, again and again; what it says at its end is a finding where it should say nothing."""
+    """How the program is started, again and again; what it says at its end is a finding where it
+    should say nothing."""
 
     def __init__(self, program, tally, records=False):
         self.program, self.tally, self.records = program, tally, records
 
     @contextlib.contextmanager
     def start(self, origin, **table):
-        """The running program before one origin. Where its run is recorded, the replay of the record has to do what it did."""
+        """The running program before one origin. Where its run is recorded, the replay of the
+        record has to do what it did."""
         folder = tempfile.mkdtemp(prefix="attack-")
-        proxy = Proxy(self.program, folder, table_of([DENIED, origin.address], **table), options=OPTIONS, records=self.records)
+        lines = table_of([DENIED, origin.address], **table)
+        proxy = Proxy(self.program, folder, lines, options=OPTIONS, records=self.records)
         try:
             yield proxy
             if self.records:

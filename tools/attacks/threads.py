@@ -3,7 +3,8 @@ import threading
 
 
 def side_by_side(calls):
-    """Runs each call in a thread of its own until all have ended, and raises what one of them raised."""
+    """Runs each call in a thread of its own until all have ended, and raises what one of them
+    raised."""
     faults = []
 
     def run(call):
