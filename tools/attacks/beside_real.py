@@ -11,8 +11,7 @@ BLOCK = 500
 
 
 def play_block(cases, proxy, origin, tally, name):
-    """Plays some cases; where the log then has a /smug, they are played one by one to tell whose it
-    is."""
+    """Plays some cases; where the log then has a /smug, they are played one by one."""
     for case in cases:
         try:
             tally.counts[f"{name}: answers"] += len(hold_answers(case, play(proxy.port, case.pieces(), case.is_late)))
@@ -29,6 +28,7 @@ def play_block(cases, proxy, origin, tally, name):
 
 
 def whose(cases, proxy, origin):
+    """The case by which the log has a /smug."""
     for case in cases:
         play(proxy.port, case.pieces())
         found = smuggled(origin.asked(0.1))
@@ -43,6 +43,8 @@ def work(name, cases, start, tally):
             for at in range(0, len(cases), BLOCK):
                 if not tally.is_full():
                     play_block(cases[at : at + BLOCK], proxy, origin, tally, name)
+        if len(cases) > BLOCK and not tally.counts[f"{name}: requests"]:
+            tally.find(Found("origin", "no request stands in its log"), name)
     except Skipped as why:
         print(f"{name} skipped: {why}", flush=True)
     except Unexpected as fault:

@@ -1,6 +1,6 @@
 """The cases of smuggling: messages made of the spellings, each alone, then several in one by
-chance, then bytes changed by chance. Each ends in a GET /smug, which no origin may get as a
-request."""
+chance, then bytes changed by chance. Each ends in a
+GET /smug, which no origin may get as a request."""
 import random
 import re
 

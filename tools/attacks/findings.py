@@ -11,8 +11,7 @@ MOST_SHOWN = 1000
 
 
 class Found(Exception):
-    """Something that may not be: a word for its kind, what came, and the bytes that brought it
-    about."""
+    """Something that may not be: a word for its kind, what came, and the bytes of the case."""
 
     def __init__(self, word, what, case=b""):
         super().__init__(f"{word}: {what}")

@@ -35,8 +35,7 @@ def cut(data, how):
 
 
 class HostileOrigin:
-    """Answers by the number of the target, cut as its query says, and ends the connection behind
-    that."""
+    """Answers by the number of the target, cut as its query says, and ends the connection."""
 
     def __init__(self):
         self.listener = socket.create_server(("127.0.0.1", 0), backlog=512)

@@ -111,8 +111,7 @@ class Walk:
                 self.fail("missing", repr(fault))
 
     def step(self):
-        """A pipeline whose answers are all read, or one that is left; at times no request at
-        all."""
+        """A pipeline whose answers are all read, or one that is left; at times no request."""
         way = self.dice.random()
         asked = [some(self.dice, self.name, self.kinds) for _ in range(self.dice.choice([1, 1, 2, 3, 6]))]
         self.count("requests", len(asked))

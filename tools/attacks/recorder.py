@@ -1,5 +1,4 @@
-"""An origin that keeps what comes over each connection, to the byte, and answers what it is
-asked."""
+"""An origin that keeps what comes over each connection, to the byte, and answers."""
 import socket
 import threading
 
@@ -12,8 +11,7 @@ WAIT_FOR_END = 1
 
 
 def answer_to(data):
-    """An answer that nobody may store, which names what was read; None while the request isn't
-    whole."""
+    """An answer that nobody may store, which names what was read; None of a part of a request."""
     if b"\r\n\r\n" not in data:
         return None
     lines = b""
@@ -72,8 +70,7 @@ class Recorder:
         return data
 
     def take(self):
-        """What came since the last time, a text for each connection; those that are open end
-        first."""
+        """What came since the last time, a text for each connection; none is open any more."""
         with self.changed:
             self.changed.wait_for(lambda: self.open == 0, WAIT)
             seen, self.seen = self.seen, []

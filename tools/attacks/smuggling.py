@@ -64,3 +64,5 @@ def work(cases, start, tally):
 def run(cases, start, tally, workers):
     """Some workers side by side, each with its share."""
     side_by_side([lambda i=i: work(cases[i::workers], start, tally) for i in range(workers)])
+    if not tally.found and not tally.counts["heads"]:
+        tally.find(Found("nothing", "no request came to the origin"), "smuggling")

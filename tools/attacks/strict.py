@@ -134,8 +134,7 @@ def content_of(head, status, method, rest):
 
 
 def read_answer(data, method=None):
-    """The response that the bytes begin with, and how many of them it takes; None where it isn't
-    whole yet."""
+    """The response that the bytes begin with, and how many of them it takes; None of a part of one."""
     if b"\r\n\r\n" not in data:
         if data and not b"HTTP/1.1 ".startswith(data[:9]) and not data.startswith(b"HTTP/1.1 "):
             raise Fault("status line", repr(data[:200]))
@@ -153,8 +152,7 @@ def read_answer(data, method=None):
 
 
 def read_answers(data):
-    """All responses to requests of unknown methods, and what is left where the last one isn't
-    whole."""
+    """All responses to requests of unknown methods, and what is left behind the last whole one."""
     answers = []
     while data and (found := read_answer(data)):
         answers.append(found[0])

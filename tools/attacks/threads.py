@@ -3,8 +3,7 @@ import threading
 
 
 def side_by_side(calls):
-    """Runs each call in a thread of its own until all have ended, and raises what one of them
-    raised."""
+    """Runs each call in a thread of its own until all have ended; what one raises, it raises."""
     faults = []
 
     def run(call):
