@@ -12,6 +12,8 @@ from live.client import request
 from live.expect import Unexpected
 
 CLIENTS = 80
+# The longest that a client waits for the next bytes of an answer, in seconds: a machine may be busy.
+PATIENCE = 60
 KINDS = ["/plain"] * 4 + ["/kept"] * 4 + ["/large", "/old", "/old", "/hints", "/chunks", "/extra", "/slow", "/close"]
 KINDS += ["/failing", "/unchanged", "/early", "/cut", "/cut-chunks", "/gone", "/reset"]
 # Targets that several clients ask for, so that answers are stored, waited for and validated.
@@ -100,13 +102,15 @@ class Walk:
         for _ in range(self.steps):
             if self.tally.is_full():
                 return
-            self.client = self.client or self.proxy.client()
+            if self.client is None:
+                self.client = self.proxy.client()
+                self.client.socket.settimeout(PATIENCE)
             try:
                 self.step()
             except Fault as fault:
                 self.fail(f"answer, {fault.word}", str(fault))
-            except Unexpected as fault:
-                self.fail("missing", str(fault))
+            except Unexpected:
+                self.fail("missing", f"no answer within {PATIENCE} s")
             except OSError as fault:
                 self.fail("missing", repr(fault))
 
