@@ -1,10 +1,17 @@
-"""tools/report, on a log that was written and counted by hand: tools/deployed/by_hand.log."""
+"""tools/report, on a log that was written and counted by hand (tools/deployed/by_hand.log), and on what is no log."""
+import contextlib
+import importlib.machinery
+import importlib.util
+import io
 import os
+import random
+import re
 import resource
 import subprocess
 import sys
 
 from deployed.stand import DEPLOY, part
+from live.changes import changed
 from live.expect import Unexpected, expect, expect_within
 
 TOOLS = os.path.dirname(os.path.dirname(os.path.realpath(__file__)))
@@ -41,6 +48,27 @@ a.example 0 1 25.0 %
 1 lines that are none of a log
 """
 # Two origins, told apart by the table: /img goes to one, all else to another.
+# Lines of which the program writes none: what each has that a line of a log hasn't.
+NO_LINES = {
+    "a moment beyond any year": b"99999999999999999999 a GET http://h/ 200 1 hit",
+    "a moment behind the year 9999": b"253402300800 a GET http://h/ 200 1 hit",
+    "a negative moment": b"-1 a GET http://h/ 200 1 hit",
+    "a host of a byte above 7E": b"1 a GET http://\xff/ 200 1 hit",
+    "an escape in a target": b"1 a GET http://h/\x1b[31m 200 1 hit",
+    "an escape in a reason": b"1 a GET http://h/ 400 1 denied by \x1b[2J",
+    "a NUL": b"1 a GET http://h/\0 200 1 hit",
+    "a status of four digits": b"1 a GET http://h/ 2000 1 hit",
+    "a length that is no number": b"1 a GET http://h/ 200 1_0 hit",
+    "a length of 5,000 digits": b"1 a GET http://h/ 200 " + b"9" * 5000 + b" hit",
+    "no reason": b"1 a GET http://h/ 200 1",
+    "nothing": b"",
+    "a CR at its end": b"1 a GET http://h/ 200 1 hit\r",
+}
+# Such numbers, and pieces of lines, are put into files of random bytes.
+FILES, SEED = 600, 5861
+WORDS = [b"1", b"253402300799", b"9" * 5000, b"a", b"GET", b"-", b"http://h/a", b"http://h:8080/", b"http://", b"//"]
+WORDS += [b"200", b"504", b"hit", b"fwd=uri-miss", b";ttl=" + b"9" * 5000, b";stored", b"denied by line 1", b"\x1b[2J"]
+WORDS += [b"\xff", b"\0", b"\r", b"%", b"%zz", b"\\x1b", b";", b"origin refused"]
 TABLE = """
 [[line]]
 host = "*"
@@ -76,6 +104,8 @@ def report(stand):
     yield "a_log_that_was_counted_by_hand", a_log_that_was_counted_by_hand
     yield "origins_by_the_table", lambda: origins_by_the_table(stand)
     yield "what_is_no_log", lambda: what_is_no_log(stand)
+    yield "lines_that_the_program_writes_never", lambda: lines_that_the_program_writes_never(stand)
+    yield "files_of_random_bytes", lambda: files_of_random_bytes(stand)
     yield "a_million_lines", lambda: a_million_lines(stand)
 
 
@@ -102,6 +132,78 @@ def what_is_no_log(stand):
     ran = run(stand.file("none", "a\n\nb c d e f g h\n"))
     expect("status and lines", (1, "3 lines that are none of a log\n"), (ran.returncode, ran.stdout))
     expect("status of a file that isn't there", 1, run(f"{stand.folder}/nothing").returncode)
+
+
+def lines_that_the_program_writes_never(stand):
+    """Each is counted as none of a log, beside a line that is one; and no byte of it goes to the terminal."""
+    good = b"1 a GET http://h/ 200 1 hit\n"
+    for what, line in NO_LINES.items():
+        with open(f"{stand.folder}/none", "wb") as it:
+            it.write(good + line + b"\n")
+        ran = run(f"{stand.folder}/none")
+        told = words_of(ran.stdout)
+        expect(f"of {what} status and standard error", (0, ""), (ran.returncode, ran.stderr))
+        wanted = "1 answers", "1 lines that are none of a log"
+        expect(f"of {what} the first and the last line", wanted, (told[0].split(",")[0], told[-1]))
+    ran = run(LOG, "--table", stand.file("escape.toml", TABLE.replace("127.0.0.1:9002", "\\u001b[31m\\u00ff")))
+    expect("an origin of hidden characters", r"\x1b[31m\xff 2 1 75.0 %", words_of(ran.stdout)[-3])
+
+
+def report_module():
+    """tools/report, to be called in this process: a fault in it is one of the test."""
+    loader = importlib.machinery.SourceFileLoader("report", f"{TOOLS}/report")
+    module = importlib.util.module_from_spec(importlib.util.spec_from_loader("report", loader))
+    loader.exec_module(module)
+    return module
+
+
+def some_line(dice):
+    """Words behind one another, or what is a line of a log but for one or two of its words."""
+    if dice.random() < 0.5:
+        return b" ".join(dice.choice(WORDS) for _ in range(dice.choice([1, 6, 7, 7, 7, 8])))
+    numbers = dice.getrandbits(36), dice.choice(WORDS), dice.randrange(1000), dice.getrandbits(64)
+    return b"%d a GET http://h/%s %d %d %s" % (*numbers, b"".join(dice.sample(WORDS, 3)))
+
+
+def some_file(log, dice):
+    """A log of which some bytes are changed, words behind one another, or just bytes."""
+    way = dice.randrange(3)
+    if way == 0:
+        for _ in range(dice.choice([1, 2, 8, 30])):
+            log = changed(log, dice)
+        return log
+    if way == 1:
+        return b"\n".join(some_line(dice) for _ in range(40))
+    return dice.randbytes(dice.choice([1, 100, 3000]))
+
+
+def counted(pattern, told):
+    """The number that a line begins with; 0 where there is no such line."""
+    found = re.search(f"(?m)^{pattern}", told)
+    return int(found[1].replace(",", "")) if found else 0
+
+
+def files_of_random_bytes(stand):
+    """Each line of any file is an answer or is counted as none of a log; nothing but visible characters is written."""
+    report, dice = report_module(), random.Random(SEED)
+    with open(LOG, "rb") as it:
+        log = it.read()
+    answers, table = 0, ["--table", f"{DEPLOY}/table.toml"]
+    for number in range(FILES):
+        text = some_file(log, dice)
+        with open(f"{stand.folder}/random", "wb") as it:
+            it.write(text)
+        with contextlib.redirect_stdout(io.StringIO()) as out:
+            status = report.main([f"{stand.folder}/random", *(table if number % 2 else [])])
+        told = out.getvalue()
+        count, faults = counted(r"([0-9,]+) answers", told), counted(r"([0-9,]+) lines that are none", told)
+        answers += count
+        wanted = text.count(b"\n") + (text != b"" and not text.endswith(b"\n")), 1 if count == 0 else 0
+        expect(f"of file {number} lines and status", wanted, (count + faults, status))
+        expect(f"of file {number} hidden characters", [], re.findall(r"[^ -~\n]", told))
+    if not answers:
+        raise Unexpected("of all files", "some lines that are of a log", "none")
+    return f"{FILES:,} files, {answers:,} lines of a log in them"
 
 
 def a_million_lines(stand):

@@ -1,0 +1,154 @@
+"""Whether the attack finds what it looks for: against bad heads, and against proxies that each
+break one rule."""
+from attacks import beside_real, client, hostile, interleavings, smuggling
+from attacks.bad_proxy import bad_proxy
+from attacks.cases import SMUG, Case, message
+from attacks.findings import Tally
+from attacks.real_origins import smuggled
+from attacks.strict import Fault, hold_forwarded, read_answers
+
+GOOD = [b"GET /a HTTP/1.1", b"Host: h", b"Via: 1.1 edge", b"Connection: close"]
+# (a forwarded message, and the word for what is wrong with it)
+BAD_HEADS = [
+    ([*GOOD], b"", None),
+    ([*GOOD, b"Content-Length: 5"], b"hello", None),
+    ([b"GET /smug?1 HTTP/1.1", *GOOD[1:]], b"", "smuggled"),
+    ([b"GET /%73mug/x HTTP/1.1", *GOOD[1:]], b"", "smuggled"),
+    ([b"GET /smugness HTTP/1.1", *GOOD[1:]], b"", None),
+    ([b"GET  /a HTTP/1.1", *GOOD[1:]], b"", "request line"),
+    ([b"GET http://h/a HTTP/1.1", *GOOD[1:]], b"", "request line"),
+    ([b"GET /a HTTP/1.0", *GOOD[1:]], b"", "request line"),
+    ([b"GET /a\x0b HTTP/1.1", *GOOD[1:]], b"", "request line"),
+    ([*GOOD, b"Host: i"], b"", "host"),
+    ([GOOD[0], *GOOD[2:]], b"", "host"),
+    ([GOOD[0], b"Host: h, i", *GOOD[2:]], b"", "host"),
+    ([*GOOD, b"X: y\rZ: z"], b"", "value"),
+    ([*GOOD, b"X: y\nZ: z"], b"", "value"),
+    ([*GOOD, b"X: \0"], b"", "value"),
+    ([*GOOD, b"X: \x1b"], b"", "value"),
+    ([*GOOD, b"X: \x7f"], b"", "value"),
+    ([*GOOD, b"X : y"], b"", "line"),
+    ([*GOOD, b" folded"], b"", "line"),
+    ([*GOOD, b"X"], b"", "line"),
+    ([*GOOD, b"Content-Length: 5", b"Content-Length: 5"], b"hello", "lengths"),
+    ([*GOOD, b"Content-Length: +5"], b"hello", "lengths"),
+    ([*GOOD, b"Content-Length: 5"], b"hell", "content"),
+    ([*GOOD, b"Content-Length: 5"], b"hello!", "content"),
+    ([*GOOD], SMUG, "content"),
+    ([*GOOD, b"Transfer-Encoding: chunked"], b"0\r\n\r\n", "coding"),
+    ([*GOOD, b"Upgrade: h2c"], b"", "hop-by-hop"),
+    ([*GOOD[:3]], b"", "connection"),
+    ([*GOOD[:3], b"Connection: keep-alive"], b"", "connection"),
+]
+# (what a client got, and the word for what is wrong with it)
+BAD_ANSWERS = [
+    (b"HTTP/1.1 200 \r\nContent-Length: 2\r\n\r\nok" * 2, None),
+    (b"HTTP/1.1 200 \r\nContent-Length: 2\r\nContent-Length: 2\r\n\r\nok", "lengths"),
+    (b"HTTP/1.1 200 \r\nContent-Length: 2, 2\r\n\r\nok", "lengths"),
+    (b"HTTP/1.1 200 \r\n\r\nok", "lengths"),
+    (b"HTTP/1.1 204 \r\nContent-Length: 0\r\n\r\n", "lengths"),
+    (b"HTTP/1.1 200 \r\nTransfer-Encoding: chunked\r\n\r\n0\r\n\r\n", "coding"),
+    (b"HTTP/1.1 200 \r\nX: y\rz\r\nContent-Length: 2\r\n\r\nok", "value"),
+    (b"HTTP/1.1 200 \r\nX: y\r\n z\r\nContent-Length: 2\r\n\r\nok", "line"),
+    (b"HTTP/1.0 200 \r\nContent-Length: 2\r\n\r\nok", "status line"),
+    (b"HTTP/1.1 999 \r\nContent-Length: 2\r\n\r\nok", "status line"),
+    (b"HTTP/1.1 200 \r\nContent-Length: 1\r\n\r\nok", "status line"),
+]
+# What each proxy is found by, where it breaks the rule of this name; one without a fault has nothing to find.
+SMUGGLING = {
+    None: None, "smuggled": "smuggled", "host": "host", "lengths": "lengths", "coding": "coding", "value": "value",
+    "line": "line", "connection": "connection", "request line": "request line", "hop-by-hop": "hop-by-hop",
+    "content": "content", "twice": "answers", "cut": "answer, cut", "no end": "no end",
+    "answer length": "answer, lengths", "answer value": "answer, value",
+}
+INTERLEAVINGS = {None: None, "swapped": "wrong", "cut": "missing"}
+# (and for which hostile answer)
+HOSTILE = [
+    ("raw", "extra answer", "more"), ("raw", "short", "missing"), ("raw", "both", "coding"),
+    ("raw", "two lengths", "lengths"), ("raw", "bare CR", "value"), ("raw", "folded", "line"),
+    ("raw", "HTTP/2.0", "status line"), ("raw", "204 with a content", "lengths"),
+    (None, "names its Set-Cookie", "named"), ("lenient", "plus", "not refused"), ("swapped", "length 0", "next"),
+    (None, "plus", None), (None, "extra answer", None),
+]
+# The kinds of the echoing origin that this proxy can read.
+KINDS = ["/plain", "/kept", "/hints", "/extra", "/slow", "/failing", "/gone"]
+
+
+def word_of(read, data):
+    try:
+        read(data)
+    except Fault as fault:
+        return fault.word
+    return None
+
+
+def checker():
+    """The pairs of what is expected of the strict readers, and what they say."""
+    for lines, content, word in BAD_HEADS:
+        data = b"\r\n".join([*lines, b"", b""]) + content
+        yield f"a forwarded {data!r}", word, word_of(hold_forwarded, data)
+    for data, word in BAD_ANSWERS:
+        yield f"an answer {data!r}", word, word_of(read_answers, data)
+    cut = b"HTTP/1.1 200 \r\nContent-Length: 3\r\n\r\nok"
+    yield "a cut answer", cut, read_answers(cut)[1]
+    lines = [b"GET /smug?1 HTTP/1.1", b"GET /a?/smug HTTP/1.1", b"- 400", b"POST /smug"]
+    yield "a log", [lines[0], lines[3]], smuggled(lines)
+
+
+def told(word, tally):
+    """What has to be told, and whether it was; where nothing has to be, all that was."""
+    words = tally.words()
+    return (word, word if word in words else words) if word else (set(), words)
+
+
+def found_by(play):
+    tally = Tally()
+    play(tally)
+    return tally
+
+
+def smuggling_words():
+    """One good request, and one with a content and a /smug behind it."""
+    upload = message(b"POST /a HTTP/1.1", b"Content-Length: 5", content=b"hello")
+    cases = [Case("good", message(b"GET /a HTTP/1.1")), Case("behind", upload + SMUG)]
+    for fault, word in SMUGGLING.items():
+        start = lambda origin: bad_proxy(origin, fault)  # noqa: B023,E731
+        tally = found_by(lambda tally: smuggling.work(cases, start, tally))  # noqa: B023
+        yield f"smuggling, a proxy with the fault {fault!r}", *told(word, tally)
+
+
+def real_origin_words():
+    """A proxy that denies nothing, before an origin whose log tells it; and which of the cases it was."""
+    cases = [Case("good", message(b"GET /a HTTP/1.1")), Case("smuggled", message(b"GET /a HTTP/1.1") + SMUG)]
+    for fault, word in (("smuggled", "smuggled"), (None, None)):
+        start = lambda origin: bad_proxy(origin, fault)  # noqa: B023,E731
+        tally = found_by(lambda tally: beside_real.run(["python"], cases, start, tally))  # noqa: B023
+        yield f"a real origin, a proxy with the fault {fault!r}", *told(word, tally)
+        yield "the case", [cases[1].data] if fault else [], [it.case for _, it in tally.found]
+
+
+def interleavings_words():
+    for fault, word in INTERLEAVINGS.items():
+        start = lambda origin: bad_proxy(origin, fault)  # noqa: B023,E731
+        tally = found_by(lambda tally: interleavings.play(start, 1, 3, tally, clients=8, kinds=KINDS))  # noqa: B023
+        yield f"interleavings, a proxy with the fault {fault!r}", *told(word, tally)
+
+
+def hostile_words():
+    for fault, name, word in HOSTILE:
+        start = lambda origin: bad_proxy(origin, fault)  # noqa: B023,E731
+        tally = found_by(lambda tally: hostile.run(start, 1, tally, 1, cuts=0, times=0, names=[name]))  # noqa: B023
+        yield f"{name!r}, a proxy with the fault {fault!r}", *told(word and f"hostile, {word}", tally)
+
+
+def run():
+    """Prints what isn't as it should be; whether all is."""
+    count, wrong, client.WAIT = 0, 0, 2
+    for part in (checker, smuggling_words, real_origin_words, interleavings_words, hostile_words):
+        for what, expected, got in part():
+            count += 1
+            if expected != got:
+                wrong += 1
+                print(f"{what}: expected {expected!r}, got {got!r}")
+    print(f"self-test: {count - wrong} of {count} as expected")
+    return not wrong
