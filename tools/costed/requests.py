@@ -59,7 +59,7 @@ def connection_2(size):
 @family()
 def connection_3(size):
     """Connection of names of three letters, none twice"""
-    return connection(size, distinct(3))
+    return connection(size, distinct(3), lambda i: b"%02x~" % i)
 
 
 @family()

@@ -1,6 +1,7 @@
 """The scripts that are replayed: what comes first, and what comes again and again."""
 
-NAMES = b"abcdefghijklmnopqrstuvwxyz0123456789!#$%&'*+-.^_`|~"  # (what a name is made of, without case)
+# What a name is made of, without case, and without the asterisk: a member of Vary that is one means something.
+NAMES = b"abcdefghijklmnopqrstuvwxyz0123456789!#$%&'+-.^_`|~"
 DATE = b"Date: Thu, 01 Jan 1970 00:01:40 GMT"
 HELD = b"Cache-Control: max-age=600"
 # The lines of a request or an answer of 32 KB; smaller ones have fewer, in proportion.
