@@ -185,7 +185,8 @@ def a_stranger_takes_and_claims_no_field(fleet):
     expect("other fields at the origin", HONEST, [f"{name}: {fields.get(name.lower())}" for name in (it.partition(":")[0] for it in HONEST)])
     for lines in LONG:
         answer = curl(fleet.http, "http://h.example/strange", "--http1.1", *long_head(fleet.stand, lines))
-        expect(f"status for {lines}", 431, answer.status)
+        # (haproxy itself refuses a name of more than 255 bytes)
+        expect(f"is refused: {lines}", True, answer.status in (400, 431))
 
 
 def an_origin_that_fails_takes_no_cache_out(fleet):

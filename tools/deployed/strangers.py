@@ -2,12 +2,16 @@
 the origin takes for an error, and, where an operator wants it so, no word of the cache's own."""
 import re
 import socket
+import threading
+import time
 
 from deployed.fronts import Front, check, expect_from, start_front, value_of
 from deployed.origins import nginx_at
 from deployed.stand import curl, deployed, free_port, need, part, wait_until
 from live.client import PATIENCE
 from live.expect import Unexpected, expect
+from live.origin import whole
+from live.scenario import KEPT
 
 # Fields that a client claims: its address and the like, another method, another target; and names that an origin may take for one.
 CLAIMS = ["Forwarded: for=192.0.2.1", "X-Real-IP: 192.0.2.1", "X-Forwarded-Host: evil.example", "X-Forwarded-Port: 1", "X-Forwarded-Prefix: /evil"]
@@ -181,8 +185,10 @@ def not_through(stand, kind, origin):
 @part
 def a_reason_for_operators_alone(stand):
     need("nginx", "haproxy", "curl")
-    yield "nginx", lambda: reasons_are_hidden(Front(stand, "nginx", {"#proxy_hide_header": "proxy_hide_header", "#add_header": "add_header", **NEAR}))
-    yield "haproxy", lambda: reasons_are_hidden(Front(stand, "haproxy", {"#http-response": "http-response", **NEAR}))
+    words = {it: it[1:] for it in ("#proxy_hide_header", "#add_header")}
+    yield "nginx", lambda: reasons_are_hidden(Front(stand, "nginx", {**words, **NEAR}))
+    words = {it: it[1:] for it in ("#http-response del-header Cache-Status", "#http-response del-header Refusal")}
+    yield "haproxy", lambda: reasons_are_hidden(Front(stand, "haproxy", {**words, **NEAR}))
 
 
 # (every address of this test is one of 127.0.0.0/8)
@@ -195,3 +201,51 @@ def reasons_are_hidden(front):
         expect_from(front.ask(target), status, reason)
         expect_from(front.ask(target, "--interface", "127.0.0.9"), status, "none")
     wait_until(lambda: sum("denied by line 1" in it for it in front.log()) == 2, "two such lines in the front's log", 5)
+
+
+# The options of the files, taken in.
+NOBODY_RELOADS = {"nginx": '#proxy_set_header Cache-Control', "haproxy": "#http-request del-header Cache-Control"}
+NO_COOKIES = "#http-response del-header Set-Cookie"
+
+
+@part
+def what_helps_at_a_front(stand):
+    need("nginx", "haproxy", "curl")
+    for kind, line in NOBODY_RELOADS.items():
+        front = Front(stand, kind, {line: line[1:]})
+        yield f"nobody_reloads_through_{kind}", lambda front=front: nobody_reloads(front)
+        yield f"who_says_no_store_leads_nobody_through_{kind}", lambda front=front: who_says_no_store_leads_nobody(front)
+    front = Front(stand, "haproxy", {NO_COOKIES: NO_COOKIES[1:]})
+    yield "cookies_are_for_one_through_haproxy", lambda: cookies_are_for_one(front)
+
+
+def nobody_reloads(front):
+    """A fresh page stays, whatever a client says of caches: so an error isn't put in its place."""
+    expect_from(front.ask("/a"), 200, "edge;fwd=uri-miss;ttl=;stored")
+    front.origin.answers["/a"] = whole(400, KEPT, content=b"bad")
+    for it in ("no-cache", "no-store", "max-age=0", "min-fresh=9999"):
+        expect_from(front.ask("/a", "--header", f"Cache-Control: {it}"), 200, "edge;hit;ttl=")
+
+
+def who_says_no_store_leads_nobody(front):
+    """Six ask at once for what nobody has asked for, the first of them with no-store: there is one request at the origin."""
+    front.origin.answers["/led"] = lambda fetch: (time.sleep(1), whole(200, KEPT, content=b"led")(fetch))
+    crowd = [threading.Thread(target=front.ask, args=["/led", *words]) for words in (["--header", "Cache-Control: no-store"], *[[]] * 5)]
+    for it in crowd:
+        it.start()
+        time.sleep(0.1)
+    for it in crowd:
+        it.join()
+    expect("requests at the origin", 1, len(front.fetches("/led")))
+
+
+def cookies_are_for_one(front):
+    """What is stored has no cookie for anybody, also where a 304 brings one; what isn't stored keeps its own."""
+    cookie = "Set-Cookie: sid=1"
+    front.origin.answers["/cookie"] = whole(200, "Cache-Control: max-age=600, no-cache", 'ETag: "v1"', cookie, content=b"hello")
+    front.origin.answers["/own"] = whole(200, "Cache-Control: no-store", cookie, "Set-Cookie: theme=dark")
+    expect("the cookie of who had it stored", None, front.ask("/cookie").value("Set-Cookie"))
+    front.origin.answers["/cookie"] = whole(304, 'ETag: "v1"', "Set-Cookie: sid=2")
+    answer = expect_from(front.ask("/cookie"), 200, "edge;fwd=stale;fwd-status=304;ttl=;detail=response-no-cache")
+    expect("the cookie behind a 304", None, answer.value("Set-Cookie"))
+    expect("the cookies of what isn't stored", "sid=1, theme=dark", front.ask("/own").value("Set-Cookie"))
