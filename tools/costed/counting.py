@@ -19,16 +19,22 @@ class Program:
     def is_there(self):
         return all(os.access(it, os.R_OK) for it in self.words if it.startswith("/"))
 
-    def effects(self, text):
-        done = subprocess.run(self.words, input=text, capture_output=True, timeout=self.seconds)
+    def run(self, words, text, **how):
+        try:
+            done = subprocess.run(words, input=text, timeout=self.seconds, **how)
+        except subprocess.TimeoutExpired:
+            raise Failed(f"a replay took more than {self.seconds} s") from None
         if done.returncode:
-            raise Failed(f"a replay ended with status {done.returncode}: {done.stderr!r}")
+            raise Failed(f"a replay ended with status {done.returncode}")
         return done.stdout
+
+    def effects(self, text):
+        return self.run(self.words, text, capture_output=True)
 
     def time(self, text):
         """Seconds of the processor that one replay takes."""
         before = resource.getrusage(resource.RUSAGE_CHILDREN)
-        subprocess.run(self.words, input=text, stdout=subprocess.DEVNULL, check=True, timeout=self.seconds)
+        self.run(self.words, text, stdout=subprocess.DEVNULL)
         after = resource.getrusage(resource.RUSAGE_CHILDREN)
         return after.ru_utime + after.ru_stime - before.ru_utime - before.ru_stime
 
@@ -37,8 +43,7 @@ class Program:
         with tempfile.TemporaryDirectory(prefix="costs-") as room:
             out = f"{room}/out"
             words = ["valgrind", "--tool=callgrind", f"--callgrind-out-file={out}", "--compress-strings=no", "--compress-pos=no"]
-            how = {"stdout": subprocess.DEVNULL, "stderr": subprocess.DEVNULL, "timeout": self.seconds}
-            subprocess.run([*words, *self.words], input=text, check=True, **how)
+            self.run([*words, *self.words], text, stdout=subprocess.DEVNULL, stderr=subprocess.DEVNULL)
             return read(out)
 
 
