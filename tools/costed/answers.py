@@ -1,7 +1,7 @@
 """Answers that an origin chooses: what it costs to store each, and what a hit on it costs afterwards."""
 from costed import FAMILIES
 from costed.requests import KINDS, LISTS, LONG_NAME
-from costed.scripts import (DATE, LINES, Script, again, answer, client, count_of, distinct, filler, grown, line, link, ordinary, request, short)
+from costed.scripts import (DATE, LINES, Script, again, answer, client, count_of, distinct, filler, grown, large, line, link, ordinary, request, short)
 
 STORED = b";stored"
 
@@ -63,7 +63,7 @@ def names_alike(size):
 
 
 def varied(size, members, names=lambda i: b"%02x" % i):
-    return answer(size, rest=lambda room: [line(b"Vary", members, room)]), short(size, names)
+    return answer(size, rest=lambda room: [line(b"Vary", members, room)]), short(names)
 
 
 @family
@@ -109,8 +109,9 @@ def vary_one_long_value(size):
     return text, [filler(b"a", b"v", size // 2)]
 
 
-def beside(size, *lines, rest):
-    return answer(size, *short(size, lambda i: b"x%02x" % i), *lines, rest=rest)
+def beside(size, rest):
+    """One long line beside 90 short ones."""
+    return answer(0, *short(lambda i: b"x%02x" % i)[:90], *rest(large(size)))
 
 
 @family
@@ -122,8 +123,8 @@ def connection_2(size):
 @family
 def connection_alike(size):
     """its members differ from the lines' names in the last letters alone"""
-    lines = [LONG_NAME + b"%03d: v" % i for i in range(count_of(size))]
-    return answer(size, *lines, rest=lambda room: [line(b"Connection", (LONG_NAME + it for it in distinct(3)), room)])
+    lines = [LONG_NAME + b"%03d: v" % i for i in range(90)]
+    return answer(0, *lines, line(b"Connection", (LONG_NAME + it for it in distinct(3)), large(size)))
 
 
 @family

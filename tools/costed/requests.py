@@ -1,10 +1,10 @@
 """Requests that a stranger chooses: each is a stored response's, or goes on to the origin where that is said."""
 from costed import FAMILIES
-from costed.scripts import (LINES, Script, again, answer, client, count_of, distinct, filler, head, hits, line, link, ordinary, passed,
+from costed.scripts import (LINES, Script, again, answer, client, count_of, distinct, filler, head, hits, large, line, link, ordinary, passed,
                             request, short)
 
 TAGGED = b'ETag: "v1"'
-LONG_NAME = b"a-name-that-is-as-long-as-this-one-"
+LONG_NAME = b"a-name-like-all-"
 
 
 def family(**how):
@@ -41,7 +41,7 @@ def empty_lines(size):
 
 
 def connection(size, members, names=lambda i: b"%02x" % i):
-    return asked(size, *short(size, names), rest=lambda room: [line(b"Connection", members, room)])
+    return asked(0, *short(names), line(b"Connection", members, large(size)))
 
 
 @family()
@@ -70,10 +70,10 @@ def connection_alike(size):
 
 @family()
 def connection_one_member(size):
-    """one member, which is a line's name but for the last letter; the lines' names are long"""
-    long = b"n" * (size // count_of(size) // 2)
-    lines = [long + b"%02d: v" % i for i in range(count_of(size) // 2)]
-    return asked(size, *lines, rest=lambda room: [line(b"Connection", again(long + b"xx"), room)])
+    """its members are a line's name but for the last letters; the names get longer, and so does Connection"""
+    long = b"n" * (size // LINES // 2)
+    lines = [long + b"%02d: v" % i for i in range(LINES)]
+    return asked(0, *lines, line(b"Connection", again(long + b"xx"), size // 3))
 
 
 # What a list is filled with. An open quote runs to the end of its line.
@@ -92,7 +92,7 @@ def of_list(name, kind):
     """One list, filled with one kind of bytes; the stored response has an ETag, and Vary: Accept-Encoding."""
 
     def script(size):
-        text = request(size, *short(size), rest=lambda room: [KINDS[kind](LISTS[name], room)])
+        text = request(0, *short(), KINDS[kind](LISTS[name], large(size)))
         is_nominated = name == "accept_encoding"
         stored = answer(0, TAGGED, *([b"Vary: Accept-Encoding"] if is_nominated else []))
         return hits(text, stored, text if is_nominated else None)
@@ -107,7 +107,7 @@ for _name in LISTS:
 
 
 def conditions(size, members, tag=TAGGED):
-    return hits(request(size, *short(size), rest=lambda room: [line(b"If-None-Match", members, room)]), answer(0, tag))
+    return hits(request(0, *short(), line(b"If-None-Match", members, large(size))), answer(0, tag))
 
 
 @family()
@@ -135,7 +135,7 @@ def tags_alike(size):
 
 
 def controls(size, *members):
-    return asked(size, *short(size), rest=lambda room: [line(b"Cache-Control", again(b",".join(members)), room)])
+    return asked(0, *short(), line(b"Cache-Control", again(b",".join(members)), large(size)))
 
 
 @family()

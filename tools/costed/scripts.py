@@ -86,9 +86,14 @@ def ordinary(count, room, name=lambda i: b"X-Field-%02d" % i):
     return [filler(name(i), b"a value of words; ", it) for i, it in enumerate(sizes)]
 
 
-def short(size, name=lambda i: b"%02x" % i):
-    """Lines of few bytes, as many as a head of this size has."""
-    return [name(i) + b": v" for i in range(count_of(size))]
+def short(name=lambda i: b"%02x" % i):
+    """96 lines of few bytes."""
+    return [name(i) + b": v" for i in range(LINES)]
+
+
+def large(size):
+    """The bytes of a line that stands beside 96 short ones: it is what is doubled, and the head of 32 KB just goes through."""
+    return size * 7 // 8
 
 
 def again(unit):
