@@ -280,13 +280,14 @@ def idle_connections_leave_room(front):
     """Behind 200 requests at once the front keeps fewer connections open than the cache has."""
     failed = []
 
-    def one():
+    def one(address):
         try:
-            expect("content", b"slow", front.ask("/slow", "--http1.1").content)
+            expect("content", b"slow", front.ask("/slow", "--http1.1", "--interface", address).content)
         except Unexpected as fault:
             failed.append(fault)
 
-    crowd = [threading.Thread(target=one) for _ in range(200)]
+    # (of four addresses: one may have 60 in progress)
+    crowd = [threading.Thread(target=one, args=[f"127.0.0.{i % 4 + 1}"]) for i in range(200)]
     for it in crowd:
         it.start()
     for it in crowd:

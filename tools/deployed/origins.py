@@ -34,13 +34,18 @@ def nginx_as_origin(stand):
 
 
 def start_origin(stand):
+    return nginx_at(stand, ORIGIN, {"text.txt": TEXT, "admin/secret.txt": "secret", "folder/text.txt": TEXT})
+
+
+def nginx_at(stand, server, files):
+    """An nginx of this server, with files at its root."""
     port = free_port()
-    for name, text in (("text.txt", TEXT), ("admin/secret.txt", "secret"), ("folder/text.txt", TEXT)):
+    for name, text in files.items():
         os.makedirs(os.path.dirname(f"{stand.folder}/www/{name}"), exist_ok=True)
         stand.file(f"www/{name}", text)
     folders = "".join(f"    {it}_temp_path {stand.folder}/origin-{it};\n" for it in ("client_body", "proxy", "fastcgi", "uwsgi", "scgi"))
     head = f"pid {stand.folder}/origin.pid;\nevents {{ }}\nhttp {{\n    types {{ text/plain txt; }}\n    access_log off;\n{folders}"
-    file = stand.file("origin.conf", f"{head}{ORIGIN % (port, stand.folder)}}}\n")
+    file = stand.file("origin.conf", f"{head}{server % (port, stand.folder)}}}\n")
     stand.start("origin", ["nginx", "-e", f"{stand.folder}/origin.log", "-c", file, "-g", "daemon off;"], port)
     return port
 

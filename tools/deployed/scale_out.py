@@ -6,6 +6,7 @@ import time
 
 from deployed.fronts import haproxy_says
 from deployed.stand import curl, deployed, free_port, need, part, put_for, wait_until
+from deployed.strangers import CLAIMS, HONEST, LONG, headers, long_head
 from live.expect import expect, expect_within
 from live.origin import Origin, whole
 from live.scenario import KEPT
@@ -90,6 +91,7 @@ def scale_out(stand):
         a_cache_that_comes_back_takes_its_part,
         a_cache_is_drained_without_an_error,
         a_purge_asks_each_cache,
+        a_stranger_takes_and_claims_no_field,
         an_origin_that_fails_takes_no_cache_out,
     ):
         yield it.__name__, lambda it=it: it(fleet)
@@ -170,6 +172,21 @@ def a_purge_asks_each_cache(fleet):
     for it in fleet.caches:
         expect("status of a purge at a cache", 204, curl(it.port, url, "--request", "PURGE").status)
         expect("what is held behind it", "edge;fwd=uri-miss;ttl=;stored", curl(it.port, url).reason())
+
+
+def a_stranger_takes_and_claims_no_field(fleet):
+    """What Connection names would be taken away, the front's own fields too; what passes for one of them is dropped, and a head that
+    an origin would refuse is refused here."""
+    lines = ["Connection: close, X-Forwarded-For, X-Forwarded-Proto", *CLAIMS, *HONEST]
+    curl(fleet.http, "http://h.example/strange", "--http1.1", *headers(lines))
+    fields = {name.lower(): value for name, value in fleet.origin.fetches[-1].fields}
+    expect("the front's fields at the origin", ("127.0.0.1", "http"), (fields.get("x-forwarded-for"), fields.get("x-forwarded-proto")))
+    expect("claims at the origin", [], [it for it in CLAIMS if it.partition(":")[0].lower() in fields])
+    expect("other fields at the origin", HONEST, [f"{name}: {fields.get(name.lower())}" for name in (it.partition(":")[0] for it in HONEST)])
+    for lines in LONG:
+        answer = curl(fleet.http, "http://h.example/strange", "--http1.1", *long_head(fleet.stand, lines))
+        # (haproxy itself refuses a name of more than 255 bytes)
+        expect(f"is refused: {lines}", True, answer.status in (400, 431))
 
 
 def an_origin_that_fails_takes_no_cache_out(fleet):
