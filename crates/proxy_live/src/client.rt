@@ -1,10 +1,11 @@
 //! A client's stream: where it stands, what it asks for, and what a log needs of it.
-ghost use Rattle.std.specs.Prelude.{◌≡◌, length, IfOk};
+ghost use Rattle.std.specs.Prelude.{◌≡◌, ◌≤◌, length, IfOk};
 ghost use Rattle.proxy_turn.specs.Received.{IsReceived};
 
 use crate::early::{Came, Early};
 use crate::lines::Line;
 use crate::peer::Peer;
+use crate::pieces::first_head_end;
 use hx_fields::Bytes;
 use proxy_log::{Asked, Told};
 use proxy_turn::Received;
@@ -35,7 +36,7 @@ pub(crate) struct Client {
     pub(crate) peer: Peer,
     alloc: Global,
     pub(crate) place: Place,
-    /// What came before it had a place.
+    /// What came and wasn't handed in yet.
     early: Option<Early>,
     /// When the first byte of its request came, if its request is incomplete.
     pub(crate) asked: Option<u64>,
@@ -125,7 +126,7 @@ impl Client {
         }))
     }
 
-    /// Keeps what came before it has a place.
+    /// Keeps what came and isn't handed in yet.
     pub(crate) fn keep_early(&mut self, piece: &[u8]) -> Result<(), AllocError> {
         let mut early = match self.early.take() {
             Some(early) => early,
@@ -144,7 +145,7 @@ impl Client {
         }
     }
 
-    /// Whether something has come before it had a place, and wasn't taken.
+    /// Whether something has come that wasn't handed in yet.
     pub(crate) fn has_early(&self) -> bool {
         match &self.early {
             Some(early) => !early.is_empty(),
@@ -152,7 +153,7 @@ impl Client {
         }
     }
 
-    /// Drops what has come before it had a place.
+    /// Drops what has come and wasn't handed in.
     pub(crate) fn drop_early(&mut self) {
         self.early = None;
     }
@@ -188,7 +189,29 @@ impl Client {
         !self.peer.has_unsent() && (self.peer.readable || self.has_early())
     }
 
-    /// Reads what has come, if anything may have: what came before it had a place comes first.
+    /// Something of a request is handed in.
+    fn ask(&mut self, now: u64) {
+        if self.asked.is_none() {
+            self.asked = Some(now);
+        }
+    }
+
+    /// Keeps what stands behind the head of a request for the next reads; answers how many bytes stand in front. Where there is no
+    /// memory for it, all are handed in.
+    fn keep_rest(&mut self, piece: &[u8]) -> usize
+        ensures { result ≤ length piece.now }
+    {
+        let end = first_head_end(piece);
+        if end == 0 || end == piece.len() {
+            return piece.len();
+        }
+        match self.keep_early(&piece[end..]) {
+            Ok(()) => end,
+            Err(_) => piece.len(),
+        }
+    }
+
+    /// Reads what has come, if anything may have, as far as the head of one request: what was kept comes first.
     pub(crate) fn read(&mut self, buf: &mut [u8], now: u64) -> io::Result<Received>
         ensures within { IfOk result (IsReceived (length buf.old)) }
         ensures length { length buf.new ≡ length buf.old }
@@ -199,15 +222,16 @@ impl Client {
                 self.early = None;
             }
             if n > 0 {
+                self.ask(now);
                 return Ok(Received::Bytes(n));
             }
         }
-        let received = self.peer.read(buf, now)?;
-        if let Received::Bytes(_) = received {
-            if self.asked.is_none() {
-                self.asked = Some(now);
+        match self.peer.read(buf, now)? {
+            Received::Bytes(n) => {
+                self.ask(now);
+                Ok(Received::Bytes(self.keep_rest(&buf[..n])))
             }
+            received => Ok(received),
         }
-        Ok(received)
     }
 }
