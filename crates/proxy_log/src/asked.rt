@@ -14,11 +14,11 @@ use std::mem::replace;
 #[derive(Drop)]
 pub struct Asked {
     reader: RequestReader,
-    /// The requests that have come whole, or are refused, and weren't answered, the oldest first. Their contents aren't kept.
+    /// The requests that have come whole and weren't answered, the oldest first. Their contents aren't kept.
     questions: VecDeque<Question>,
     /// What has come of a head that isn't whole.
     head: Vec<u8>,
-    /// What is asked for by a request whose head has come, and whose content hasn't.
+    /// What is asked for by a request whose head has come, and whose content hasn't, or that is refused.
     begun: Option<Question>,
     /// What follows can't be read: a piece was lost for want of memory, or a request was refused.
     over: bool,
@@ -118,6 +118,14 @@ impl Asked {
         Ok(())
     }
 
+    /// Keeps what a request asks for whose head has come, if that isn't kept yet.
+    fn begin(&mut self, alloc: Global, head: &[u8]) -> Result<(), AllocError> {
+        if self.begun.is_none() {
+            self.begun = Some(question_in(alloc, head)?);
+        }
+        Ok(())
+    }
+
     /// Reads on. The text begins with a head, unless a content is to come, and ends where the stream does. Answers from where on
     /// it is a head that isn't whole.
     fn read_on(&mut self, alloc: Global, text: &[u8]) -> Result<usize, AllocError>
@@ -127,30 +135,23 @@ impl Asked {
         for _request in 0..u64::MAX {
             match self.reader.next(alloc)? {
                 Next::Message(request) => {
-                    let question = question_of(alloc, &request)?;
-                    self.questions.push_back(question)?;
+                    self.questions.push_back(question_of(alloc, &request)?)?;
                     self.begun = None;
                     // What the reader keeps stands behind the request.
                     from = text.len().saturating_sub(self.reader.kept());
                 }
                 // The interim response goes out; the request follows.
-                Next::NeedsContinue => {
-                    self.begun = Some(question_in(alloc, rest_from(text, from))?);
-                }
+                Next::NeedsContinue => self.begin(alloc, rest_from(text, from))?,
                 Next::Refused(_) => {
                     self.over = true;
-                    let question = match self.begun.take() {
-                        Some(question) => question,
-                        None => question_in(alloc, rest_from(text, from))?,
-                    };
-                    self.questions.push_back(question)?;
-                    return Ok(text.len());
+                    self.begin(alloc, rest_from(text, from))?;
+                    break;
                 }
                 Next::More => {
                     let head = rest_from(text, from);
                     // A head that is whole isn't kept by the reader.
-                    if self.begun.is_none() && self.reader.kept() < head.len() {
-                        self.begun = Some(question_in(alloc, head)?);
+                    if self.reader.kept() < head.len() {
+                        self.begin(alloc, head)?;
                     }
                     break;
                 }
@@ -164,9 +165,13 @@ impl Asked {
         }
     }
 
-    /// What the next reply answers: the replies of a connection are in the order of its requests.
+    /// What the next reply answers: the replies of a connection are in the order of its requests, and only the last of these is
+    /// refused before it is whole.
     pub fn next_question(&mut self, alloc: Global) -> Question {
-        match self.questions.pop_front() {
+        if let Some(question) = self.questions.pop_front() {
+            return question;
+        }
+        match self.begun.take() {
             Some(question) => question,
             None => no_question(alloc),
         }

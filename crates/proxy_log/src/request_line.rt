@@ -1,5 +1,4 @@
 //! The request line of a head that was refused, where the line itself has no fault (RFC 9112, section 3).
-ghost use Rattle.std.specs.Prelude.{◌≤◌, length};
 
 use http::Method;
 use http::method::MethodError;
@@ -40,8 +39,8 @@ fn first_line(head: &[u8]) -> Option<&[u8]> {
 /// Whether it is HTTP-version = HTTP-name "/" DIGIT "." DIGIT (RFC 9112, section 2.3).
 fn is_version(text: &[u8]) -> bool {
     match text {
-        [b'H', b'T', b'T', b'P', b'/', major, b'.', minor] =>
-            major.is_ascii_digit() && minor.is_ascii_digit(),
+        [b'H', b'T', b'T', b'P', b'/', major, b'.', minor] => major.is_ascii_digit()
+            && minor.is_ascii_digit(),
         _ => false,
     }
 }
