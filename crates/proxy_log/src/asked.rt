@@ -158,11 +158,9 @@ impl Asked {
                 Next::End => break,
             }
         }
-        if self.begun.is_some() {
-            Ok(text.len())
-        } else {
-            Ok(from)
-        }
+        // A content isn't kept.
+        let rest = if self.begun.is_some() { text.len() } else { from };
+        Ok(rest.min(text.len()))
     }
 
     /// What the next reply answers: the replies of a connection are in the order of its requests, and only the last of these is
