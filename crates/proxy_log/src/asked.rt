@@ -159,7 +159,11 @@ impl Asked {
             }
         }
         // A content isn't kept.
-        let rest = if self.begun.is_some() { text.len() } else { from };
+        let rest = if self.begun.is_some() {
+            text.len()
+        } else {
+            from
+        };
         Ok(rest.min(text.len()))
     }
 
