@@ -36,7 +36,10 @@ pub(crate) fn first_head_end(bytes: &[u8]) -> usize
             return bytes.len();
         };
         let line = without_cr(&left[..end]);
-        left = &left[end + 1..];
+        let Some(behind) = left.get(end.saturating_add(1)..) else {
+            return bytes.len();
+        };
+        left = behind;
         if is_asked && line.is_empty() {
             return bytes.len().saturating_sub(left.len());
         }
