@@ -168,8 +168,12 @@ def no_stranger_cuts_a_download_off(stage):
 def a_closed_connection_that_takes_nothing_ends(stage):
     """What waits for a client whose connection is closed behind it is kept until nothing of it was taken for `--client-timeout`."""
     text = text_of(DOWNLOAD)
-    stage.origin(Origin({"/a": whole(200, KEPT, content=text)}))
+    stage.origin(Origin({"/a": whole(200, KEPT, content=text), "/b": whole(200, KEPT, content=b"hello")}))
     proxy = stage.proxy(**BOTH, options=["--client-timeout", "3"])
+    first = proxy.client()
+    expect_answer(first.ask("/b"), 200, STORED, b"hello")
+    first.leave()
+    time.sleep(0.5)
     before = proxy.descriptors()
     stuck, began = proxy.client(window=4096), time.monotonic()
     stuck.is_cut_off = True
