@@ -5,7 +5,7 @@ ghost use Rattle.proxy_turn.specs.Received.{IsReceived};
 use crate::early::{Came, Early};
 use crate::lines::Line;
 use crate::peer::Peer;
-use crate::pieces::first_head_end;
+use crate::pieces::{LEAST, head_end};
 use hx_fields::Bytes;
 use proxy_log::{Asked, Told};
 use proxy_turn::Received;
@@ -40,6 +40,8 @@ pub(crate) struct Client {
     early: Option<Early>,
     /// When the first byte of its request came, if its request is incomplete.
     pub(crate) asked: Option<u64>,
+    /// Something of a request was handed in that wasn't answered yet.
+    is_begun: bool,
     /// When its end was seen.
     pub(crate) left: Option<u64>,
     /// It has sent a request, in all.
@@ -58,6 +60,7 @@ impl Client {
             place: Place::In(Line::Idle, stamp),
             early: None,
             asked: None,
+            is_begun: false,
             left: None,
             has_asked: false,
             closed: 0,
@@ -84,7 +87,7 @@ impl Client {
 
     /// It has no place any more, between two requests.
     pub(crate) fn rest(&mut self) {
-        self.asked = None;
+        self.answered();
         if let Some(logged) = &mut self.logged {
             logged.asked = None;
         }
@@ -191,17 +194,29 @@ impl Client {
 
     /// Something of a request is handed in.
     fn ask(&mut self, now: u64) {
+        self.is_begun = true;
         if self.asked.is_none() {
             self.asked = Some(now);
         }
     }
 
+    /// Its request was answered.
+    pub(crate) fn answered(&mut self) {
+        self.asked = None;
+        self.is_begun = false;
+    }
+
+    /// How many bytes are handed in at least, where so many have come.
+    fn least(&self) -> usize {
+        if self.is_begun { LEAST } else { 0 }
+    }
+
     /// Keeps what stands behind the head of a request for the next reads; answers how many bytes stand in front. Where there is no
     /// memory for it, all are handed in.
-    fn keep_rest(&mut self, piece: &[u8]) -> usize
+    fn keep_rest(&mut self, piece: &[u8], least: usize) -> usize
         ensures { result ≤ length piece.now }
     {
-        let end = first_head_end(piece);
+        let end = head_end(piece, least);
         if end == 0 || end == piece.len() {
             return piece.len();
         }
@@ -216,8 +231,9 @@ impl Client {
         ensures within { IfOk result (IsReceived (length buf.old)) }
         ensures length { length buf.new ≡ length buf.old }
     {
+        let least = self.least();
         if let Some(early) = &mut self.early {
-            let n = early.give(buf);
+            let n = early.give(buf, least);
             if early.is_empty() {
                 self.early = None;
             }
@@ -229,7 +245,7 @@ impl Client {
         match self.peer.read(buf, now)? {
             Received::Bytes(n) => {
                 self.ask(now);
-                Ok(Received::Bytes(self.keep_rest(&buf[..n])))
+                Ok(Received::Bytes(self.keep_rest(&buf[..n], least)))
             }
             received => Ok(received),
         }

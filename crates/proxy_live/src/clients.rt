@@ -235,7 +235,7 @@ impl Clients {
     /// The request of a number was answered.
     pub(crate) fn answered(&mut self, n: u64) {
         if let Some(client) = self.get_mut(n) {
-            client.asked = None;
+            client.answered();
         }
     }
 

@@ -2,7 +2,7 @@
 //! come behind a rest; and what came in one read behind the head of a request.
 ghost use Rattle.std.specs.Prelude.{◌≡◌, ◌≤◌, length};
 
-use crate::pieces::first_head_end;
+use crate::pieces::head_end;
 use hx_framing::{Next, RequestReader};
 use std::alloc::{AllocError, Global};
 
@@ -89,8 +89,9 @@ impl Early {
         }
     }
 
-    /// Gives the bytes as far as the head of one request, and as there is room for them; answers how many.
-    pub(crate) fn give(&mut self, buf: &mut [u8]) -> usize
+    /// Gives the bytes as far as the head of one request, and as there is room for them, but `least` of them, where there are so
+    /// many; answers how many.
+    pub(crate) fn give(&mut self, buf: &mut [u8], least: usize) -> usize
         ensures within { result ≤ length buf.old }
         ensures length { length buf.new ≡ length buf.old }
     {
@@ -98,7 +99,7 @@ impl Early {
             return 0;
         };
         let room = left.len().min(buf.len());
-        let n = first_head_end(&left[..room]);
+        let n = head_end(&left[..room], least);
         buf[..n].copy_from_slice(&left[..n]);
         self.taken = self.taken.saturating_add(n);
         // The next look begins behind what was given.

@@ -2,48 +2,60 @@
 //!
 //! Requests that come behind one another in one read (RFC 9112, section 9.3.2) would all be answered in one turn, whether or not
 //! their client takes the answers. So a piece ends behind the first head that begins in it, and what follows waits for another turn.
-//! Where a piece is cut changes nothing of what a stream spells. The empty lines of a content have no request line in front of
-//! them, so a content isn't cut for them.
+//! Where a piece is cut changes nothing of what a stream spells. A content may spell heads as well: so while a request is incomplete, a
+//! piece has some bytes at least, and such a content costs a few turns and not one for each of them.
 ghost use Rattle.std.specs.Prelude.{◌≤◌, length};
 
-use memchr::memchr;
+use memchr::memmem;
 
 /// The bytes of a version, as `HTTP/1.1`.
 const VERSION: usize = 8;
 
-/// Whether a line ends in a version, as each request line does that isn't refused (RFC 9112, section 3).
-fn ends_in_version(line: &[u8]) -> bool {
-    let from = line.len().saturating_sub(VERSION);
-    line.len() >= VERSION && line[from..].starts_with(b"HTTP/1.")
+/// A request that was begun goes on by so many bytes at least, where so many have come: no more than a dozen requests stand in
+/// them.
+pub(crate) const LEAST: usize = 256;
+
+/// Where the LF of the first request line stands, looked for from an index on: a request line that isn't refused ends in its
+/// version (RFC 9112, section 3).
+fn request_line_end(bytes: &[u8], from: usize) -> Option<usize> {
+    let mut at = from;
+    for _line in 0..bytes.len() {
+        let left = bytes.get(at..)?;
+        let version = at.saturating_add(memmem::find(left, b"HTTP/1.")?);
+        let end = version.saturating_add(VERSION);
+        match bytes.get(end..)? {
+            [b'\n', ..] => return Some(end),
+            [b'\r', b'\n', ..] => return Some(end.saturating_add(1)),
+            _ => at = version.saturating_add(1),
+        }
+    }
+    None
 }
 
-/// A line without the CR of its end.
-fn without_cr(line: &[u8]) -> &[u8] {
-    match line {
-        [front @ .., b'\r'] => front,
-        _ => line,
+/// Where the first empty line ends, in bytes that begin with the end of a line.
+fn empty_line_end(bytes: &[u8]) -> Option<usize> {
+    let bare = memmem::find(bytes, b"\n\n").map(|at| at.saturating_add(2));
+    let whole = memmem::find(bytes, b"\n\r\n").map(|at| at.saturating_add(3));
+    match (bare, whole) {
+        (Some(bare), Some(whole)) => Some(bare.min(whole)),
+        (bare, whole) => bare.or(whole),
     }
 }
 
-/// How many of the bytes are handed in: as far as the first empty line behind a request line, or all.
-pub(crate) fn first_head_end(bytes: &[u8]) -> usize
+/// Where the first head ends whose request line ends at an index or later.
+fn head_end_from(bytes: &[u8], from: usize) -> Option<usize> {
+    let line = request_line_end(bytes, from)?;
+    let end = empty_line_end(bytes.get(line..)?)?;
+    Some(line.saturating_add(end))
+}
+
+/// How many of the bytes are handed in: as far as the first empty line behind a request line that ends at an index or later, or
+/// all.
+pub(crate) fn head_end(bytes: &[u8], from: usize) -> usize
     ensures { result ≤ length bytes.now }
 {
-    let mut left = bytes;
-    let mut is_asked = false;
-    for _line in 0..bytes.len() {
-        let Some(end) = memchr(b'\n', left) else {
-            return bytes.len();
-        };
-        let line = without_cr(&left[..end]);
-        let Some(behind) = left.get(end.saturating_add(1)..) else {
-            return bytes.len();
-        };
-        left = behind;
-        if is_asked && line.is_empty() {
-            return bytes.len().saturating_sub(left.len());
-        }
-        is_asked = is_asked || ends_in_version(line);
+    match head_end_from(bytes, from) {
+        Some(end) => end.min(bytes.len()),
+        None => bytes.len(),
     }
-    bytes.len()
 }
