@@ -103,6 +103,33 @@ def a_drained_server_sends_what_is_unsent(stage):
 
 
 @scenario
+def a_drained_server_answers_what_was_sent_ahead(stage):
+    """Of two clients that sent four requests at once and read slowly one is parked when the drain begins, and one isn't: both have
+    all of their answers before the server ends."""
+    text = bytes(i * 7 % 251 for i in range(2000000))
+    origin = stage.origin(Origin({"/a": whole(200, KEPT, content=text)}))
+    file = f"{stage.room.name}/drain"
+    proxy = stage.proxy(options=["--drain", file, "--drain-timeout", "15"], max_body=16 << 20, max_stored=16 << 20)
+    clients = [proxy.client(window=8192)]
+    clients[0].send(request("/a") * 4)
+    proxy.wait_until_happened("gone", 1)
+    clients.append(proxy.client(window=8192))
+    clients[1].send(request("/a") * 4)
+    time.sleep(0.3)
+    put(file)
+    time.sleep(2.5)
+    expect("the program's status while requests wait", None, proxy.process.poll())
+    for it in clients:
+        it.open_window()
+        for _ in range(4):
+            if it.response().content != text:
+                raise Unexpected("content", "as the origin sent it", "another one")
+        expect("the connection closed", True, it.is_closed())
+    expect("status, output and standard error", DRAINED, proxy.wait())
+    proxy.compare([origin])
+
+
+@scenario
 def a_drain_ends_in_time(stage):
     """`--drain-timeout`: an exchange that has no end is cut then, and the status is 0 all the same."""
     origin = stage.origin(Origin({"/silent": silent}))

@@ -85,7 +85,57 @@ def bytes_that_would_break_a_line(stage):
     other = proxy.client()
     other.send(b"GET /a HTTP/1.1\r\nHost : h\r\n\r\n")
     expect_refusal(other.response(), 400, "refused: head")
-    expect_lines(lines_of(log, 2)[1:], other, (["-", "-", "400", "13", "refused: head"],))
+    expect_lines(lines_of(log, 2)[1:], other, (["GET", "/a", "400", "13", "refused: head"],))
+
+
+HOST = b"Host: h\r\n"
+# What a client sends, and of the line that is written about it method and target, the status and the word of its refusal
+# (docs/OPERATIONS.md, "What a log reader sees"): both words are dashes where the request line itself is at fault.
+REFUSED = [
+    (b"POST /up?x=1 HTTP/1.1\r\n" + HOST + b"Content-Length: 1000001\r\n\r\n", "POST /up?x=1", 413, "too-large"),
+    (b"PUT http://Other:80/up HTTP/1.1\r\n" + HOST + b"Content-Length: x\r\n\r\n", "PUT http://Other:80/up", 400, "length"),
+    (b"POST /up HTTP/1.1\r\n" + HOST + b"Content-Length: 3\r\nTransfer-Encoding: chunked\r\n\r\n", "POST /up", 400, "both-lengths"),
+    (b"POST /up HTTP/1.1\r\n" + HOST + b"Transfer-Encoding: gzip, chunked\r\n\r\n", "POST /up", 501, "coding"),
+    (b"POST /up HTTP/1.1\r\n" + HOST + b"Transfer-Encoding: chunked\r\n\r\n3\r\nabc\r\nxyz\r\n", "POST /up", 400, "chunk"),
+    (b"POST /up HTTP/1.1\r\n" + HOST + b"Expect: tea\r\nContent-Length: 1\r\n\r\n", "POST /up", 417, "expect"),
+    (b"GET /a HTTP/2.0\r\n" + HOST + b"\r\n", "GET /a", 505, "version"),
+    (b"\r\n\n\r\nGET /a HTTP/1.1\nHost : h\n\n", "GET /a", 400, "head"),
+    (b"GET /a HTTP/1.1\r\n" + HOST + b"X: " + b"y" * 33000 + b"\r\n\r\n", "GET /a", 400, "head"),
+    (b"GET /\xc3\xa9\\ HTTP/1.1\r\nHost : h\r\n\r\n", "GET /\\xC3\\xA9\\x5C", 400, "head"),
+    (b"X\r\n\r\n", "- -", 400, "head"),
+    (b"GET  /a HTTP/1.1\r\n" + HOST + b"\r\n", "- -", 400, "head"),
+    (b"GET /a b HTTP/1.1\r\n" + HOST + b"\r\n", "- -", 400, "head"),
+    (b"GET /\x1b[2J HTTP/1.1\r\n" + HOST + b"\r\n", "- -", 400, "head"),
+    (b"G(T /a HTTP/1.1\r\n" + HOST + b"\r\n", "- -", 400, "head"),
+    (b"GET /" + b"a" * 33000, "- -", 400, "head"),
+]
+
+
+@scenario
+def a_refused_message_has_its_method_and_target(stage):
+    """What is refused before it is whole has in its line the method and the target that its request line names, as they came; whether
+    it comes at once, behind another request, or in pieces."""
+    stage.origin(Origin({"/a": whole(200, KEPT, content=b"hello")}))
+    log = f"{stage.room.name}/log"
+    proxy = stage.proxy(options=["--log", log])
+    expect_answer(proxy.client().ask("/a"), 200, "edge;fwd=uri-miss;ttl=600;stored", b"hello")
+    count = 1
+    hit = ["GET", "http://h/a", "200", "5", "hit;ttl="]
+    for text, asked, status, word in REFUSED:
+        line = [*asked.split(" "), str(status), str(len("refused: " + word)), "refused: " + word]
+        for way in ("at once", "behind another", "in pieces"):
+            client = proxy.client()
+            if way == "behind another":
+                client.send(request("/a") + text)
+                expect_answer(client.response(), 200, "edge;hit;ttl=600", b"hello")
+            elif way == "in pieces" and len(text) < 1000:
+                client.send_slowly(text)
+            else:
+                client.send(text)
+            expect_refusal(client.response(), status, "refused: " + word)
+            lines = [hit, line] if way == "behind another" else [line]
+            expect_lines(lines_of(log, count + len(lines))[count:], client, lines)
+            count += len(lines)
 
 
 @scenario

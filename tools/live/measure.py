@@ -138,6 +138,25 @@ def wait_until_calm(proxy):
             return
 
 
+def measure_pipelined(program, room, origin, count=1000):
+    """So many hits that are asked for in one write, beside ten in a write and one: what they cost of the program's processor."""
+    proxy = Ours(program, room, origin)
+    try:
+        hits_a_second(proxy, HITS // 4)
+        for ahead in (1, 10, count):
+            with connect(proxy) as it:
+                before = proxy.processor_seconds()
+                for _ in range(HITS // ahead):
+                    sender = threading.Thread(target=it.sendall, args=[request("/a") * ahead])
+                    sender.start()
+                    read_answers(it, ahead)
+                    sender.join()
+                spent = proxy.processor_seconds() - before
+            print(f"{ahead:>6} hits in a write: {spent / (HITS // ahead * ahead) * 1e6:.1f} us of the processor each", flush=True)
+    finally:
+        proxy.end()
+
+
 def measure_attacks(program, _room, origin, *kinds, count=1000, seconds=10):
     """Attackers of each kind before the program, haproxy and nginx: what an honest client waits for a stored answer."""
     count = within_descriptors(count)
@@ -266,7 +285,7 @@ def measure_contents(program, _room, origin):
 
 
 MODES = {it.__name__.removeprefix("measure_"): it for it in (
-    measure_misses, measure_connections, measure_parked, measure_idle, measure_attacks, measure_contents)}
+    measure_misses, measure_connections, measure_parked, measure_idle, measure_pipelined, measure_attacks, measure_contents)}
 
 
 def run(mode, program, words):

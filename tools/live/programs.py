@@ -238,6 +238,18 @@ def it_starts_again_at_its_port(stage):
 
 
 @scenario
+def a_record_is_readable_to_its_owner_alone(stage):
+    """It holds what was sent: its mode is 0600, though the process could make a file that others read."""
+    stage.origin(Origin({}))
+    before = os.umask(0o022)
+    try:
+        proxy = stage.proxy()
+    finally:
+        os.umask(before)
+    expect("the mode of the record", "0o600", oct(os.stat(proxy.record).st_mode & 0o777))
+
+
+@scenario
 def a_record_is_cut_at_the_limit_of_a_script(stage):
     """A record ends before a script's 16,777,216 bytes, which is said once; serving goes on. It replays to its end."""
     stage.origin(Origin({"/a": whole(201, content=b"made")}))

@@ -28,7 +28,7 @@ def table_of(lines, max_body=1000000, max_stored=100000, capacity=64):
 class Proxy:
     """A running program, and the clients that connect to it. It stays until it is stopped, but where it is given turns."""
 
-    def __init__(self, program, folder, table, turns=None, options=(), listen="127.0.0.1:0", records=True):
+    def __init__(self, program, folder, table, turns=None, options=(), listen="127.0.0.1:0", records=True, environment=None):
         self.program, self.folder, self.clients, self.numbers = program, folder, [], itertools.count(1)
         # (a record is never written over another one)
         self.record = next(it for it in (f"{folder}/record-{i}" for i in itertools.count(1)) if not os.path.exists(it))
@@ -38,7 +38,7 @@ class Proxy:
         words += ["--turns", str(turns)] if turns else []
         words += ["--record", self.record] if records else []
         self.is_recorded = records
-        how = {"stdin": subprocess.DEVNULL, "stdout": subprocess.PIPE, "stderr": subprocess.PIPE}
+        how = {"stdin": subprocess.DEVNULL, "stdout": subprocess.PIPE, "stderr": subprocess.PIPE, "env": environment}
         self.process = subprocess.Popen([program, *words, *options], **how)
         self.port = self.read_port()
 
@@ -166,10 +166,10 @@ class Stage:
         self.origins.append(it)
         return it
 
-    def proxy(self, *lines, turns=None, options=(), listen="127.0.0.1:0", records=True, **table):
+    def proxy(self, *lines, turns=None, options=(), listen="127.0.0.1:0", records=True, environment=None, **table):
         """A program before the origins of these lines, or before the ones that were made."""
         text = table_of(lines or [it.address for it in self.origins], **table)
-        it = Proxy(self.program, self.room.name, text, turns, options, listen, records)
+        it = Proxy(self.program, self.room.name, text, turns, options, listen, records, environment)
         self.proxies.append(it)
         return it
 

@@ -1,10 +1,11 @@
 //! A client's stream: where it stands, what it asks for, and what a log needs of it.
-ghost use Rattle.std.specs.Prelude.{◌≡◌, length, IfOk};
+ghost use Rattle.std.specs.Prelude.{◌≡◌, ◌≤◌, length, IfOk};
 ghost use Rattle.proxy_turn.specs.Received.{IsReceived};
 
 use crate::early::{Came, Early};
 use crate::lines::Line;
 use crate::peer::Peer;
+use crate::pieces::{LEAST, head_end};
 use hx_fields::Bytes;
 use proxy_log::{Asked, Told};
 use proxy_turn::Received;
@@ -35,10 +36,12 @@ pub(crate) struct Client {
     pub(crate) peer: Peer,
     alloc: Global,
     pub(crate) place: Place,
-    /// What came before it had a place.
+    /// What came and wasn't handed in yet.
     early: Option<Early>,
     /// When the first byte of its request came, if its request is incomplete.
     pub(crate) asked: Option<u64>,
+    /// Something of a request was handed in that wasn't answered yet.
+    is_begun: bool,
     /// When its end was seen.
     pub(crate) left: Option<u64>,
     /// It has sent a request, in all.
@@ -57,6 +60,7 @@ impl Client {
             place: Place::In(Line::Idle, stamp),
             early: None,
             asked: None,
+            is_begun: false,
             left: None,
             has_asked: false,
             closed: 0,
@@ -83,7 +87,7 @@ impl Client {
 
     /// It has no place any more, between two requests.
     pub(crate) fn rest(&mut self) {
-        self.asked = None;
+        self.answered();
         if let Some(logged) = &mut self.logged {
             logged.asked = None;
         }
@@ -125,7 +129,7 @@ impl Client {
         }))
     }
 
-    /// Keeps what came before it has a place.
+    /// Keeps what came and isn't handed in yet.
     pub(crate) fn keep_early(&mut self, piece: &[u8]) -> Result<(), AllocError> {
         let mut early = match self.early.take() {
             Some(early) => early,
@@ -144,7 +148,7 @@ impl Client {
         }
     }
 
-    /// Whether something has come before it had a place, and wasn't taken.
+    /// Whether something has come that wasn't handed in yet.
     pub(crate) fn has_early(&self) -> bool {
         match &self.early {
             Some(early) => !early.is_empty(),
@@ -152,7 +156,7 @@ impl Client {
         }
     }
 
-    /// Drops what has come before it had a place.
+    /// Drops what has come and wasn't handed in.
     pub(crate) fn drop_early(&mut self) {
         self.early = None;
     }
@@ -188,26 +192,62 @@ impl Client {
         !self.peer.has_unsent() && (self.peer.readable || self.has_early())
     }
 
-    /// Reads what has come, if anything may have: what came before it had a place comes first.
+    /// Something of a request is handed in.
+    fn ask(&mut self, now: u64) {
+        self.is_begun = true;
+        if self.asked.is_none() {
+            self.asked = Some(now);
+        }
+    }
+
+    /// Its request was answered.
+    pub(crate) fn answered(&mut self) {
+        self.asked = None;
+        self.is_begun = false;
+    }
+
+    /// How many bytes are handed in at least, where so many have come.
+    fn least(&self) -> usize {
+        if self.is_begun { LEAST } else { 0 }
+    }
+
+    /// Keeps what stands behind the head of a request for the next reads; answers how many bytes stand in front. Where there is no
+    /// memory for it, all are handed in.
+    fn keep_rest(&mut self, piece: &[u8], least: usize) -> usize
+        ensures { result ≤ length piece.now }
+    {
+        let end = head_end(piece, least);
+        if end == 0 || end == piece.len() {
+            return piece.len();
+        }
+        match self.keep_early(&piece[end..]) {
+            Ok(()) => end,
+            Err(_) => piece.len(),
+        }
+    }
+
+    /// Reads what has come, if anything may have, as far as the head of one request: what was kept comes first.
     pub(crate) fn read(&mut self, buf: &mut [u8], now: u64) -> io::Result<Received>
         ensures within { IfOk result (IsReceived (length buf.old)) }
         ensures length { length buf.new ≡ length buf.old }
     {
+        let least = self.least();
         if let Some(early) = &mut self.early {
-            let n = early.give(buf);
+            let n = early.give(buf, least);
             if early.is_empty() {
                 self.early = None;
             }
             if n > 0 {
+                self.ask(now);
                 return Ok(Received::Bytes(n));
             }
         }
-        let received = self.peer.read(buf, now)?;
-        if let Received::Bytes(_) = received {
-            if self.asked.is_none() {
-                self.asked = Some(now);
+        match self.peer.read(buf, now)? {
+            Received::Bytes(n) => {
+                self.ask(now);
+                Ok(Received::Bytes(self.keep_rest(&buf[..n], least)))
             }
+            received => Ok(received),
         }
-        Ok(received)
     }
 }

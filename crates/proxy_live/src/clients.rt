@@ -235,7 +235,7 @@ impl Clients {
     /// The request of a number was answered.
     pub(crate) fn answered(&mut self, n: u64) {
         if let Some(client) = self.get_mut(n) {
-            client.asked = None;
+            client.answered();
         }
     }
 
@@ -333,18 +333,28 @@ impl Clients {
         gives_way
     }
 
+    /// A client that has taken everything waits for a place, where it has sent more, or else is idle.
+    fn take_up(&mut self, key: usize, now: u64) {
+        let Some(client) = self.streams.get_mut(key) else {
+            return;
+        };
+        if client.peer.has_unsent() {
+            return;
+        }
+        if client.has_early() {
+            client.asked = Some(now);
+            self.stand(key, Line::Fresh);
+            return;
+        }
+        self.stand(key, Line::Idle);
+        self.hear_early(key, now);
+    }
+
     /// Goes on with a stream that has no place.
     fn go_on(&mut self, key: usize, line: Line, now: u64) {
         match line {
             Line::Idle => self.hear_early(key, now),
-            Line::Taking => {
-                if let Some(client) = self.streams.get(key) {
-                    if !client.peer.has_unsent() {
-                        self.stand(key, Line::Idle);
-                        self.hear_early(key, now);
-                    }
-                }
-            }
+            Line::Taking => self.take_up(key, now),
             Line::Fresh => {
                 let _ = self.drop_left(key);
             }

@@ -1,6 +1,8 @@
-//! What has come of a request before it has a place: the first bytes of a connection, or those that come behind a rest.
+//! What has come of a client and wasn't handed in yet: before its request has a place the first bytes of a connection, or those that
+//! come behind a rest; and what came in one read behind the head of a request.
 ghost use Rattle.std.specs.Prelude.{◌≡◌, ◌≤◌, length};
 
+use crate::pieces::head_end;
 use hx_framing::{Next, RequestReader};
 use std::alloc::{AllocError, Global};
 
@@ -16,7 +18,7 @@ pub(crate) enum Came {
     Part,
 }
 
-/// Bytes of a client that has no place yet.
+/// Bytes of a client that wait to be handed in.
 #[derive(Drop)]
 pub(crate) struct Early {
     bytes: Vec<u8>,
@@ -49,7 +51,17 @@ impl Early {
     }
 
     pub(crate) fn keep(&mut self, piece: &[u8]) -> Result<(), AllocError> {
+        self.drop_taken();
         self.bytes.extend_from_slice(piece)
+    }
+
+    /// Drops what was taken.
+    fn drop_taken(&mut self) {
+        if self.taken > 0 && self.taken <= self.bytes.len() {
+            let _ = self.bytes.drain(..self.taken);
+            self.seen = self.seen.saturating_sub(self.taken);
+            self.taken = 0;
+        }
     }
 
     /// Looks at what has come since the last look. Each byte is looked at once.
@@ -77,17 +89,22 @@ impl Early {
         }
     }
 
-    /// Gives of the bytes as many as there is room for; answers how many.
-    pub(crate) fn give(&mut self, buf: &mut [u8]) -> usize
+    /// Gives the bytes as far as the head of one request, and as there is room for them, but `least` of them, where there are so
+    /// many; answers how many.
+    pub(crate) fn give(&mut self, buf: &mut [u8], least: usize) -> usize
         ensures within { result ≤ length buf.old }
         ensures length { length buf.new ≡ length buf.old }
     {
         let Some(left) = self.bytes.get(self.taken..) else {
             return 0;
         };
-        let n = left.len().min(buf.len());
+        let room = left.len().min(buf.len());
+        let n = head_end(&left[..room], least);
         buf[..n].copy_from_slice(&left[..n]);
         self.taken = self.taken.saturating_add(n);
+        // The next look begins behind what was given.
+        self.seen = self.taken;
+        self.reader = None;
         n
     }
 }

@@ -17,8 +17,10 @@ mod links;
 mod live_sockets;
 mod patience;
 mod peer;
+mod pieces;
 mod recorder;
 mod recording;
+mod send_buffer;
 mod server;
 
 pub use crate::limits::Limits;

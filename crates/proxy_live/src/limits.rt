@@ -66,5 +66,6 @@ pub(crate) const LINGERING: usize = 256;
 /// A closed connection whose client has taken everything and sends nothing more is given so many milliseconds.
 pub(crate) const QUIET: u64 = 5000;
 
-/// One whose client goes on sending is given so many milliseconds in all.
+/// One whose client goes on sending is given so many milliseconds in all, and one whose client has something to take so many
+/// without a byte taken.
 pub(crate) const PATIENCE: u64 = 30_000;

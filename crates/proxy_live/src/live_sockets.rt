@@ -7,6 +7,7 @@ use crate::clients::Clients;
 use crate::limits::{Limits, SHARE};
 use crate::links::{Link, Links};
 use crate::peer::Peer;
+use crate::send_buffer::bound_send_buffers;
 use hx_status::FailKind;
 use mio::event::Event;
 use mio::net::{TcpListener, TcpStream};
@@ -216,6 +217,7 @@ impl<'a, R: Net> LiveSockets<'a, R> {
     ) -> io::Result<LiveSockets<'a, R>> {
         let poll = Poll::new(net)?;
         let mut listener = TcpListener::bind(net, address)?;
+        bound_send_buffers(&listener);
         poll.registry()
             .register(&mut listener, Token(LISTENER), Interest::READABLE)?;
         let address = listener.local_addr()?;
@@ -438,7 +440,8 @@ impl<'a, R: Net> LiveSockets<'a, R> {
 
     /// Whether a client that is between two requests has been so for a while, or is to be let go.
     pub fn is_idle(&self, n: u64) -> bool {
-        self.clients.may_park(n) && (self.is_draining() || self.clients.is_idle(n, self.now))
+        let limit = self.clients.idle_limit(n, self.is_draining());
+        self.clients.may_park(n) && self.clients.is_idle(n, self.now, limit)
     }
 
     /// How many clients wait for a place that isn't free.
@@ -453,7 +456,7 @@ impl<'a, R: Net> LiveSockets<'a, R> {
 
     /// Whether nothing waits to be read from a client.
     pub fn may_park(&self, n: u64) -> bool {
-        self.clients.may_park(n)
+        self.clients.may_park(n) && !(self.is_draining() && self.clients.has_early(n))
     }
 
     /// A client between two requests leaves its place; its stream stays, unless no more connections are taken.

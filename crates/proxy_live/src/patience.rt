@@ -20,7 +20,7 @@ fn is_over(client: &Client, line: Line, limits: &Limits, now: u64, draining: boo
         Line::Whole => false,
         Line::Long => client.is_late(now, limits.request_timeout),
         Line::Partial => client.is_late(now, limits.request_timeout),
-        Line::Leaving => quiet > limits.client_timeout,
+        Line::Leaving => quiet > limits.client_timeout.min(PATIENCE),
         Line::Lingering => quiet > QUIET || now.saturating_sub(client.closed) > PATIENCE,
     }
 }
@@ -92,11 +92,32 @@ impl Clients {
         }
     }
 
-    /// Whether a client has been idle for a while.
-    pub(crate) fn is_idle(&self, n: u64, now: u64) -> bool {
+    /// For how long a client between two requests may be idle before it leaves its place, in milliseconds. When no more connections
+    /// are taken it has none, unless a request of it has come that is answered once it takes what waits for it.
+    pub(crate) fn idle_limit(&self, n: u64, draining: bool) -> Option<u64> {
+        if !draining {
+            return Some(IDLE);
+        }
+        if self.has_early(n) {
+            Some(self.limits.client_timeout)
+        } else {
+            None
+        }
+    }
+
+    /// Whether a client has sent more than was handed in.
+    pub(crate) fn has_early(&self, n: u64) -> bool {
         match self.get(n) {
-            Some(client) => now.saturating_sub(client.peer.heard) > IDLE,
-            None => true,
+            Some(client) => client.has_early(),
+            None => false,
+        }
+    }
+
+    /// Whether a client has been idle for longer than that.
+    pub(crate) fn is_idle(&self, n: u64, now: u64, limit: Option<u64>) -> bool {
+        match (self.get(n), limit) {
+            (Some(client), Some(limit)) => now.saturating_sub(client.peer.heard) > limit,
+            _ => true,
         }
     }
 

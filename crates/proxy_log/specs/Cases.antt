@@ -11,6 +11,11 @@ answered moment reason =
 abbrev pub unread : List ℕ → Line
 unread reason = record { moment = 0; client = codes "127.0.0.1:40001"; method = []; target = []; status = 400; length = 13; reason = reason }
 
+-- a POST whose content is too large; its target is as it came
+abbrev pub refused : List ℕ → Line
+refused target =
+    record { moment = 0; client = codes "127.0.0.1:40001"; method = codes "POST"; target = target; status = 413; length = 18; reason = codes "refused: too-large" }
+
 -- a target that is no URI
 abbrev pub with_target : List ℕ → Line
 with_target target =

@@ -1,11 +1,14 @@
 //! What a client asked for, read from its bytes a second time.
+ghost use Rattle.std.specs.Prelude.{◌≤◌, length, IfOk};
 
+use crate::request_line::request_line;
 use hx_fields::Bytes;
 use hx_framing::{Next, Request, RequestReader};
 use hx_target::{Target, read_target};
 use itoa::Buffer;
 use std::alloc::{AllocError, Global};
 use std::collections::VecDeque;
+use std::mem::replace;
 
 /// The stream of one client, as far as it was answered.
 #[derive(Drop)]
@@ -13,8 +16,12 @@ pub struct Asked {
     reader: RequestReader,
     /// The requests that have come whole and weren't answered, the oldest first. Their contents aren't kept.
     questions: VecDeque<Question>,
-    /// A piece was lost for want of memory: what follows can't be read.
-    lost: bool,
+    /// What has come of a head that isn't whole.
+    head: Vec<u8>,
+    /// What is asked for by a request whose head has come, and whose content hasn't, or that is refused.
+    begun: Option<Question>,
+    /// What follows can't be read: a piece was lost for want of memory, or a request was refused.
+    over: bool,
 }
 
 /// The method of a request and its target URI. Both are empty where no request could be read.
@@ -53,46 +60,120 @@ fn question_of(alloc: Global, request: &Request) -> Result<Question, AllocError>
     Ok(Question { method, target })
 }
 
+/// What the request line of a head asks for that was refused, or whose content is to come; the target is as it came.
+fn question_in(alloc: Global, head: &[u8]) -> Result<Question, AllocError> {
+    match request_line(alloc, head)? {
+        Some((method, target)) => Ok(Question {
+            method: Bytes::copy_of(alloc, method)?,
+            target: Bytes::copy_of(alloc, target)?,
+        }),
+        None => Ok(no_question(alloc)),
+    }
+}
+
+/// The bytes from an index on.
+fn rest_from(text: &[u8], from: usize) -> &[u8] {
+    match text.get(from..) {
+        Some(rest) => rest,
+        None => b"",
+    }
+}
+
 impl Asked {
     /// A stream from which nothing has come. Contents have at most `max_body` bytes.
     pub fn new(alloc: Global, max_body: u64) -> Asked {
         Asked {
             reader: RequestReader::new(alloc, max_body),
             questions: VecDeque::new(alloc),
-            lost: false,
+            head: Vec::new(alloc),
+            begun: None,
+            over: false,
         }
     }
 
     /// Takes the next piece of the stream.
     pub fn hear(&mut self, alloc: Global, piece: &[u8]) {
-        if self.lost {
+        if self.over {
             return;
         }
         if self.take(alloc, piece).is_err() {
-            self.lost = true;
+            self.over = true;
         }
     }
 
-    /// Keeps what the requests ask for that are whole with this piece.
+    /// Keeps what the requests ask for that are whole with this piece, and what has come of the next head.
     fn take(&mut self, alloc: Global, piece: &[u8]) -> Result<(), AllocError> {
         self.reader.feed(piece)?;
-        for _request in 0..u64::MAX {
-            match self.reader.next(alloc)? {
-                Next::Message(request) => {
-                    let question = question_of(alloc, &request)?;
-                    self.questions.push_back(question)?;
-                }
-                // The interim response goes out; the request follows.
-                Next::NeedsContinue => {}
-                _ => return Ok(()),
-            }
+        if self.head.is_empty() {
+            let from = self.read_on(alloc, piece)?;
+            return self.head.extend_from_slice(rest_from(piece, from));
+        }
+        let mut text = replace(&mut self.head, Vec::new(alloc));
+        text.extend_from_slice(piece)?;
+        let from = self.read_on(alloc, text.as_slice())?;
+        if from > 0 {
+            let _ = text.drain(..from);
+        }
+        self.head = text;
+        Ok(())
+    }
+
+    /// Keeps what a request asks for whose head has come, if that isn't kept yet.
+    fn begin(&mut self, alloc: Global, head: &[u8]) -> Result<(), AllocError> {
+        if self.begun.is_none() {
+            self.begun = Some(question_in(alloc, head)?);
         }
         Ok(())
     }
 
-    /// What the next reply answers: the replies of a connection are in the order of its requests.
+    /// Reads on. The text begins with a head, unless a content is to come, and ends where the stream does. Answers from where on
+    /// it is a head that isn't whole.
+    fn read_on(&mut self, alloc: Global, text: &[u8]) -> Result<usize, AllocError>
+        ensures { IfOk result (λ from. from ≤ length text.now) }
+    {
+        let mut from = 0usize;
+        for _request in 0..u64::MAX {
+            match self.reader.next(alloc)? {
+                Next::Message(request) => {
+                    self.questions.push_back(question_of(alloc, &request)?)?;
+                    self.begun = None;
+                    // What the reader keeps stands behind the request.
+                    from = text.len().saturating_sub(self.reader.kept());
+                }
+                // The interim response goes out; the request follows.
+                Next::NeedsContinue => self.begin(alloc, rest_from(text, from))?,
+                Next::Refused(_) => {
+                    self.over = true;
+                    self.begin(alloc, rest_from(text, from))?;
+                    break;
+                }
+                Next::More => {
+                    let head = rest_from(text, from);
+                    // A head that is whole isn't kept by the reader.
+                    if self.reader.kept() < head.len() {
+                        self.begin(alloc, head)?;
+                    }
+                    break;
+                }
+                Next::End => break,
+            }
+        }
+        // A content isn't kept.
+        let rest = if self.begun.is_some() {
+            text.len()
+        } else {
+            from
+        };
+        Ok(rest.min(text.len()))
+    }
+
+    /// What the next reply answers: the replies of a connection are in the order of its requests, and only the last of these is
+    /// refused before it is whole.
     pub fn next_question(&mut self, alloc: Global) -> Question {
-        match self.questions.pop_front() {
+        if let Some(question) = self.questions.pop_front() {
+            return question;
+        }
+        match self.begun.take() {
             Some(question) => question,
             None => no_question(alloc),
         }

@@ -7,6 +7,7 @@
 mod asked;
 mod line;
 mod lines;
+mod request_line;
 mod told;
 pub mod worked_cases;
 

@@ -1,13 +1,14 @@
 //! The texts of worked lines, computed from the definitions: each function's contract is the cases, and its body is empty.
 ghost use Rattle.std.specs.Prelude.{◌≡◌, ◌∷◌, ◌++◌, [], codes};
-ghost use Rattle.proxy_log.specs.Cases.{answered, unread, with_target};
+ghost use Rattle.proxy_log.specs.Cases.{answered, refused, unread, with_target};
 ghost use Rattle.proxy_log.specs.Line.{line_text};
 
-/// A miss, a hit, a denial with its blanks, and what couldn't be read.
+/// A miss, a hit, a denial with its blanks, a content that is refused, and what couldn't be read.
 pub fn lines_are_written()
     ensures miss { line_text (answered 1764050000 (codes "fwd=uri-miss;ttl=600;stored")) ≡ codes "1764050000 127.0.0.1:40001 GET http://h/a 200 5 fwd=uri-miss;ttl=600;stored\n" }
     ensures hit { line_text (answered 1764050001 (codes "hit;ttl=599")) ≡ codes "1764050001 127.0.0.1:40001 GET http://h/a 200 5 hit;ttl=599\n" }
     ensures denied { line_text (answered 0 (codes "denied by line 1")) ≡ codes "0 127.0.0.1:40001 GET http://h/a 200 5 denied by line 1\n" }
+    ensures refused { line_text (refused (codes "http://h:80/up")) ≡ codes "0 127.0.0.1:40001 POST http://h:80/up 413 18 refused: too-large\n" }
     ensures unread { line_text (unread (codes "refused: head")) ≡ codes "0 127.0.0.1:40001 - - 400 13 refused: head\n" }
 {}
 

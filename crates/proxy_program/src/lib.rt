@@ -3,6 +3,7 @@
 //! One line on standard error names a fault, and the exit status tells its kind.
 #![tactic(auto)]
 
+mod clock_watch;
 mod command_line;
 mod descriptors;
 mod fault;

@@ -1,5 +1,6 @@
 //! Serving: the table, the listener, the record and the log, and then turn after turn.
 
+use crate::clock_watch::ClockWatch;
 use crate::command_line::Service;
 use crate::descriptors::{allowed, wanted};
 use crate::fault::{Fault, fault_of};
@@ -13,6 +14,7 @@ use std::fs::OpenOptions;
 use std::io;
 use std::io::{ErrorKind, Write};
 use std::net::Net;
+use std::os::unix::fs::OpenOptionsExt;
 use std::rt::{Clock, Files};
 
 /// The name of a record: `%s` in it is the moment, in Unix seconds.
@@ -38,7 +40,8 @@ fn record_of<R: Files + Clock + AllocGlobal>(
     };
     let name = record_name(rt, path)?;
     let mut how = OpenOptions::new();
-    how.write(true).create_new(true);
+    // It holds what was sent, passwords included: nobody else is to read it.
+    how.write(true).create_new(true).mode(0o600);
     match how.open(rt, name.as_str()) {
         Ok(file) => Ok(Some(Recorder::begin(rt.alloc(), file, table)?)),
         Err(e) if e.kind() == ErrorKind::AlreadyExists => Err(Fault::RecordExists),
@@ -65,6 +68,13 @@ fn announce<R: Net + Files + Eprint + AllocGlobal>(
     }
 }
 
+/// Tells that the clock went back.
+fn warn_of_clock<R: Eprint>(rt: &R, seconds: u64) {
+    let _ = eprintln!(rt;
+        "warning: the clock went back by {seconds} seconds; what was stored before may be sent for so much longer"
+    );
+}
+
 /// Serves as many turns as are asked for, or until it is to end. Lines about replies are written behind each turn.
 fn serve_turns<'a, R: Net + Clock + Files + Eprint, S: Shelf + Drop, P: Write + Drop>(
     rt: &R,
@@ -76,9 +86,13 @@ fn serve_turns<'a, R: Net + Clock + Files + Eprint, S: Shelf + Drop, P: Write + 
     let mut watch = watch;
     let mut told = false;
     let mut log_told = false;
+    let mut clock = ClockWatch::new();
     for _ in 0..turns {
         // What a turn that ended early left undone is done in the next one.
-        let _turned = server.serve_turn(rt)?;
+        let turned = server.serve_turn(rt)?;
+        if let Some(seconds) = clock.look(turned.moment, server.second()) {
+            warn_of_clock(rt, seconds);
+        }
         if !told && server.record_has_ended() {
             told = true;
             let _ = eprintln!(rt; "record ended");

@@ -14,6 +14,10 @@ pub returns-clause-denied : goal.returns-clause-denied
 unfolding digits
 returns-clause-denied c = refl
 
+pub returns-clause-refused : goal.returns-clause-refused
+unfolding digits
+returns-clause-refused c = refl
+
 pub returns-clause-unread : goal.returns-clause-unread
 unfolding digits
 returns-clause-unread c = refl
