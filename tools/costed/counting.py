@@ -8,6 +8,10 @@ import tempfile
 from collections import Counter
 
 
+# Copies by `rep movsb`, which the C library has for more than 2 KB, would count as an instruction for each byte.
+SAME_FOR_ALL_SIZES = {**os.environ, "GLIBC_TUNABLES": "glibc.cpu.hwcaps=-ERMS,-FSRM"}
+
+
 class Failed(Exception):
     """A replay that didn't do what it was made for."""
 
@@ -43,7 +47,7 @@ class Program:
         with tempfile.TemporaryDirectory(prefix="costs-") as room:
             out = f"{room}/out"
             words = ["valgrind", "--tool=callgrind", f"--callgrind-out-file={out}", "--compress-strings=no", "--compress-pos=no"]
-            self.run([*words, *self.words], text, stdout=subprocess.DEVNULL, stderr=subprocess.DEVNULL)
+            self.run([*words, *self.words], text, stdout=subprocess.DEVNULL, stderr=subprocess.DEVNULL, env=SAME_FOR_ALL_SIZES)
             return read(out)
 
 
