@@ -10,6 +10,7 @@ use hx_allow::Config;
 use std::env;
 use std::net::Net;
 use std::process::ExitCode;
+use std::random::RandomSource;
 use std::rt::{Clock, Env, Files};
 
 /// Checks a table, and tells how many lines it has, or in words what may stand where it is at fault.
@@ -43,7 +44,7 @@ fn explain<R: Print + Eprint>(rt: &R, error: &Error) -> Result<(), Fault> {
 /// Does what the words ask for; a replay tells its own exit status.
 fn done<R>(rt: &R, words: &[String]) -> Result<ExitCode, Fault>
 where
-    R: Files + Env + Input + Print + Eprint + AllocGlobal + Net + Clock,
+    R: Files + Env + Input + Print + Eprint + AllocGlobal + Net + Clock + RandomSource,
 {
     let matches = match read(rt.alloc(), words) {
         Ok(matches) => matches,
@@ -71,7 +72,7 @@ fn words<R: Env + AllocGlobal>(rt: &R) -> Result<Vec<String>, Fault> {
 
 fn run_or_fail<R>(rt: &R) -> Result<ExitCode, Fault>
 where
-    R: Files + Env + Input + Print + Eprint + AllocGlobal + Net + Clock,
+    R: Files + Env + Input + Print + Eprint + AllocGlobal + Net + Clock + RandomSource,
 {
     let words = words(rt)?;
     done(rt, words.as_slice())
@@ -80,7 +81,7 @@ where
 /// Does what the command line asks for: without a word, replays standard input to standard output.
 pub fn run<R>(rt: &R) -> ExitCode
 where
-    R: Files + Env + Input + Print + Eprint + AllocGlobal + Net + Clock,
+    R: Files + Env + Input + Print + Eprint + AllocGlobal + Net + Clock + RandomSource,
 {
     match run_or_fail(rt) {
         Ok(status) => status,

@@ -11,10 +11,12 @@ use hx_allow::Config;
 use hx_store::{IndexedShelf, Shelf};
 use proxy_live::{Limits, LiveSockets, Recorder, Server};
 use std::fs::OpenOptions;
+use std::hash::{BuildHasher, Hasher, RandomState};
 use std::io;
 use std::io::{ErrorKind, Write};
 use std::net::Net;
 use std::os::unix::fs::OpenOptionsExt;
+use std::random::RandomSource;
 use std::rt::{Clock, Files};
 
 /// The name of a record: `%s` in it is the moment, in Unix seconds.
@@ -145,8 +147,16 @@ fn journal_of<R: Files, P: Write + Drop>(
     }
 }
 
+/// A number that nobody can foresee, for what tells variants apart before they are looked at.
+fn seed_of<R: RandomSource>(rt: &R) -> Result<u64, Fault> {
+    match RandomState::new(rt) {
+        Ok(state) => Ok(state.build_hasher().finish()),
+        Err(_) => Err(Fault::Read),
+    }
+}
+
 /// Serves, and tells at the end how many lines of the log were lost.
-pub(crate) fn serve<R: Net + Clock + Files + Print + Eprint + AllocGlobal>(
+pub(crate) fn serve<R: Net + Clock + Files + Print + Eprint + AllocGlobal + RandomSource>(
     rt: &R,
     service: &Service<'_>,
 ) -> Result<(), Fault> {
@@ -159,7 +169,7 @@ pub(crate) fn serve<R: Net + Clock + Files + Print + Eprint + AllocGlobal>(
         Err(e) => return Err(fault_of(&e, Fault::Socket)),
     };
     let record = record_of(rt, service.record, table.as_slice())?;
-    let shelf = IndexedShelf::new(rt.alloc(), config.capacity())?;
+    let shelf = IndexedShelf::seeded(rt.alloc(), config.capacity(), seed_of(rt)?)?;
     let mut journal = journal_of(rt, service.log, io::writer(rt))?;
     if journal.is_some() {
         sockets.keep_log();
