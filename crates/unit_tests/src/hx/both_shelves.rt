@@ -153,8 +153,8 @@ fn agree(
 fn both_shelves_answer_alike(rt: HostRuntime) -> Result<(), Fail> {
     let alloc = rt.alloc();
     let mut list = ListShelf::new(alloc, CAPACITY as usize);
-    let mut indexed = IndexedShelf::new(alloc, CAPACITY as usize)?;
     let mut dice = 20_261_124u64;
+    let mut indexed = IndexedShelf::seeded(alloc, CAPACITY as usize, dice)?;
     for n in 1..=CALLS {
         dice = dice
             .wrapping_mul(6_364_136_223_846_793_005)
