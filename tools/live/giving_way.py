@@ -314,9 +314,9 @@ def an_exchange_has_an_end(stage):
 def the_slowest_reader_gives_way(stage):
     """`--unsent-limit`: four clients leave more unread than is kept in all. The one for whom most is kept is cut off, and the
     others get all that they asked for."""
-    # (the system's own buffers take some three million bytes of each answer; of a record 16,777,216 are kept)
+    # (the system's own buffers take some 300,000 bytes of each answer; of a record 16,777,216 are kept)
     text = bytes(i * 7 % 251 for i in range(11000000))
-    stage.origin(Origin({"/modest": whole(200, KEPT, content=text[:5000000]), "/greedy": whole(200, KEPT, content=text)}))
+    stage.origin(Origin({"/modest": whole(200, KEPT, content=text[:2000000]), "/greedy": whole(200, KEPT, content=text)}))
     proxy = stage.proxy(options=["--unsent-limit", "10000000"], max_body=16 << 20, max_stored=16 << 20)
     modest = [proxy.client(window=4096) for _ in range(3)]
     for it in modest:
@@ -336,6 +336,6 @@ def the_slowest_reader_gives_way(stage):
     if len(greedy.received) >= len(text):
         raise Unexpected("for the client that leaves most unread", "a part of its answer", f"{len(greedy.received)} bytes")
     for it in modest:
-        if it.response().content != text[:5000000]:
+        if it.response().content != text[:2000000]:
             raise Unexpected("content", "as the origin sent it", "another one")
         expect_answer(it.ask("/modest", method="HEAD"), 200, HIT, b"")
