@@ -1,10 +1,12 @@
 -- Laws of the pieces between commas.
-use Rattle.std.proofs.Common.{◌≡◌, ℕ, suc, ◌+◌, ◌-◌, ◌<◌, ◌≤◌, Bool, true, false, List, [], ◌∷◌, ◌++◌, length, get_or, drop, refl, sym, ◌∙◌, ap, cond, arith, append_assoc, add-one, append-nil}
-use Rattle.std.specs.Prelude.{slice_range, filter, map}
+use Rattle.std.proofs.Common.{◌≡◌, ℕ, suc, ◌+◌, ◌-◌, ◌<◌, ◌≤◌, Bool, true, false, List, [], ◌∷◌, ◌++◌, length, get_or, drop, take, refl, sym, ◌∙◌, ap, cond, arith, append_assoc, add-one, append-nil, ◌||◌, inl, inr}
+use Rattle.std.specs.Prelude.{slice_range, filter, map, ◌==◌}
 use Rattle.std.proofs.Math.Seq.{drop-cons, take-suc}
 use Rattle.std.proofs.lemmas.List.{get_or-drop, length-drop}
 use Rattle.std.proofs.lemmas.Grind.{common_steps}
-use Rattle.hx_fields.specs.Names.{pieces, in_front, cuts, next_place, trimmed, is_nonempty}
+use Rattle.std.proofs.lemmas.Bool.{cases_Bool}
+use Rattle.std.specs.List.{prefix_len, suffix_len}
+use Rattle.hx_fields.specs.Names.{pieces, in_front, cuts, next_place, trimmed, is_nonempty, is_blank, members_of_value}
 use Rattle.hx_fields.specs.declared.cutting.QuoteState.{QuoteState}
 use Rattle.hx_fields.specs.declared.cutting.QuoteState.TheVariants.{Outside, Quoted, Escaped}
 
@@ -92,3 +94,47 @@ module _ (value : List ℕ) (start i : ℕ) (place : QuoteState) (within : start
       ∙ ap (λ q. kept (q ∷ rest)) (append-nil cur)
       ∙ filter-cons is_nonempty (trimmed cur) (map trimmed rest)
       ∙ ap (λ ps. kept (cur ∷ []) ++ kept ps) (sym after)
+
+-- a comma or a blank in front of the first member changes no member
+comma_in_front : (bs : List ℕ) → members_of_value (44 ∷ bs) ≡ members_of_value bs
+comma_in_front bs = refl
+
+blank_is_trimmed : (b : ℕ) (p : List ℕ) → is_blank b ≡ true → trimmed (b ∷ p) ≡ trimmed p
+blank_is_trimmed b p h =
+    ap (λ t. take (length t - suffix_len is_blank t) t)
+    (ap (λ c. drop (cond c (1 + prefix_len is_blank p) 0) (b ∷ p)) h ∙ ap (λ k. drop k (b ∷ p)) (one_more (prefix_len is_blank p)))
+  where
+    one_more : (n : ℕ) → 1 + n ≡ suc n
+    one_more n = omega arith
+
+in_front_of_a_piece : (b : ℕ) (ps : List (List ℕ)) → is_blank b ≡ true → kept (in_front b ps) ≡ kept ps
+in_front_of_a_piece b [] h = rw (blank_is_trimmed b [] h) refl
+in_front_of_a_piece b (p ∷ ps) h = ap (λ t. filter is_nonempty (t ∷ map trimmed ps)) (blank_is_trimmed b p h)
+
+is_no_comma : (b : ℕ) → is_blank b ≡ true → cuts Outside b ≡ false
+is_no_comma b h = grind (arith, common_steps)
+
+is_no_quote : (b : ℕ) → is_blank b ≡ true → next_place Outside b ≡ Outside
+is_no_quote b h = grind (arith, common_steps)
+
+blank_in_front : (b : ℕ) (bs : List ℕ) → is_blank b ≡ true → members_of_value (b ∷ bs) ≡ members_of_value bs
+blank_in_front b bs h =
+    ap kept (pieces-goes_on Outside b bs (is_no_comma b h))
+    ∙ ap (λ place. kept (in_front b (pieces place bs))) (is_no_quote b h)
+    ∙ in_front_of_a_piece b (pieces Outside bs) h
+
+pub separator_in_front : (b : ℕ) (bs : List ℕ) → (is_blank b || b == 44) ≡ true → members_of_value (b ∷ bs) ≡ members_of_value bs
+separator_in_front b bs h = elim (cases_Bool (is_blank b)) [
+  | inl t ↦ blank_in_front b bs t
+  | inr f ↦ ap (λ c. members_of_value (c ∷ bs)) (is_comma b (sym (ap (λ s. s || b == 44) f) ∙ h))
+]
+  where
+    is_comma : (b : ℕ) → (b == 44) ≡ true → b ≡ 44
+    is_comma b e = grind (arith, common_steps)
+
+pub separator_at : (value : List ℕ) (i : ℕ) → i < length value → (is_blank (get_or value i 0) || get_or value i 0 == 44) ≡ true →
+    members_of_value (drop (i + 1) value) ≡ members_of_value (drop i value)
+separator_at value i at h =
+    let b : ℕ = get_or value i 0 in
+    let e : drop i value ≡ b ∷ drop (i + 1) value = rw add-one (drop-cons value i 0 at) in
+    sym (ap members_of_value e ∙ separator_in_front b (drop (i + 1) value) h)

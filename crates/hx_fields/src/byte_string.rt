@@ -2,6 +2,7 @@
 //!
 //! They are a vector of their own, or a part of a buffer that others share: a copy of a part takes no memory.
 ghost use Rattle.std.specs.Prelude.{◌≡◌, ◌≤◌, ◌==◌, ◌++◌, [], length, IfOk, OnOk, OnErr, slice_range};
+ghost use Rattle.hx_fields.specs.Kept.{bytes_kept};
 
 use std::alloc::{AllocError, Global};
 use std::marker::Model;
@@ -26,6 +27,18 @@ impl Drop for Kept {
         match self {
             Kept::Whole(_) => {}
             Kept::Part(_) => {}
+        }
+    }
+}
+
+impl Kept {
+    /// The vector of these bytes: that which is there, or a copy of the part. Fails for want of memory alone.
+    fn into_vec(self, alloc: Global) -> Result<Vec<u8>, AllocError>
+        ensures { IfOk result (λ bytes. bytes.items ≡ bytes_kept self) }
+    {
+        match self {
+            Kept::Whole(bytes) => Ok(bytes),
+            Kept::Part(part) => Vec::from_slice(alloc, part.as_slice()),
         }
     }
 }
@@ -151,6 +164,16 @@ impl Bytes {
                 kept: Kept::Part(part.copy()?),
             }),
         }
+    }
+
+    /// These bytes with others behind them: in the memory that they have where it is theirs alone and enough. Fails for want
+    /// of memory alone.
+    pub fn followed_by(self, alloc: Global, more: &[u8]) -> Result<Bytes, AllocError>
+        ensures { IfOk result (λ all. all ≡ self ++ more.now) }
+    {
+        let mut bytes = self.kept.into_vec(alloc)?;
+        bytes.extend_from_slice(more)?;
+        Ok(Bytes::from_vec(bytes))
     }
 
     /// The bytes.

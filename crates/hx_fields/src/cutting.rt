@@ -1,5 +1,5 @@
 //! Where a list's members stand in the bytes of a value. No function here takes memory.
-ghost use Rattle.std.specs.Prelude.{◌≡◌, ◌≤◌, ◌-◌, ◌∷◌, [], length, take, drop, ◌<◌, ◌+◌, MatchOption, IfSome};
+ghost use Rattle.std.specs.Prelude.{◌≡◌, ◌≤◌, ◌-◌, ◌∷◌, ◌==◌, ◌||◌, [], length, take, drop, ◌<◌, ◌+◌, MatchOption, IfSome};
 ghost use Rattle.std.specs.Option.{option_map};
 ghost use Rattle.std.specs.List.{prefix_len, suffix_len};
 ghost use Rattle.hx_fields.specs.Names.{is_same_name, pieces, is_blank, trimmed, cuts, next_place, members_of_value, cut_at};
@@ -104,12 +104,30 @@ fn piece_end(text: &[u8]) -> usize
     text.len()
 }
 
+fn is_separator(b: u8) -> bool
+    ensures { result ≡ (is_blank b || b == 44) }
+{
+    is_blank(b) || b == b','
+}
+
+/// A value without the commas and blanks in front of its first member.
+fn skip_separators(value: &[u8]) -> &[u8]
+    ensures members { members_of_value result.now ≡ members_of_value value.now }
+    ensures shorter { length result.now ≤ length value.now }
+{
+    let mut n = 0;
+    while n < value.len() && is_separator(value[n]) {
+        n += 1;
+    }
+    &value[n..]
+}
+
 /// The first member of a value, and what stands behind it.
 pub fn next_member(value: &[u8]) -> Option<(&[u8], &[u8])>
     ensures members { MatchOption result (members_of_value value.now ≡ []) (λ r. members_of_value value.now ≡ r.0.now ∷ members_of_value r.1.now) }
     ensures shorter { IfSome result (λ r. length r.1.now < length value.now) }
 {
-    let mut rest = value;
+    let mut rest = skip_separators(value);
     loop {
         let end = piece_end(rest);
         let piece = trim_blanks(&rest[..end]);

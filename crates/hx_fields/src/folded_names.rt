@@ -2,7 +2,7 @@
 ghost use Rattle.std.specs.Prelude.{◌≡◌, [], IfOk, OnOk, OnErr, Some, bytes_eq, refl};
 ghost use Rattle.std.specs.Cmp.{partial_equiv_from_equiv, partial_order_from_agreeing_total};
 ghost use Rattle.std.specs.Cmp.Lexicographic.{nat_list_eq_equiv};
-ghost use Rattle.hx_fields.specs.Folded.{folded, folded_cmp, folded_cmp_total, folded_ties};
+ghost use Rattle.hx_fields.specs.Folded.{folded, folded_cmp, folded_cmp_total, folded_ties, number_of};
 
 use std::alloc::{AllocError, Global};
 use std::cmp::Ordering;
@@ -10,27 +10,43 @@ use std::marker::Model;
 
 /// A name in lower case, of which contracts see the bytes.
 ///
-/// Its order is that of a map in which the lines of a head are found by their names, whatever a peer chose for them: shorter names
-/// come first, since lengths tell most of them apart.
+/// Its order is that of a map in which the lines of a head are found by their names, whatever a peer chose for them: by a number of
+/// each first, which tells most of two apart at once. Names that a peer made to have one number are told apart by their bytes.
 #[derive(Debug, Drop)]
 pub struct FoldedName {
+    number: u64,
     text: Vec<u8>,
 }
 
 impl Model for FoldedName {
-    ghost use Rattle.std.specs.Prelude.{List, ℕ};
+    ghost use Rattle.std.specs.Prelude.{List, ℕ, ◌≡◌};
+    ghost use Rattle.hx_fields.specs.Folded.{number_of};
 
     ghost Value = { List ℕ };
 
     ghost view = { λ n. n.text.items };
+
+    ghost invariant = { λ n. n.number ≡ number_of n.text.items };
+}
+
+/// The number of a name that is folded.
+#[tactic(auto, unfolding(crate::specs::Folded::number_of))]
+fn number_of(text: &[u8]) -> u64
+    ensures { result ≡ number_of text.now }
+{
+    text.iter().fold(0u64, |number, byte| {
+        number.wrapping_mul(257).wrapping_add(u64::from(*byte))
+    })
 }
 
 impl FoldedName {
     /// No bytes, to be set to names.
+    #[tactic(auto, unfolding(crate::specs::Folded::number_of))]
     pub fn new(alloc: Global) -> FoldedName
         ensures { result ≡ [] }
     {
         FoldedName {
+            number: 0,
             text: Vec::new(alloc),
         }
     }
@@ -41,7 +57,10 @@ impl FoldedName {
     {
         let mut text = Vec::from_slice(alloc, name)?;
         text.as_mut_slice().make_ascii_lowercase();
-        Ok(FoldedName { text })
+        Ok(FoldedName {
+            number: number_of(text.as_slice()),
+            text,
+        })
     }
 
     /// Becomes another name, in the memory that it has where that is enough. Want of memory changes nothing.
@@ -53,6 +72,7 @@ impl FoldedName {
         self.text.clear();
         self.text.extend_from_slice(name)?;
         self.text.as_mut_slice().make_ascii_lowercase();
+        self.number = number_of(self.text.as_slice());
         Ok(())
     }
 }
@@ -91,9 +111,8 @@ impl Ord for FoldedName {
     ghost matches_eq = { folded_ties };
 
     fn cmp(&self, other: &FoldedName) -> Ordering {
-        self.text
-            .len()
-            .cmp(&other.text.len())
+        self.number
+            .cmp(&other.number)
             .then_with(|| self.text.as_slice().cmp(other.text.as_slice()))
     }
 }

@@ -1,115 +1,139 @@
 -- The values of a request by its names, gathered line by line.
-use Rattle.std.proofs.Common.{◌≡◌, ℕ, ◌++◌, Bool, true, false, cond, ◌||◌, ◌&&◌, List, [], ◌∷◌, Option, None, Some, is_some, refl, sym, ◌∙◌, ap, inl, inr, BTreeMap}
-use Rattle.std.specs.Prelude.{map, filter, bytes_eq}
-use Rattle.std.specs.List.{list_any}
+use Rattle.std.proofs.Common.{◌≡◌, ℕ, ◌++◌, Bool, true, false, cond, ◌&&◌, List, [], ◌∷◌, Option, None, Some, is_some, refl, sym, ◌∙◌, ap, inl, inr, BTreeMap, append_assoc, append-nil}
+use Rattle.std.specs.Prelude.{map, filter, bytes_eq, codes}
+use Rattle.std.specs.List.{concat, list_all}
+use Rattle.std.specs.Map.{lookup, values_of}
 use Rattle.std.specs.BTreeMap.{get, is_at}
 use Rattle.std.proofs.lemmas.Bool.{cases_Bool, false≢true}
-use Rattle.std.proofs.lemmas.List.Folds.{list_any-append}
 use Rattle.std.proofs.lemmas.Slice.Eq.{bytes_eq-Decides}
 use Rattle.hx_fields.specs.Folded.{folded, folded_cmp, folded_ties}
 use Rattle.hx_fields.specs.Lines.{combined_of}
 use Rattle.hx_fields.specs.Names.{joined}
 use Rattle.hx_fields.specs.declared.field_line.Field.{Field}
 use Rattle.hx_vary.specs.declared.nominated_values.NominatedValue.{NominatedValue}
-use Rattle.hx_vary.specs.Combined.{HasEachValue, all_kept_by}
+use Rattle.hx_vary.specs.Combined.{HasEachValue, all_kept_by, with_line}
 use Rattle.hx_vary.specs.Vary.{is_same_value, vary_matches}
 
 abbrev pub Values : Type 0
 Values = BTreeMap (List ℕ) (List ℕ)
 
--- a line has this folded name
-abbrev pub stands : List Field → List ℕ → Bool
-stands lines q = list_any (λ (l : Field). bytes_eq (folded l.name) q) lines
-
 -- the combined value of the lines of a folded name
 abbrev pub combined_at : List Field → List ℕ → Option (List ℕ)
-combined_at request q = joined (map (λ (f : Field). f.value) (filter (λ (f : Field). bytes_eq (folded f.name) q) request))
-
--- the values of the names of these lines are gathered, and no others
-abbrev pub Gathered : List Field → List Field → Values → Type 0
-Gathered request done values = (q : List ℕ) → get folded_cmp values q ≡ cond (stands done q) (combined_at request q) None
+combined_at lines q = joined (map (λ (f : Field). f.value) (filter (λ (f : Field). bytes_eq (folded f.name) q) lines))
 
 one : (a b : List ℕ) → bytes_eq a b ≡ true → a ≡ b
 one a b h = (bytes_eq-Decides a b).0 h
 
-stands_more : (done : List Field) (line : Field) (q : List ℕ) → stands (done ++ line ∷ []) q ≡ (stands done q || (bytes_eq (folded line.name) q || false))
-stands_more done line q = list_any-append (λ (l : Field). bytes_eq (folded l.name) q) done (line ∷ [])
+-- ---- a value more is joined
 
--- a line more, of a name whose value is there, or has none
-by_cases : {X : Type 0} (s n : Bool) (g v : X) (none : X) → g ≡ cond s v none → (s ≡ false → n ≡ true → g ≡ v) → g ≡ cond (s || (n || false)) v none
-by_cases true n g v none h at = h
-by_cases false true g v none h at = at refl refl
-by_cases false false g v none h at = h
+nothing_more : (v : List ℕ) → v ++ [] ≡ v
+nothing_more v = append-nil v
 
-pub has_it : (request done : List Field) (line : Field) (values : Values) → is_some (get folded_cmp values (folded line.name)) ≡ true →
-    Gathered request done values → Gathered request (done ++ line ∷ []) values
-has_it request done line values there h q =
-    by_cases (stands done q) (bytes_eq (folded line.name) q) (get folded_cmp values q) (combined_at request q) None (h q) (λ s n.
-    let is = one (folded line.name) q n in
-    let gone : get folded_cmp values q ≡ None = h q ∙ ap (λ b. cond b (combined_at request q) None) s in
-    absurd (false≢true (sym (ap is_some gone) ∙ ap (λ z. is_some (get folded_cmp values z)) (sym is) ∙ there)))
-    ∙ sym (ap (λ b. cond b (combined_at request q) None) (stands_more done line q))
+abbrev listed : List (List ℕ) → List ℕ
+listed vs = concat (map (λ v. codes ", " ++ v) vs)
 
-pub has_none : (request done : List Field) (line : Field) (values : Values) → combined_at request (folded line.name) ≡ None →
-    Gathered request done values → Gathered request (done ++ line ∷ []) values
-has_none request done line values none h q =
-    by_cases (stands done q) (bytes_eq (folded line.name) q) (get folded_cmp values q) (combined_at request q) None (h q) (λ s n.
-    h q ∙ ap (λ b. cond b (combined_at request q) None) s ∙ sym none ∙ ap (combined_at request) (one (folded line.name) q n))
-    ∙ sym (ap (λ b. cond b (combined_at request q) None) (stands_more done line q))
+listed_more : (vs : List (List ℕ)) (v : List ℕ) → listed (vs ++ v ∷ []) ≡ listed vs ++ (codes ", " ++ v)
+listed_more [] v = nothing_more (codes ", " ++ v)
+listed_more (w ∷ vs) v = ap (λ z. (codes ", " ++ w) ++ z) (listed_more vs v) ∙ sym (append_assoc (codes ", " ++ w) (listed vs) (codes ", " ++ v))
 
--- the name of a line at its value
-pub written : (name v : List ℕ) (old new : Values) → ((q : List ℕ) → get folded_cmp new q ≡ cond (is_at (folded_cmp name) q) (Some v) (get folded_cmp old q)) →
-    (q : List ℕ) → get folded_cmp new q ≡ cond (bytes_eq name q) (Some v) (get folded_cmp old q)
-written name v old new h q = h q ∙ ap (λ b. cond b (Some v) (get folded_cmp old q)) (sym (folded_ties name q))
+joined_more : (vs : List (List ℕ)) (v : List ℕ) → joined (vs ++ v ∷ []) ≡ Some (with_line (joined vs) v)
+joined_more [] v = ap Some (nothing_more v)
+joined_more (w ∷ vs) v =
+    ap (λ z. Some (w ++ z)) (listed_more vs v)
+    ∙ ap Some (sym (append_assoc w (listed vs) (codes ", " ++ v)) ∙ sym (append_assoc (w ++ listed vs) (codes ", ") v))
 
-by_put : {X : Type 0} (s n : Bool) (g v w none : X) → g ≡ cond s v none → (n ≡ true → w ≡ v) → cond n w g ≡ cond (s || (n || false)) v none
-by_put true true g v w none h at = at refl
-by_put true false g v w none h at = h
-by_put false true g v w none h at = at refl
-by_put false false g v w none h at = h
-
-pub put_it : (request done : List Field) (line : Field) (v : List ℕ) (old new : Values) → combined_at request (folded line.name) ≡ Some v →
-    ((q : List ℕ) → get folded_cmp new q ≡ cond (is_at (folded_cmp (folded line.name)) q) (Some v) (get folded_cmp old q)) →
-    Gathered request done old → Gathered request (done ++ line ∷ []) new
-put_it request done line v old new is u h q =
-    written (folded line.name) v old new u q
-    ∙ by_put (stands done q) (bytes_eq (folded line.name) q) (get folded_cmp old q) (combined_at request q) (Some v) None (h q) (λ n.
-    sym is ∙ ap (combined_at request) (one (folded line.name) q n))
-    ∙ sym (ap (λ b. cond b (combined_at request q) None) (stands_more done line q))
-
--- each value that is there is tagged
-abbrev pub Tagged : (List ℕ → ℕ) → Values → (ℕ → Bool) → Type 0
-Tagged tag values has = (q v : List ℕ) → get folded_cmp values q ≡ Some v → has (tag v) ≡ true
-
-pub tagged_more : (tag : List ℕ → ℕ) (name v : List ℕ) (old new : Values) (had has : ℕ → Bool) →
-    ((q : List ℕ) → get folded_cmp new q ≡ cond (is_at (folded_cmp name) q) (Some v) (get folded_cmp old q)) →
-    has (tag v) ≡ true → ((t : ℕ) → had t ≡ true → has t ≡ true) → Tagged tag old had → Tagged tag new has
-tagged_more tag name v old new had has u it more h q w e = by (bytes_eq name q) (sym (written name v old new u q) ∙ e)
-  where
-    some : (a b : List ℕ) → Some a ≡ Some b → a ≡ b
-    some a b e = cc
-
-    by : (b : Bool) → cond b (Some v) (get folded_cmp old q) ≡ Some w → has (tag w) ≡ true
-    by true e = ap (λ z. has (tag z)) (sym (some v w e)) ∙ it
-    by false e = more (tag w) (h q w e)
-
--- a name that no line has, has no value
-left_out : (b : Bool) (line : Field) (fs : List Field) (rest : Bool) → (b || rest) ≡ false → (rest ≡ false → fs ≡ []) → cond b (line ∷ fs) fs ≡ []
-left_out true line fs rest h more = absurd (false≢true (sym h))
-left_out false line fs rest h more = more h
-
-no_lines : (request : List Field) (q : List ℕ) → stands request q ≡ false → filter (λ (f : Field). bytes_eq (folded f.name) q) request ≡ []
-no_lines [] q h = refl
-no_lines (line ∷ lines) q h =
-    left_out (bytes_eq (folded line.name) q) line (filter (λ (f : Field). bytes_eq (folded f.name) q) lines) (stands lines q) h (no_lines lines q)
-
-pub all_gathered : (request : List Field) (values : Values) → Gathered request request values → HasEachValue request values
-all_gathered request values h name =
-    let q = folded name in
-    elim (cases_Bool (stands request q)) [
-      | inl t ↦ h q ∙ ap (λ b. cond b (combined_at request q) None) t
-      | inr f ↦ h q ∙ ap (λ b. cond b (combined_at request q) None) f ∙ sym (ap (λ fs. joined (map (λ (l : Field). l.value) fs)) (no_lines request q f))
+values_more : (p : Field → Bool) (lines : List Field) (line : Field) →
+    map (λ (f : Field). f.value) (filter p (lines ++ line ∷ [])) ≡ map (λ (f : Field). f.value) (filter p lines) ++ cond (p line) (line.value ∷ []) []
+values_more p [] line =
+    elim (p line) as (λ b. map (λ (f : Field). f.value) (cond b (line ∷ []) []) ≡ cond b (line.value ∷ []) []) [ true ↦ refl | false ↦ refl ]
+values_more p (l ∷ lines) line =
+    let more = values_more p lines line in
+    let rest = filter p (lines ++ line ∷ []) in
+    elim (p l) as (λ b. map (λ (f : Field). f.value) (cond b (l ∷ rest) rest)
+    ≡ map (λ (f : Field). f.value) (cond b (l ∷ filter p lines) (filter p lines)) ++ cond (p line) (line.value ∷ []) []) [
+      | true ↦ ap (λ zs. l.value ∷ zs) more
+      | false ↦ more
     ]
+
+-- a line more, of this name or of another
+combined_more : (lines : List Field) (line : Field) (q : List ℕ) →
+    combined_at (lines ++ line ∷ []) q ≡ cond (bytes_eq (folded line.name) q) (Some (with_line (combined_at lines q) line.value)) (combined_at lines q)
+combined_more lines line q =
+    let p : Field → Bool = λ f. bytes_eq (folded f.name) q in
+    let vs = map (λ (f : Field). f.value) (filter p lines) in
+    ap joined (values_more p lines line)
+    ∙ (elim (p line) as (λ b. joined (vs ++ cond b (line.value ∷ []) []) ≡ cond b (Some (with_line (joined vs) line.value)) (joined vs)) [
+      | true ↦ joined_more vs line.value
+      | false ↦ ap joined (append-nil vs)
+    ])
+
+-- the values of these lines are gathered
+abbrev pub Gathered : List Field → Values → Type 0
+Gathered lines values = (q : List ℕ) → get folded_cmp values q ≡ combined_at lines q
+
+-- a value taken out and put in again, with that of a line more
+by_name : {X : Type 0} (t : Bool) (v none g : X) → cond t v (cond t none g) ≡ cond t v g
+by_name true v none g = refl
+by_name false v none g = refl
+
+pub one_line_more : (lines : List Field) (line : Field) (v : List ℕ) (old without new : Values) → Gathered lines old →
+    v ≡ with_line (get folded_cmp old (folded line.name)) line.value →
+    ((q : List ℕ) → get folded_cmp without q ≡ cond (is_at (folded_cmp (folded line.name)) q) None (get folded_cmp old q)) →
+    ((q : List ℕ) → get folded_cmp new q ≡ cond (is_at (folded_cmp (folded line.name)) q) (Some v) (get folded_cmp without q)) →
+    Gathered (lines ++ line ∷ []) new
+one_line_more lines line v old without new h is out put q =
+    let name = folded line.name in
+    put q
+    ∙ ap (λ g. cond (is_at (folded_cmp name) q) (Some v) g) (out q)
+    ∙ by_name (is_at (folded_cmp name) q) (Some v) None (get folded_cmp old q)
+    ∙ ap (λ b. cond b (Some v) (get folded_cmp old q)) (sym (folded_ties name q))
+    ∙ (elim (cases_Bool (bytes_eq name q)) [
+      | inl t ↦ ap (λ b. cond b (Some v) (get folded_cmp old q)) t
+          ∙ ap Some (is ∙ ap (λ o. with_line o line.value) (h name ∙ ap (combined_at lines) (one name q t)))
+          ∙ sym (ap (λ b. cond b (Some (with_line (combined_at lines q) line.value)) (combined_at lines q)) t)
+      | inr f ↦ ap (λ b. cond b (Some v) (get folded_cmp old q)) f
+          ∙ h q
+          ∙ sym (ap (λ b. cond b (Some (with_line (combined_at lines q) line.value)) (combined_at lines q)) f)
+    ])
+    ∙ sym (combined_more lines line q)
+
+-- ---- what is found stands among the values
+
+some_is : (a b : List ℕ) → Some a ≡ Some b → a ≡ b
+some_is a b e = cc
+
+and_left : (a b : Bool) → (a && b) ≡ true → a ≡ true
+and_left true b h = refl
+and_left false b h = absurd (false≢true h)
+
+and_right : (a b : Bool) → (a && b) ≡ true → b ≡ true
+and_right true b h = h
+and_right false b h = absurd (false≢true h)
+
+first_or_later : (b : Bool) (P : List ℕ → Bool) (v first : List ℕ) (later : Option (List ℕ)) → P first ≡ true → (later ≡ Some v → P v ≡ true) →
+    cond b (Some first) later ≡ Some v → P v ≡ true
+first_or_later true P v first later it more e = ap P (sym (some_is first v e)) ∙ it
+first_or_later false P v first later it more e = more e
+
+pub found_stands : (q v : List ℕ) (entries : List (List ℕ × List ℕ)) (P : List ℕ → Bool) → list_all P (values_of entries) ≡ true →
+    lookup (is_at (folded_cmp q)) entries ≡ Some v → P v ≡ true
+found_stands q v [] P h e = absurd (false≢true (ap is_some e))
+found_stands q v (entry ∷ entries) P h e =
+    first_or_later (is_at (folded_cmp q) entry.0) P v entry.1 (lookup (is_at (folded_cmp q)) entries)
+    (and_left (P entry.1) (list_all P (values_of entries)) h)
+    (found_stands q v entries P (and_right (P entry.1) (list_all P (values_of entries)) h)) e
+
+-- whatever passes more than what passes now, and all that is left, passes all
+abbrev pub PassesOn : (List ℕ → Bool) → List (List ℕ) → List (List ℕ) → Type 0
+PassesOn P left all = (R : List ℕ → Bool) → ((v : List ℕ) → P v ≡ true → R v ≡ true) → list_all R left ≡ true → list_all R all ≡ true
+
+pub one_passes : (P more : List ℕ → Bool) (v : List ℕ) (left all : List (List ℕ)) → ((w : List ℕ) → P w ≡ true → more w ≡ true) → more v ≡ true →
+    PassesOn P (v ∷ left) all → PassesOn more left all
+one_passes P more v left all grows it h R above rest =
+    h R (λ w p. above w (grows w p)) (ap (λ b. b && list_all R left) (above v it) ∙ rest)
+
+pub all_passed : (P : List ℕ → Bool) (all : List (List ℕ)) → PassesOn P [] all → list_all P all ≡ true
+all_passed P all h = h P (λ w p. p) refl
 
 pub kept_alike : (request : List Field) (values : Values) → HasEachValue request values → (kept : List NominatedValue) →
     all_kept_by values kept ≡ vary_matches kept request

@@ -1,14 +1,16 @@
 -- The combined value of each name of a request, by folded names.
 --
--- folded_value: the value at a name                       HasEachValue: it is that of the request, at each name
--- is_kept_by: a value that is kept is the one at its name
-use Rattle.std.specs.Prelude.{◌≡◌, ℕ, Bool, List, Option}
+-- folded_value: the value at a name                       with_line: a value with that of a further line
+-- HasEachValue: it is that of the request, at each name
+-- AreTagged: each value has its tag in a set             all_kept_by: each value that is kept is the one at its name
+use Rattle.std.specs.Prelude.{◌≡◌, ℕ, Bool, true, List, ◌++◌, codes, Option, None, Some}
 use Rattle.std.specs.List.{list_all}
 use Rattle.std.specs.BTreeMap.{BTreeMap, get}
 use Rattle.hx_fields.specs.Folded.{folded, folded_cmp}
 use Rattle.hx_fields.specs.Lines.{combined_of}
 use Rattle.hx_fields.specs.declared.field_line.Field.{Field}
 use Rattle.hx_vary.specs.declared.nominated_values.NominatedValue.{NominatedValue}
+use Rattle.hx_vary.specs.Marks.{tag_of}
 use Rattle.hx_vary.specs.Vary.{is_same_value}
 
 abbrev pub folded_value : BTreeMap (List ℕ) (List ℕ) → List ℕ → Option (List ℕ)
@@ -16,6 +18,15 @@ folded_value values name = get folded_cmp values (folded name)
 
 abbrev pub HasEachValue : List Field → BTreeMap (List ℕ) (List ℕ) → Type 0
 HasEachValue request values = (name : List ℕ) → folded_value values name ≡ combined_of request name
+
+-- the combined value of a name, if it had one, with that of a further line (RFC 9110, section 5.3)
+abbrev pub with_line : Option (List ℕ) → List ℕ → List ℕ
+with_line None value = value
+with_line (Some before) value = (before ++ codes ", ") ++ value
+
+-- each of these values has its tag among those of a set
+abbrev pub AreTagged : ℕ → BTreeMap (List ℕ) (List ℕ) → (ℕ → Bool) → Type 0
+AreTagged seed values has = (name value : List ℕ) → get folded_cmp values name ≡ Some value → has (tag_of seed value) ≡ true
 
 abbrev pub all_kept_by : BTreeMap (List ℕ) (List ℕ) → List NominatedValue → Bool
 all_kept_by values kept = list_all (λ k. is_same_value k.value (folded_value values k.name)) kept

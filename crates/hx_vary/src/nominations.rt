@@ -99,11 +99,12 @@ fn kept_values(
     let asked = RequestValues::of(alloc, request, 0)?;
     let mut kept = Vec::new(alloc);
     let mut seen = BTreeSet::new(alloc);
+    let mut folded = FoldedName::new(alloc);
     for name in names {
-        let folded = FoldedName::of(alloc, name.as_slice())?;
+        folded.set(name.as_slice())?;
         if !seen.contains(&folded) {
             kept.push(NominatedValue::of(alloc, name, asked.value(&folded))?)?;
-            seen.insert(folded)?;
+            seen.insert(FoldedName::of(alloc, name.as_slice())?)?;
         }
     }
     Ok(kept)

@@ -5,14 +5,14 @@ ghost use Rattle.std.specs.BTreeMap.{get};
 ghost use Rattle.std.specs.BTreeSet.{contains};
 ghost use Rattle.std.specs.Ordering.{nat_cmp};
 ghost use Rattle.hx_fields.specs.Folded.{folded, folded_cmp};
-ghost use Rattle.hx_vary.specs.Combined.{all_kept_by, folded_value, HasEachValue};
+ghost use Rattle.hx_vary.specs.Combined.{all_kept_by, AreTagged, folded_value, HasEachValue, with_line};
 ghost use Rattle.hx_vary.specs.Marks.{HasTags, may_be, may_match};
 ghost use Rattle.hx_vary.specs.Vary.{is_same_value};
 
 use crate::marks::{Mark, tag_of};
 use crate::nominated_values::{NominatedValue, is_same_value, slice_of};
 use crate::nominations::Nominated;
-use hx_fields::{Bytes, Fields, FoldedName};
+use hx_fields::{Bytes, Field, Fields, FoldedName};
 use std::alloc::{AllocError, Global};
 use std::collections::{BTreeMap, BTreeSet};
 
@@ -34,24 +34,58 @@ impl Drop for RequestValues {
     }
 }
 
+/// The combined value of each name of these lines.
+fn combined_values(
+    alloc: Global,
+    lines: &[Field],
+) -> Result<BTreeMap<FoldedName, Bytes>, AllocError>
+    ensures { IfOk result (λ values. HasEachValue lines.now values) }
+{
+    let mut values = BTreeMap::new(alloc);
+    let mut name = FoldedName::new(alloc);
+    for line in lines {
+        name.set(line.name.as_slice())?;
+        let value = with_line(alloc, values.remove(&name), &line.value)?;
+        values.insert(FoldedName::of(alloc, line.name.as_slice())?, value)?;
+    }
+    Ok(values)
+}
+
+/// The combined value of a name, if it had one, with that of a further line (RFC 9110, section 5.3).
+fn with_line(alloc: Global, before: Option<Bytes>, value: &Bytes) -> Result<Bytes, AllocError>
+    ensures { IfOk result (λ all. all ≡ with_line before value.now) }
+{
+    match before {
+        Some(before) => before
+            .followed_by(alloc, b", ")?
+            .followed_by(alloc, value.as_slice()),
+        None => value.copy(alloc),
+    }
+}
+
+/// The tags of these values.
+fn tags_of(
+    alloc: Global,
+    values: &BTreeMap<FoldedName, Bytes>,
+    seed: u64,
+) -> Result<BTreeSet<u64>, AllocError>
+    ensures { IfOk result (λ tags. AreTagged seed values.now (contains nat_cmp tags)) }
+{
+    let mut tags = BTreeSet::new(alloc);
+    for value in values.values() {
+        tags.insert(tag_of(seed, value.as_slice()))?;
+    }
+    Ok(tags)
+}
+
 impl RequestValues {
     /// Those of a request, with tags by a seed. Fails for want of memory alone.
     pub fn of(alloc: Global, request: &Fields, seed: u64) -> Result<RequestValues, AllocError>
         ensures values { IfOk result (λ asked. HasEachValue request.now asked.values) }
         ensures tags { IfOk result (λ asked. HasTags seed request.now (contains nat_cmp asked.tags)) }
     {
-        let mut values = BTreeMap::new(alloc);
-        let mut tags = BTreeSet::new(alloc);
-        let mut name = FoldedName::new(alloc);
-        for line in request.as_slice() {
-            name.set(line.name.as_slice())?;
-            if values.get(&name).is_none() {
-                if let Some(value) = request.combined(alloc, line.name.as_slice())? {
-                    tags.insert(tag_of(seed, value.as_slice()))?;
-                    values.insert(FoldedName::of(alloc, line.name.as_slice())?, value)?;
-                }
-            }
-        }
+        let values = combined_values(alloc, request.as_slice())?;
+        let tags = tags_of(alloc, &values, seed)?;
         Ok(RequestValues {
             alloc,
             values,

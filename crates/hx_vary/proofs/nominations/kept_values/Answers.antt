@@ -11,7 +11,7 @@ use Rattle.hx_vary.specs.declared.nominated_values.NominatedValue.{NominatedValu
 use Rattle.hx_vary.specs.Vary.{each_once, kept_value}
 use Rattle.hx_vary.proofs.OnceLemmas.{kept_more, kept_same, seen_more, seen_same}
 use Rattle.hx_vary.proofs.nominations.kept_values.Goals as goal
-use Rattle.hx_vary.proofs.nominations.kept_values.Goals.{then-not-contains+in_ok-of+in_ok-push+in_ok-insert, else-not-contains}
+use Rattle.hx_vary.proofs.nominations.kept_values.Goals.{then-not-contains+in_ok-of+in_ok-push+in_ok-of-2+in_ok-insert, else-not-contains}
 
 pub loop-name-preserved : goal.loop-name-preserved
 loop-name-preserved c =
@@ -20,11 +20,12 @@ loop-name-preserved c =
     let done = take c.loop-name.name-index names in
     let name = c.name-item.result in
     let next : take (c.loop-name.name-index + 1) names ≡ done ++ name ∷ [] = search (rules, take_more) in
-    let key : c.in_ok-folded.folded ≡ folded name = search rules in
+    let key : c.set.new.self ≡ folded name = search rules in
     let asked : c.contains.result ≡ contains folded_cmp c.loop-name.seen (folded name) = search rules in
     elim c.if-not-contains.branch [
-      | then-not-contains+in_ok-of+in_ok-push+in_ok-insert w ↦ (
+      | then-not-contains+in_ok-of+in_ok-push+in_ok-of-2+in_ok-insert w ↦ (
           let new : contains folded_cmp c.loop-name.seen (folded name) ≡ false = search rules in
+          let put : w.in_ok-of-2.field-0 ≡ folded name = search rules in
           let with : Option (List ℕ) → NominatedValue = λ o. record { name = name; value = o } in
           let its : w.in_ok-of.field-0 ≡ kept_value request name =
           w.in_ok-of.ensures ∙ ap with (w.value.ensures ∙ ap (get folded_cmp c.in_ok-asked.asked.values) key ∙ c.in_ok-asked.ensures.values name) in
@@ -37,7 +38,7 @@ loop-name-preserved c =
                 ∙ ap (map (kept_value request)) (sym (kept_more done name absent) ∙ ap each_once (sym next));
             seen = λ q. ap (λ s. contains folded_cmp s q) w.seen-is ∙ w.in_ok-insert.ensures.updates.0 q
                 ∙ ap (λ b. cond b true (contains folded_cmp c.loop-name.seen q))
-                (ap (λ k. is_at (folded_cmp k) q) key ∙ sym (folded_ties (folded name) q))
+                (ap (λ k. is_at (folded_cmp k) q) put ∙ sym (folded_ties (folded name) q))
                 ∙ ap (cond (bytes_eq (folded name) q) true) (c.loop-name.invariant.seen q)
                 ∙ sym (seen_more done name q)
                 ∙ ap (list_any (λ (n : List ℕ). bytes_eq (folded n) q)) (sym next);
