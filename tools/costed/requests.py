@@ -260,25 +260,30 @@ def codings(size):
     return hits(request(size, rest=lambda room: [filler(b"Transfer-Encoding", b",", room - 7) + b"chunked"]) + b"0\r\n\r\n")
 
 
+def posted_family(**how):
+    """What goes on with a content is held to a plain POST, which goes on too."""
+    return FAMILIES.add("requests", plain="posted_whole", **how)
+
+
 def posted(size, unit, last=b"0\r\n\r\n"):
     text = request(0, b"Transfer-Encoding: chunked", method=b"POST")
     count = (size - len(text) - len(last)) // len(unit) if unit else 0
     return passed(text + unit * count + last, says=b"edge;fwd=method")
 
 
-@family()
+@posted_family()
 def chunks(size):
     """a POST whose content comes in chunks of one byte"""
     return posted(size, b"1\r\nx\r\n")
 
 
-@family()
+@posted_family()
 def chunk_extensions(size):
     """the same, with 250 bytes of extension at each chunk"""
     return posted(size, b"1;%s\r\nx\r\n" % (b"e" * 250))
 
 
-@family()
+@posted_family()
 def trailers(size):
     """a POST with trailers as long as they go"""
     return posted(size, b"", b"0\r\n" + b"t: v\r\n" * ((size - 100) // 6) + b"\r\n")

@@ -94,14 +94,26 @@ fn piece_end(text: &[u8]) -> usize
     ensures last { result ≡ length text.now → pieces QuoteState.Outside text.now ≡ text.now ∷ [] }
     ensures cut { result < length text.now → pieces QuoteState.Outside text.now ≡ take result text.now ∷ pieces QuoteState.Outside (drop (result + 1) text.now) }
 {
-    let mut place = QuoteState::Outside;
-    for (i, b) in text.iter().enumerate() {
-        if cuts(place, *b) {
+    let mut i = 0;
+    while i < text.len() {
+        let b = text[i];
+        if b == b',' {
             return i;
         }
-        place = next_place(place, *b);
+        if b == b'"' {
+            break;
+        }
+        i += 1;
     }
-    text.len()
+    let mut place = QuoteState::Outside;
+    while i < text.len() {
+        if cuts(place, text[i]) {
+            return i;
+        }
+        place = next_place(place, text[i]);
+        i += 1;
+    }
+    i
 }
 
 fn is_separator(b: u8) -> bool

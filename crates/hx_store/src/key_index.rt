@@ -3,10 +3,10 @@
 //! A call costs the logarithm of what is held, but that `find` also costs what it finds, and `find_marked` a comparison of
 //! numbers for each serial at the key.
 
-ghost use Rattle.std.specs.Prelude.{◌≡◌, ◌==◌, nat_lt, [], not, length, IfOk, OnOk, OnErr, slice_get};
+ghost use Rattle.std.specs.Prelude.{◌≡◌, ◌==◌, nat_eq, nat_lt, [], not, length, IfOk, OnOk, OnErr, slice_get};
 ghost use Rattle.std.specs.Bool.{OnFalse, OnTrue};
 ghost use Rattle.hx_target.specs.declared.keys.Key.{Key as StoreKey};
-ghost use Rattle.std.specs.BTreeSet.{contains};
+ghost use Rattle.std.specs.HashSet.{contains};
 ghost use Rattle.std.specs.Ordering.{nat_cmp};
 ghost use Rattle.hx_store.specs.Index.{indexed, marks_at, may_be_of, IsMarkedAnew, IsPutIn, IsPutInIf, IsTakenOut, IsSameIndex, IsTrim, IsTrimBeside};
 
@@ -67,7 +67,7 @@ impl KeyIndex {
         key: &Key,
         asked: &RequestValues,
     ) -> Result<Serials, AllocError>
-        ensures { IfOk result (λ found. found ≡ may_be_of (contains nat_cmp asked.now.tags) (marks_at self.now key.now)) }
+        ensures { IfOk result (λ found. found ≡ may_be_of (contains nat_eq asked.now.tags) (marks_at self.now key.now)) }
     {
         match self.serials.get(key) {
             Some(marks) => marks.list_marked(alloc, asked),

@@ -3,11 +3,11 @@
 //! Most keys have one serial, which stands in its place: a node of a map, of some 200 bytes, is taken where there are more.
 //! A call costs the logarithm of how many there are, but that a list costs what it lists.
 
-ghost use Rattle.std.specs.Prelude.{◌≡◌, ◌∷◌, ◌==◌, nat_lt, [], length, IfOk, OnOk, OnErr, slice_get};
+ghost use Rattle.std.specs.Prelude.{◌≡◌, ◌∷◌, ◌==◌, nat_eq, nat_lt, [], length, IfOk, OnOk, OnErr, slice_get};
 ghost use Rattle.std.specs.Map.{keys_of, remove_entry, set_value};
 ghost use Rattle.std.specs.Ordering.{nat_cmp};
 ghost use Rattle.std.specs.BTreeMap.{insert_entry, is_at};
-ghost use Rattle.std.specs.BTreeSet.{contains};
+ghost use Rattle.std.specs.HashSet.{contains};
 ghost use Rattle.hx_store.specs.Index.{may_be_of};
 
 use crate::serial_list::Serials;
@@ -94,7 +94,7 @@ impl KeyMarks {
         alloc: Global,
         asked: &RequestValues,
     ) -> Result<Serials, AllocError>
-        ensures { IfOk result (λ list. list ≡ may_be_of (contains nat_cmp asked.now.tags) self.now) }
+        ensures { IfOk result (λ list. list ≡ may_be_of (contains nat_eq asked.now.tags) self.now) }
     {
         match &self.only {
             Some((serial, mark)) => marked_of_one(alloc, *serial, mark, asked),
@@ -226,7 +226,7 @@ fn marked_of_one(
     mark: &Mark,
     asked: &RequestValues,
 ) -> Result<Serials, AllocError>
-    ensures { IfOk result (λ list. list ≡ may_be_of (contains nat_cmp asked.now.tags) ((serial, mark.now) ∷ [])) }
+    ensures { IfOk result (λ list. list ≡ may_be_of (contains nat_eq asked.now.tags) ((serial, mark.now) ∷ [])) }
 {
     if asked.may_match(mark) {
         list_of_one(alloc, serial)
@@ -241,7 +241,7 @@ fn list_of_marked(
     marks: &BTreeMap<u64, Mark>,
     asked: &RequestValues,
 ) -> Result<Serials, AllocError>
-    ensures { IfOk result (λ list. list ≡ may_be_of (contains nat_cmp asked.now.tags) marks.now.entries) }
+    ensures { IfOk result (λ list. list ≡ may_be_of (contains nat_eq asked.now.tags) marks.now.entries) }
 {
     let mut list = Serials::new(alloc);
     for (serial, mark) in marks {

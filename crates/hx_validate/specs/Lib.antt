@@ -5,4 +5,5 @@ pub mod Meaning
 pub mod NotModified
 pub mod Validators
 pub mod Identified
+pub mod LineNames
 pub mod Room

@@ -3,15 +3,20 @@
 //! The definition is in `specs/Answering.antt`.
 ghost use Rattle.std.specs.Prelude.{◌≡◌, ◌++◌, [], filter, not, IfOk, OnOk};
 ghost use Rattle.hx_vary.specs.Vary.{nominated_of};
+ghost use Rattle.hx_validate.specs.LineNames.{HasEachName};
 ghost use Rattle.hx_validate.specs.Answering.{freshened_fields, freshened_of, is_brought, is_replaced, names_or_none};
 
 use hx_age::Times;
 use hx_directives::Directives;
-use hx_fields::{Field, Fields, is_same_name};
+use hx_fields::{Field, Fields, FoldedName, is_same_name};
 use hx_hop::{Answered, Asked};
 use hx_store::Entry;
 use hx_vary::{Nominated, Nomination};
 use std::alloc::{AllocError, Global};
+use std::collections::BTreeSet;
+
+/// A 304 of more lines has its names looked up, so that the cost grows with the lines and not with their square.
+const FEW: usize = 16;
 
 /// Whether a 304 can bring this line.
 fn is_brought(line: &Field) -> bool
@@ -28,7 +33,26 @@ fn is_replaced(fields: &Fields, line: &Field) -> bool
 }
 
 /// Puts the stored lines that stay at the end.
-fn push_stored(fields: &mut Fields, stored: &[Field], answered: &Fields) -> Result<(), AllocError>
+fn push_stored(
+    alloc: Global,
+    fields: &mut Fields,
+    stored: &[Field],
+    answered: &Fields,
+) -> Result<(), AllocError>
+    ensures { OnOk result (fields.new ≡ fields.old ++ filter (λ line. not (is_replaced answered.now line)) stored.now) }
+{
+    if answered.len() > FEW {
+        return push_stored_beside_many(alloc, fields, stored, answered);
+    }
+    push_stored_beside_few(fields, stored, answered)
+}
+
+/// The same where a 304 has few lines: each stored one is compared with each of them.
+fn push_stored_beside_few(
+    fields: &mut Fields,
+    stored: &[Field],
+    answered: &Fields,
+) -> Result<(), AllocError>
     ensures { OnOk result (fields.new ≡ fields.old ++ filter (λ line. not (is_replaced answered.now line)) stored.now) }
 {
     for line in stored {
@@ -37,6 +61,37 @@ fn push_stored(fields: &mut Fields, stored: &[Field], answered: &Fields) -> Resu
         }
     }
     Ok(())
+}
+
+/// The same where it has many: their names are looked up.
+fn push_stored_beside_many(
+    alloc: Global,
+    fields: &mut Fields,
+    stored: &[Field],
+    answered: &Fields,
+) -> Result<(), AllocError>
+    ensures { OnOk result (fields.new ≡ fields.old ++ filter (λ line. not (is_replaced answered.now line)) stored.now) }
+{
+    let names = line_names(alloc, answered.as_slice())?;
+    let mut name = FoldedName::new(alloc);
+    for line in stored {
+        name.set(line.name.as_slice())?;
+        if !(is_brought(line) && names.contains(&name)) {
+            fields.push(line.name.as_slice(), line.value.as_slice())?;
+        }
+    }
+    Ok(())
+}
+
+/// The names of these lines.
+fn line_names(alloc: Global, lines: &[Field]) -> Result<BTreeSet<FoldedName>, AllocError>
+    ensures { IfOk result (λ names. HasEachName lines.now names) }
+{
+    let mut names = BTreeSet::new(alloc);
+    for line in lines {
+        names.insert(FoldedName::of(alloc, line.name.as_slice())?)?;
+    }
+    Ok(names)
 }
 
 /// Puts the lines that a 304 brings at the end.
@@ -55,7 +110,7 @@ fn freshened_fields(alloc: Global, stored: &Fields, answered: &Fields) -> Result
     ensures { IfOk result (λ fields. fields ≡ freshened_fields stored.now answered.now) }
 {
     let mut fields = Fields::new(alloc);
-    push_stored(&mut fields, stored.as_slice(), answered)?;
+    push_stored(alloc, &mut fields, stored.as_slice(), answered)?;
     push_brought(&mut fields, answered.as_slice())?;
     Ok(fields)
 }

@@ -1,9 +1,8 @@
 //! What a request has of each of its names, made once and compared with what many variants keep.
 
-ghost use Rattle.std.specs.Prelude.{◌≡◌, IfOk, option_copied};
+ghost use Rattle.std.specs.Prelude.{◌≡◌, nat_eq, IfOk, option_copied};
 ghost use Rattle.std.specs.BTreeMap.{get};
-ghost use Rattle.std.specs.BTreeSet.{contains};
-ghost use Rattle.std.specs.Ordering.{nat_cmp};
+ghost use Rattle.std.specs.HashSet.{contains};
 ghost use Rattle.hx_fields.specs.Folded.{folded, folded_cmp};
 ghost use Rattle.hx_vary.specs.Combined.{all_kept_by, AreTagged, folded_value, HasEachValue, with_line};
 ghost use Rattle.hx_vary.specs.Marks.{HasTags, may_be, may_match};
@@ -14,13 +13,13 @@ use crate::nominated_values::{NominatedValue, is_same_value, slice_of};
 use crate::nominations::Nominated;
 use hx_fields::{Bytes, Field, Fields, FoldedName};
 use std::alloc::{AllocError, Global};
-use std::collections::{BTreeMap, BTreeSet};
+use std::collections::{BTreeMap, HashSet};
 
 /// The combined value of each name, and the tags of these values. It costs as much as the request has bytes.
 pub struct RequestValues {
     alloc: Global,
     values: BTreeMap<FoldedName, Bytes>,
-    tags: BTreeSet<u64>,
+    tags: HashSet<u64>,
 }
 
 /// One call drops it, wherever that is.
@@ -68,10 +67,10 @@ fn tags_of(
     alloc: Global,
     values: &BTreeMap<FoldedName, Bytes>,
     seed: u64,
-) -> Result<BTreeSet<u64>, AllocError>
-    ensures { IfOk result (λ tags. AreTagged seed values.now (contains nat_cmp tags)) }
+) -> Result<HashSet<u64>, AllocError>
+    ensures { IfOk result (λ tags. AreTagged seed values.now (contains nat_eq tags)) }
 {
-    let mut tags = BTreeSet::new(alloc);
+    let mut tags = HashSet::new(alloc);
     for value in values.values() {
         tags.insert(tag_of(seed, value.as_slice()))?;
     }
@@ -82,7 +81,7 @@ impl RequestValues {
     /// Those of a request, with tags by a seed. Fails for want of memory alone.
     pub fn of(alloc: Global, request: &Fields, seed: u64) -> Result<RequestValues, AllocError>
         ensures values { IfOk result (λ asked. HasEachValue request.now asked.values) }
-        ensures tags { IfOk result (λ asked. HasTags seed request.now (contains nat_cmp asked.tags)) }
+        ensures tags { IfOk result (λ asked. HasTags seed request.now (contains nat_eq asked.tags)) }
     {
         let values = combined_values(alloc, request.as_slice())?;
         let tags = tags_of(alloc, &values, seed)?;
@@ -95,7 +94,7 @@ impl RequestValues {
 
     /// Whether what was kept with this mark has to be looked at.
     pub fn may_match(&self, mark: &Mark) -> bool
-        ensures { result ≡ may_match (contains nat_cmp self.now.tags) mark.now }
+        ensures { result ≡ may_match (contains nat_eq self.now.tags) mark.now }
     {
         self.may_be(mark.first)
             && self.may_be(mark.second)
@@ -104,7 +103,7 @@ impl RequestValues {
     }
 
     fn may_be(&self, tag: u64) -> bool
-        ensures { result ≡ may_be (contains nat_cmp self.now.tags) tag }
+        ensures { result ≡ may_be (contains nat_eq self.now.tags) tag }
     {
         tag == 0 || self.tags.contains(&tag)
     }

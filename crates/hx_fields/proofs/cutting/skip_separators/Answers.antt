@@ -1,4 +1,4 @@
-use Rattle.std.proofs.Common.{rules, ◌≡◌, ◌∙◌}
+use Rattle.std.proofs.Common.{rules, ◌∙◌}
 use Rattle.hx_fields.proofs.Pieces.{separator_at}
 use Rattle.hx_fields.proofs.cutting.skip_separators.Goals as goal
 

@@ -1,8 +1,7 @@
 use Rattle.std.proofs.Common.{rules, ◌≡◌, ℕ, Bool, List, ap, subst, ◌∙◌}
-use Rattle.std.specs.Prelude.{IfOk}
-use Rattle.std.specs.BTreeSet.{contains}
+use Rattle.std.specs.Prelude.{IfOk, nat_eq}
+use Rattle.std.specs.HashSet.{contains}
 use Rattle.std.specs.List.{filter}
-use Rattle.std.specs.Ordering.{nat_cmp}
 use Rattle.hx_vary.proofs.MarkLemmas.{misses_nothing}
 use Rattle.hx_store.specs.Index.{is_match_by, marks_at, may_be_of}
 use Rattle.hx_store.specs.Shelf.{find_entry, is_match, matching_serials}
@@ -16,7 +15,7 @@ returns-clause-found c =
     let key = c.args.key.now in
     let request = c.args.request.now in
     let values = c.in_ok-asked.asked.values in
-    let has = contains nat_cmp c.in_ok-asked.asked.tags in
+    let has = contains nat_eq c.in_ok-asked.asked.tags in
     let marks = marks_at c.self.inside.index key in
     let by : ℕ → Bool = λ s. is_match_by values (find_entry s es) in
     let is : ℕ → Bool = λ s. is_match request (find_entry s es) in
