@@ -1,4 +1,4 @@
-"""What an operator does on a bad day, tried: docs/OPERATIONS.md, "Bad days"."""
+"""What an operator does on a bad day, tried: docs/BAD_DAYS.md."""
 import signal
 import subprocess
 import threading

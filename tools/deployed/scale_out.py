@@ -90,7 +90,6 @@ def scale_out(stand):
         a_cache_that_stops_costs_its_part,
         a_cache_that_comes_back_takes_its_part,
         a_cache_is_drained_without_an_error,
-        a_purge_asks_each_cache,
         a_stranger_takes_and_claims_no_field,
         an_origin_that_fails_takes_no_cache_out,
     ):
@@ -159,19 +158,6 @@ def a_cache_is_drained_without_an_error(fleet):
     told, _ = fleet.ask_all()
     expect_all(told)
     return f"{fetches} fetched by the others"
-
-
-def a_purge_asks_each_cache(fleet):
-    """A target may be held by others than its own cache, from a time when that one was away. So each is asked; through the
-    front a purge is refused."""
-    url = "http://h.example/7"
-    for it in fleet.caches:
-        curl(it.port, url)
-        expect("a hit at each cache", "edge;hit;ttl=", curl(it.port, url).reason())
-    expect("status of a purge through the front", 403, curl(fleet.http, url, "--request", "PURGE").status)
-    for it in fleet.caches:
-        expect("status of a purge at a cache", 204, curl(it.port, url, "--request", "PURGE").status)
-        expect("what is held behind it", "edge;fwd=uri-miss;ttl=;stored", curl(it.port, url).reason())
 
 
 def a_stranger_takes_and_claims_no_field(fleet):

@@ -90,7 +90,7 @@ def bytes_that_would_break_a_line(stage):
 
 HOST = b"Host: h\r\n"
 # What a client sends, and of the line that is written about it method and target, the status and the word of its refusal
-# (docs/OPERATIONS.md, "What a log reader sees"): both words are dashes where the request line itself is at fault.
+# (docs/LOG.md, "What a log reader sees"): both words are dashes where the request line itself is at fault.
 REFUSED = [
     (b"POST /up?x=1 HTTP/1.1\r\n" + HOST + b"Content-Length: 1000001\r\n\r\n", "POST /up?x=1", 413, "too-large"),
     (b"PUT http://Other:80/up HTTP/1.1\r\n" + HOST + b"Content-Length: x\r\n\r\n", "PUT http://Other:80/up", 400, "length"),

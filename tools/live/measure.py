@@ -267,7 +267,7 @@ def stuck(proxy):
 
 def measure_contents(program, _room, origin):
     """The most memory that 256 contents of 1,000,000 bytes take: on their way in, at an origin that reads nothing and holds its
-    answers back, and out to clients that don't read; beside it the bound of docs/OPERATIONS.md, "Memory"."""
+    answers back, and out to clients that don't read; beside it the bound of docs/LIMITS.md, "Memory"."""
     held_back = HeldBack()
     for has_log in (False, True):
         for step, it in ((uploads, origin), (stuck, held_back.address), (unread, origin)):

@@ -1,4 +1,4 @@
-"""Scripts and effects as docs/OPERATIONS.md has them: where the happenings of a script end, and whether a text is one of effects."""
+"""Scripts and effects as docs/RECORDS.md has them: where the happenings of a script end, and whether a text is one of effects."""
 import re
 
 BLOCK = re.compile(rb"(?:config|client \d+|link \d+) (\d+)")

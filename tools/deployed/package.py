@@ -1,0 +1,156 @@
+"""The Debian package of tools/package: held to lintian, installed, upgraded, removed and purged in a root of its own, and its pages."""
+import gzip
+import os
+import re
+import subprocess
+
+from deployed.stand import DEPLOY, need, part
+from live.expect import Skipped, Unexpected, expect
+from packaged.pages import options_of_help, options_of_table
+
+ROOT = os.path.dirname(DEPLOY)
+FIRST, NEXT = "0.2.0", "0.2.1"
+BY = "An Operator <operator@revcache.org>"
+TABLE = "etc/revcache/table.toml"
+
+
+@part
+def package(stand):
+    need("dpkg", "dpkg-deb", "dpkg-shlibdeps", "strip", "go-md2man", "lintian", "man")
+    if os.geteuid():
+        raise Skipped("dpkg --root is root's")
+    first, later = (built(stand, it) for it in (FIRST, NEXT))
+    yield "lintian_has_no_error", lambda: lintian_has_no_error(first)
+    yield "man_reads_the_pages", lambda: man_reads_the_pages(stand, first)
+    yield "the_pages_have_what_help_has", lambda: the_pages_have_what_help_has(stand, first)
+    yield "it_is_installed_upgraded_removed_and_purged", lambda: it_is_installed_upgraded_removed_and_purged(stand, first, later)
+    yield "a_table_of_the_operator_stays", lambda: a_table_of_the_operator_stays(stand, first, later)
+    yield "what_was_written_goes_by_a_purge", lambda: what_was_written_goes_by_a_purge(stand, first)
+
+
+def run(*words, **more):
+    ran = subprocess.run(words, stdin=subprocess.DEVNULL, capture_output=True, text=True, timeout=120, **more)
+    if ran.returncode:
+        raise Unexpected(f"from {' '.join(words[:3])}", "status 0", (ran.returncode, ran.stdout[-400:], ran.stderr[-400:]))
+    return ran.stdout
+
+
+def built(stand, version):
+    words = [f"{ROOT}/tools/package", "--program", stand.program, "--into", stand.folder, "--version", version, "--maintainer", BY]
+    return run(*words).strip()
+
+
+def lintian_has_no_error(path):
+    said = run("lintian", "--allow-root", "--fail-on", "error", "--tag-display-limit", "0", path)
+    return f"{len([it for it in said.splitlines() if it.startswith('W:')])} warnings"
+
+
+def unpacked(stand, path, name):
+    run("dpkg-deb", "--extract", path, f"{stand.folder}/{name}")
+    return f"{stand.folder}/{name}"
+
+
+def man_reads_the_pages(stand, path):
+    """Without a warning, and each of them has its name as `whatis` wants it."""
+    tree = unpacked(stand, path, "pages")
+    for it in ("man1/revcache.1.gz", "man5/revcache-table.5.gz"):
+        ran = subprocess.run(["man", "--warnings", "-l", f"{tree}/usr/share/man/{it}"], capture_output=True, text=True, timeout=60)
+        expect(f"from man {it} status and warnings", (0, ""), (ran.returncode, ran.stderr))
+        expect(f"a line of NAME in {it}", True, re.search(r"NAME\n +revcache[a-z-]* +- ", ran.stdout) is not None)
+
+
+def the_pages_have_what_help_has(stand, path):
+    """Each option of `serve --help` with its default stands in docs/OPERATIONS.md, and so in revcache(1), and no other."""
+    said = run(stand.program, "serve", "--help")
+    with open(f"{ROOT}/docs/OPERATIONS.md", encoding="utf-8") as it:
+        expect("options and defaults of OPERATIONS", options_of_help(said), options_of_table(it.read()))
+    with gzip.open(f"{unpacked(stand, path, 'help')}/usr/share/man/man1/revcache.1.gz", "rt") as it:
+        named = set(re.findall(r"^\\fB\\fC--([a-z-]+)", it.read(), re.M))
+    expect("options of revcache(1)", set(options_of_help(said)), named)
+    return f"{len(named)} options"
+
+
+class Scratch:
+    """A root of its own, in which nothing else is installed."""
+
+    def __init__(self, stand, name):
+        self.root = f"{stand.folder}/{name}"
+        os.makedirs(f"{self.root}/var/lib/dpkg/updates")
+        os.makedirs(f"{self.root}/var/lib/dpkg/info")
+        for it in ("status", "available"):
+            with open(f"{self.root}/var/lib/dpkg/{it}", "w", encoding="ascii"):
+                pass
+
+    def dpkg(self, *words):
+        """(Its scripts run outside of the root, with its path in DPKG_ROOT; what it depends on isn't there.)"""
+        how = ["--force-depends", "--force-script-chrootless", "--force-confold", "--force-confdef"]
+        return run("dpkg", f"--root={self.root}", f"--log={self.root}/log", *how, *words)
+
+    def state(self):
+        """Of the package: what is wanted, its state, its version."""
+        words = ["dpkg-query", f"--admindir={self.root}/var/lib/dpkg", "-W", "-f", "${db:Status-Abbrev}${Version}", "revcache"]
+        ran = subprocess.run(words, capture_output=True, text=True, timeout=60)
+        return tuple(ran.stdout.split()) if ran.returncode == 0 else None
+
+    def files(self):
+        """The files and links that stand in the root, but for dpkg's own."""
+        found = {os.path.relpath(f"{at}/{it}", self.root) for at, _, names in os.walk(self.root) for it in names}
+        return {it for it in found if not it.startswith("var/lib/dpkg") and it != "log"}
+
+    def write(self, name, text):
+        os.makedirs(os.path.dirname(f"{self.root}/{name}"), exist_ok=True)
+        with open(f"{self.root}/{name}", "w", encoding="utf-8") as it:
+            it.write(text)
+
+    def text(self, name):
+        with open(f"{self.root}/{name}", encoding="utf-8") as it:
+            return it.read()
+
+
+def it_is_installed_upgraded_removed_and_purged(stand, first, later):
+    """The program runs where it was installed and accepts the table that came with it; a removal keeps the table alone, and a purge nothing."""
+    scratch = Scratch(stand, "whole")
+    scratch.dpkg("--install", first)
+    expect("the state", ("ii", FIRST), scratch.state())
+    expect("from revcache check of the installed table", "ok 3 lines\n", run(f"{scratch.root}/usr/bin/revcache", "check", f"{scratch.root}/{TABLE}"))
+    for it in ("revcache.service", "revcache@.service"):
+        expect(f"the program of {it}", True, "ExecStart=/usr/bin/revcache serve /etc/revcache/table.toml" in scratch.text(f"lib/systemd/system/{it}"))
+    scratch.dpkg("--install", later)
+    expect("the state behind an upgrade", ("ii", NEXT), scratch.state())
+    scratch.dpkg("--remove", "revcache")
+    expect("what a removal leaves", {TABLE}, scratch.files())
+    scratch.dpkg("--purge", "revcache")
+    expect("what a purge leaves", (set(), None, False), (scratch.files(), scratch.state(), os.path.exists(f"{scratch.root}/etc/revcache")))
+
+
+def a_table_of_the_operator_stays(stand, first, later):
+    """An upgrade doesn't write over it; where the next package has another table to start from, that one is put beside."""
+    scratch, own = Scratch(stand, "own"), "# mine\n"
+    scratch.dpkg("--install", first)
+    scratch.write(TABLE, own)
+    scratch.dpkg("--install", later)
+    expect("the table behind an upgrade", own, scratch.text(TABLE))
+    tree = f"{stand.folder}/other"
+    run("dpkg-deb", "--raw-extract", later, tree)
+    for name, old, new in ((TABLE, 'name = "edge"', 'name = "other"'), ("DEBIAN/control", f"Version: {NEXT}", "Version: 0.2.2")):
+        with open(f"{tree}/{name}", encoding="utf-8") as it:
+            text = it.read()
+        with open(f"{tree}/{name}", "w", encoding="utf-8") as it:
+            it.write(text.replace(old, new))
+    run("dpkg-deb", "--root-owner-group", "--build", tree, f"{stand.folder}/other.deb")
+    scratch.dpkg("--install", f"{stand.folder}/other.deb")
+    expect("the table behind another", own, scratch.text(TABLE))
+    expect("the new one beside it", True, 'name = "other"' in scratch.text(f"{TABLE}.dpkg-dist"))
+
+
+def what_was_written_goes_by_a_purge(stand, first):
+    """Logs and records, of one and of several, and the links of units that were enabled; not what is the operator's own in the folder."""
+    scratch = Scratch(stand, "purged")
+    scratch.dpkg("--install", first)
+    written = ["var/log/private/revcache/access.log", "var/lib/private/revcache@8101/incident.1", "etc/systemd/system/multi-user.target.wants/revcache@8101.service"]
+    for it in [*written, "etc/revcache/front.key"]:
+        scratch.write(it, "x")
+    scratch.dpkg("--remove", "revcache")
+    expect("what a removal leaves", {TABLE, "etc/revcache/front.key", *written}, scratch.files())
+    scratch.dpkg("--purge", "revcache")
+    expect("what a purge leaves", {"etc/revcache/front.key"}, scratch.files())
