@@ -63,7 +63,7 @@ class Documents:
 
     def said_of(self, words):
         """Where these words stand as code: in paragraphs, and in rows of tables. Each is a list of names and texts, and its place."""
-        code = re.compile(rf"`[^`]*{re.escape(words)}[^`]*`")
+        code = re.compile(rf"`[^`]*(?<![\w-]){re.escape(words)}(?![\w-])[^`]*`")
         for page, section, text in self.paragraphs:
             if code.search(text):
                 yield [("says", text)], f'{page}, "{plain(section)}"'

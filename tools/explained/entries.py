@@ -125,7 +125,8 @@ class Words:
         rows = self.documents.row(lambda it: any(names(one, word) for one in codes_in(it["Parameter"])), "Parameter", "Where", "RFC")
         table, row = rows
         parts = [("the proxy", self.log_words(word)), ("where", row.get("Where")), ("standard", link_of(row.get("RFC", "")))]
-        return Entry(f"parameter-{word}", word, [*parts, ("defined in", table and f"{self.place(table)}; {table.place()}")])
+        defined = self.sources.files["how_text", "How"]
+        return Entry(f"parameter-{word}", word, [*parts, ("defined in", table and f"{defined}; {table.place()}")])
 
 
 # How the rows of refusals are named.

@@ -21,9 +21,11 @@ class Texts:
     def of(self, text):
         """Entries for a value of Cache-Status or of Refusal, a line on standard error, or a word alone; none where it is unknown."""
         text = value_of(text)
-        if self.is_member(text):
-            return self.of_member(text)
-        return self.of_refusal(text) or self.of_line(text) or self.of_word(text) or self.in_documents(text)
+        return self.of_reason(text) or self.of_line(text) or self.of_word(text) or self.in_documents(text)
+
+    def of_reason(self, text):
+        """Entries for a reason in a log: what it says itself, and not what is said of it elsewhere."""
+        return self.of_refusal(text) or (self.of_member(text) if self.is_member(text) else [])
 
     def is_member(self, text):
         """Whether it is a member of Cache-Status, with the proxy's name or without."""
@@ -39,7 +41,8 @@ class Texts:
             entries += self.of_rule(parameters.get("fwd"), parameters.get("detail"))
         entries += [self.words.parameter(it) for it in ("fwd-status", "ttl", "stored", "collapsed") if it in parameters]
         entries += [self.words.detail(it) for it in self.own_details() if parameters.get("detail") == self.own_details()[it]]
-        if "hit" not in parameters and not {"stored", "collapsed", "ttl"} & set(parameters) and entries:
+        is_sent = {"hit", "stored", "collapsed", "ttl"} & set(parameters) or parameters.get("detail") in self.own_details().values()
+        if entries and not is_sent:
             entries.append(self.not_stored(parameters.get("fwd"), parameters.get("detail")))
         return entries
 
@@ -65,8 +68,9 @@ class Texts:
         parts = []
         for it in map(self.words.storing, names):
             told = dict(it.parts)
-            changes = " ".join(f"{who}: {told[who]}" for who in ("Origin", "Client", "Operator", "to do") if who in told)
-            parts.append((it.title.partition(", ")[2], f"{told['in plain words']} {changes} ({told['standard']})"))
+            changes = [told[who] if who == "to do" else f"{who}: {told[who]}" for who in ("to do", "Origin", "Client", "Operator") if who in told]
+            standard = re.sub(r"own: .*", "own", told.get("standard", ""))
+            parts.append((it.title.partition(", ")[2], " ".join([told.get("in plain words", ""), *changes, f"({standard})"])))
         what = "no ;stored: this rule of storing kept the answer out" if len(names) == 1 else "no ;stored: the first of these rules that stands kept the answer out"
         return Entry(f"not-stored-{names[0].lower()}", what, parts)
 

@@ -11,20 +11,20 @@ def short(name):
 class Tally:
     """Some numbers for each name. Where there are too many names the rarest go, and only the sums have them."""
 
-    def __init__(self, columns=1):
-        self.rows, self.rest, self.gone = {}, [0] * columns, 0
+    def __init__(self, columns=1, kept=KEPT):
+        self.rows, self.rest, self.gone, self.kept = {}, [0] * columns, 0, kept
 
     def add(self, name, *numbers):
         row = self.rows.get(name)
         if row is None:
-            if len(self.rows) >= 2 * KEPT:
+            if len(self.rows) >= 2 * self.kept:
                 self.prune()
             row = self.rows[name] = [0] * len(self.rest)
         for at, number in enumerate(numbers):
             row[at] += number
 
     def prune(self):
-        rarest = sorted(self.rows.items(), key=lambda it: it[1])[:-KEPT]
+        rarest = sorted(self.rows.items(), key=lambda it: it[1])[: -self.kept]
         for name, row in rarest:
             del self.rows[name]
             self.rest = [a + b for a, b in zip(self.rest, row)]

@@ -4,7 +4,8 @@ import time
 
 from reported.reasons import LANES, LEFT_OUT
 
-WIDTH = 40
+# Of a bar, and of a name that isn't cut.
+WIDTH, LONGEST = 40, 100
 HIDDEN = re.compile(r"[^ -~]")
 
 
@@ -27,8 +28,9 @@ def bar(share):
 
 
 def names_of(rows):
-    """The rows with their names as text, and the width of the longest."""
+    """The rows with their names as text, long ones cut, and the width of the longest."""
     rows = [(text_of(name), numbers) for name, numbers in rows]
+    rows = [(name if len(name) <= LONGEST else f"{name[:LONGEST]}..", numbers) for name, numbers in rows]
     return rows, max((len(name) for name, _ in rows), default=0)
 
 
