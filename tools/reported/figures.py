@@ -97,7 +97,8 @@ class Figures:
         self.counts, self.bins, self.times = Counter(), Bins(), [Times() for _ in LANES]
         self.minutes, self.asked, self.stored = Minutes(), 0, 0
         self.fresh_until, self.new, self.early = {}, 0, 0
-        self.words, self.families, self.refusals, self.statuses, self.left_out = Counter(), Counter(), Counter(), Counter(), [0] * len(LEFT_OUT)
+        self.words, self.families, self.refusals = Tally(), Tally(), Tally()
+        self.statuses, self.left_out = Counter(), [0] * len(LEFT_OUT)
         # Of each name what counts in the hit ratio, and the hits of it; of a target how often it was missed, or stored again too early.
         self.hosts, self.segments, self.missed, self.again = Tally(2), Tally(2), Tally(), Tally()
         # Of each origin what it failed at, by the columns of `failures_of`, and what it was asked for.
@@ -121,7 +122,7 @@ class Figures:
         parts = target.split(b"/", 4)
         host, segment = (short(parts[2]), short(parts[3].partition(b"?")[0])) if len(parts) > 3 else (b"-", b"")
         name = self.name_of(origin, method, target, host) if reason.asks or reason.is_covered else None
-        self.counts[host, segment, status, reason.word, name, reason.is_covered_error] += 1
+        self.counts[host, segment, status, reason.same, name] += 1
         if len(self.counts) > MOST_COUNTS:
             self.fold()
         row, minute = self.row, self.minute
@@ -179,20 +180,19 @@ class Figures:
 
     def fold(self):
         """Adds what was counted to the tallies."""
-        for (host, segment, status, word, name, is_own), count in self.counts.items():
-            reason = self.reasons[word.encode("ascii")]
-            self.words[word] += count
-            self.families[reason.family] += count
+        for (host, segment, status, reason, name), count in self.counts.items():
+            self.words.add(reason.word, count)
+            self.families.add(reason.family, count)
             self.statuses[status.decode("ascii")] += count
             if reason.is_refusal:
-                self.refusals[f"{status.decode('ascii')} {word}"] += count
+                self.refusals.add(f"{status.decode('ascii')} {reason.word}", count)
             if reason.left_out is None:
                 self.hosts.add(host, count, count * reason.is_hit)
                 self.segments.add(host + b"/" + segment, count, count * reason.is_hit)
             else:
                 self.left_out[reason.left_out] += count
             if name is not None:
-                self.origins.add(name, *failures_of(reason, status, is_own, count))
+                self.origins.add(name, *failures_of(reason, status, count))
         self.counts.clear()
 
     def ratio(self):
@@ -200,10 +200,10 @@ class Figures:
         return self.hosts.sums()
 
 
-def failures_of(reason, status, is_covered_error, count):
+def failures_of(reason, status, count):
     """Of so many answers: all failures of the origin, then those by a time-out, by another failure, by a 5xx of its own, and those for
     which a stored response was sent; then what was asked."""
     late = reason.is_failure and status == b"504"
-    own = is_covered_error or (not reason.is_refusal and not reason.is_covered and status[:1] == b"5")
+    own = reason.is_covered_error or (not reason.is_refusal and not reason.is_covered and status[:1] == b"5")
     failed = reason.is_failure or reason.is_covered or own
     return [count * it for it in (failed, late, reason.is_failure and not late, own, reason.is_covered, True)]

@@ -10,7 +10,7 @@ from explained.texts import Texts
 from reported import charts
 from reported.reasons import FAILED, KINDS, LANES, LEFT_OUT, REFUSED, Reason
 from reported.style import STYLE
-from reported.text import minutes, seconds, shown, text_of, visible, when
+from reported.text import minutes, seconds, text_of, visible, when
 
 ROOT = os.path.dirname(os.path.dirname(os.path.dirname(os.path.realpath(__file__))))
 # A longer name is cut, and stands whole where the pointer is.
@@ -87,9 +87,8 @@ def marked(text):
 
 def legend(figures, reasons):
     """What the areas are painted by, how much of it there was, and the words of it."""
-    counts, items, whole = [0] * len(KINDS), [], sum(figures.words.values())
-    for word, count in figures.words.items():
-        counts[Reason(word.encode("ascii")).kind] += count
+    items, whole = [], figures.asked
+    counts = [sum(it) for it in zip(*figures.bins.rows.values())][: len(KINDS)]
     for kind, count in enumerate(counts):
         if count:
             items.append(f'<li><i class="k{kind}"></i>{escape(KINDS[kind])} <b>{count:,}</b> {100 * count / whole:.1f} %</li>')
@@ -97,9 +96,9 @@ def legend(figures, reasons):
 
 
 def reasons_table(figures, reasons, most):
-    rows, whole = [], sum(figures.words.values())
-    for word, (count,) in shown(figures.words, max(most, 20)):
-        is_rest = word not in figures.words
+    rows, whole = [], figures.asked
+    for word, (count,) in figures.words.shown(max(most, 20)):
+        is_rest = word not in figures.words.rows
         kind = "" if is_rest else f"k{Reason(word.encode('ascii')).kind}"
         links = "" if is_rest else reasons.links(word)
         rows.append([name_cell(word), cell(f"{count:,}"), cell(f"{100 * count / whole:.1f} %"), bar_cell(count / whole, kind), f'<td class="why">{links}</td>'])
@@ -107,9 +106,9 @@ def reasons_table(figures, reasons, most):
 
 
 def refusals_table(figures, reasons, most):
-    rows, whole = [], sum(figures.refusals.values())
-    for word, (count,) in shown(figures.refusals, most):
-        links = reasons.links(word[4:]) if word in figures.refusals else ""
+    rows, whole = [], sum(figures.refusals.sums())
+    for word, (count,) in figures.refusals.shown(most):
+        links = reasons.links(word[4:]) if word in figures.refusals.rows else ""
         kind = f"k{FAILED if word[4:].startswith('origin ') else REFUSED}"
         rows.append([name_cell(word), cell(f"{count:,}"), cell(f"{100 * count / whole:.1f} %"), bar_cell(count / whole, kind), f'<td class="why">{links}</td>'])
     return table("Refusals by cause", ["status and Refusal", "answers", "share", "", "words"], rows)
@@ -154,7 +153,7 @@ def durations_table(figures):
 def tiles(figures):
     """The figures at the head of the page."""
     asked, hits = figures.ratio() if figures.hosts.rows else (0, 0)
-    whole = sum(figures.words.values())
+    whole = figures.asked
     failed = figures.origins.sums() if figures.origins.rows else [0] * 6
     left = "; ".join(f"{count:,} {why}" for why, count in zip(LEFT_OUT, figures.left_out) if count)
     told = [

@@ -54,14 +54,19 @@ class Reason:
 
 
 class Reasons(dict):
-    """The reasons that were read already, as far as there is room."""
+    """The reasons that were read already, as far as there is room. `same` is one of those that say the same but for numbers."""
 
     MOST = 100000
+
+    def __init__(self):
+        self.known = {}
 
     def __missing__(self, text):
         if len(self) >= self.MOST:
             self.clear()
+            self.known.clear()
         it = Reason(text[:LONGEST])
+        it.same = self.known.setdefault((it.word, it.is_covered_error), it)
         if len(text) <= LONGEST:
             self[text] = it
         return it

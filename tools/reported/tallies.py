@@ -31,7 +31,10 @@ class Tally:
         self.gone += len(rarest)
 
     def sums(self):
-        return [sum(it) for it in zip(self.rest, *self.rows.values())]
+        sums = list(self.rest)
+        for row in self.rows.values():
+            sums = [a + b for a, b in zip(sums, row)]
+        return sums
 
     def shown(self, most):
         """The names with the greatest first number, and the rest as one row."""

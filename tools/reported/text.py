@@ -44,14 +44,6 @@ def counts(title, rows, whole):
     return [title, *lines, ""]
 
 
-def shown(counter, most):
-    """The most frequent of a counter, and the rest as one."""
-    rows = [(name, [count]) for name, count in sorted(counter.items(), key=lambda it: (-it[1], it[0]))]
-    if len(rows) > most + 1:
-        rows = [*rows[:most], (f"{len(rows) - most:,} others", [sum(it[1][0] for it in rows[most:])])]
-    return rows
-
-
 def statuses(figures):
     """By hundreds, and single ones below each."""
     whole, rows = sum(figures.statuses.values()), []
@@ -121,14 +113,14 @@ def ratio(figures):
 
 
 def report(figures, most):
-    whole, missed = sum(figures.words.values()), figures.ratio() if figures.hosts.rows else [0, 0]
+    whole, missed = figures.asked, figures.ratio() if figures.hosts.rows else [0, 0]
     text = [f"{whole:,} answers, {figures.bytes:,} bytes of content, from {when(figures.first)} to {when(figures.last)} UTC"]
     text += [minutes(figures), ratio(figures)]
     text += [f"stored again while the last would have been fresh: {figures.early:,} of {figures.new:,} that were stored for want of any", ""]
-    text += [*statuses(figures), *counts("reasons", shown(figures.families, most), whole)]
+    text += [*statuses(figures), *counts("reasons", figures.families.shown(most), whole)]
     text += ratios("hit ratio by host", figures.hosts, most)
     text += ratios("hit ratio by first path segment", figures.segments, most)
     text += counts("most missed targets", figures.missed.shown(most), missed[0] - missed[1])
     text += counts("targets stored again while the last would have been fresh", figures.again.shown(most), figures.early)
-    text += counts("refusals", shown(figures.refusals, most), sum(figures.refusals.values()))
+    text += counts("refusals", figures.refusals.shown(most), sum(figures.refusals.sums()))
     return text + failures(figures, most) + durations(figures)
