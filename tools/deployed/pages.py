@@ -1,4 +1,4 @@
-"""The page of tools/report: that it stands alone, that nothing of a log is more than text in it, and that a browser draws it."""
+"""The page of tools/report: it stands alone, nothing of a log is more than text in it, and a browser draws it."""
 import os
 import re
 import shutil
@@ -64,9 +64,17 @@ class Reader(HTMLParser):
 
 
 def a_page_of_a_counted_log(stand):
-    """Its figures are those that were counted by hand; each reason has a link, each link leads to its words, and these name a section."""
+    """Its figures are those that were counted by hand; each link leads to words, and these name a section."""
     for log, told in (
-        (LOG, ["hit ratio 41.7 %", "a.example/img 9 44.4 %", "b.example:8080 3 2 1 0 0 5 60.0 %", "http://a.example/img/1.png 1 100.0 %"]),
+        (
+            LOG,
+            [
+                "hit ratio 41.7 %",
+                "a.example/img 9 44.4 %",
+                "b.example:8080 3 2 1 0 0 5 60.0 %",
+                "http://a.example/img/1.png 1 100.0 %",
+            ],
+        ),
         (TIMED, ["hit ratio 50.0 %", "127.0.0.1:9002 4 0 1 2 2 4 100.0 %", "forwarded 6 0.120 5.000 5.001"]),
     ):
         page = Reader(page_of(stand, log))
@@ -75,9 +83,22 @@ def a_page_of_a_counted_log(stand):
         expect("links that lead nowhere", [], sorted(links - set(page.values("id"))))
         expect_within("links", 5, 100, len(links))
     # (RFC 9111, section 4.2.4 is about stale responses, and RFC 9111, section 4 about reuse)
-    wanted = {"reuse-14", "reuse-5", "parameter-hit", "parameter-stored", "origin-timed-out", "origin-closed", "message-head", "refusal-denied"}
+    wanted = {
+        "reuse-14",
+        "reuse-5",
+        "parameter-hit",
+        "parameter-stored",
+        "origin-timed-out",
+        "origin-closed",
+        "message-head",
+        "refusal-denied",
+    }
     expect("words that aren't there", [], sorted(wanted - set(page.values("id"))))
-    expect("a link to RFC 9111, section 4.2.4", True, "https://www.rfc-editor.org/rfc/rfc9111#section-4.2.4" in page.values("href"))
+    expect(
+        "a link to RFC 9111, section 4.2.4",
+        True,
+        "https://www.rfc-editor.org/rfc/rfc9111#section-4.2.4" in page.values("href"),
+    )
 
 
 def a_page_stands_alone(stand):
@@ -85,11 +106,28 @@ def a_page_stands_alone(stand):
     text = page_of(stand, TIMED)
     page = Reader(text)
     tags = {tag for tag, _ in page.tags}
-    expect("tags that fetch or run", set(), tags & {"script", "link", "img", "iframe", "object", "embed", "base", "form", "use", "image"})
-    expect("attributes that fetch or run", [], [it for _, one in page.tags for it in one if it in ("src", "srcset", "data", "xlink:href") or it.startswith("on")])
+    expect(
+        "tags that fetch or run",
+        set(),
+        tags & {"script", "link", "img", "iframe", "object", "embed", "base", "form", "use", "image"},
+    )
+    expect(
+        "attributes that fetch or run",
+        [],
+        [
+            it
+            for _, one in page.tags
+            for it in one
+            if it in ("src", "srcset", "data", "xlink:href") or it.startswith("on")
+        ],
+    )
     expect("what its style fetches", [], re.findall(r"url\(|@import", text))
     expect("its policy", True, "default-src 'none'; style-src 'unsafe-inline'" in page.values("content"))
-    expect("links elsewhere", set(), {it.split("/rfc/")[0] for it in page.values("href") if not it.startswith("#")} - {"https://www.rfc-editor.org"})
+    expect(
+        "links elsewhere",
+        set(),
+        {it.split("/rfc/")[0] for it in page.values("href") if not it.startswith("#")} - {"https://www.rfc-editor.org"},
+    )
     expect_within("bytes", 10000, 200000, len(text))
 
 
@@ -101,7 +139,14 @@ def hostile_names_are_text(stand):
     names = {name for _, it in page.tags for name in it} - {name for _, it in honest.tags for name in it}
     expect("attributes beyond those", set(), names)
     shown = page.words()
-    for name in ("<script>x()<", "http://h/</title><script>x()</script>/b", "'onmouseover='x()'", "&lt;b&gt;&#60;script&#62;", "403 denied by <script>x()</script>", "<img/src=http://evil/>:80"):
+    for name in (
+        "<script>x()<",
+        "http://h/</title><script>x()</script>/b",
+        "'onmouseover='x()'",
+        "&lt;b&gt;&#60;script&#62;",
+        "403 denied by <script>x()</script>",
+        "<img/src=http://evil/>:80",
+    ):
         expect(f"{name} as text", True, name in shown)
 
 
@@ -169,7 +214,12 @@ def a_browser_draws_it(stand):
     page_of(stand, LOG)
     for scheme, ground in (("1", DAY), ("0", NIGHT)):
         shot = f"{stand.folder}/shot.png"
-        browse(stand, f"{stand.folder}/page.html", f"--blink-settings=preferredColorScheme={scheme}", f"--screenshot={shot}")
+        browse(
+            stand,
+            f"{stand.folder}/page.html",
+            f"--blink-settings=preferredColorScheme={scheme}",
+            f"--screenshot={shot}",
+        )
         counts = pixels_of(shot)
         expect("pixels", WIDE * HIGH, sum(counts.values()))
         expect_within("colours", 30, WIDE * HIGH, len(counts))
@@ -180,7 +230,7 @@ def a_browser_draws_it(stand):
 
 
 def a_browser_finds_no_fault(stand):
-    """It reads the page as it is written, areas and all, and says nothing of a fault; of a page that has one it does."""
+    """It reads the page as it is written, areas and all, and finds no fault; in a page that has one it does."""
     listen = ["--dump-dom", "--enable-logging=stderr", "--v=0"]
     bad = stand.file("bad.html", "<script>throw new Error('a fault of a script')</script>")
     expect("what is said of a script's fault", True, "a fault of a script" in browse(stand, bad, *listen)[1])
@@ -190,4 +240,8 @@ def a_browser_finds_no_fault(stand):
         expect("what is said of the page", [], [it for it in said.split("\n") if "CONSOLE" in it])
         expect("its areas", text.count('class="area '), dom.count('class="area '))
         expect_within("areas", 4, 12, dom.count('class="area '))
-        expect("its tags", [tag for tag, _ in Reader(text).tags if tag != "tbody"], [tag for tag, _ in Reader(dom).tags if tag != "tbody"])
+        expect(
+            "its tags",
+            [tag for tag, _ in Reader(text).tags if tag != "tbody"],
+            [tag for tag, _ in Reader(dom).tags if tag != "tbody"],
+        )

@@ -1,4 +1,4 @@
-"""tools/warm: which targets of a log it takes, in which order, at which rate, and what it tells of the program's answers."""
+"""tools/warm: which targets of a log it takes, in which order and at which rate, and what it tells of the answers."""
 import subprocess
 import sys
 import threading
@@ -12,8 +12,12 @@ from live.proxy import table_of
 
 KEPT = "Cache-Control: max-age=600"
 # By hand: of by_hand.log GETs that were hits, or whose answer was stored.
-COUNTED = [("4", "http://a.example/img/1.png"), ("3", "http://a.example/img/2.png?x=/y"), ("2", "http://b.example:8080/api/b")]
-# Lines of which no target is asked for: what isn't a GET, wasn't looked up or stored, or is no URI that could be asked for.
+COUNTED = [
+    ("4", "http://a.example/img/1.png"),
+    ("3", "http://a.example/img/2.png?x=/y"),
+    ("2", "http://b.example:8080/api/b"),
+]
+# Lines of which no target is asked for: no GET, neither a hit nor stored, or no URI that could be asked for.
 NONE = [
     "1 c HEAD http://h/head 200 0 hit;ttl=1",
     "1 c GET http://h/miss 200 1 fwd=uri-miss",
@@ -49,7 +53,11 @@ def warm(stand):
 def which_targets(stand):
     ran = run(LOG, "--list")
     expect("targets of the log", (0, COUNTED), (ran.returncode, [tuple(it.split()) for it in ran.stdout.splitlines()]))
-    expect("the first of them", COUNTED[:1], [tuple(it.split()) for it in run(LOG, "--list", "--top", "1").stdout.splitlines()])
+    expect(
+        "the first of them",
+        COUNTED[:1],
+        [tuple(it.split()) for it in run(LOG, "--list", "--top", "1").stdout.splitlines()],
+    )
     for it in NONE:
         ran = run(stand.file("none", f"{it}\n"))
         wanted = 1, "the log has no target that was a hit or was stored\n", ""
@@ -60,9 +68,11 @@ def which_targets(stand):
 
 
 def what_is_stored_then(stand):
-    """Four targets, one of them held already, one private and one denied by now: the least frequent first, with their host and the field."""
+    """Five targets, one held already, one private, one denied: the least frequent first, with their host and field."""
     kept = whole(200, KEPT, "Vary: Accept-Encoding", content=b"a")
-    origin = stand.origin(Origin({"/a": kept, "/b": kept, "/held": kept, "/private": whole(200, "Cache-Control: private", content=b"p")}))
+    origin = stand.origin(
+        Origin({"/a": kept, "/b": kept, "/held": kept, "/private": whole(200, "Cache-Control: private", content=b"p")})
+    )
     proxy = stand.proxy(table_of([("/denied", ["*"], "deny"), ("/", ["*"], origin.address)]))
     log = stand.file("log", hits([("/a", 5), ("/b?x=1", 4), ("/held", 3), ("/private", 2), ("/denied", 1)]))
     words = [log, "--to", f"127.0.0.1:{proxy.port}", "--header", "Accept-Encoding: gzip", "--jobs", "1"]
@@ -71,10 +81,23 @@ def what_is_stored_then(stand):
     ran = run(*words)
     said = ran.stdout.splitlines()
     expect("status and standard error", (0, ""), (ran.returncode, ran.stderr))
-    expect("what it says first", True, said[0].startswith("5 targets asked for in ") and said[0].endswith(" s: 2 stored, 1 there already, 2 not stored"))
-    expect("why not", ["1 not stored: 200 fwd=uri-miss", "1 not stored: 403 denied by line 1"], sorted(it.strip() for it in said[1:]))
+    expect(
+        "what it says first",
+        True,
+        said[0].startswith("5 targets asked for in ")
+        and said[0].endswith(" s: 2 stored, 1 there already, 2 not stored"),
+    )
+    expect(
+        "why not",
+        ["1 not stored: 200 fwd=uri-miss", "1 not stored: 403 denied by line 1"],
+        sorted(it.strip() for it in said[1:]),
+    )
     expect("targets at the origin", ["/held", "/private", "/b?x=1", "/a"], [it.target for it in origin.fetches])
-    expect("fields there", {("h.example", "gzip")}, {(it.value("Host"), it.value("Accept-Encoding")) for it in origin.fetches})
+    expect(
+        "fields there",
+        {("h.example", "gzip")},
+        {(it.value("Host"), it.value("Accept-Encoding")) for it in origin.fetches},
+    )
     for target in ("/a", "/b?x=1"):
         answer = client.ask(f"http://h.example{target}", "Accept-Encoding: gzip")
         expect(f"the answer for {target}", "edge;hit;ttl=", answer.value("Cache-Status")[:13])

@@ -1,4 +1,4 @@
-"""tools/why: what it says of texts, of answers of the program and of strangers, and where tables of docs/ have moved to another page."""
+"""tools/why: what it says of texts, of answers of the program and of strangers, and where tables have moved."""
 import os
 import re
 import shutil
@@ -22,15 +22,30 @@ ROOT = os.path.dirname(TOOLS)
 # A text, and of what it says the rule or word, its section (RFC 9111, 5861, 9211), and who can change something.
 SAID = [
     ("Cache-Status: edge;fwd=stale;detail=must-revalidate", ["MustRevalidate", "RFC 9111, section 5.2.2.2", "Origin"]),
-    ("edge;fwd=stale;fwd-status=304;ttl=60;stored", ["NoMaxStale", "RFC 9111, section 4.2.4", "RFC 9211, section 2.5", "Client"]),
+    (
+        "edge;fwd=stale;fwd-status=304;ttl=60;stored",
+        ["NoMaxStale", "RFC 9111, section 4.2.4", "RFC 9211, section 2.5", "Client"],
+    ),
     ("fwd=request;detail=min-fresh", ["BelowMinFresh", "RFC 9111, section 5.2.1.3", "Client"]),
-    ("edge;fwd=bypass;detail=operator", ["Operator", "own: a choice of this project", "rule 0 of reuse", "this rule of storing"]),
-    ("edge;fwd=uri-miss", ["UriMiss", "RFC 9111, section 4", "Private", "NothingToReuse", "TooLarge", "RFC 9111, section 3.5"]),
+    (
+        "edge;fwd=bypass;detail=operator",
+        ["Operator", "own: a choice of this project", "rule 0 of reuse", "this rule of storing"],
+    ),
+    (
+        "edge;fwd=uri-miss",
+        ["UriMiss", "RFC 9111, section 4", "Private", "NothingToReuse", "TooLarge", "RFC 9111, section 3.5"],
+    ),
     ("edge;hit;ttl=5", ["sent a stored response", "RFC 9211, section 2.1", "RFC 9211, section 2.4"]),
     ("edge;fwd=uri-miss;ttl=9;collapsed", ["waited for another request", "RFC 9211, section 2.6"]),
     ('"front, a";hit, edge;fwd=vary-miss;ttl=1;stored', ["VaryMiss", "RFC 9111, section 4.1", "Vary"]),
-    ("edge;fwd=stale;fwd-status=500;ttl=-3;detail=stale-if-error", ["detail=stale-if-error", "The origin failed", "RFC 9211, section 2.3"]),
-    ("Refusal: origin timed-out;fwd=stale;stale-if-error=no-directive", ["--origin-timeout", "NoDirective", "RFC 5861, section 4"]),
+    (
+        "edge;fwd=stale;fwd-status=500;ttl=-3;detail=stale-if-error",
+        ["detail=stale-if-error", "The origin failed", "RFC 9211, section 2.3"],
+    ),
+    (
+        "Refusal: origin timed-out;fwd=stale;stale-if-error=no-directive",
+        ["--origin-timeout", "NoDirective", "RFC 5861, section 4"],
+    ),
     ("only-if-cached;fwd=uri-miss", ["wants only what is stored", "UriMiss", "504"]),
     ("denied by line 3", ["403", "Line N of the table", "Operator"]),
     ("no line allows it", ["403", "No line of the table", "Operator"]),
@@ -43,9 +58,23 @@ SAID = [
     ("usage fault", ["64"]),
     ("draining", ["--drain"]),
     ("1764050018 127.0.0.1:40001 GET http://a.example/admin 403 16 denied by line 1", ["403", "Line N of the table"]),
-    ("2026-11-26T12:00:00.123Z 127.0.0.1:40001 GET http://a/ 200 1 fwd=method 0.1 127.0.0.1:80", ["rule 1 of reuse", "RFC 9111, section 4"]),
+    (
+        "2026-11-26T12:00:00.123Z 127.0.0.1:40001 GET http://a/ 200 1 fwd=method 0.1 127.0.0.1:80",
+        ["rule 1 of reuse", "RFC 9111, section 4"],
+    ),
 ]
-UNKNOWN = ["fwd=nothing", "edge;fwd=stale;detail=nothing", "denied by line x", "refused: nothing", "origin nothing", "uri-mis", "", ";;;", "hit hit", "\x1b[2J"]
+UNKNOWN = [
+    "fwd=nothing",
+    "edge;fwd=stale;detail=nothing",
+    "denied by line x",
+    "refused: nothing",
+    "origin nothing",
+    "uri-mis",
+    "",
+    ";;;",
+    "hit hit",
+    "\x1b[2J",
+]
 
 
 def run(*words):
@@ -77,7 +106,11 @@ def texts_say_their_rule():
     found = texts(ROOT)
     for text, wanted in SAID:
         entries = found.of(text) if not text[0].isdigit() and not text.startswith("2026") else []
-        said = words_of(run(text).stdout) if not entries else " ".join(f"{it.title} {' '.join(map(' '.join, it.parts))}" for it in entries)
+        said = (
+            words_of(run(text).stdout)
+            if not entries
+            else " ".join(f"{it.title} {' '.join(map(' '.join, it.parts))}" for it in entries)
+        )
         expect(f"of {text}, what isn't said", [], [it for it in wanted if it not in said])
     said = words_of(run(*SAID[0][0].split(" ")).stdout)
     expect("printed, what isn't said", [], [it for it in SAID[0][1] if it not in said])
@@ -107,7 +140,11 @@ def parts_of_a_document():
         ("own", []),
     ):
         expect(f"sections of {cell}", wanted, sections_of(cell))
-    for text, wanted in (("cache-status:  a;hit ,edge; hit ; ttl=1", "edge;hit;ttl=1"), ("Refusal:no line allows it", "no line allows it"), ("edge;hit", "edge;hit")):
+    for text, wanted in (
+        ("cache-status:  a;hit ,edge; hit ; ttl=1", "edge;hit;ttl=1"),
+        ("Refusal:no line allows it", "no line allows it"),
+        ("edge;hit", "edge;hit"),
+    ):
         expect(f"the value of {text}", wanted, value_of(text))
 
 
@@ -131,11 +168,17 @@ def a_table_may_move(stand):
 
 def an_answer_of_the_program(stand):
     """It asks, says what came first, and then why: a miss, a hit, an answer that isn't stored, a refusal."""
-    kept, private = whole(200, "Cache-Control: max-age=600", content=b"a"), whole(200, "Cache-Control: private", content=b"b")
+    kept, private = whole(200, "Cache-Control: max-age=600", content=b"a"), whole(
+        200, "Cache-Control: private", content=b"b"
+    )
     origin = stand.origin(Origin({"/a": kept, "/b": private}))
     proxy = stand.proxy(table_of([("/no", ["*"], "deny"), ("/", ["*"], origin.address)]))
     for target, first, wanted in (
-        ("/a", "Cache-Status: edge;fwd=uri-miss;ttl=600;stored", ["200 to GET http://h.example/a", "Cache-Control: max-age=600", "rule 5 of reuse"]),
+        (
+            "/a",
+            "Cache-Status: edge;fwd=uri-miss;ttl=600;stored",
+            ["200 to GET http://h.example/a", "Cache-Control: max-age=600", "rule 5 of reuse"],
+        ),
         ("/a", "Cache-Status: edge;hit;ttl=", ["Age: ", "RFC 9211, section 2.1"]),
         ("/b", "Cache-Status: edge;fwd=uri-miss", ["Cache-Control: private", "Private", "RFC 9111, section 5.2.2.7"]),
         ("/no/x", "Refusal: denied by line 1", ["403 to GET", "Line N of the table"]),
@@ -165,7 +208,13 @@ def answers_of_strangers():
         told = ran.stdout + ran.stderr
         expect(f"of {text} status, and what is said", (status, True), (ran.returncode, said in told))
         expect(f"of {text} hidden characters", [], re.findall(r"[^ -~\n]", told))
-    for url in ("https://h.example/", "http://127.0.0.1:1/", "http://127.0.0.1:99999999/", "http:///x", "http://h/\x01"):
+    for url in (
+        "https://h.example/",
+        "http://127.0.0.1:1/",
+        "http://127.0.0.1:99999999/",
+        "http:///x",
+        "http://h/\x01",
+    ):
         ran = run(url)
         expect(f"of {url} status and lines on standard error", (1, 1), (ran.returncode, ran.stderr.count("\n")))
 

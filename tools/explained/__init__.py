@@ -1,1 +1,1 @@
-"""The words of docs/ for what the program writes (tools/why), found by the heads of their tables, and the lists of it from the sources."""
+"""The words of docs/ for what the program writes (tools/why), and the lists of that from the sources."""

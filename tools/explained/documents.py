@@ -1,4 +1,4 @@
-"""The tables and paragraphs of docs/*.md. A table is found by the heads of its columns, so it may move to another page."""
+"""The tables and paragraphs of docs/*.md. A table is found by the heads of its columns, so it may move elsewhere."""
 import glob
 import os
 import re
@@ -62,7 +62,7 @@ class Documents:
         return None, {}
 
     def said_of(self, words):
-        """Where these words stand as code: in paragraphs, and in rows of tables. Each is a list of names and texts, and its place."""
+        """Where these words stand as code, in paragraphs and in rows of tables: names and texts, and the place."""
         code = re.compile(rf"`[^`]*(?<![\w-]){re.escape(words)}(?![\w-])[^`]*`")
         for page, section, text in self.paragraphs:
             if code.search(text):

@@ -6,7 +6,11 @@ from explained.entries import CHANGE, PLAIN, Words
 from explained.texts import Texts
 
 # The lists of rules: the type, its number, and how it is looked up.
-RULES = [("ReuseRule", "number_of", Words.reuse), ("StoreRule", "number_of", Words.storing), ("ErrorRule", "error_number_of", Words.error)]
+RULES = [
+    ("ReuseRule", "number_of", Words.reuse),
+    ("StoreRule", "number_of", Words.storing),
+    ("ErrorRule", "error_number_of", Words.error),
+]
 # Lists of words. (Want of memory is told of no target: it is the program's own.)
 FAULTS = [("FrameFault", "frame_word", Words.message), ("TargetFault", "target_word", Words.target)]
 OTHERS = [("FailKind", "kind_word", Words.kind), ("Cause", "text_of", Words.cause), ("Detail", "word_of", Words.detail)]
@@ -31,7 +35,9 @@ def of_rules(words, root):
         for name, number in words.sources.numbers(function, type).items():
             entry = make(words, name)
             yield f"{type} {name}", lacking(entry, root, ("in plain words", "stands where", "standard", "defined in"))
-            yield f"{type} {name} by number", [] if row_agrees(words, type, name, number) else [f"{entry.title}: its row has another number or other words"]
+            yield f"{type} {name} by number", [] if row_agrees(words, type, name, number) else [
+                f"{entry.title}: its row has another number or other words"
+            ]
 
 
 def row_agrees(words, type, name, number):
@@ -52,7 +58,9 @@ def of_words(words, root):
     for type, function, make in FAULTS:
         for name in words.sources.table(function, type):
             if name != "OutOfMemory":
-                yield f"{type} {name}", lacking(make(words, name), root, ("in plain words", "stands where", "defined in"))
+                yield f"{type} {name}", lacking(
+                    make(words, name), root, ("in plain words", "stands where", "defined in")
+                )
     for type, function, make in OTHERS:
         for name in words.sources.table(function, type):
             yield f"{type} {name}", lacking(make(words, name), root)
@@ -66,10 +74,18 @@ def of_texts(found):
     for name, number in sources.numbers("number_of", "ReuseRule").items():
         reason, detail = (sources.texts(it, "ReuseRule")[name] for it in ("reason_of", "detail_of"))
         rule = f"fwd={reason}" + (f";detail={detail}" if detail else "")
-        for text in (f"Cache-Status: edge;{rule}", rule, f"Refusal: only-if-cached;{rule}", f"origin closed;{rule};stale-if-error=too-stale"):
+        for text in (
+            f"Cache-Status: edge;{rule}",
+            rule,
+            f"Refusal: only-if-cached;{rule}",
+            f"origin closed;{rule};stale-if-error=too-stale",
+        ):
             keys = [it.key for it in found.of(text) if it.key.startswith("reuse-")]
             yield text, [] if keys == [f"reuse-{number}"] else [f"{text} is taken for {keys}"]
-    lines = [*sources.texts("config_line", "ConfigFault").values(), *sources.texts("engine_line", "EngineFault").values()]
+    lines = [
+        *sources.texts("config_line", "ConfigFault").values(),
+        *sources.texts("engine_line", "EngineFault").values(),
+    ]
     lines += [*sources.texts("fault_line", "ReplayFault").values(), *sources.said()]
     for it in sorted({it.strip() for it in lines if it}):
         # (a number or a key follows)
@@ -88,7 +104,7 @@ def faults_of(found, root):
 
 
 def is_found(found, root):
-    """What isn't noticed: a row of plain words that is taken away, one of each table, and a rule that has another number."""
+    """What isn't noticed: a row of each table of plain words that is taken away, a rule that has another number."""
     unseen = []
     for table in found.documents.with_heads(PLAIN, CHANGE):
         row = table.rows.pop()

@@ -58,9 +58,11 @@ class Sources:
         return found
 
     def said(self):
-        """What the program says on standard error beside the lines of the definitions: each text up to what is put into it."""
+        """What the program says on standard error beside the definitions' lines: each text up to what is put in it."""
         found = set()
-        for path in glob.glob(f"{self.root}/crates/proxy_program/src/*.rt") + glob.glob(f"{self.root}/crates/proxy_server/src/*.rt"):
+        for path in glob.glob(f"{self.root}/crates/proxy_program/src/*.rt") + glob.glob(
+            f"{self.root}/crates/proxy_server/src/*.rt"
+        ):
             with open(path, encoding="utf-8") as it:
                 found |= {one.partition(";")[0].strip() for one in SAID.findall(it.read())}
         return found - {""}

@@ -19,7 +19,7 @@ class Texts:
             self.by_text[reason, detail] = name
 
     def of(self, text):
-        """Entries for a value of Cache-Status or of Refusal, a line on standard error, or a word alone; none where it is unknown."""
+        """Entries for a value of Cache-Status or of Refusal, a line on standard error, or a word; none if unknown."""
         text = value_of(text)
         return self.of_reason(text) or self.of_line(text) or self.of_word(text) or self.in_documents(text)
 
@@ -40,8 +40,12 @@ class Texts:
         else:
             entries += self.of_rule(parameters.get("fwd"), parameters.get("detail"))
         entries += [self.words.parameter(it) for it in ("fwd-status", "ttl", "stored", "collapsed") if it in parameters]
-        entries += [self.words.detail(it) for it in self.own_details() if parameters.get("detail") == self.own_details()[it]]
-        is_sent = {"hit", "stored", "collapsed", "ttl"} & set(parameters) or parameters.get("detail") in self.own_details().values()
+        entries += [
+            self.words.detail(it) for it in self.own_details() if parameters.get("detail") == self.own_details()[it]
+        ]
+        is_sent = {"hit", "stored", "collapsed", "ttl"} & set(parameters) or parameters.get(
+            "detail"
+        ) in self.own_details().values()
         if entries and not is_sent:
             entries.append(self.not_stored(parameters.get("fwd"), parameters.get("detail")))
         return entries
@@ -50,7 +54,7 @@ class Texts:
         return self.sources.texts("word_of", "Detail")
 
     def of_rule(self, reason, detail):
-        """The rule of a reason and a detail. A detail of another kind stands in the place of the rule's, so each rule of the reason may be it."""
+        """The rule of a reason and a detail; where the detail stands in place of the rule's, each of that reason."""
         if (reason, detail) in self.by_text:
             return [self.words.reuse(self.by_text[reason, detail])]
         if detail in self.own_details().values():
@@ -68,10 +72,20 @@ class Texts:
         parts = []
         for it in map(self.words.storing, names):
             told = dict(it.parts)
-            changes = [told[who] if who == "to do" else f"{who}: {told[who]}" for who in ("to do", "Origin", "Client", "Operator") if who in told]
+            changes = [
+                told[who] if who == "to do" else f"{who}: {told[who]}"
+                for who in ("to do", "Origin", "Client", "Operator")
+                if who in told
+            ]
             standard = re.sub(r"own: .*", "own", told.get("standard", ""))
-            parts.append((it.title.partition(", ")[2], " ".join([told.get("in plain words", ""), *changes, f"({standard})"])))
-        what = "no ;stored: this rule of storing kept the answer out" if len(names) == 1 else "no ;stored: the first of these rules that stands kept the answer out"
+            parts.append(
+                (it.title.partition(", ")[2], " ".join([told.get("in plain words", ""), *changes, f"({standard})"]))
+            )
+        what = (
+            "no ;stored: this rule of storing kept the answer out"
+            if len(names) == 1
+            else "no ;stored: the first of these rules that stands kept the answer out"
+        )
         return Entry(f"not-stored-{names[0].lower()}", what, parts)
 
     def of_refusal(self, text):
@@ -90,7 +104,9 @@ class Texts:
         if not kind:
             return []
         entries = [self.words.kind(kind), *self.of_rule(more.get("fwd"), more.get("detail"))]
-        return entries + [self.words.error(it) for it in self.named("error_word_of", "ErrorRule", more.get("stale-if-error"))]
+        return entries + [
+            self.words.error(it) for it in self.named("error_word_of", "ErrorRule", more.get("stale-if-error"))
+        ]
 
     def named(self, function, type, word):
         """The constructors that have this word."""
@@ -99,21 +115,33 @@ class Texts:
     def of_fault(self, word):
         """A fault of a message or of a target, by its word."""
         entries = [self.words.message(it) for it in self.named("frame_word", "FrameFault", word)]
-        return entries + [self.words.target(it) for it in self.named("target_word", "TargetFault", word) if it != "OutOfMemory"]
+        return entries + [
+            self.words.target(it) for it in self.named("target_word", "TargetFault", word) if it != "OutOfMemory"
+        ]
 
     def of_line(self, text):
         """A line on standard error."""
         entries, number = [], re.match(r"config fault (\d+)", text)
         if number:
-            table, row = self.documents.row(lambda it: it["No"] == number[1], "No", "Fault", "What is wrong", "What to do")
+            table, row = self.documents.row(
+                lambda it: it["No"] == number[1], "No", "Fault", "What is wrong", "What to do"
+            )
             if table:
-                parts = [("what is wrong", row["What is wrong"]), ("Operator", row["What to do"]), ("defined in", table.place())]
+                parts = [
+                    ("what is wrong", row["What is wrong"]),
+                    ("Operator", row["What to do"]),
+                    ("defined in", table.place()),
+                ]
                 entries.append(Entry(f"config-{number[1]}", f"config fault {number[1]}: {row['Fault']}", parts))
         for table in (it for it in self.documents.tables if it.heads[0] == "Standard error"):
             for row in table.rows:
                 if any(is_said(one, text) for one in codes_in(row["Standard error"])):
                     parts = [(head.lower(), row[head]) for head in table.heads[1:]]
-                    entries.append(Entry("line", row["Standard error"], [*parts, *self.sentence(text), ("defined in", table.place())]))
+                    entries.append(
+                        Entry(
+                            "line", row["Standard error"], [*parts, *self.sentence(text), ("defined in", table.place())]
+                        )
+                    )
         return entries
 
     def sentence(self, text):
@@ -125,16 +153,24 @@ class Texts:
     def of_word(self, word):
         """All that one word names."""
         entries = [self.words.reuse(it) for it in self.names_of_rules(word)]
-        entries += [self.words.storing(it) for it in self.sources.table("number_of", "StoreRule") if it.lower() == word.lower()]
+        entries += [
+            self.words.storing(it) for it in self.sources.table("number_of", "StoreRule") if it.lower() == word.lower()
+        ]
         for function, type, make in (
             ("error_word_of", "ErrorRule", self.words.error),
             ("kind_word", "FailKind", self.words.kind),
             ("word_of", "Detail", self.words.detail),
         ):
             entries += [make(it) for it in self.named(function, type, word)]
-        entries += self.of_fault(word) + [self.words.error(it) for it in self.sources.table("error_number_of", "ErrorRule") if it == word]
+        entries += self.of_fault(word) + [
+            self.words.error(it) for it in self.sources.table("error_number_of", "ErrorRule") if it == word
+        ]
         entries += [self.words.message(it) for it in self.sources.table("frame_word", "FrameFault") if it == word]
-        entries += [self.words.target(it) for it in self.sources.table("target_word", "TargetFault") if it == word != "OutOfMemory"]
+        entries += [
+            self.words.target(it)
+            for it in self.sources.table("target_word", "TargetFault")
+            if it == word != "OutOfMemory"
+        ]
         entries += [self.words.cause(it) for it, one in NAMES_OF_CAUSES.items() if word == one and it != "Target"]
         if word.partition("=")[0] in self.sources.parameters() - {"fwd", "detail", "stale-if-error"}:
             entries.append(self.words.parameter(word.partition("=")[0]))
@@ -143,7 +179,11 @@ class Texts:
     def names_of_rules(self, word):
         """Reuse rules by reason, detail or name."""
         word = word.removeprefix("fwd=").removeprefix("detail=")
-        return [name for (reason, detail), name in self.by_text.items() if word in (reason, detail) or word.lower() == name.lower()]
+        return [
+            name
+            for (reason, detail), name in self.by_text.items()
+            if word in (reason, detail) or word.lower() == name.lower()
+        ]
 
     def in_documents(self, text):
         """Where the text stands as code."""
@@ -152,8 +192,17 @@ class Texts:
 
     def nearest(self, text):
         """Words that are nearly this one."""
-        known = {it for pair in self.by_text for it in pair if it} | set(self.by_text.values()) | set(self.sources.table("number_of", "StoreRule"))
-        for function, type in (("error_word_of", "ErrorRule"), ("kind_word", "FailKind"), ("frame_word", "FrameFault"), ("target_word", "TargetFault")):
+        known = (
+            {it for pair in self.by_text for it in pair if it}
+            | set(self.by_text.values())
+            | set(self.sources.table("number_of", "StoreRule"))
+        )
+        for function, type in (
+            ("error_word_of", "ErrorRule"),
+            ("kind_word", "FailKind"),
+            ("frame_word", "FrameFault"),
+            ("target_word", "TargetFault"),
+        ):
             known |= set(self.sources.texts(function, type).values())
         return difflib.get_close_matches(value_of(text), sorted(known | self.sources.parameters()), 3, 0.6)
 

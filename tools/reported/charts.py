@@ -9,12 +9,33 @@ from reported.reasons import KINDS
 WIDE, HIGH, LEFT, RIGHT, TOP, BELOW = 1000, 260, 58, 10, 10, 24
 MOST_COLUMNS = 240
 # Seconds between two marks of the scale of time, and how wide a column may be: a multiple of a bin.
-STEPS = [1, 5, 10, 30, 60, 300, 600, 1800, 3600, 7200, 21600, 43200, 86400, 172800, 604800, 2419200, 31536000, 315360000]
-TIMES = [a * b for b in (1, 60, 3600, 86400, 864000, 8640000, 86400000, 864000000) for a in (1, 2, 5, 10, 15, 20, 30)] + [10**12]
+STEPS = [
+    1,
+    5,
+    10,
+    30,
+    60,
+    300,
+    600,
+    1800,
+    3600,
+    7200,
+    21600,
+    43200,
+    86400,
+    172800,
+    604800,
+    2419200,
+    31536000,
+    315360000,
+]
+TIMES = [
+    a * b for b in (1, 60, 3600, 86400, 864000, 8640000, 86400000, 864000000) for a in (1, 2, 5, 10, 15, 20, 30)
+] + [10**12]
 
 
 class Series:
-    """The bins of a log as columns of equal width, without gaps. What lies far from nearly all answers is left out and counted."""
+    """The bins of a log as columns of equal width, without gaps. What lies far from nearly all answers is left out."""
 
     def __init__(self, figures):
         bins, self.left_out = figures.bins, 0
@@ -32,7 +53,10 @@ class Series:
             column = self.columns[number * bins.width // self.width - self.begin]
             for at, it in enumerate(bins.rows[number]):
                 column[at] += it
-        self.ends = max(min(figures.first, figures.last), first * bins.width), min(max(figures.first, figures.last), (last + 1) * bins.width) + 1
+        self.ends = (
+            max(min(figures.first, figures.last), first * bins.width),
+            min(max(figures.first, figures.last), (last + 1) * bins.width) + 1,
+        )
 
     def moments(self, at):
         return (self.begin + at) * self.width, (self.begin + at + 1) * self.width
@@ -47,7 +71,7 @@ class Series:
 
 
 def window(numbers, counts):
-    """The first and the last bin: of all, or where these lie far apart, of the least stretch that has 99 answers in a hundred."""
+    """The first and the last bin: of all, or where these lie far apart, of the least stretch with 99 answers in 100."""
     wanted, sum_, begin, best = 0.99 * sum(counts.values()), 0, 0, (numbers[0], numbers[-1])
     for number in numbers:
         sum_ += counts[number]
@@ -89,15 +113,24 @@ def frame(series, most, step, unit, name):
     for moment in range(-(-begin // step) * step, end, step):
         x = series.x((moment - begin) / series.width)
         anchor = "start" if x < LEFT + 30 else "end" if x > WIDE - RIGHT - 30 else "middle"
-        lines.append(f'<text x="{x:.1f}" y="{HIGH - 6}" text-anchor="{anchor}">{when(moment, step)}</text><line x1="{x:.1f}" x2="{x:.1f}" y1="{TOP}" y2="{HIGH - BELOW}"/>')
-    return f'<g class="scale">{"".join(lines)}</g>', f'<svg viewBox="0 0 {WIDE} {HIGH}" role="img" aria-label="{escape(name)}">'
+        lines.append(
+            f'<text x="{x:.1f}" y="{HIGH - 6}" text-anchor="{anchor}">{when(moment, step)}</text>'
+            f'<line x1="{x:.1f}" x2="{x:.1f}" y1="{TOP}" y2="{HIGH - BELOW}"/>'
+        )
+    return (
+        f'<g class="scale">{"".join(lines)}</g>',
+        f'<svg viewBox="0 0 {WIDE} {HIGH}" role="img" aria-label="{escape(name)}">',
+    )
 
 
 def path(series, lower, upper, most):
     """An area between two lines, each from the picture's left end to its right one."""
+
     def points(values, order):
         for at in order:
-            for x in ([series.x(at), series.x(at + 0.5)] if at == 0 else [series.x(at + 0.5)]) + ([series.x(at + 1)] if at == len(values) - 1 else []):
+            for x in ([series.x(at), series.x(at + 0.5)] if at == 0 else [series.x(at + 0.5)]) + (
+                [series.x(at + 1)] if at == len(values) - 1 else []
+            ):
                 yield x, HIGH - BELOW - (HIGH - TOP - BELOW) * min(values[at], most) / most
 
     there = list(points(upper, range(len(upper))))
@@ -126,7 +159,7 @@ def stacked(series):
     for kind, name in enumerate(KINDS):
         above = [a + b[kind] for a, b in zip(below, rates)]
         if above != below:
-            areas.append(f'<path class="area k{kind}" d="{path(series, below, above, most)}"><title>{escape(name)}</title></path>')
+            areas.append(f'<path class="area k{kind}" d="{path(series, below, above, most)}"/>')
         below = above
 
     def text(at):

@@ -62,8 +62,7 @@ class Times:
         return sum(self.counts.values())
 
     def least(self, hundredths):
-        """The least time that so many in a hundred replies took no longer than; of several that are equal in three digits the least
-        that they can be."""
+        """The least time that so many in a hundred replies took no longer than, cut to three digits."""
         self.fold()
         wanted = -(-sum(self.counts.values()) * hundredths // 100)
         for took in sorted(self.counts):
@@ -99,7 +98,8 @@ class Figures:
         self.fresh_until, self.new, self.early = {}, 0, 0
         self.words, self.families, self.refusals = Tally(), Tally(), Tally()
         self.statuses, self.left_out = Counter(), [0] * len(LEFT_OUT)
-        # Of each name what counts in the hit ratio, and the hits of it; of a target how often it was missed, or stored again too early.
+        # Of each name what counts in the hit ratio, and the hits of it; of a target how often it was missed, and how
+        # often it was stored again too early.
         self.hosts, self.segments, self.missed, self.again = Tally(2), Tally(2), Tally(), Tally()
         # Of each origin what it failed at, by the columns of `failures_of`, and what it was asked for.
         self.origins, self.origins_are_told = Tally(6), bool(table)
@@ -201,8 +201,8 @@ class Figures:
 
 
 def failures_of(reason, status, count):
-    """Of so many answers: all failures of the origin, then those by a time-out, by another failure, by a 5xx of its own, and those for
-    which a stored response was sent; then what was asked."""
+    """Of so many answers: all failures of the origin, then those by a time-out, by another failure, by a 5xx of its
+    own, and those for which a stored response was sent; then what was asked."""
     late = reason.is_failure and status == b"504"
     own = reason.is_covered_error or (not reason.is_refusal and not reason.is_covered and status[:1] == b"5")
     failed = reason.is_failure or reason.is_covered or own

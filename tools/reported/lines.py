@@ -1,8 +1,9 @@
 """Lines of a log, read from any bytes in bounded memory.
 
-A line has a moment, the client, a method, a target, a status, the bytes and the reason; behind the reason how long the reply took, and
-the origin that was asked, where the program writes them. The moment is in Unix seconds, or as in 2026-11-26T12:00:00.123Z. How long it took is in
-milliseconds (`12`, `12ms`), or in seconds with a point (`0.012`). Further words are passed over."""
+A line has a moment, the client, a method, a target, a status, the bytes and the reason; behind the reason how long
+the reply took, and the origin that was asked, where the program writes them. The moment is in Unix seconds, or as in
+2026-11-26T12:00:00.123Z. How long it took is in milliseconds (`12`, `12ms`), or in seconds with a point (`0.012`).
+Further words are passed over."""
 import calendar
 import re
 
@@ -16,12 +17,12 @@ BEHIND = re.compile(rb" ([0-9]{1,12}(?:\.[0-9]{1,9})?(?:ms|s)?|-) ([!-~]*:[0-9]{
 DAY = re.compile(rb"([0-9]{4})-([0-9]{2})-([0-9]{2})T([0-9]{2}):([0-9]{2}):([0-9]{2})")
 # The last second of the year 9999.
 LAST_MOMENT = 253402300799
-# What is read at once, and the longest line that is kept: a target of 32 KB, each byte as \xHH, and what stands beside it.
+# What is read at once, and the longest line that is kept: a target of 32 KB, each byte as \xHH, and what is beside it.
 PIECE, LONGEST = 1 << 20, 1 << 18
 
 
 def pieces_of(file, at=lambda done: None):
-    """The lines of a file, some thousands at a time, without their ends; None stands for one that is too long for any."""
+    """The lines of a file, some thousands at a time, without their ends; None is one that is too long for any."""
     rest, is_too_long, done = b"", False, 0
     while piece := file.read(PIECE):
         done += len(piece)
@@ -45,14 +46,21 @@ def seconds_of(text, known={}):
     year, month, day, hour, minute, second = numbers
     if len(known) > 1000:
         known.clear()
-    is_one = year >= 1970 and 1 <= month <= 12 and 1 <= day <= calendar.monthrange(year, month)[1] and hour < 24 and minute < 60 and second < 61
+    is_one = (
+        year >= 1970
+        and 1 <= month <= 12
+        and 1 <= day <= calendar.monthrange(year, month)[1]
+        and hour < 24
+        and minute < 60
+        and second < 61
+    )
     known[text] = calendar.timegm((*numbers, 0, 0, 0)) if is_one else None
     return known[text]
 
 
 def parts_of(line):
-    """Moment, method, target, status, bytes, reason, how long it took and the origin, the last two None where they don't stand;
-    None of what is no line."""
+    """Moment, method, target, status, bytes, reason, how long it took and the origin, the last two None where they
+    don't stand; None of what is no line."""
     words = line and LINE.fullmatch(line)
     if not words:
         return None
@@ -65,7 +73,16 @@ def parts_of(line):
         reason, took, origin = reason[: behind.start()], behind[1], behind[2]
         if not reason:
             return None
-    return moment, method, target, status, int(length), reason, None if took == b"-" else took, None if origin == b"-" else origin
+    return (
+        moment,
+        method,
+        target,
+        status,
+        int(length),
+        reason,
+        None if took == b"-" else took,
+        None if origin == b"-" else origin,
+    )
 
 
 def microseconds_of(took):

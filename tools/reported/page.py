@@ -1,4 +1,4 @@
-"""What was counted, as one page that stands alone: no script, nothing from a network, and everything from a log escaped."""
+"""What was counted, as one page that stands alone: no script, nothing from a network, all of a log escaped."""
 import os
 import re
 from html import escape
@@ -26,7 +26,9 @@ def safe(text):
 def name_cell(name):
     text = text_of(name)
     cut = safe(text[:LONGEST] + "..") if len(text) > LONGEST else safe(text)
-    return f'<td class="name" title="{safe(text)}">{cut}</td>' if len(text) > LONGEST else f'<td class="name">{cut}</td>'
+    return (
+        f'<td class="name" title="{safe(text)}">{cut}</td>' if len(text) > LONGEST else f'<td class="name">{cut}</td>'
+    )
 
 
 def bar_cell(share, kind=""):
@@ -40,7 +42,8 @@ def table(title, heads, rows, note=""):
     head = "".join(f"<th>{escape(it)}</th>" for it in heads)
     body = "".join(f"<tr>{''.join(it)}</tr>" for it in rows)
     note = f"<p>{note}</p>" if note else ""
-    return f'<section><h2>{escape(title)}</h2>{note}<div class="wide"><table><thead><tr>{head}</tr></thead><tbody>{body}</tbody></table></div></section>'
+    rows = f"<table><thead><tr>{head}</tr></thead><tbody>{body}</tbody></table>"
+    return f'<section><h2>{escape(title)}</h2>{note}<div class="wide">{rows}</div></section>'
 
 
 def cell(number):
@@ -72,7 +75,8 @@ class Reasons:
         if not self.entries:
             return ""
         told = "".join(self.one(it) for _, it in sorted(self.entries.items()))
-        return f'<section class="words"><h2>What the reasons mean</h2><p>From docs/RULES.md and docs/OPERATIONS.md; <code>tools/why</code> prints the same.</p>{told}</section>'
+        head = "<h2>What the reasons mean</h2><p>From the tables in docs/; <code>tools/why</code> prints the same.</p>"
+        return f'<section class="words">{head}{told}</section>'
 
     def one(self, entry):
         parts = "".join(f"<dt>{escape(name)}</dt><dd>{marked(text)}</dd>" for name, text in entry.parts)
@@ -91,7 +95,9 @@ def legend(figures, reasons):
     counts = [sum(it) for it in zip(*figures.bins.rows.values())][: len(KINDS)]
     for kind, count in enumerate(counts):
         if count:
-            items.append(f'<li><i class="k{kind}"></i>{escape(KINDS[kind])} <b>{count:,}</b> {100 * count / whole:.1f} %</li>')
+            items.append(
+                f'<li><i class="k{kind}"></i>{escape(KINDS[kind])} <b>{count:,}</b> {100 * count / whole:.1f} %</li>'
+            )
     return f'<ul class="legend">{"".join(items)}</ul>'
 
 
@@ -101,7 +107,15 @@ def reasons_table(figures, reasons, most):
         is_rest = word not in figures.words.rows
         kind = "" if is_rest else f"k{Reason(word.encode('ascii')).kind}"
         links = "" if is_rest else reasons.links(word)
-        rows.append([name_cell(word), cell(f"{count:,}"), cell(f"{100 * count / whole:.1f} %"), bar_cell(count / whole, kind), f'<td class="why">{links}</td>'])
+        rows.append(
+            [
+                name_cell(word),
+                cell(f"{count:,}"),
+                cell(f"{100 * count / whole:.1f} %"),
+                bar_cell(count / whole, kind),
+                f'<td class="why">{links}</td>',
+            ]
+        )
     return table("Reasons", ["reason", "answers", "share", "", "words"], rows)
 
 
@@ -110,7 +124,15 @@ def refusals_table(figures, reasons, most):
     for word, (count,) in figures.refusals.shown(most):
         links = reasons.links(word[4:]) if word in figures.refusals.rows else ""
         kind = f"k{FAILED if word[4:].startswith('origin ') else REFUSED}"
-        rows.append([name_cell(word), cell(f"{count:,}"), cell(f"{100 * count / whole:.1f} %"), bar_cell(count / whole, kind), f'<td class="why">{links}</td>'])
+        rows.append(
+            [
+                name_cell(word),
+                cell(f"{count:,}"),
+                cell(f"{100 * count / whole:.1f} %"),
+                bar_cell(count / whole, kind),
+                f'<td class="why">{links}</td>',
+            ]
+        )
     return table("Refusals by cause", ["status and Refusal", "answers", "share", "", "words"], rows)
 
 
@@ -118,25 +140,52 @@ def statuses_table(figures):
     rows, whole = [], sum(figures.statuses.values())
     for status, count in sorted(figures.statuses.items()):
         kind = {"2": "k0", "5": f"k{FAILED}"}.get(status[0], "k3")
-        rows.append([name_cell(status), cell(f"{count:,}"), cell(f"{100 * count / whole:.1f} %"), bar_cell(count / whole, kind)])
+        rows.append(
+            [name_cell(status), cell(f"{count:,}"), cell(f"{100 * count / whole:.1f} %"), bar_cell(count / whole, kind)]
+        )
     return table("Statuses", ["status", "answers", "share", ""], rows)
 
 
 def ratios_table(title, tally, most):
-    rows = [[name_cell(name), cell(f"{asked:,}"), cell(f"{100 * hits / asked:.1f} %"), bar_cell(hits / asked, "k0")] for name, (asked, hits) in tally.shown(most) if asked]
+    rows = [
+        [name_cell(name), cell(f"{asked:,}"), cell(f"{100 * hits / asked:.1f} %"), bar_cell(hits / asked, "k0")]
+        for name, (asked, hits) in tally.shown(most)
+        if asked
+    ]
     return table(title, ["", "looked up", "hits", ""], rows)
 
 
 def counts_table(title, tally, whole, most, kind):
-    rows = [[name_cell(name), cell(f"{n:,}"), cell(f"{100 * n / whole:.1f} %"), bar_cell(n / whole, kind)] for name, (n,) in tally.shown(most)]
+    rows = [
+        [name_cell(name), cell(f"{n:,}"), cell(f"{100 * n / whole:.1f} %"), bar_cell(n / whole, kind)]
+        for name, (n,) in tally.shown(most)
+    ]
     return table(title, ["target", "times", "share", ""], rows)
 
 
 def failures_table(figures, most):
     rows = [it for it in figures.origins.shown(len(figures.origins.rows)) if it[1][0]][:most]
-    cells = [[name_cell(name), *(cell(f"{it:,}") for it in n), cell(f"{100 * n[0] / n[5]:.1f} %"), bar_cell(n[0] / n[5], f"k{FAILED}")] for name, n in rows]
-    heads = ["origin" if figures.origins_are_told else "host", "failures", "timed out (504)", "other (502)", "5xx of its own", "covered", "asked", "share", ""]
-    note = "What an origin failed at, and of how much that it was asked. Covered are failures in whose place a stored response was sent."
+    cells = [
+        [
+            name_cell(name),
+            *(cell(f"{it:,}") for it in n),
+            cell(f"{100 * n[0] / n[5]:.1f} %"),
+            bar_cell(n[0] / n[5], f"k{FAILED}"),
+        ]
+        for name, n in rows
+    ]
+    heads = [
+        "origin" if figures.origins_are_told else "host",
+        "failures",
+        "timed out (504)",
+        "other (502)",
+        "5xx of its own",
+        "covered",
+        "asked",
+        "share",
+        "",
+    ]
+    note = "What an origin failed at. Covered are failures in whose place a stored response was sent."
     return table("Origins that failed", heads, cells, note)
 
 
@@ -144,10 +193,18 @@ def durations_table(figures):
     rows = []
     for lane, it in zip(LANES, figures.times):
         if it.number():
-            rows.append([name_cell(lane), cell(f"{it.number():,}"), *(cell(seconds(n)) for n in (it.least(50), it.least(99), it.longest))])
+            rows.append(
+                [
+                    name_cell(lane),
+                    cell(f"{it.number():,}"),
+                    *(cell(seconds(n)) for n in (it.least(50), it.least(99), it.longest)),
+                ]
+            )
     if not rows:
         return ""
-    return table("Seconds from a request's first byte", ["", "answers", "median", "99 in 100 took no longer", "longest"], rows)
+    return table(
+        "Seconds from a request's first byte", ["", "answers", "median", "99 in 100 took no longer", "longest"], rows
+    )
 
 
 def tiles(figures):
@@ -158,11 +215,23 @@ def tiles(figures):
     left = "; ".join(f"{count:,} {why}" for why, count in zip(LEFT_OUT, figures.left_out) if count)
     told = [
         ("answers", f"{whole:,}", minutes(figures)),
-        ("hit ratio", f"{100 * hits / asked:.1f} %" if asked else "none", f"of {asked:,}; left out: {left or 'nothing'}"),
+        (
+            "hit ratio",
+            f"{100 * hits / asked:.1f} %" if asked else "none",
+            f"of {asked:,}; left out: {left or 'nothing'}",
+        ),
         ("origins failed", f"{failed[0]:,}", f"of {failed[5]:,} that they were asked"),
-        ("stored again too early", f"{figures.early:,}", f"of {figures.new:,} stored for want of any; where these are many, the store is too small"),
+        (
+            "stored again too early",
+            f"{figures.early:,}",
+            f"of {figures.new:,} stored for want of any; where these are many, the store is too small",
+        ),
     ]
-    return '<div class="tiles">' + "".join(f"<div><h2>{escape(a)}</h2><b>{b}</b><p>{escape(c)}</p></div>" for a, b, c in told) + "</div>"
+    return (
+        '<div class="tiles">'
+        + "".join(f"<div><h2>{escape(a)}</h2><b>{b}</b><p>{escape(c)}</p></div>" for a, b, c in told)
+        + "</div>"
+    )
 
 
 def picture(title, svg, more=""):
@@ -172,7 +241,11 @@ def picture(title, svg, more=""):
 def page(figures, most, name):
     reasons, series = Reasons(ROOT), charts.Series(figures)
     missed = figures.ratio() if figures.hosts.rows else [0, 0]
-    note = f"<p>{series.left_out:,} answers of other times lie far outside, and aren't drawn.</p>" if series.left_out else ""
+    note = (
+        f"<p>{series.left_out:,} answers of other times lie far outside, and aren't drawn.</p>"
+        if series.left_out
+        else ""
+    )
     parts = [
         tiles(figures),
         picture("Requests a minute, by reason", charts.stacked(series), legend(figures, reasons) + note),
@@ -196,8 +269,11 @@ def page(figures, most, name):
         reasons.section(),
     ]
     faults = f" {figures.faults:,} lines were none of a log." if figures.faults else ""
-    head = f"<h1>{safe(name)}</h1><p>{when(figures.first)} to {when(figures.last)} UTC, {figures.bytes:,} bytes of content.{faults}</p>"
+    span = f"{when(figures.first)} to {when(figures.last)} UTC, {figures.bytes:,} bytes of content"
+    top = f"<h1>{safe(name)}</h1><p>{span}.{faults}</p>"
     policy = "<meta http-equiv=\"Content-Security-Policy\" content=\"default-src 'none'; style-src 'unsafe-inline'\">"
-    meta = f'<meta charset="utf-8">{policy}<meta name="viewport" content="width=device-width, initial-scale=1"><meta name="color-scheme" content="light dark">'
+    meta = f'<meta charset="utf-8">{policy}<meta name="viewport" content="width=device-width, initial-scale=1">'
+    meta += '<meta name="color-scheme" content="light dark">'
     body = "\n".join(it for it in parts if it)
-    return f"<!doctype html>\n<html lang=\"en\">\n<head>{meta}<title>{safe(name)}</title><style>{STYLE}</style></head>\n<body>\n{head}\n{body}\n</body>\n</html>\n"
+    head = f"<head>{meta}<title>{safe(name)}</title><style>{STYLE}</style></head>"
+    return f'<!doctype html>\n<html lang="en">\n{head}\n<body>\n{top}\n{body}\n</body>\n</html>\n'

@@ -4,15 +4,36 @@ import re
 # The program's are shorter.
 LONGEST = 200
 TTL = re.compile(r";ttl=(-?[0-9]{1,18})")
-# What the answers of a page are painted by, in this order: hits, what the origin was asked for, what it wasn't asked for, and failures.
-KINDS = ["hit", "collapsed", "fwd=stale", "fwd=uri-miss", "fwd=vary-miss", "fwd=request", "fwd=method", "fwd=bypass", "refused", "failed at the origin"]
+# What the answers of a page are painted by, in this order: hits, what the origin was asked for, refusals and failures.
+KINDS = [
+    "hit",
+    "collapsed",
+    "fwd=stale",
+    "fwd=uri-miss",
+    "fwd=vary-miss",
+    "fwd=request",
+    "fwd=method",
+    "fwd=bypass",
+    "refused",
+    "failed at the origin",
+]
 REFUSED, FAILED = KINDS.index("refused"), KINDS.index("failed at the origin")
 # Why an answer counts in no hit ratio: nothing was looked up for it.
-LEFT_OUT = ["refused or failed", "of lines without cache", "by other methods than GET and HEAD", "with a range, a content or a precondition"]
+LEFT_OUT = [
+    "refused or failed",
+    "of lines without cache",
+    "by other methods than GET and HEAD",
+    "with a range, a content or a precondition",
+]
 # Of whose time is told.
 HIT, COLLAPSED, FORWARDED, OWN = range(4)
 LANES = ["hit", "collapsed", "forwarded", "refused or failed"]
-FAMILIES = {"refused": "refused, malformed", "denied": "refused by the table", "no": "refused by the table", "origin": "failed at the origin"}
+FAMILIES = {
+    "refused": "refused, malformed",
+    "denied": "refused by the table",
+    "no": "refused by the table",
+    "origin": "failed at the origin",
+}
 
 
 class Reason:
@@ -24,13 +45,19 @@ class Reason:
         found = TTL.search(f";{';'.join(words)}")
         self.ttl = int(found[1]) if found else 0
         self.is_refusal = not self.word.startswith(("hit", "fwd="))
-        self.family = FAMILIES.get(words[0].partition(" ")[0].rstrip(":"), "refused, only-if-cached") if self.is_refusal else self.word
+        self.family = (
+            FAMILIES.get(words[0].partition(" ")[0].rstrip(":"), "refused, only-if-cached")
+            if self.is_refusal
+            else self.word
+        )
         self.is_failure = self.is_refusal and words[0].startswith("origin ")
         is_hit, is_collapsed = self.word.startswith("hit"), self.word.endswith(";collapsed")
         self.is_hit, self.is_stored = (is_hit or is_collapsed) and not self.is_refusal, "stored" in words[1:]
         self.is_new = self.is_stored and words[0] == "fwd=uri-miss"
         # A stored response was sent in place of a failure, or of an error of the origin's own.
-        self.is_covered = not self.is_refusal and ("detail=stale-if-error" in words or "detail=reuse-after-error" in words)
+        self.is_covered = not self.is_refusal and (
+            "detail=stale-if-error" in words or "detail=reuse-after-error" in words
+        )
         statuses = [it for it in words if it.startswith("fwd-status=5")]
         self.is_covered_error = self.is_covered and bool(statuses)
         self.asks = self.is_failure or not (self.is_refusal or self.is_hit)
@@ -54,7 +81,7 @@ class Reason:
 
 
 class Reasons(dict):
-    """The reasons that were read already, as far as there is room. `same` is one of those that say the same but for numbers."""
+    """The reasons that were read already, as far as there is room. `same` is one that says the same but for numbers."""
 
     MOST = 100000
 

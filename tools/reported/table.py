@@ -7,7 +7,7 @@ UNRESERVED = frozenset("ABCDEFGHIJKLMNOPQRSTUVWXYZabcdefghijklmnopqrstuvwxyz0123
 
 
 def normal(path):
-    """A path as the table compares it: an escape of what needs none is that character, the digits of others are upper case."""
+    """A path as the table compares it: an escape of what needs none is that character, other digits are upper case."""
 
     def one(found):
         text = chr(int(found[1], 16))

@@ -58,7 +58,11 @@ def ratios(title, tally, most):
     rows, width = names_of(tally.shown(most))
     if not rows:
         return [f"{title}: none", ""]
-    lines = [f"  {name:<{width}} {asked:>11,} {100 * hits / asked:>5.1f} % {bar(hits / asked)}" for name, (asked, hits) in rows if asked]
+    lines = [
+        f"  {name:<{width}} {asked:>11,} {100 * hits / asked:>5.1f} % {bar(hits / asked)}"
+        for name, (asked, hits) in rows
+        if asked
+    ]
     return [title, *lines, ""]
 
 
@@ -70,26 +74,35 @@ def failures(figures, most):
     if not rows:
         return [f"{title}: none", ""]
     if len(rows) > most + 1:
-        rows = [*rows[:most], (f"{len(rows) - most:,} others", [sum(it) for it in zip(*(one[1] for one in rows[most:]))])]
+        rows = [
+            *rows[:most],
+            (f"{len(rows) - most:,} others", [sum(it) for it in zip(*(one[1] for one in rows[most:]))]),
+        ]
     rows, width = names_of(rows)
-    head = f"{title}: timed out (504), other (502), 5xx of its own; of these with a stored response in its place; share of what it was asked"
+    kinds = "timed out (504), other (502), 5xx of its own; of these with a stored response in its place"
+    head = f"{title}: {kinds}; share of what it was asked"
     text = [head]
     for name, (failed, late, other, own, covered, asked) in rows:
         share = failed / asked
-        text.append(f"  {name:<{width}} {late:>9,} {other:>9,} {own:>9,} {covered:>9,} {100 * share:>5.1f} % of {asked:,} {bar(share)}")
+        numbers = f"{late:>9,} {other:>9,} {own:>9,} {covered:>9,} {100 * share:>5.1f} % of {asked:,}"
+        text.append(f"  {name:<{width}} {numbers} {bar(share)}")
     return [*text, ""]
 
 
 def seconds(microseconds):
     """Seconds to the millisecond; to the microsecond below one."""
-    return f"{microseconds / 1000000:.3f}" if microseconds >= 1000 or not microseconds else f"{microseconds / 1000000:.6f}"
+    return (
+        f"{microseconds / 1000000:.3f}" if microseconds >= 1000 or not microseconds else f"{microseconds / 1000000:.6f}"
+    )
 
 
 def durations(figures):
     rows = [(lane, it) for lane, it in zip(LANES, figures.times) if it.number()]
     if not rows:
         return []
-    text, width = ["seconds from a request's first byte: median, 99 in 100 took no longer, longest"], max(len(it[0]) for it in rows)
+    text, width = ["seconds from a request's first byte: median, 99 in 100 took no longer, longest"], max(
+        len(it[0]) for it in rows
+    )
     for lane, it in rows:
         numbers = " ".join(f"{seconds(n):>10}" for n in (it.least(50), it.least(99), it.longest))
         text.append(f"  {lane:<{width}} {it.number():>11,} {numbers}")
@@ -114,13 +127,21 @@ def ratio(figures):
 
 def report(figures, most):
     whole, missed = figures.asked, figures.ratio() if figures.hosts.rows else [0, 0]
-    text = [f"{whole:,} answers, {figures.bytes:,} bytes of content, from {when(figures.first)} to {when(figures.last)} UTC"]
+    text = [
+        f"{whole:,} answers, {figures.bytes:,} bytes of content, from {when(figures.first)} to {when(figures.last)} UTC"
+    ]
     text += [minutes(figures), ratio(figures)]
-    text += [f"stored again while the last would have been fresh: {figures.early:,} of {figures.new:,} that were stored for want of any", ""]
+    text += [
+        f"stored again while the last would have been fresh: {figures.early:,} of {figures.new:,} "
+        "that were stored for want of any",
+        "",
+    ]
     text += [*statuses(figures), *counts("reasons", figures.families.shown(most), whole)]
     text += ratios("hit ratio by host", figures.hosts, most)
     text += ratios("hit ratio by first path segment", figures.segments, most)
     text += counts("most missed targets", figures.missed.shown(most), missed[0] - missed[1])
-    text += counts("targets stored again while the last would have been fresh", figures.again.shown(most), figures.early)
+    text += counts(
+        "targets stored again while the last would have been fresh", figures.again.shown(most), figures.early
+    )
     text += counts("refusals", figures.refusals.shown(most), sum(figures.refusals.sums()))
     return text + failures(figures, most) + durations(figures)
