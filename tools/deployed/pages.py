@@ -32,6 +32,7 @@ def report_page(stand):
     yield "hostile_names_are_text", lambda: hostile_names_are_text(stand)
     yield "a_browser_draws_it", lambda: a_browser_draws_it(stand)
     yield "a_browser_finds_no_fault", lambda: a_browser_finds_no_fault(stand)
+    yield "a_million_lines_in_a_browser", lambda: a_million_lines_in_a_browser(stand)
 
 
 def page_of(stand, log):
@@ -245,3 +246,34 @@ def a_browser_finds_no_fault(stand):
             [tag for tag, _ in Reader(text).tags if tag != "tbody"],
             [tag for tag, _ in Reader(dom).tags if tag != "tbody"],
         )
+
+
+# What the lines of a large log say in turn: two hits, what is stored, and a denial.
+IN_TURN = [
+    "200 9 hit;ttl=5 2 -",
+    "200 9 hit;ttl=4 3 -",
+    "200 9 fwd=uri-miss;ttl=9;stored 40 127.0.0.1:80",
+    "403 16 denied by line 1 0 -",
+]
+
+
+def a_million_lines_in_a_browser(stand):
+    """1,000,000 lines of a day: the figures are right, the page is as small as another, and a browser draws it."""
+    path, day = f"{stand.folder}/day.log", 1764028800
+    with open(path, "w", encoding="ascii") as it:
+        for i in range(1000000):
+            it.write(f"{day + i * 86400 // 1000000} c GET http://h{i % 7}.example/{i % 50}/{i} {IN_TURN[i % 4]}\n")
+    text = page_of(stand, path)
+    words = Reader(text).words()
+    for figure in (
+        "answers 1,000,000",
+        "hit ratio 66.7 %",
+        "of 750,000; left out: 250,000 refused or failed",
+        "403 250,000 25.0 %",
+    ):
+        expect(f"`{figure}` in the page", True, figure in words)
+    expect_within("bytes", 10000, 250000, len(text))
+    shot = f"{stand.folder}/day.png"
+    browse(stand, f"{stand.folder}/page.html", "--blink-settings=preferredColorScheme=1", f"--screenshot={shot}")
+    expect_within("pixels of hits", 500, WIDE * HIGH // 2, pixels_of(shot).get(HIT, 0))
+    return f"{len(text):,} bytes"
