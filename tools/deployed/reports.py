@@ -309,14 +309,14 @@ def a_million_lines(stand):
 
 
 # Lines in which each host, segment, target, reason, time and origin is another one, and the memory that they may take.
-NAMES, MOST_MB = 150000, 250
+NAMES, MOST_MB = 300000, 170
 
 
 def names_without_end():
     """Memory doesn't grow with the names: of so many the rarest are counted as others."""
     script = "import sys\n"
     script += f"for i in range({NAMES}):\n"
-    script += "    sys.stdout.write(f'{i * 37} c GET http://{i:0300}/{i:0300}/{i} 200 1 fwd=x{i};ttl=9{i};stored {i}.{i:06} h{i}:80\\n')\n"
+    script += "    sys.stdout.write(f'{i * 37} c GET http://{i:0300}/{i:0300}/{i} 200 1 fwd=uri-miss;x{i};ttl=9{i};stored {i}.{i:06} h{i}:80\\n')\n"
     with subprocess.Popen([sys.executable, "-c", script], stdout=subprocess.PIPE) as writes:
         ran = run("-", "--html", "/dev/null", stdin=writes.stdout)
     told = re.search(r"about ([0-9,]+) answers, in [0-9.]+ s with ([0-9]+) MB\n", ran.stdout)

@@ -56,7 +56,7 @@ SAID = [
     ("timed-out", ["origin timed-out", "--connect-timeout"]),
     ("config fault 8 line 1", ["BadOrigin", "IPv4 address and a port"]),
     ("usage fault", ["64"]),
-    ("draining", ["--drain"]),
+    ("draining", ["drain"]),
     ("1764050018 127.0.0.1:40001 GET http://a.example/admin 403 16 denied by line 1", ["403", "Line N of the table"]),
     (
         "2026-11-26T12:00:00.123Z 127.0.0.1:40001 GET http://a/ 200 1 fwd=method 0.1 127.0.0.1:80",

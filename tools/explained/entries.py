@@ -1,7 +1,7 @@
 """What is to be said of one rule, fault, refusal or parameter: its rows in docs/, and where it is defined."""
 import re
 
-from explained.documents import codes_in, plain, sections_of
+from explained.documents import codes_in, sections_of
 
 PLAIN, CHANGE = "In plain words", "What can be changed"
 # Who can change something, as the cells of that column begin.
@@ -40,11 +40,6 @@ class Words:
     def __init__(self, documents, sources):
         self.documents, self.sources = documents, sources
 
-    def words_for(self, column, name, **more):
-        """The row of plain words, by the column that names it."""
-        _, row = self.documents.row(lambda it: it[column].strip("`") == name, column, PLAIN, CHANGE, **more)
-        return row
-
     def parts(self, rows, defined):
         """Of a rule's row and its row of plain words."""
         (table, row), more = rows, row_of_words(rows, self.documents)
@@ -52,7 +47,7 @@ class Words:
         yield PLAIN.lower(), more.get(PLAIN)
         yield "stands where", where
         yield from changes_of(more[CHANGE]) if more.get(CHANGE) else ()
-        yield "standard", link_of(row.get("RFC") or row.get("Stands where", ""))
+        yield "standard", link_of(row.get("RFC") or more.get("RFC", ""))
         yield "defined in", "; ".join(it for it in (defined, table and table.place()) if it)
 
     def reuse(self, name):
@@ -116,6 +111,7 @@ class Words:
         """What has a row of plain words alone."""
         table, row = self.documents.row(lambda it: it[column].strip("`") == name, column, PLAIN, CHANGE)
         parts = [(PLAIN.lower(), row.get(PLAIN)), *more, *(changes_of(row[CHANGE]) if row.get(CHANGE) else ())]
+        parts.append(("standard", link_of(row.get("RFC", ""))))
         return Entry(
             key, title, [*parts, ("defined in", "; ".join(it for it in (defined, table and table.place()) if it))]
         )

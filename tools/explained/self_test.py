@@ -17,7 +17,7 @@ OTHERS = [("FailKind", "kind_word", Words.kind), ("Cause", "text_of", Words.caus
 CHANGERS = {"Origin", "Client", "Operator", "to do"}
 
 
-def lacking(entry, root, wanted=("in plain words", "defined in")):
+def lacking(entry, root, wanted=("in plain words", "standard", "defined in")):
     """What an entry lacks."""
     told = dict(entry.parts)
     found = [it for it in wanted if it not in told]

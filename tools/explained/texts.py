@@ -130,7 +130,7 @@ class Texts:
                 parts = [
                     ("what is wrong", row["What is wrong"]),
                     ("Operator", row["What to do"]),
-                    ("defined in", table.place()),
+                    ("in", table.place()),
                 ]
                 entries.append(Entry(f"config-{number[1]}", f"config fault {number[1]}: {row['Fault']}", parts))
         for table in (it for it in self.documents.tables if it.heads[0] == "Standard error"):
@@ -138,9 +138,7 @@ class Texts:
                 if any(is_said(one, text) for one in codes_in(row["Standard error"])):
                     parts = [(head.lower(), row[head]) for head in table.heads[1:]]
                     entries.append(
-                        Entry(
-                            "line", row["Standard error"], [*parts, *self.sentence(text), ("defined in", table.place())]
-                        )
+                        Entry("line", row["Standard error"], [*parts, *self.sentence(text), ("in", table.place())])
                     )
         return entries
 

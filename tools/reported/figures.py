@@ -6,9 +6,9 @@ from reported.reasons import KINDS, LANES, LEFT_OUT, Reasons
 from reported.tallies import Tally, short
 
 # How many different (host, segment, status, reason, origin) are counted before they are added to the tallies.
-MOST_COUNTS = 50000
+MOST_COUNTS = 20000
 # How many targets are remembered with the moment until which what was stored for them is fresh.
-MOST_FRESH = 500000
+MOST_FRESH = 250000
 # Of so many minutes the counts are kept where there are twice as many.
 MOST_MINUTES = 20000
 # Bins of time: how wide they may be, in seconds, each a multiple of the one before, and how many there are at most.
@@ -122,7 +122,7 @@ class Figures:
         parts = target.split(b"/", 4)
         host, segment = (short(parts[2]), short(parts[3].partition(b"?")[0])) if len(parts) > 3 else (b"-", b"")
         name = self.name_of(origin, method, target, host) if reason.asks or reason.is_covered else None
-        self.counts[host, segment, status, reason.same, name] += 1
+        self.counts[host, segment, status, reason.same or reason, name] += 1
         if len(self.counts) > MOST_COUNTS:
             self.fold()
         row, minute = self.row, self.minute
@@ -174,9 +174,9 @@ class Figures:
         self.fresh_until[number] = moment + ttl
 
     def forget(self, moment):
-        """Makes room: what is fresh no more goes, and of the rest what is fresh for the shortest time."""
-        fresh = sorted((it for it in self.fresh_until.items() if it[1] > moment), key=lambda it: it[1])
-        self.fresh_until = dict(fresh[-MOST_FRESH // 2 :])
+        """Makes room: what is fresh no more goes, and the half that is fresh for the shortest time."""
+        least = max(moment, sorted(self.fresh_until.values())[len(self.fresh_until) // 2])
+        self.fresh_until = {number: until for number, until in self.fresh_until.items() if until > least}
 
     def fold(self):
         """Adds what was counted to the tallies."""

@@ -68,6 +68,8 @@ class Reasons:
         self.entries |= {it.key: it for it in found}
         names = [(it.key, it.title.rpartition(", ")[2].partition(":")[0]) for it in found]
         links = ", ".join(f'<a href="#{escape(key)}">{escape(name)}</a>' for key, name in names)
+        # (a detail that stands in place of the rules' own is of no one of them)
+        found.sort(key=lambda it: not it.key.startswith("detail-"))
         standard = next((dict(it.parts)["standard"] for it in found if "standard" in dict(it.parts)), "")
         return f"{links}<br>{marked(standard)}" if standard else links
 
@@ -89,8 +91,8 @@ def marked(text):
     return RFC.sub(r'<a href="https://www.rfc-editor.org/rfc/rfc\1#section-\2">RFC \1, section \2</a>', text)
 
 
-def legend(figures, reasons):
-    """What the areas are painted by, how much of it there was, and the words of it."""
+def legend(figures):
+    """What the areas are painted by, and how much of it there was."""
     items, whole = [], figures.asked
     counts = [sum(it) for it in zip(*figures.bins.rows.values())][: len(KINDS)]
     for kind, count in enumerate(counts):
@@ -248,7 +250,7 @@ def page(figures, most, name):
     )
     parts = [
         tiles(figures),
-        picture("Requests a minute, by reason", charts.stacked(series), legend(figures, reasons) + note),
+        picture("Requests a minute, by reason", charts.stacked(series), legend(figures) + note),
         picture("Hit ratio", charts.ratio(series)),
         picture("Stored a minute", charts.stored(series)),
         reasons_table(figures, reasons, most),

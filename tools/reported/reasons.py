@@ -39,6 +39,9 @@ FAMILIES = {
 class Reason:
     """A reason, read once. `word` is what it says but for what differs from one answer to the next."""
 
+    __slots__ = ("word", "ttl", "is_refusal", "family", "is_failure", "is_hit", "is_stored", "is_new", "is_covered")
+    __slots__ += ("is_covered_error", "asks", "kind", "lane", "left_out", "same")
+
     def __init__(self, text):
         words = text.decode("ascii").split(";")
         self.word = ";".join(it for it in words if not it.startswith(("ttl=", "fwd-status=")))
@@ -81,9 +84,10 @@ class Reason:
 
 
 class Reasons(dict):
-    """The reasons that were read already, as far as there is room. `same` is one that says the same but for numbers."""
+    """The reasons that were read already, as far as there is room. `same` is an earlier one that says the same but
+    for numbers, if there is one."""
 
-    MOST = 100000
+    MOST = 20000
 
     def __init__(self):
         self.known = {}
@@ -93,7 +97,9 @@ class Reasons(dict):
             self.clear()
             self.known.clear()
         it = Reason(text[:LONGEST])
-        it.same = self.known.setdefault((it.word, it.is_covered_error), it)
+        other = self.known.setdefault((it.word, it.is_covered_error), it)
+        # (one that named itself would be a cycle)
+        it.same = other if other is not it else None
         if len(text) <= LONGEST:
             self[text] = it
         return it

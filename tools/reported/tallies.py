@@ -1,6 +1,6 @@
 """Counts by name that take bounded memory, whatever names come."""
 # How many names are kept when there are twice as many, and how much of a name.
-KEPT, LONGEST = 20000, 300
+KEPT, LONGEST = 10000, 300
 
 
 def short(name):
