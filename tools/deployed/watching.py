@@ -126,7 +126,8 @@ def day(series, looks):
 
 
 def labelled(series):
-    return series.replace("{", '{instance="h",', 1) if "{" in series else series + '{instance="h"}'
+    both = 'instance="h",listen="127.0.0.1:8080"'
+    return series.replace("{", f"{{{both},", 1) if "{" in series else f"{series}{{{both}}}"
 
 
 def asked(alert, comes, when):
@@ -152,7 +153,7 @@ def dashboard(stand):
 
 def promtool_reads_each_expression(stand):
     """As a rule that records, with a span and an instance in place of Grafana's words."""
-    rules = [{"record": f"panel:{i}", "expr": it.replace("$__rate_interval", "5m").replace("$instance", ".*")} for i, (_, it) in enumerate(expressions())]
+    rules = [{"record": f"panel:{i}", "expr": it.replace("$__rate_interval", "5m").replace("$instance", ".*").replace("$listen", ".*")} for i, (_, it) in enumerate(expressions())]
     promtool("check", "rules", stand.file("panels.yml", json.dumps({"groups": [{"name": "panels", "rules": rules}]})))
     expect("words of Grafana that are left", [], [it["expr"] for it in rules if "$" in it["expr"]])
     return f"{len(rules)} expressions"
