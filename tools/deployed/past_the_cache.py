@@ -13,8 +13,23 @@ from live.origin import Origin, whole
 PATH = "/past-the-cache"
 HEAD = b"HTTP/1.1 200 OK\r\nContent-Type: text/event-stream\r\nConnection: close\r\n\r\n"
 LINES = {
-    "nginx": ['"~*^/past-the-cache/.* websocket$" websocket;', "location /past-the-cache/ {", "    proxy_pass http://127.0.0.1:8081;", "    proxy_buffering off;", "    proxy_read_timeout 1h;", "    client_max_body_size 1g;", "}\n"],
-    "haproxy": ["http-request set-header Connection upgrade if", "use_backend past_the_cache if", "backend past_the_cache", "    timeout server 1h", "    timeout tunnel 1h", "    server origin 127.0.0.1:8081"],
+    "nginx": [
+        '"~*^/past-the-cache/.* websocket$" websocket;',
+        "location /past-the-cache/ {",
+        "    proxy_pass http://127.0.0.1:8081;",
+        "    proxy_buffering off;",
+        "    proxy_read_timeout 1h;",
+        "    client_max_body_size 1g;",
+        "}\n",
+    ],
+    "haproxy": [
+        "http-request set-header Connection upgrade if",
+        "use_backend past_the_cache if",
+        "backend past_the_cache",
+        "    timeout server 1h",
+        "    timeout tunnel 1h",
+        "    server origin 127.0.0.1:8081",
+    ],
 }
 
 
@@ -46,7 +61,8 @@ class Past:
 
 def switched(fetch):
     """Another protocol (RFC 9110, 7.8), in which each byte comes back in upper case."""
-    if (value_of(fetch, "Upgrade") or "").lower() != "websocket" or "upgrade" not in (value_of(fetch, "Connection") or "").lower():
+    upgrade, connection = ((value_of(fetch, it) or "").lower() for it in ("Upgrade", "Connection"))
+    if upgrade != "websocket" or "upgrade" not in connection:
         return whole(400, content=b"no upgrade")(fetch)
     fetch.send(b"HTTP/1.1 101 Switching Protocols\r\nConnection: Upgrade\r\nUpgrade: websocket\r\nSec-WebSocket-Accept: s3pPLMBiTxaQ9kYGzzhZRbK+xOo=\r\n\r\n")
     fetch.send(fetch.socket.recv(100).upper())
