@@ -8,7 +8,8 @@ from live.origin import whole
 from live.scenario import KEPT
 
 # What browsers and tools send, and what the grammar allows (RFC 9110, 12.5.3): those that take gzip, and those that don't.
-TAKE = ["gzip, deflate, br, zstd", "gzip, deflate, br", "gzip, deflate", "gzip", "GZIP;q=0.5, identity", "br;q=1.0, gzip;q=0.8, *;q=0.1", "gzip ; q=1", "deflate, gzip;q=0.001"]
+TAKE = ["gzip, deflate, br, zstd", "gzip, deflate, br", "gzip, deflate", "gzip", "GZIP;q=0.5, identity"]
+TAKE += ["br;q=1.0, gzip;q=0.8, *;q=0.1", "gzip ; q=1", "deflate, gzip;q=0.001"]
 DONT = ["", "identity", "br", "gzip;q=0", "gzip;q=0.000, br", "br, gzip; q=0.0 , deflate", "deflate, zstd", "x-bzip2"]
 
 

@@ -147,7 +147,8 @@ def what_was_written_goes_by_a_purge(stand, first):
     """Logs and records, of one and of several, and the links of units that were enabled; not what is the operator's own in the folder."""
     scratch = Scratch(stand, "purged")
     scratch.dpkg("--install", first)
-    written = ["var/log/private/revcache/access.log", "var/lib/private/revcache@8101/incident.1", "etc/systemd/system/multi-user.target.wants/revcache@8101.service"]
+    written = ["var/log/private/revcache/access.log", "var/lib/private/revcache@8101/incident.1"]
+    written += ["etc/systemd/system/multi-user.target.wants/revcache@8101.service"]
     for it in [*written, "etc/revcache/front.key"]:
         scratch.write(it, "x")
     scratch.dpkg("--remove", "revcache")

@@ -184,7 +184,8 @@ def a_purge_through_haproxy_is_done_by_each_cache(fleet):
     url = "http://h.example/7"
     fill(fleet, url)
     answer = purge(fleet, url)
-    expect("status of a purge through haproxy, and the caches that say so", (204, CACHES), (answer.status, (answer.value("Cache-Status") or "").count("edge;fwd=method")))
+    said = (answer.value("Cache-Status") or "").count("edge;fwd=method")
+    expect("status of a purge through haproxy, and the caches that say so", (204, CACHES), (answer.status, said))
     expect("caches that hold it", [], held_by(fleet, url))
 
 

@@ -37,8 +37,8 @@ CALM = {
     'revcache_refusals_total{cause="denied"}': "0+6000x3000",
     'revcache_requests_total{reason="hit",detail=""}': "0+900x3000",
     'revcache_requests_total{reason="uri-miss",detail=""}': "0+100x3000",
-    "revcache_store_evictions_total": "0+1x3000",
-    "revcache_stored_responses_total": "0+100x3000",
+    "revcache_store_capacity_responses": "1000x3000",
+    "revcache_stored_responses_total": "0+20x3000",
     "revcache_log_lost_lines_total": "0x3000",
     'revcache_record_state{state="ended"}': "0x3000",
     "revcache_draining": "0x3000",
@@ -63,7 +63,7 @@ TROUBLE = {
     "RevcacheClientsDontRead": [{"revcache_client_unsent_bytes": "230000000x3000"}, {'revcache_connections_cut_total{cause="unsent-limit"}': "0+1x3000"}],
     "RevcacheHostileMessages": [{'revcache_refusals_total{cause="head"}': "0+1200x3000"}],
     "RevcacheFewHits": [{'revcache_requests_total{reason="hit",detail=""}': FEWER}],
-    "RevcacheStoreTooSmall": [{"revcache_store_evictions_total": "0+90x3000"}],
+    "RevcacheStoreTooSmall": [{"revcache_stored_responses_total": "0+100x3000"}],
     "RevcacheLogLosesLines": [{"revcache_log_lost_lines_total": "0+1x3000"}],
     "RevcacheRecordEnded": [{'revcache_record_state{state="ended"}': "1x3000"}],
     "RevcacheDrains": [{"revcache_draining": "1x3000"}],
@@ -87,7 +87,8 @@ def alerts(stand):
     need("promtool")
     yield "promtool_reads_the_rules", lambda: promtool("check", "rules", RULES).split("SUCCESS: ")[1].split("\n")[0]
     yield "each_alert_has_its_bad_day", each_alert_has_its_bad_day
-    yield "no_alert_on_a_calm_day", lambda: played(stand, "calm", [day({}, [asked(it, False, when) for it in names_of_alerts() for when in (SOON, LATE)])])
+    calm = [asked(it, False, when) for it in names_of_alerts() for when in (SOON, LATE)]
+    yield "no_alert_on_a_calm_day", lambda: played(stand, "calm", [day({}, calm)])
     yield "each_alert_comes_with_its_trouble", lambda: each_alert_comes_with_its_trouble(stand)
 
 
@@ -108,7 +109,8 @@ def each_alert_has_its_bad_day():
 def each_alert_comes_with_its_trouble(stand):
     expect("alerts that are tried", names_of_alerts(), list(TROUBLE))
     cases = [(alert, series) for alert, all_of_it in TROUBLE.items() for series in all_of_it]
-    return played(stand, "trouble", [day(series, [asked(alert, True, LATE if alert == "RevcacheFewHits" else SOON)]) for alert, series in cases])
+    when = {"RevcacheFewHits": LATE}
+    return played(stand, "trouble", [day(series, [asked(alert, True, when.get(alert, SOON))]) for alert, series in cases])
 
 
 def played(stand, name, days):
@@ -126,7 +128,8 @@ def day(series, looks):
 
 
 def labelled(series):
-    return series.replace("{", '{instance="h",', 1) if "{" in series else series + '{instance="h"}'
+    both = 'instance="h",listen="127.0.0.1:8080"'
+    return series.replace("{", f"{{{both},", 1) if "{" in series else f"{series}{{{both}}}"
 
 
 def asked(alert, comes, when):
@@ -152,7 +155,11 @@ def dashboard(stand):
 
 def promtool_reads_each_expression(stand):
     """As a rule that records, with a span and an instance in place of Grafana's words."""
-    rules = [{"record": f"panel:{i}", "expr": it.replace("$__rate_interval", "5m").replace("$instance", ".*")} for i, (_, it) in enumerate(expressions())]
+    rules = []
+    for i, (_, it) in enumerate(expressions()):
+        for word, value in (("$__rate_interval", "5m"), ("$instance", ".*"), ("$listen", ".*")):
+            it = it.replace(word, value)
+        rules.append({"record": f"panel:{i}", "expr": it})
     promtool("check", "rules", stand.file("panels.yml", json.dumps({"groups": [{"name": "panels", "rules": rules}]})))
     expect("words of Grafana that are left", [], [it["expr"] for it in rules if "$" in it["expr"]])
     return f"{len(rules)} expressions"
@@ -162,7 +169,8 @@ def panels_stand_beside_one_another():
     with open(DASHBOARD, encoding="utf-8") as it:
         panels = json.load(it)["panels"]
     expect("numbers of panels, none twice", len(panels), len({it["id"] for it in panels}))
-    taken = [(x, y) for it in panels for x in range(it["gridPos"]["x"], it["gridPos"]["x"] + it["gridPos"]["w"]) for y in range(it["gridPos"]["y"], it["gridPos"]["y"] + it["gridPos"]["h"])]
+    places = [it["gridPos"] for it in panels]
+    taken = [(x, y) for it in places for x in range(it["x"], it["x"] + it["w"]) for y in range(it["y"], it["y"] + it["h"])]
     expect("places that two panels have", len(taken), len(set(taken)))
     expect("the width of the page", True, max(x for x, _ in taken) < 24)
     return f"{len(panels)} panels"
@@ -195,6 +203,7 @@ def read(path):
 
 def alerts_and_dashboard_name_what_is_written(written):
     has = set(re.findall(r"^# TYPE (\S+) ", written, re.M))
-    named = set(NAME.findall(" ".join(re.findall(r"expr: (?:>-\n)?((?:.*\n)+?) +(?:for|labels):", read(RULES))))) | {it for _, text in expressions() for it in NAME.findall(text)}
+    asked_for = re.findall(r"expr: (?:>-\n)?((?:.*\n)+?) +(?:for|labels):", read(RULES)) + [text for _, text in expressions()]
+    named = {it for text in asked_for for it in NAME.findall(text)}
     expect("figures that nobody writes", set(), {it.removesuffix("_bucket") if it.endswith("_seconds_bucket") else it for it in named} - has)
     return f"{len(named)} names"
