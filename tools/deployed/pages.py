@@ -1,12 +1,13 @@
 """The page of tools/report: it stands alone, nothing of a log is more than text in it, and a browser draws it."""
 import os
+import random
 import re
 import shutil
 import subprocess
 import zlib
 from html.parser import HTMLParser
 
-from deployed.reports import LOG, TIMED, run
+from deployed.reports import LOG, TIMED, run, some_file
 from deployed.stand import part
 from live.expect import Skipped, Unexpected, expect, expect_within
 
@@ -30,6 +31,7 @@ def report_page(stand):
     yield "a_page_of_a_counted_log", lambda: a_page_of_a_counted_log(stand)
     yield "a_page_stands_alone", lambda: a_page_stands_alone(stand)
     yield "hostile_names_are_text", lambda: hostile_names_are_text(stand)
+    yield "pages_of_any_file", lambda: pages_of_any_file(stand)
     yield "a_browser_draws_it", lambda: a_browser_draws_it(stand)
     yield "a_browser_finds_no_fault", lambda: a_browser_finds_no_fault(stand)
     yield "a_million_lines_in_a_browser", lambda: a_million_lines_in_a_browser(stand)
@@ -149,6 +151,48 @@ def hostile_names_are_text(stand):
         "<img/src=http://evil/>:80",
     ):
         expect(f"{name} as text", True, name in shown)
+
+
+# Files of which a page is made: logs with changed bytes, words out of order, and moments of any year.
+FILES, SEED = 60, 9211
+REASONS = [
+    "hit;ttl=1",
+    "fwd=uri-miss;ttl=6;stored",
+    "denied by line 3",
+    "fwd=stale;fwd-status=503;detail=stale-if-error",
+    "origin closed;fwd=method",
+]
+
+
+def some_log(dice):
+    """Lines whose moments are near one another, or of any year until 9999."""
+    lines, begin = [], dice.choice([0, 1764050000, 253402000000])
+    for _ in range(dice.choice([1, 2, 30, 300])):
+        moment = dice.choice([begin + dice.randrange(10 ** dice.randrange(1, 6)), dice.randrange(253402300799)])
+        words = dice.choice([200, 404, 500]), dice.choice(REASONS), dice.random(), dice.randrange(5)
+        lines.append("%d c GET http://h/x 200 %d %s %.3f h:%d\n" % (moment, *words))
+    return "".join(lines).encode("ascii")
+
+
+def pages_of_any_file(stand):
+    """Each that has a line of a log gives a page of the tags that an honest log gives, with numbers that are some."""
+    dice, pages, honest = random.Random(SEED), 0, {tag for tag, _ in Reader(page_of(stand, TIMED)).tags}
+    with open(LOG, "rb") as it:
+        log = it.read()
+    for number in range(FILES):
+        with open(f"{stand.folder}/any", "wb") as it:
+            it.write(some_log(dice) if number % 2 else some_file(log, dice))
+        ran = run(f"{stand.folder}/any", "--html", f"{stand.folder}/any.html")
+        expect(f"of file {number} standard error", "", ran.stderr)
+        if ran.returncode:
+            continue
+        with open(f"{stand.folder}/any.html", encoding="utf-8") as it:
+            text = it.read()
+        pages += 1
+        expect(f"of file {number} other tags", set(), {tag for tag, _ in Reader(text).tags} - honest)
+        expect(f"of file {number} numbers that are none", [], re.findall(r"[^a-z](?:nan|inf)[^a-z]", text))
+    expect_within("pages", FILES // 2, FILES, pages)
+    return f"{pages} pages of {FILES} files"
 
 
 def browser():

@@ -4,6 +4,7 @@ import importlib.machinery
 import importlib.util
 import io
 import os
+import pty
 import random
 import re
 import resource
@@ -86,11 +87,13 @@ failures by origin: timed out (504), other (502), 5xx of its own; of these with 
 seconds from a request's first byte: median, 99 in 100 took no longer, longest
 hit 4 0.002 0.004 0.004
 forwarded 6 0.120 5.000 5.001
-refused or failed 3 0.010 60.000 60.000
+refused or failed 4 0.000 60.000 60.000
 """
 # What stands in front of a reason and behind it: the moment in Unix seconds, the reason, how long it took in microseconds, the origin.
 FORMS = {
     b"1764050000 c GET http://h/ 200 5 hit;ttl=1": (1764050000, b"hit;ttl=1", None, None),
+    b"1764050000.123 c GET http://h/ 200 5 fwd=uri-miss;ttl=6;stored 0.012 127.0.0.1:8081": (1764050000, b"fwd=uri-miss;ttl=6;stored", 12000, b"127.0.0.1:8081"),
+    b"1764050002.870 c GET http://h/ 403 16 denied by line 1 0.000 -": (1764050002, b"denied by line 1", 0, None),
     b"1764050000.5 c GET http://h/ 200 5 hit;ttl=1 7 -": (1764050000, b"hit;ttl=1", 7000, None),
     b"2025-11-25T05:53:20Z c GET http://h/ 200 5 hit;ttl=1 7ms -": (1764050000, b"hit;ttl=1", 7000, None),
     b"2025-11-25T05:53:20.999Z c GET http://h/ 403 5 denied by line 1 0.5 -": (1764050000, b"denied by line 1", 500000, None),
@@ -168,6 +171,7 @@ def report(stand):
     yield "what_is_no_log", lambda: what_is_no_log(stand)
     yield "lines_that_the_program_writes_never", lambda: lines_that_the_program_writes_never(stand)
     yield "files_of_random_bytes", lambda: files_of_random_bytes(stand)
+    yield "how_far_it_is_on_a_terminal", how_far_it_is_on_a_terminal
     yield "a_million_lines", lambda: a_million_lines(stand)
     yield "names_without_end", names_without_end
 
@@ -286,6 +290,20 @@ def files_of_random_bytes(stand):
     if not answers:
         raise Unexpected("of all files", "some lines that are of a log", "none")
     return f"{FILES:,} files, {answers:,} lines of a log in them"
+
+
+def how_far_it_is_on_a_terminal():
+    """Where standard error is a terminal it tells how far it is, and takes it away again; standard output is as ever."""
+    ours, theirs = pty.openpty()
+    ran = subprocess.run([sys.executable, f"{TOOLS}/report", LOG], stdout=subprocess.PIPE, stderr=theirs, text=True, timeout=60)
+    os.close(theirs)
+    shown = os.read(ours, 65536).decode("ascii")
+    os.close(ours)
+    size = f"{os.path.getsize(LOG):,}"
+    expect("what is shown at first", f"\r{size} of {size} bytes (100 %), 0 s, 22 answers\r", shown.partition("\r\r")[0] + "\r")
+    expect("what is left at the end", "", shown.rstrip("\r").rpartition("\r")[2].strip())
+    expect("characters of a terminal's commands", [], re.findall(r"[^ -~\r]", shown))
+    expect("standard output", run(LOG).stdout, ran.stdout)
 
 
 def a_million_lines(stand):
