@@ -4,7 +4,8 @@ import re
 from explained.documents import codes_in, sections_of
 
 PLAIN, CHANGE = "In plain words", "What can be changed"
-# Who can change something, as the cells of that column begin.
+# Who can change something, as a part of an entry, and as the cells of that column begin.
+CHANGERS = {"Origin", "Client", "Operator", "to do"}
 WHO = re.compile(r"(?:^|(?<=[.;] ))(Origin|Client|Operator|Nothing)(?=[:,.])")
 
 

@@ -2,7 +2,7 @@
 import os
 import re
 
-from explained.entries import CHANGE, PLAIN, Words
+from explained.entries import CHANGE, CHANGERS, PLAIN, Words
 from explained.texts import Texts
 
 # The lists of rules: the type, its number, and how it is looked up.
@@ -14,7 +14,6 @@ RULES = [
 # Lists of words. (Want of memory is told of no target: it is the program's own.)
 FAULTS = [("FrameFault", "frame_word", Words.message), ("TargetFault", "target_word", Words.target)]
 OTHERS = [("FailKind", "kind_word", Words.kind), ("Cause", "text_of", Words.cause), ("Detail", "word_of", Words.detail)]
-CHANGERS = {"Origin", "Client", "Operator", "to do"}
 
 
 def lacking(entry, root, wanted=("in plain words", "standard", "defined in")):

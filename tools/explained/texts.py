@@ -4,7 +4,7 @@ import itertools
 import re
 
 from explained.documents import codes_in
-from explained.entries import NAMES_OF_CAUSES, Entry
+from explained.entries import CHANGERS, NAMES_OF_CAUSES, Entry
 
 # Of the places that only mention a text so many are shown.
 MOST_PLACES = 3
@@ -40,14 +40,11 @@ class Texts:
         else:
             entries += self.of_rule(parameters.get("fwd"), parameters.get("detail"))
         entries += [self.words.parameter(it) for it in ("fwd-status", "ttl", "stored", "collapsed") if it in parameters]
-        entries += [
-            self.words.detail(it) for it in self.own_details() if parameters.get("detail") == self.own_details()[it]
-        ]
-        is_sent = {"hit", "stored", "collapsed", "ttl"} & set(parameters) or parameters.get(
-            "detail"
-        ) in self.own_details().values()
+        reason, detail = parameters.get("fwd"), parameters.get("detail")
+        entries += [self.words.detail(name) for name, word in self.own_details().items() if word == detail]
+        is_sent = {"hit", "stored", "collapsed", "ttl"} & set(parameters) or detail in self.own_details().values()
         if entries and not is_sent:
-            entries.append(self.not_stored(parameters.get("fwd"), parameters.get("detail")))
+            entries.append(self.not_stored(reason, detail))
         return entries
 
     def own_details(self):
@@ -69,24 +66,13 @@ class Texts:
             names = ["Operator" if detail == "operator" else "Bypass"]
         else:
             names = [it for it in self.sources.table("number_of", "StoreRule") if it not in ("Operator", "Bypass")]
-        parts = []
-        for it in map(self.words.storing, names):
-            told = dict(it.parts)
-            changes = [
-                told[who] if who == "to do" else f"{who}: {told[who]}"
-                for who in ("to do", "Origin", "Client", "Operator")
-                if who in told
-            ]
-            standard = re.sub(r"own: .*", "own", told.get("standard", ""))
-            parts.append(
-                (it.title.partition(", ")[2], " ".join([told.get("in plain words", ""), *changes, f"({standard})"]))
+        rules = [self.words.storing(it) for it in names]
+        parts = [(it.title.partition(", ")[2], in_short(it)) for it in rules]
+        if len(names) == 1:
+            return Entry(
+                f"not-stored-{names[0].lower()}", "no ;stored: this rule of storing kept the answer out", parts
             )
-        what = (
-            "no ;stored: this rule of storing kept the answer out"
-            if len(names) == 1
-            else "no ;stored: the first of these rules that stands kept the answer out"
-        )
-        return Entry(f"not-stored-{names[0].lower()}", what, parts)
+        return Entry("not-stored", "no ;stored: the first of these rules that stands kept the answer out", parts)
 
     def of_refusal(self, text):
         head, *rest = text.split(";")
@@ -203,6 +189,14 @@ class Texts:
         ):
             known |= set(self.sources.texts(function, type).values())
         return difflib.get_close_matches(value_of(text), sorted(known | self.sources.parameters()), 3, 0.6)
+
+
+def in_short(entry):
+    """A rule in one text: what it is, who can change what, and its sections."""
+    told = dict(entry.parts)
+    changes = [it if who == "to do" else f"{who}: {it}" for who, it in entry.parts if who in CHANGERS]
+    standard = re.sub(r"own: .*", "own", told.get("standard", ""))
+    return " ".join([told.get("in plain words", ""), *changes, f"({standard})"])
 
 
 def value_of(text):
