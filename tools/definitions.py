@@ -18,6 +18,8 @@ import threading
 import time
 from concurrent.futures import ThreadPoolExecutor
 
+from progress import Progress, clock
+
 BEGIN, END = "<!-- tools/mutants --definitions writes from here -->", "<!-- to here, of definitions -->"
 # So many mutants are tried by one start of the compiler.
 AT_ONCE = 40
@@ -270,6 +272,7 @@ class Batches:
 
     def __init__(self, rt, room, lanes):
         self.rt, self.room, self.pool, self.printing = rt, room, ThreadPoolExecutor(lanes), threading.Lock()
+        self.progress, self.whole, self.done, self.began = Progress(), 0, 0, time.monotonic()
 
     def try_batch(self, crate, mutants):
         kept = f"{self.room}/{crate.name}-{threading.get_ident()}"
@@ -282,12 +285,15 @@ class Batches:
     def say(self, tried):
         with self.printing:
             for it in tried:
-                print(f"{it.mutant.crate.name}/{it.mutant.name}: {it.word()}", flush=True)
+                self.progress.say(f"{it.mutant.crate.name}/{it.mutant.name}: {it.word()}")
+            self.done += len(tried)
+            self.progress.show(f"{self.done} of {self.whole} tried, {clock(time.monotonic() - self.began)}")
 
     def begin(self, crate, names):
         """What is begun of the crate's mutants that have these names, or of all: those that can't be read, and the batches."""
         mutants = [it for it in mutants_of(self.rt, crate) if not names or it.name in names]
         good, bad = [it for it in mutants if not it.fault], [Tried(it, [], it.fault) for it in mutants if it.fault]
+        self.whole += len(mutants)
         self.say(bad)
         return bad, [self.pool.submit(self.try_batch, crate, good[at : at + AT_ONCE]) for at in range(0, len(good), AT_ONCE)]
 
@@ -301,7 +307,7 @@ class Batches:
 
     def say_count(self, crate, tried, seconds):
         with self.printing:
-            print(f"{crate.name}: {counted(tried)}, in {seconds:.0f} s of a lane", flush=True)
+            self.progress.say(f"{crate.name}: {counted(tried)}, in {seconds:.0f} s of a lane")
 
 
 def counted(tried):
@@ -337,6 +343,7 @@ def main(rt, crates, names, page):
         batches = Batches(rt, room, int(lanes) if lanes.isdigit() else rt.processors())
         begun = [(it, *batches.begin(it, names)) for it in crates]
         tried = {crate.name: batches.end(crate, bad, some) for crate, bad, some in begun}
+        batches.progress.clear()
     if not names:
         write_page(rt, page, tried)
     every = [it for of_crate in tried.values() for it in of_crate]

@@ -4,6 +4,7 @@ import importlib.machinery
 import importlib.util
 import io
 import os
+import pty
 import random
 import re
 import resource
@@ -13,14 +14,25 @@ import sys
 from deployed.stand import DEPLOY, part
 from live.changes import changed
 from live.expect import Unexpected, expect, expect_within
+from reported import lines
 
 TOOLS = os.path.dirname(os.path.dirname(os.path.realpath(__file__)))
-LOG = f"{TOOLS}/deployed/by_hand.log"
+LOG, TIMED = f"{TOOLS}/deployed/by_hand.log", f"{TOOLS}/deployed/by_hand_timed.log"
 # What the log comes to, counted by hand: the words of each line but its bar.
 COUNTED = """
 22 answers, 5,831 bytes of content, from 2025-11-25 05:53:20 to 2025-11-25 05:55:01 UTC
-hit ratio: 35.7 % of 14
+a minute: 12.9 asked, 20 at most (2025-11-25 05:53); 2.9 stored, 3 at most (2025-11-25 05:53)
+hit ratio: 41.7 % of 12; left out 8 refused or failed, 1 of lines without cache, 1 by other methods than GET and HEAD
 stored again while the last would have been fresh: 1 of 4 that were stored for want of any
+2xx 13 59.1 %
+200 12 54.5 %
+201 1 4.5 %
+4xx 4 18.2 %
+400 2 9.1 %
+403 2 9.1 %
+5xx 5 22.7 %
+502 2 9.1 %
+504 3 13.6 %
 hit 4 18.2 %
 fwd=uri-miss;stored 4 18.2 %
 failed at the origin 3 13.6 %
@@ -32,21 +44,66 @@ fwd=method 1 4.5 %
 fwd=bypass;detail=operator 1 4.5 %
 fwd=stale;stored 1 4.5 %
 refused, only-if-cached 1 4.5 %
-a.example 11 36.4 %
-b.example:8080 3 33.3 %
+a.example 10 40.0 %
+b.example:8080 2 50.0 %
 a.example/img 9 44.4 %
-b.example:8080/api 3 33.3 %
-a.example/ 2 0.0 %
+b.example:8080/api 2 50.0 %
+a.example/ 1 0.0 %
+http://a.example/img/1.png 2 28.6 %
+http://a.example/img/2.png?x=/y 2 28.6 %
+http://a.example/ 1 14.3 %
+http://a.example/img/3.png 1 14.3 %
+http://b.example:8080/api/b 1 14.3 %
+http://a.example/img/1.png 1 100.0 %
 403 denied by line 1 2 25.0 %
 504 origin timed-out;fwd=uri-miss 2 25.0 %
 502 origin refused;fwd=uri-miss 1 12.5 %
 504 only-if-cached;fwd=uri-miss 1 12.5 %
 400 refused: head 1 12.5 %
 400 refused: form 1 12.5 %
-b.example:8080 2 1 75.0 %
-a.example 0 1 25.0 %
+b.example:8080 2 1 0 0 60.0 % of 5
+a.example 0 0 1 0 14.3 % of 7
 1 lines that are none of a log
 """
+# The same of the log that tells how long answers took, and the origin that was asked.
+COUNTED_TIMED = """
+14 answers, 171 bytes of content, from 2026-11-26 12:00:00 to 2026-11-26 12:01:59 UTC
+a minute: 7.0 asked, 8 at most (2026-11-26 12:01); 0.5 stored, 1 at most (2026-11-26 12:00)
+hit ratio: 50.0 % of 8; left out 4 refused or failed, 1 by other methods than GET and HEAD, 1 with a range, a content or a precondition
+2xx 9 64.3 %
+200 7 50.0 %
+201 1 7.1 %
+206 1 7.1 %
+4xx 2 14.3 %
+500 1 7.1 %
+fwd=stale;detail=stale-if-error 2 14.3 %
+a.example/x 7 57.1 %
+a.example/y 1 0.0 %
+http://a.example/x 3 75.0 %
+targets stored again while the last would have been fresh: none
+failures by origin: timed out (504), other (502), 5xx of its own; of these with a stored response in its place; share of what it was asked
+127.0.0.1:9002 0 1 2 2 100.0 % of 4
+127.0.0.1:9001 1 0 0 0 25.0 % of 4
+seconds from a request's first byte: median, 99 in 100 took no longer, longest
+hit 4 0.002 0.004 0.004
+forwarded 6 0.120 5.000 5.001
+refused or failed 4 0.000 60.000 60.000
+"""
+# What stands in front of a reason and behind it: the moment in Unix seconds, the reason, how long it took in microseconds, the origin.
+FORMS = {
+    b"1764050000 c GET http://h/ 200 5 hit;ttl=1": (1764050000, b"hit;ttl=1", None, None),
+    b"1764050000.123 c GET http://h/ 200 5 fwd=uri-miss;ttl=6;stored 0.012 127.0.0.1:8081": (1764050000, b"fwd=uri-miss;ttl=6;stored", 12000, b"127.0.0.1:8081"),
+    b"1764050002.870 c GET http://h/ 403 16 denied by line 1 0.000 -": (1764050002, b"denied by line 1", 0, None),
+    b"1764050000.5 c GET http://h/ 200 5 hit;ttl=1 7 -": (1764050000, b"hit;ttl=1", 7000, None),
+    b"2025-11-25T05:53:20Z c GET http://h/ 200 5 hit;ttl=1 7ms -": (1764050000, b"hit;ttl=1", 7000, None),
+    b"2025-11-25T05:53:20.999Z c GET http://h/ 403 5 denied by line 1 0.5 -": (1764050000, b"denied by line 1", 500000, None),
+    b"1 c GET http://h/ 403 5 denied by line 12 13 -": (1, b"denied by line 12", 13000, None),
+    b"1 c GET http://h/ 403 5 denied by line 12": (1, b"denied by line 12", None, None),
+    b"1 c GET http://h/ 403 5 no line allows it - -": (1, b"no line allows it", None, None),
+    b"1 c - - 400 5 refused: head 2s -": (1, b"refused: head", 2000000, None),
+    b"1 c GET http://h/ 502 5 origin closed;fwd=uri-miss 1.25 10.0.0.1:80": (1, b"origin closed;fwd=uri-miss", 1250000, b"10.0.0.1:80"),
+    b"1 c GET http://h/ 200 5 fwd=uri-miss 12.345 [::1]:8081 and more": (1, b"fwd=uri-miss", 12345000, b"[::1]:8081"),
+}
 # Two origins, told apart by the table: /img goes to one, all else to another.
 # Lines of which the program writes none: what each has that a line of a log hasn't.
 NO_LINES = {
@@ -62,12 +119,18 @@ NO_LINES = {
     "a length of 5,000 digits": b"1 a GET http://h/ 200 " + b"9" * 5000 + b" hit",
     "no reason": b"1 a GET http://h/ 200 1",
     "nothing": b"",
+    "a day that isn't": b"2026-02-30T12:00:00.000Z a GET http://h/ 200 1 hit",
+    "an hour that isn't": b"2026-02-03T24:00:00Z a GET http://h/ 200 1 hit",
+    "a day of the year 1": b"0001-01-01T00:00:00Z a GET http://h/ 200 1 hit",
+    "no reason before its time": b"1 a GET http://h/ 200 1  12 -",
+    "a target of a megabyte": b"1 a GET http://h/" + b"x" * 1100000 + b" 200 1 hit",
     "a CR at its end": b"1 a GET http://h/ 200 1 hit\r",
 }
 # Such numbers, and pieces of lines, are put into files of random bytes.
 FILES, SEED = 600, 5861
 WORDS = [b"1", b"253402300799", b"9" * 5000, b"a", b"GET", b"-", b"http://h/a", b"http://h:8080/", b"http://", b"//"]
 WORDS += [b"200", b"504", b"hit", b"fwd=uri-miss", b";ttl=" + b"9" * 5000, b";stored", b"denied by line 1", b"\x1b[2J"]
+WORDS += [b"12.345", b"7ms", b"127.0.0.1:80", b"2026-11-26T12:00:00.123Z", b"9" * 12 + b".9"]
 WORDS += [b"\xff", b"\0", b"\r", b"%", b"%zz", b"\\x1b", b";", b"origin refused"]
 TABLE = """
 [[line]]
@@ -102,11 +165,15 @@ def words_of(text):
 @part
 def report(stand):
     yield "a_log_that_was_counted_by_hand", a_log_that_was_counted_by_hand
+    yield "a_log_with_times_and_origins", a_log_with_times_and_origins
+    yield "forms_of_a_line", forms_of_a_line
     yield "origins_by_the_table", lambda: origins_by_the_table(stand)
     yield "what_is_no_log", lambda: what_is_no_log(stand)
     yield "lines_that_the_program_writes_never", lambda: lines_that_the_program_writes_never(stand)
     yield "files_of_random_bytes", lambda: files_of_random_bytes(stand)
+    yield "how_far_it_is_on_a_terminal", how_far_it_is_on_a_terminal
     yield "a_million_lines", lambda: a_million_lines(stand)
+    yield "names_without_end", names_without_end
 
 
 def a_log_that_was_counted_by_hand():
@@ -115,17 +182,36 @@ def a_log_that_was_counted_by_hand():
     expect("status and standard error", (0, ""), (ran.returncode, ran.stderr))
     expect("figures that aren't told", [], [it for it in COUNTED.split("\n") if it not in told])
     titles = [it for it in told if it and it not in COUNTED.split("\n")]
-    expect("lines beyond the figures: the titles", 5, len(titles))
+    expect("lines beyond the figures: the titles", 8, len(titles))
     with open(LOG, "rb") as it:
         expect("of standard input", ran.stdout, run("-", stdin=it).stdout)
+
+
+def a_log_with_times_and_origins():
+    ran = run(TIMED)
+    expect("status and standard error", (0, ""), (ran.returncode, ran.stderr))
+    told = words_of(ran.stdout)
+    expect("figures that aren't told", [], [it for it in COUNTED_TIMED.split("\n") if it not in told])
+
+
+def forms_of_a_line():
+    """A line of each form, by what is read of it; and three lines of a file without a line end."""
+    for line, (moment, *rest) in FORMS.items():
+        parts = lines.parts_of(line) or [None] * 8
+        took = parts[6] and lines.microseconds_of(parts[6])
+        expect(f"of {line} moment, reason, microseconds and origin", [moment, *rest], [parts[0], parts[5], took, parts[7]])
+    pieces = [it for some in lines.pieces_of(io.BytesIO(b"a\n\nb")) for it in some]
+    expect("lines of a file without an end", [b"a", b"", b"b"], pieces)
 
 
 def origins_by_the_table(stand):
     ran = run(LOG, "--table", stand.file("two.toml", TABLE))
     told = words_of(ran.stdout)[-3:]
-    expect("the last lines", ["127.0.0.1:9002 2 1 75.0 %", "127.0.0.1:9001 0 1 25.0 %", "1 lines that are none of a log"], told)
+    # (a POST to a.example/ has no line there)
+    named = ["127.0.0.1:9002 2 1 0 0 60.0 % of 5", "127.0.0.1:9001 0 0 1 0 20.0 % of 5"]
+    expect("the last lines", [*named, "1 lines that are none of a log"], told)
     ran = run(LOG, "--table", f"{DEPLOY}/table.toml", "--top", "1")
-    expect("with one of each list", "127.0.0.1:8081 2 2 100.0 %", words_of(ran.stdout)[-2])
+    expect("with one of each list", "127.0.0.1:8081 2 1 1 0 33.3 % of 12", words_of(ran.stdout)[-2])
 
 
 def what_is_no_log(stand):
@@ -146,7 +232,7 @@ def lines_that_the_program_writes_never(stand):
         wanted = "1 answers", "1 lines that are none of a log"
         expect(f"of {what} the first and the last line", wanted, (told[0].split(",")[0], told[-1]))
     ran = run(LOG, "--table", stand.file("escape.toml", TABLE.replace("127.0.0.1:9002", "\\u001b[31m\\u00ff")))
-    expect("an origin of hidden characters", r"\x1b[31m\xff 2 1 75.0 %", words_of(ran.stdout)[-3])
+    expect("an origin of hidden characters", r"\x1b[31m\xff 2 1 0 0 60.0 % of 5", words_of(ran.stdout)[-3])
 
 
 def report_module():
@@ -206,15 +292,52 @@ def files_of_random_bytes(stand):
     return f"{FILES:,} files, {answers:,} lines of a log in them"
 
 
+def how_far_it_is_on_a_terminal():
+    """Where standard error is a terminal it tells how far it is, and takes it away again; standard output is as ever."""
+    ours, theirs = pty.openpty()
+    ran = subprocess.run([sys.executable, f"{TOOLS}/report", LOG], stdout=subprocess.PIPE, stderr=theirs, text=True, timeout=60)
+    os.close(theirs)
+    shown = os.read(ours, 65536).decode("ascii")
+    os.close(ours)
+    size = f"{os.path.getsize(LOG):,}"
+    expect("what is shown at first", f"\r{size} of {size} bytes (100 %), 0 s, 22 answers\r", shown.partition("\r\r")[0] + "\r")
+    expect("what is left at the end", "", shown.rstrip("\r").rpartition("\r")[2].strip())
+    expect("characters of a terminal's commands", [], re.findall(r"[^ -~\r]", shown))
+    expect("standard output", run(LOG).stdout, ran.stdout)
+
+
 def a_million_lines(stand):
-    """1,100,000 lines, each target stored again and again."""
+    """1,100,000 lines, each target stored again and again; as text and as a page."""
     with open(LOG, encoding="utf-8") as it:
-        lines = it.read()
-    file, began = stand.file("million", lines * 50000), processor_seconds()
+        text = it.read()
+    file, began = stand.file("million", text * 50000), processor_seconds()
     ran = run(file)
     seconds = processor_seconds() - began
     if not ran.stdout.startswith("1,100,000 answers, 291,550,000 bytes of content"):
         raise Unexpected("a first line of", "1,100,000 answers, 291,550,000 bytes", ran.stdout[:200])
-    expect("the ratio", "hit ratio: 35.7 % of 700,000", words_of(ran.stdout)[1])
+    expect("the ratio", True, "hit ratio: 41.7 % of 600,000; left out 400,000 refused or failed" in ran.stdout)
     expect_within("the report", 0, 30, seconds)
-    return f"1,100,000 lines in {seconds:.1f} s of the processor"
+    page = run(file, "--html", f"{stand.folder}/million.html")
+    told = re.search(r": ([0-9,]+) bytes about 1,100,000 answers, in [0-9.]+ s with ([0-9]+) MB\n", page.stdout)
+    if not told:
+        raise Unexpected("of the page", "its bytes, seconds and MB", page.stdout[-200:] + page.stderr[-200:])
+    expect_within("bytes of the page", 10000, 300000, int(told[1].replace(",", "")))
+    expect_within("MB for the page", 1, 100, int(told[2]))
+    return f"1,100,000 lines in {seconds:.1f} s of the processor; a page of {told[1]} bytes with {told[2]} MB"
+
+
+# Lines in which each host, segment, target, reason, time and origin is another one, and the memory that they may take.
+NAMES, MOST_MB = 300000, 170
+
+
+def names_without_end():
+    """Memory doesn't grow with the names: of so many the rarest are counted as others."""
+    script = "import sys\n"
+    script += f"for i in range({NAMES}):\n"
+    script += "    sys.stdout.write(f'{i * 37} c GET http://{i:0300}/{i:0300}/{i} 200 1 fwd=uri-miss;x{i};ttl=9{i};stored {i}.{i:06} h{i}:80\\n')\n"
+    with subprocess.Popen([sys.executable, "-c", script], stdout=subprocess.PIPE) as writes:
+        ran = run("-", "--html", "/dev/null", stdin=writes.stdout)
+    told = re.search(r"about ([0-9,]+) answers, in [0-9.]+ s with ([0-9]+) MB\n", ran.stdout)
+    expect("answers", f"{NAMES:,}", told[1] if told else ran.stdout[-300:] + ran.stderr[-300:])
+    expect_within("MB", 1, MOST_MB, int(told[2]))
+    return f"{NAMES:,} lines of names of 300 bytes with {told[2]} MB"

@@ -1,6 +1,10 @@
 """Several caches behind haproxy, by deploy/scale-out: each target is fetched once, and a cache that goes takes its own part."""
 import http.client
+import os
+import re
 import signal
+import subprocess
+import sys
 import threading
 import time
 
@@ -11,6 +15,7 @@ from live.expect import expect, expect_within
 from live.origin import Origin, whole
 from live.scenario import KEPT
 
+TOOLS = os.path.dirname(os.path.dirname(os.path.realpath(__file__)))
 OBJECTS, CACHES, CLIENTS = 1000, 4, 4
 # A quarter of the objects, and how far the ring's parts may be from it: 100 points for each unit of weight.
 LEAST, MOST = 200, 300
@@ -25,7 +30,7 @@ class Fleet:
         self.stand, self.http, self.purge, self.socket = stand, free_port(), free_port(), f"{stand.folder}/admin.sock"
         self.origin = stand.origin(Origin({f"/{i}": whole(200, KEPT, content=b"%d" % i) for i in range(OBJECTS)}))
         self.table = deployed("table.toml", {"127.0.0.1:8081": self.origin.address, "127.0.0.1:8089": f"127.0.0.1:{self.purge}"})
-        self.caches = [stand.proxy(self.table) for _ in range(CACHES)]
+        self.caches = [stand.proxy(self.table, ["--log", self.log(i)]) for i in range(CACHES)]
         ports = {"bind :80\n": f"bind 127.0.0.1:{self.http}\n", "bind :443 ssl": f"bind 127.0.0.1:{free_port()} ssl"}
         ports |= {f"127.0.0.1:{8101 + i}\n": f"127.0.0.1:{it.port}\n" for i, it in enumerate(self.caches)}
         paths = {"    user haproxy\n    group haproxy\n": "", "/run/haproxy": stand.folder, "/etc/revcache": stand.folder}
@@ -33,6 +38,10 @@ class Fleet:
         text = put_for(deployed("scale-out/haproxy.cfg", {**ports, **paths}), {"/dev/log": f"{stand.folder}/log", "gt 2000": "gt 1000000"})
         self.process = stand.start("haproxy", ["haproxy", "-f", stand.file("haproxy.cfg", text)], self.http)
         self.wait_for("abcd")
+
+    def log(self, index):
+        """The log of a cache, which goes on behind a restart."""
+        return f"{self.stand.folder}/access-{index}.log"
 
     def told(self, words):
         """What haproxy answers on its socket."""
@@ -79,7 +88,31 @@ class Fleet:
         self.caches[index].process.wait()
 
     def start(self, index):
-        self.caches[index] = self.stand.proxy(self.table, listen=f"127.0.0.1:{self.caches[index].port}")
+        listen = f"127.0.0.1:{self.caches[index].port}"
+        self.caches[index] = self.stand.proxy(self.table, ["--log", self.log(index)], listen=listen)
+
+    def begin_anew(self, index, between=lambda: None):
+        """A cache is taken out, started again with an empty store, and put back; clients ask behind it. Answers how many
+        fetches each of the two took: what is done between the start and the front, and the clients."""
+        name = "abcd"[index]
+        self.told(f"set server caches/{name} state maint")
+        self.stop(index)
+        self.start(index)
+        before = len(self.origin.fetches)
+        between()
+        between_fetches = len(self.origin.fetches) - before
+        self.told(f"set server caches/{name} state ready")
+        self.wait_for("abcd")
+        told, fetches = self.ask_all()
+        expect_all(told)
+        return between_fetches, fetches
+
+    def warm(self, index):
+        """tools/warm with the log of a cache; what it wrote."""
+        words = [self.log(index), "--top", str(OBJECTS), "--to", f"127.0.0.1:{self.caches[index].port}", "--rate", "500"]
+        ran = subprocess.run([sys.executable, f"{TOOLS}/warm", *words], capture_output=True, text=True, timeout=60)
+        expect("status and standard error of tools/warm", (0, ""), (ran.returncode, ran.stderr))
+        return ran.stdout
 
 
 @part
@@ -90,6 +123,7 @@ def scale_out(stand):
         a_cache_that_stops_costs_its_part,
         a_cache_that_comes_back_takes_its_part,
         a_cache_is_drained_without_an_error,
+        a_cache_is_warmed_before_clients_come,
         a_stranger_takes_and_claims_no_field,
         an_origin_that_fails_takes_no_cache_out,
     ):
@@ -158,6 +192,20 @@ def a_cache_is_drained_without_an_error(fleet):
     told, _ = fleet.ask_all()
     expect_all(told)
     return f"{fetches} fetched by the others"
+
+
+def a_cache_is_warmed_before_clients_come(fleet):
+    """Between its start and its place in the front a cache is asked for what its log has: then clients wait for no fetch, where without
+    it they wait for one of each target of its part."""
+    said = []
+    _, without = fleet.begin_anew(3)
+    warmed, behind = fleet.begin_anew(3, lambda: said.append(fleet.warm(3)))
+    expect_within("fetches behind a restart", LEAST, MOST, without)
+    expect("fetches behind a restart with tools/warm", 0, behind)
+    counts = re.fullmatch(r"([0-9,]+) targets asked for in [0-9.]+ s: ([0-9,]+) stored, 0 there already, 0 not stored\n", said[0])
+    # (each target that it asks for is one fetch, and the cache had no other)
+    expect("fetches of tools/warm", [f"{warmed:,}"] * 2, list(counts.groups()) if counts else said)
+    return f"{without} fetches by clients without it; with it {warmed} by tools/warm, and then {behind}"
 
 
 def a_stranger_takes_and_claims_no_field(fleet):

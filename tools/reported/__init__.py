@@ -1,0 +1,1 @@
+"""What the lines of a log come to (tools/report): how a line is read, what is counted, and how it is told."""

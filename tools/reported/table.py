@@ -1,0 +1,45 @@
+"""The operator's table, as far as it tells origins apart."""
+import functools
+import re
+
+ESCAPE = re.compile(r"%([0-9A-Fa-f]{2})")
+UNRESERVED = frozenset("ABCDEFGHIJKLMNOPQRSTUVWXYZabcdefghijklmnopqrstuvwxyz0123456789-._~")
+
+
+def normal(path):
+    """A path as the table compares it: an escape of what needs none is that character, other digits are upper case."""
+
+    def one(found):
+        text = chr(int(found[1], 16))
+        return text if text in UNRESERVED else found[0].upper()
+
+    return ESCAPE.sub(one, path)
+
+
+class Table:
+    """Which origin a request goes to: that of the first line whose host, a method and path match."""
+
+    def __init__(self, file):
+        import tomllib
+
+        with open(file, "rb") as it:
+            self.lines = tomllib.load(it)["line"]
+        for it in self.lines:
+            texts = it["host"], it["path"], it["origin"], *it["methods"]
+            if not all(isinstance(text, str) for text in texts):
+                raise ValueError("a line of the table has a host, methods, a path and an origin")
+        self.short = functools.lru_cache(maxsize=50000)(self.find)
+
+    def origin(self, method, target):
+        return (self.short if len(method) + len(target) < 300 else self.find)(method, target)
+
+    def find(self, method, target):
+        method, target = method.decode("ascii"), target.decode("ascii")
+        host, path = target.partition("//")[2].partition("/")[::2]
+        host = re.sub(r":[0-9]*$", "", host)
+        path = normal("/" + path.partition("?")[0])
+        for it in self.lines:
+            below = it["path"] == "/" or path == normal(it["path"]) or path.startswith(normal(it["path"]) + "/")
+            if it["host"] in ("*", host) and below and ("*" in it["methods"] or method in it["methods"]):
+                return it["origin"]
+        return "no line of the table"
