@@ -5,6 +5,7 @@ import re
 import subprocess
 
 from deployed.stand import DEPLOY, need, part
+from deployed.unit import analyze
 from live.expect import Skipped, Unexpected, expect
 from packaged.pages import options_of_help, options_of_table
 
@@ -16,12 +17,13 @@ TABLE = "etc/revcache/table.toml"
 
 @part
 def package(stand):
-    need("dpkg", "dpkg-deb", "dpkg-shlibdeps", "strip", "go-md2man", "lintian", "man")
+    need("dpkg", "dpkg-deb", "dpkg-shlibdeps", "strip", "go-md2man", "lintian", "man", "systemd-analyze")
     if os.geteuid():
         raise Skipped("dpkg --root is root's")
     first, later = (built(stand, it) for it in (FIRST, NEXT))
     yield "lintian_has_no_error", lambda: lintian_has_no_error(first)
     yield "man_reads_the_pages", lambda: man_reads_the_pages(stand, first)
+    yield "systemd_reads_its_units", lambda: systemd_reads_its_units(stand, first)
     yield "the_pages_have_what_help_has", lambda: the_pages_have_what_help_has(stand, first)
     yield "it_is_installed_upgraded_removed_and_purged", lambda: it_is_installed_upgraded_removed_and_purged(stand, first, later)
     yield "a_table_of_the_operator_stays", lambda: a_table_of_the_operator_stays(stand, first, later)
@@ -57,6 +59,17 @@ def man_reads_the_pages(stand, path):
         ran = subprocess.run(["man", "--warnings", "-l", f"{tree}/usr/share/man/{it}"], capture_output=True, text=True, timeout=60)
         expect(f"from man {it} status and warnings", (0, ""), (ran.returncode, ran.stderr))
         expect(f"a line of NAME in {it}", True, re.search(r"NAME\n +revcache[a-z-]* +- ", ran.stdout) is not None)
+
+
+def systemd_reads_its_units(stand, path):
+    """As installed, but for the program's path: `systemd-analyze verify` has nothing to say of the unit, and of one of the template."""
+    tree = unpacked(stand, path, "units")
+    for name, as_name in (("revcache.service", "revcache.service"), ("revcache@.service", "revcache@8101.service")):
+        with open(f"{tree}/lib/systemd/system/{name}", encoding="utf-8") as it:
+            text = it.read().replace("/usr/bin/revcache", stand.program)
+        status, out, err = analyze("verify", "--man=no", stand.file(as_name, text))
+        said = [line for line in (out + err).splitlines() if "revcache" in line]
+        expect(f"from systemd-analyze verify {as_name} status and lines", (0, []), (status, said))
 
 
 def the_pages_have_what_help_has(stand, path):

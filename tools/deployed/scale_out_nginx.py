@@ -30,7 +30,7 @@ class NginxFleet(Fleet):
         words = ["nginx", "-e", f"{stand.folder}/error.log", "-c", stand.file("nginx.conf", text), "-g", "daemon off;"]
         self.process = stand.start("nginx", words, self.http)
 
-    def log(self):
+    def front_log(self):
         with open(f"{self.stand.folder}/access.log", encoding="utf-8") as it:
             return it.read().splitlines()
 
@@ -64,7 +64,7 @@ def each_object_is_fetched_once(fleet):
         told, came = fleet.ask_all()
         expect_all(told)
         expect(f"fetches of pass {passes}", fetches, came)
-    ports = [it.split("] ")[1].split(" ") for it in fleet.log()]
+    ports = [it.split("] ")[1].split(" ") for it in fleet.front_log()]
     counts = [sum(f"127.0.0.1:{it.port}" in words for words in ports) for it in fleet.caches]
     for it in counts:
         expect_within("requests to a cache of the 2,000", 2 * LEAST - 100, 2 * MOST + 100, it)
@@ -96,7 +96,7 @@ def a_cache_that_comes_back_takes_its_part(fleet):
 
 def served_by(fleet, index):
     """Whether one of the last 1,000 requests went to this cache alone."""
-    return any(f" 127.0.0.1:{fleet.caches[index].port} " in it for it in fleet.log()[-OBJECTS:])
+    return any(f" 127.0.0.1:{fleet.caches[index].port} " in it for it in fleet.front_log()[-OBJECTS:])
 
 
 def a_stranger_takes_and_claims_no_field(fleet):
@@ -132,7 +132,7 @@ def a_purge_through_nginx_asks_each_cache(fleet):
     """The client gets the answer of the first; each cache's own stands in the log."""
     url = "http://h.example/7"
     fill(fleet, url)
-    before = len(fleet.log())
+    before = len(fleet.front_log())
     expect("status of a purge through nginx", 204, purge(fleet, url).status)
     # (the answers to the mirrored ones may come behind it)
     wait_until(lambda: held_by(fleet, url) == [], "no cache holds it")
@@ -143,7 +143,7 @@ def a_purge_through_nginx_asks_each_cache(fleet):
 
 def purges(fleet, before):
     """The cache and the status of each line about a purge."""
-    lines = [it for it in fleet.log()[before:] if '"PURGE ' in it]
+    lines = [it for it in fleet.front_log()[before:] if '"PURGE ' in it]
     return [(it.partition('" ')[2].split(" ")[2], it.partition('" ')[2].split(" ")[0]) for it in lines]
 
 
@@ -152,7 +152,7 @@ def a_cache_that_is_away_stands_in_the_log(fleet):
     url = "http://h.example/8"
     fill(fleet, url)
     fleet.stop(2)
-    before = len(fleet.log())
+    before = len(fleet.front_log())
     expect("status of a purge through nginx", 204, purge(fleet, url).status)
     wait_until(lambda: len(purges(fleet, before)) == CACHES, "a line of the log for each cache")
     away = f"127.0.0.1:{fleet.caches[2].port}"
