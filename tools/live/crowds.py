@@ -164,7 +164,8 @@ def an_idle_server_does_nothing(stage):
 @scenario
 def descriptors_run_out(stage):
     """Where the system gives no more descriptors, idle connections give way. Where none is idle further ones wait in the queue,
-    the server doesn't spin, and when those that are open have been answered the others' turn comes."""
+    the server doesn't spin, says so once, and when those that are open have been answered the others' turn comes."""
+    stage.lines = 1
     go = threading.Event()
     late = held_back(go, whole(200, KEPT, content=b"late"))
     origin = stage.origin(Origin({"/a": whole(200, KEPT, content=b"hello"), "/late": late}))

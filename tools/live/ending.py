@@ -193,7 +193,7 @@ def count_of(path):
 
 @scenario
 def a_record_is_never_written_over(stage):
-    """`--record` with the name of a file that is there: the server doesn't start, says so in one line, and leaves the file."""
+    """`--record` with the name of a file that is there: the server doesn't start, says on standard output why, and leaves the file."""
     file, record = f"{stage.room.name}/table.toml", f"{stage.room.name}/incident"
     with open(file, "w", encoding="utf-8") as it:
         it.write(table_of(["127.0.0.1:1"]))
@@ -202,7 +202,8 @@ def a_record_is_never_written_over(stage):
     words = [stage.program, "serve", file, "--listen", "127.0.0.1:0", "--turns", "1", "--record", record]
     ran = subprocess.run(words, stdin=subprocess.DEVNULL, capture_output=True, timeout=PATIENCE)
     said = [it for it in ran.stderr.decode().splitlines() if not it.startswith(LISTENING)]
-    expect("status, output and lines on standard error", (1, b"", 1), (ran.returncode, ran.stdout, len(said)))
+    expect("status and lines on standard error", (1, ["write fault"]), (ran.returncode, said))
+    expect("on standard output", True, f"the record {record} is never written over: take another name, or %s" in ran.stdout.decode())
     with open(record, "rb") as it:
         expect("the file that was there", b"what happened", it.read())
 

@@ -1,5 +1,6 @@
 """Scenarios of the log: a line for each reply, whatever a client sends, and whether or not it can be written."""
 import os
+import re
 import signal
 import subprocess
 import time
@@ -25,19 +26,36 @@ def lines_of(path, count):
             break
         time.sleep(0.05)
     expect("lines of the log", (count, True), (text.count("\n"), not text or text.endswith("\n")))
-    return [one.split(" ", 6) for one in text.splitlines()]
+    return [words_of(one) for one in text.splitlines()]
+
+
+def words_of(line):
+    """The nine words of a line; the reason alone, the last but two, has blanks of its own."""
+    *front, rest = line.split(" ", 6)
+    return [*front, *rest.rsplit(" ", 2)]
 
 
 def without_ttl(reason):
     return ";".join("ttl=" if it.startswith("ttl=") else it for it in reason.split(";"))
 
 
-def expect_lines(lines, client, expected):
-    """Each line but its moment, which is one of this minute."""
-    for (moment, who, *words, reason), one in zip(lines, expected):
-        if abs(int(moment) - time.time()) > 60:
-            raise Unexpected("a moment of this minute", int(time.time()), moment)
+def has_asked(reason):
+    """Whether an origin was asked for a reply, by its reason."""
+    words = reason.split(";")
+    return words[0].startswith("origin ") or words[0].startswith("fwd=") and "collapsed" not in words
+
+
+def expect_lines(lines, client, expected, origin=None):
+    """Each line but its moment, which is one of this minute, and its time, which is no longer than that. `origin` is the address of
+    the one that is asked."""
+    for (moment, who, *words, reason, took, asked), one in zip(lines, expected):
+        for it in (moment, took):
+            if not re.fullmatch("[0-9]+[.][0-9]{3}", it):
+                raise Unexpected("seconds with three digits", "as in 0.012", it)
+        if abs(float(moment) - time.time()) > 60 or float(took) > 60:
+            raise Unexpected("a moment of this minute, and a time", time.time(), (moment, took))
         expect("a line of the log", [address_of(client), *one], [who, *words, without_ttl(reason)])
+        expect("the origin that was asked", origin if has_asked(reason) else "-", asked)
 
 
 @scenario
@@ -69,6 +87,7 @@ def a_line_for_each_reply(stage):
             ["PUT", "http://other.example:8080/a", "403", "17", "no line allows it"],
             ["GET", "/a/../b", "400", "20", "refused: dot-segment"],
         ),
+        stage.origins[0].address,
     )
 
 
@@ -165,10 +184,10 @@ def a_log_on_standard_output(stage):
     finally:
         proxy.process.kill()
     expect("on standard error", "", err)
-    lines = [it.split(" ", 6) for it in out.decode().splitlines()]
+    lines = [words_of(it) for it in out.decode().splitlines()]
     told = ["GET", "http://h/a", "200", "5"]
     expect("lines", 2, len(lines))
-    expect_lines(lines, client, ([*told, "fwd=uri-miss;ttl=;stored"], [*told, "hit;ttl="]))
+    expect_lines(lines, client, ([*told, "fwd=uri-miss;ttl=;stored"], [*told, "hit;ttl="]), origin.address)
 
 
 @scenario
@@ -206,4 +225,6 @@ def a_log_that_cannot_be_opened(stage):
         it.write(table_of(["127.0.0.1:1"]))
     words = [stage.program, "serve", file, "--listen", "127.0.0.1:0", "--turns", "1", "--log", f"{stage.room.name}/none/log"]
     ran = subprocess.run(words, stdin=subprocess.DEVNULL, capture_output=True, timeout=PATIENCE)
-    expect("status, output and standard error", (1, b"", b"write fault\n"), (ran.returncode, ran.stdout, ran.stderr))
+    expect("status and standard error", (1, b"write fault\n"), (ran.returncode, ran.stderr))
+    said = f"the log {stage.room.name}/none/log can't be opened: No such file or directory"
+    expect("on standard output", True, said in ran.stdout.decode())

@@ -2,6 +2,7 @@
 import glob
 import http.client
 import os
+import pty
 import resource
 import signal
 import socket
@@ -123,9 +124,17 @@ def run(stage, *words):
     return ran.returncode, ran.stdout.decode(), ran.stderr.decode()
 
 
+def expect_ended(stage, words, ended, said=""):
+    """Status and standard error of a program that ends by itself, and on standard output a text that has these words."""
+    status, out, err = run(stage, *words)
+    expect(f"from `{' '.join(words)}` status and standard error", ended, (status, err))
+    if said not in out:
+        raise Unexpected(f"from `{' '.join(words)}`, on standard output", f"`{said}`", out)
+
+
 @scenario
 def the_command_line_checks_a_table(stage):
-    """`check` names what is wrong with a table; what is no command line is a usage fault."""
+    """`check` names what is wrong with a table; what is no command line is a usage fault. What a fault was about stands on standard output."""
     file, wrong = f"{stage.room.name}/table.toml", f"{stage.room.name}/wrong.toml"
     for name, text in ((file, table_of(["127.0.0.1:1"])), (wrong, table_of(["127.0.0.1:1"], capacity=0))):
         with open(name, "w", encoding="utf-8") as it:
@@ -133,22 +142,62 @@ def the_command_line_checks_a_table(stage):
     with socket.create_server(("127.0.0.1", 0)) as taken:
         address = "127.0.0.1:%d" % taken.getsockname()[1]
         serve = ["serve", file, "--listen"]
-        for words, ended in (
-            (["check", file], (0, "ok 1 lines\n", "")),
-            (["check", f"{TOOLS}/../deploy/table.toml"], (0, "ok 3 lines\n", "")),
-            (["check", wrong], (2, f"{WRONG_CAPACITY}\n", "config fault 4 key capacity\n")),
-            (["check", f"{file}.none"], (1, "", "read fault\n")),
-            (["check"], (64, "", "usage fault\n")),
-            (["sing"], (64, "", "usage fault\n")),
-            *(([*serve, it, "--turns", "1"], (64, "", "usage fault\n")) for it in NO_ADDRESSES),
-            (["check", file, file], (64, "", "usage fault\n")),
-            *(([*serve, "127.0.0.1:0", *it], (64, "", "usage fault\n")) for it in NO_NUMBERS),
-            ([*serve, address, "--turns", "1"], (1, "", "socket fault\n")),
-            (["serve", wrong, "--listen", address, "--turns", "1"], (2, "", "config fault 4 key capacity\n")),
+        usage, table = (64, "usage fault\n"), (2, "config fault 4 key capacity\n")
+        for words, ended, said in (
+            (["check", file], (0, ""), "ok 1 lines\n"),
+            (["check", f"{TOOLS}/../deploy/table.toml"], (0, ""), "ok 3 lines\n"),
+            (["check", wrong], table, f"{WRONG_CAPACITY}\n"),
+            (["check", f"{file}.none"], (1, "read fault\n"), f"the table {file}.none can't be read: No such file or directory"),
+            (["check", stage.room.name], (1, "read fault\n"), f"the table {stage.room.name} can't be read: Is a directory"),
+            (["check"], usage, "<FILE>"),
+            (["sing"], usage, "'sing'"),
+            (["serv", file], usage, "'serve'"),
+            ([*serve, address, "--turn", "1"], usage, "'--turns'"),
+            ([*serve[:2]], usage, "--listen <ADDRESS>"),
+            *(([*serve, it, "--turns", "1"], usage, f"invalid value '{it}' for '--listen <ADDRESS>'") for it in NO_ADDRESSES),
+            (["check", file, file], usage, file),
+            *(([*serve, "127.0.0.1:0", *it], usage, f"'{it[1]}' for '{it[0]} ") for it in NO_NUMBERS),
+            ([*serve, address, "--turns", "1"], (1, "socket fault\n"), f"{address} can't be listened on: Address already in use"),
+            (["serve", wrong, "--listen", address, "--turns", "1"], table, f"{WRONG_CAPACITY}\n"),
+            (["serve", wrong, "--listen", address, "--log", "-"], table, ""),
         ):
-            expect(f"from `{' '.join(words)}` status, output and standard error", ended, run(stage, *words))
+            expect_ended(stage, words, ended, said)
+        said = run(stage, "serve", wrong, "--listen", address, "--log", "-")[1]
+        expect("where the log is on standard output, there", "", said)
     for words in (["--help"], ["--version"], ["serve", "--help"]):
         expect(f"status of {words}", 0, run(stage, *words)[0])
+
+
+@scenario
+def help_has_groups_defaults_and_statuses(stage):
+    """`--help` and `serve --help` have each option with its default under its heading, an example and the exit statuses; `--version` the release."""
+    said = run(stage, "serve", "--help")[1]
+    for it in ("Times of clients:", "Times of origins:", "Bounds:", "Files:", "--stats <FILE>", "[default: 4096]", "Example:", "Exit statuses:", "  64  "):
+        if it not in said:
+            raise Unexpected("from serve --help", f"`{it}`", said)
+    said = run(stage, "--help")[1]
+    for it in ("serve", "check", "Exit statuses:"):
+        if it not in said:
+            raise Unexpected("from --help", f"`{it}`", said)
+    expect("from --version", "revcache 0.2.0\n", run(stage, "--version")[1])
+
+
+@scenario
+def who_sits_at_a_terminal_is_told_what_is_awaited(stage):
+    """Without a word and on a terminal: a line on standard error says that a script is read; its effects are as they are."""
+    ours, its = pty.openpty()
+    try:
+        pipes = {"stdout": subprocess.PIPE, "stderr": subprocess.PIPE}
+        with subprocess.Popen([stage.program], stdin=its, **pipes) as program:
+            told = program.stderr.readline().decode()
+            # (the end of a terminal's input)
+            os.write(ours, b"\x04")
+            out, err = program.communicate(timeout=20)
+    finally:
+        os.close(its)
+        os.close(ours)
+    expect("the line", "a script is read from here, to its end (Ctrl-D); revcache --help shows what else there is\n", told)
+    expect("status, effects and the fault", (1, b"", b"script fault line 1\n"), (program.returncode, out, err))
 
 
 @scenario
@@ -191,7 +240,7 @@ def a_replay_ends_by_its_status(stage):
         ended = int(example(it, "status", b"0")), example(it, "effects"), example(it, "stderr", b"")
         expect(f"from a replay of {it} status, effects and standard error", ended, replay(stage, example(it, "script")))
     for words in ([""], ["", "check"], ["--"]):
-        expect(f"from `{' '.join(words)}` status, output and standard error", (64, "", "usage fault\n"), run(stage, *words))
+        expect_ended(stage, words, (64, "usage fault\n"))
     if not os.path.exists("/dev/full"):
         raise Skipped("there is no /dev/full")
     with open("/dev/full", "wb") as full:

@@ -103,11 +103,22 @@ impl Client {
         }
     }
 
-    /// The line about a reply, where a log is kept.
+    /// Milliseconds since the first byte of the request came that is being answered.
+    pub(crate) fn took(&self, now: u64) -> u64 {
+        match self.asked {
+            Some(asked) => now.saturating_sub(asked),
+            None => 0,
+        }
+    }
+
+    /// The line about a reply at a moment, in milliseconds since 1970, where a log is kept. It took so many milliseconds, and this origin
+    /// was asked, if any.
     pub(crate) fn line_about(
         &mut self,
         moment: u64,
         told: &Told<'_>,
+        took: u64,
+        origin: &[u8],
     ) -> Result<Option<proxy_log::Line>, AllocError> {
         let alloc = self.alloc;
         let Some(logged) = &mut self.logged else {
@@ -126,6 +137,8 @@ impl Client {
             status: told.status,
             length: told.length,
             reason: Bytes::copy_of(alloc, told.reason)?,
+            took,
+            origin: Bytes::copy_of(alloc, origin)?,
         }))
     }
 

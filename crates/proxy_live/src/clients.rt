@@ -4,6 +4,7 @@
 
 use crate::client::{Client, Place};
 use crate::early::Came;
+use crate::endings::{Cut, Endings};
 use crate::limits::{Limits, PLACES, SHARED};
 use crate::lines::{Line, Lines};
 use crate::peer::Peer;
@@ -29,6 +30,7 @@ pub(crate) struct Clients {
     pub(crate) limits: Limits,
     /// Something may be left to be read that no event will tell of.
     pub(crate) more: bool,
+    pub(crate) endings: Endings,
 }
 
 impl Clients {
@@ -42,6 +44,7 @@ impl Clients {
             unsent: 0,
             limits,
             more: false,
+            endings: Endings::new(),
         }
     }
 
@@ -127,6 +130,7 @@ impl Clients {
             return;
         };
         self.unsent = self.unsent.saturating_sub(client.peer.unsent());
+        self.endings.add_bytes(&client.peer);
         match client.place {
             Place::Open(n) => {
                 let _ = self.take_number(n);
@@ -142,8 +146,31 @@ impl Clients {
         if let Some(key) = self.take_number(n) {
             if let Some(client) = self.streams.try_remove(key) {
                 self.unsent = self.unsent.saturating_sub(client.peer.unsent());
+                self.endings.add_bytes(&client.peer);
             }
         }
+    }
+
+    /// Drops a stream for a reason that is counted.
+    pub(crate) fn cut(&mut self, key: usize, cut: Cut) {
+        self.endings.count_cut(cut);
+        self.drop_stream(key);
+    }
+
+    /// Bytes that are kept for clients.
+    pub(crate) fn unsent(&self) -> usize {
+        self.unsent
+    }
+
+    /// The bytes that have come from clients, and those that the system has taken for them.
+    pub(crate) fn bytes(&self) -> (u64, u64) {
+        let mut received = self.endings.received;
+        let mut written = self.endings.written;
+        for (_, client) in self.streams.iter() {
+            received = received.saturating_add(client.peer.received);
+            written = written.saturating_add(client.peer.written);
+        }
+        (received, written)
     }
 
     /// How many failed since they were last asked for.
@@ -260,7 +287,7 @@ impl Clients {
     pub(crate) fn drop_idle(&mut self) -> bool {
         match self.lines.first(Line::Idle) {
             Some(key) => {
-                self.drop_stream(key);
+                self.cut(key, Cut::Room);
                 true
             }
             None => false,
@@ -276,7 +303,7 @@ impl Clients {
             let Some(key) = self.slowest() else {
                 return;
             };
-            self.drop_stream(key);
+            self.cut(key, Cut::Unsent);
         }
     }
 
@@ -328,7 +355,7 @@ impl Clients {
         };
         let gives_way = has_left && self.crowd() > 0;
         if gives_way {
-            self.drop_stream(key);
+            self.cut(key, Cut::Place);
         }
         gives_way
     }
@@ -384,7 +411,7 @@ impl Clients {
             Ok(Received::Nothing) => false,
             Ok(Received::Bytes(n)) => {
                 if client.keep_early(&buf[..n]).is_err() {
-                    self.drop_stream(key);
+                    self.cut(key, Cut::Memory);
                     return false;
                 }
                 if client.asked.is_none() {
@@ -448,7 +475,7 @@ impl Clients {
         match client.look(max_body) {
             Ok(came) => came,
             Err(_) => {
-                self.drop_stream(key);
+                self.cut(key, Cut::Memory);
                 Came::Part
             }
         }

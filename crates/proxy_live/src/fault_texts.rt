@@ -31,17 +31,6 @@ fn serve_text(fault: ServeFault) -> &'static str
     }
 }
 
-impl fmt::Display for RecordFault {
-    ghost use Rattle.std.specs.Prelude.{Some};
-    ghost use Rattle.proxy_live.specs.FaultTexts.{record_text};
-
-    ghost output = { λ fault. Some (record_text fault) };
-
-    fn fmt<W: fmt::Write>(&self, f: &mut Formatter<W>) -> fmt::Result {
-        f.write_str(record_text(*self))
-    }
-}
-
 impl fmt::Display for ServeFault {
     ghost use Rattle.std.specs.Prelude.{Some};
     ghost use Rattle.proxy_live.specs.FaultTexts.{serve_text};

@@ -6,25 +6,38 @@
 //! Where a log is kept, the sockets note each reply behind its write; who serves writes the lines between the turns.
 #![tactic(auto)]
 
+mod asked;
 mod client;
 mod clients;
 mod closing;
+mod counts;
+mod doors;
 mod early;
+mod endings;
 mod fault_texts;
 mod limits;
 mod lines;
 mod links;
 mod live_sockets;
+mod origins;
+mod page;
 mod patience;
 mod peer;
 mod pieces;
 mod recorder;
 mod recording;
+mod replies;
 mod send_buffer;
 mod server;
+mod sorts;
+mod stats;
+mod telling;
+mod turns;
 
+pub use crate::doors::Troubles;
 pub use crate::limits::Limits;
 pub use crate::live_sockets::LiveSockets;
 pub use crate::recorder::{RecordFault, Recorder};
 pub use crate::recording::Recording;
 pub use crate::server::{ServeFault, Server, Turned};
+pub use crate::stats::About;

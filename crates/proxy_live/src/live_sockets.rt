@@ -3,18 +3,23 @@ ghost use Rattle.std.specs.Prelude.{◌≡◌, ◌≤◌, length, IfOk};
 ghost use Rattle.proxy_turn.specs.Counts.{IsRise, failed};
 ghost use Rattle.proxy_turn.specs.Received.{IsReceived};
 
+use crate::asked::Asked;
 use crate::clients::Clients;
-use crate::limits::{Limits, SHARE};
+use crate::doors::{Doors, Troubles, wants_descriptors};
+use crate::limits::{Limits, PLACES, SHARE};
 use crate::links::{Link, Links};
 use crate::peer::Peer;
+use crate::replies::Replies;
 use crate::send_buffer::bound_send_buffers;
+use crate::turns::Turns;
+use hx_allow::Config;
 use hx_status::FailKind;
 use mio::event::Event;
 use mio::net::{TcpListener, TcpStream};
 use mio::{Events, Interest, Poll, Token};
-use proxy_log::{Lines, told_by};
-use proxy_turn::{End, Received, SocketFailed, Sockets};
-use std::alloc::Global;
+use proxy_log::Lines;
+use proxy_turn::{End, MOST_WORKS, Received, Report, SocketFailed, Sockets, TurnFault};
+use std::alloc::{AllocError, Global};
 use std::io::ErrorKind;
 use std::net::{Net, SocketAddr};
 use std::time::Duration;
@@ -54,24 +59,30 @@ pub struct LiveSockets<'a, R: Net> {
     address: SocketAddr,
     /// A connection may wait to be taken.
     acceptable: bool,
-    clients: Clients,
-    links: Links,
+    pub(crate) clients: Clients,
+    pub(crate) links: Links,
     /// Links that failed since the last turn, and how.
     lost: Vec<(u64, FailKind)>,
-    limits: Limits,
+    pub(crate) limits: Limits,
     /// Lines about replies, where a log is kept.
-    log: Option<Lines>,
-    /// The moment of the turn, for the log.
-    moment: u64,
+    pub(crate) log: Option<Lines>,
+    /// Counts of replies, where they are kept.
+    pub(crate) replies: Option<Replies>,
+    pub(crate) doors: Doors,
+    pub(crate) turns: Turns,
+    /// Who was asked for what goes out next.
+    pub(crate) asked: Asked,
+    /// The moment of the turn in milliseconds since 1970, for the log.
+    pub(crate) moment: u64,
     /// Something may be left to be read that no event will tell of.
     more: bool,
     /// How many clients have given something in this turn.
     given: usize,
     /// Milliseconds of the clock that never goes back, at the last wait.
-    now: u64,
-    accepts: u64,
-    reads: u64,
-    failures: u64,
+    pub(crate) now: u64,
+    pub(crate) accepts: u64,
+    pub(crate) reads: u64,
+    pub(crate) failures: u64,
 }
 
 fn token_of(kind: usize, key: usize) -> Token {
@@ -85,11 +96,6 @@ fn address_of(text: &[u8]) -> Option<SocketAddr> {
     }
 }
 
-/// Whether a call failed since the process, or the system, has no descriptor left (ENFILE and EMFILE).
-fn wants_descriptors(error: &io::Error) -> bool {
-    matches!(error.raw_os_error(), Some(23 | 24))
-}
-
 /// Begins a connection to an origin. A refusal near by is known at once.
 fn begin_link<R: Net>(
     net: &R,
@@ -98,7 +104,7 @@ fn begin_link<R: Net>(
     l: u64,
     address: &[u8],
     now: u64,
-) -> io::Result<Link> {
+) -> io::Result<Peer> {
     let Some(address) = address_of(address) else {
         return Err(io::Error::from(ErrorKind::InvalidInput));
     };
@@ -108,10 +114,10 @@ fn begin_link<R: Net>(
         return Err(e);
     }
     peer.register(poll, token_of(LINK, l as usize))?;
-    Ok(Link::new(l, peer, now))
+    Ok(peer)
 }
 
-/// Reads from the link of a number. After a failure it is dropped; of one that isn't there nothing comes.
+/// Reads from the link of a number. After a failure its stream is dropped; of one without a stream nothing comes.
 fn read_link(
     links: &mut Links,
     l: u64,
@@ -122,14 +128,14 @@ fn read_link(
     ensures within { IfOk result (IsReceived (length buf.old)) }
     ensures length { length buf.new ≡ length buf.old }
 {
-    let Some(link) = links.get_mut(l) else {
+    let Some(peer) = links.stream_mut(l) else {
         return Ok(Received::Nothing);
     };
-    if let Ok(received) = link.peer.read(buf, now) {
-        *more = *more || link.peer.readable;
+    if let Ok(received) = peer.read(buf, now) {
+        *more = *more || peer.readable;
         return Ok(received);
     }
-    links.remove(l);
+    links.drop_stream(l);
     Err(SocketFailed)
 }
 
@@ -180,24 +186,6 @@ fn is_interim(bytes: &[u8]) -> bool {
     bytes.starts_with(b"HTTP/1.1 1")
 }
 
-/// Adds the line about a reply, where a log is kept.
-fn note_reply(log: &mut Option<Lines>, clients: &mut Clients, n: u64, moment: u64, reply: &[u8]) {
-    let Some(lines) = log else {
-        return;
-    };
-    let Some(told) = told_by(reply) else {
-        return;
-    };
-    let Some(client) = clients.get_mut(n) else {
-        return;
-    };
-    match client.line_about(moment, &told) {
-        Ok(Some(line)) => lines.add(&line),
-        Ok(None) => {}
-        Err(_) => lines.lose(),
-    }
-}
-
 /// Hands what a client sent to who reads for the log.
 fn hear(clients: &mut Clients, end: End, received: &Result<Received, SocketFailed>, buf: &[u8]) {
     if let (End::Client(n), Ok(Received::Bytes(count))) = (end, received) {
@@ -235,6 +223,10 @@ impl<'a, R: Net> LiveSockets<'a, R> {
             lost: Vec::new(alloc),
             limits,
             log: None,
+            replies: None,
+            doors: Doors::new(),
+            turns: Turns::new(),
+            asked: Asked::new(alloc),
             moment: 0,
             more: true,
             given: 0,
@@ -255,6 +247,20 @@ impl<'a, R: Net> LiveSockets<'a, R> {
         self.log = Some(Lines::new(self.alloc));
     }
 
+    /// Counts replies from now on, and what the origins of a table do.
+    pub fn keep_counts(&mut self, table: &Config) -> Result<(), AllocError> {
+        // A table has 256 lines at most.
+        let last = table.lines().min(256) as u16;
+        for line in 1..=last {
+            let origin = table.origin(line).as_bytes();
+            if !origin.is_empty() {
+                let _ = self.links.origins.place(origin)?;
+            }
+        }
+        self.replies = Some(Replies::new());
+        Ok(())
+    }
+
     /// The lines about replies since they were last cleared.
     pub fn log(&self) -> Option<&Lines> {
         self.log.as_ref()
@@ -267,9 +273,12 @@ impl<'a, R: Net> LiveSockets<'a, R> {
         }
     }
 
-    /// The moment of the next turn, in Unix seconds.
-    pub fn set_moment(&mut self, moment: u64) {
-        self.moment = moment;
+    /// The moment of the next turn, in Unix seconds; and what the clock tells, with its milliseconds. The moment may be that of the turn
+    /// before, which had its own.
+    pub fn set_moment(&mut self, moment: u64, now: u64, milliseconds: u64) {
+        if moment == now {
+            self.moment = now.saturating_mul(SECOND).saturating_add(milliseconds);
+        }
     }
 
     /// Takes no more connections but those that wait now. Who is idle is let go.
@@ -338,9 +347,9 @@ impl<'a, R: Net> LiveSockets<'a, R> {
             if token % 4 == LISTENER {
                 self.acceptable = true;
             } else if token % 4 == LINK {
-                if let Some(link) = self.links.get_mut(key as u64) {
-                    if stir_link(&mut link.peer, event, self.now).is_err() {
-                        self.links.remove(key as u64);
+                if let Some(peer) = self.links.stream_mut(key as u64) {
+                    if stir_link(peer, event, self.now).is_err() {
+                        self.links.drop_stream(key as u64);
                         // Where there is no memory for it, it counts as silent.
                         let _ = self.lost.push((key as u64, FailKind::Refused));
                     }
@@ -364,16 +373,23 @@ impl<'a, R: Net> LiveSockets<'a, R> {
     /// Takes a connection that waits. Whether another may wait, and be taken.
     fn take_connection(&mut self) -> bool {
         if !self.clients.may_add() {
+            self.doors.full = self.doors.full.saturating_add(1);
             self.acceptable = false;
             return false;
         }
         match self.accept_one() {
-            Ok(()) => true,
+            Ok(()) => {
+                self.doors.accepted = self.doors.accepted.saturating_add(1);
+                true
+            }
             Err(e) if e.kind() == ErrorKind::ConnectionAborted => true,
             Err(e) if e.kind() == ErrorKind::Interrupted => true,
             Err(e) => {
                 // Where descriptors have run out an idle client gives way, else it is tried again after a pause.
                 let again = wants_descriptors(&e) && self.clients.drop_idle();
+                if !again {
+                    self.doors.count_refused(&e);
+                }
                 self.acceptable = again;
                 again
             }
@@ -428,6 +444,30 @@ impl<'a, R: Net> LiveSockets<'a, R> {
         Some((End::Client(n), FailKind::Closed))
     }
 
+    /// The engine was told that an end is lost: no call on it follows.
+    pub fn note_lost(&mut self, end: End) {
+        match end {
+            End::Listener => {}
+            End::Client(_) => self.asked.lose_client(),
+            End::Link(l) => {
+                if let Some(place) = self.links.remove(l, self.now) {
+                    self.asked.lose_link(l, place);
+                }
+            }
+        }
+    }
+
+    /// A turn was served.
+    pub fn note_turn(&mut self, told: Result<Report, TurnFault>) {
+        self.turns.count(told);
+        if let Ok(report) = told {
+            // All that was due was done.
+            if report.works < MOST_WORKS {
+                self.asked.clear();
+            }
+        }
+    }
+
     /// Whether the time of a link is over.
     pub fn is_over(&self, l: u64) -> bool {
         self.links.is_over(l, self.now, &self.limits)
@@ -442,6 +482,17 @@ impl<'a, R: Net> LiveSockets<'a, R> {
     pub fn is_idle(&self, n: u64) -> bool {
         let limit = self.clients.idle_limit(n, self.is_draining());
         self.clients.may_park(n) && self.clients.is_idle(n, self.now, limit)
+    }
+
+    /// What couldn't be done that was asked, since the start, and how many wait now since no place is free.
+    pub fn troubles(&self) -> Troubles {
+        let is_crowded = self.clients.open_count() >= PLACES;
+        Troubles {
+            full: self.doors.full,
+            no_descriptor: self.doors.no_descriptor,
+            no_link: self.doors.no_link,
+            waiting: if is_crowded { self.clients.crowd() } else { 0 },
+        }
     }
 
     /// How many clients wait for a place that isn't free.
@@ -479,12 +530,18 @@ impl<'a, R: Net> LiveSockets<'a, R> {
         self.clients.slowest_request(reads, self.now)
     }
 
-    /// Drops the stream of an end.
+    /// Drops the stream of an end whose time is over, or who gives way.
     pub fn forget(&mut self, end: End) {
         match end {
             End::Listener => {}
-            End::Client(n) => self.clients.forget(n),
-            End::Link(l) => self.links.remove(l),
+            End::Client(n) => {
+                self.clients.count_forgotten(n, self.now);
+                self.clients.forget(n);
+            }
+            End::Link(l) => {
+                self.links.count_overtime(l, self.now, &self.limits);
+                self.links.drop_stream(l);
+            }
         }
     }
 
@@ -515,8 +572,10 @@ impl<'a, R: Net> LiveSockets<'a, R> {
         if !self.clients.write_to(n, bytes, self.now) {
             return;
         }
-        note_reply(&mut self.log, &mut self.clients, n, self.moment, bytes);
         if !is_interim(bytes) {
+            if self.log.is_some() || self.replies.is_some() {
+                self.note_reply(n, bytes);
+            }
             self.clients.answered(n);
         }
         self.clients.keep_within();
@@ -527,30 +586,31 @@ impl<'a, R: Net> LiveSockets<'a, R> {
         ensures reads { self.new.reads ≡ self.old.reads }
         ensures failures { self.new.failures ≡ self.old.failures }
     {
-        if let Some(link) = self.links.get_mut(l) {
+        if let Some(peer) = self.links.stream_mut(l) {
             // What the origin had said before it broke off can still be read; its end is told then.
-            if link.peer.write(bytes, self.now).is_err() && link.peer.connecting {
-                self.links.remove(l);
-                return self.lose_link(l);
+            if peer.write(bytes, self.now).is_err() && peer.connecting {
+                self.links.drop_stream(l);
+                return self.lose_link(l, FailKind::Refused);
             }
         }
         Ok(())
     }
 
-    /// Keeps until the next turn begins that a link was refused.
-    fn lose_link(&mut self, l: u64) -> Result<(), SocketFailed>
+    /// Keeps until the next turn begins that a link has failed.
+    fn lose_link(&mut self, l: u64, kind: FailKind) -> Result<(), SocketFailed>
         ensures accepts { self.new.accepts ≡ self.old.accepts }
         ensures reads { self.new.reads ≡ self.old.reads }
         ensures failures { self.new.failures ≡ self.old.failures }
     {
-        if self.lost.push((l, FailKind::Refused)).is_ok() {
+        if self.lost.push((l, kind)).is_ok() {
             return Ok(());
         }
+        let _ = self.links.remove(l, self.now);
         Err(SocketFailed)
     }
 
     /// Begins a link. Where no descriptor is left an idle client gives way to it.
-    fn begin(&mut self, l: u64, address: &[u8]) -> io::Result<Link>
+    fn begin(&mut self, l: u64, address: &[u8]) -> io::Result<Peer>
         ensures accepts { self.new.accepts ≡ self.old.accepts }
         ensures reads { self.new.reads ≡ self.old.reads }
         ensures failures { self.new.failures ≡ self.old.failures }
@@ -568,15 +628,40 @@ impl<'a, R: Net> LiveSockets<'a, R> {
         ensures reads { self.new.reads ≡ self.old.reads }
         ensures failures { self.new.failures ≡ self.old.failures }
     {
-        match self.begin(l, address) {
-            Ok(link) => {
-                if self.links.put(link) {
-                    Ok(())
-                } else {
-                    Err(SocketFailed)
-                }
+        let Ok(origin) = self.links.origins.place(address) else {
+            return Err(SocketFailed);
+        };
+        let begun = self.begin(l, address);
+        if let Err(e) = &begun {
+            if wants_descriptors(e) {
+                self.doors.no_link = self.doors.no_link.saturating_add(1);
             }
-            Err(_) => self.lose_link(l),
+        }
+        let peer = begun.ok();
+        let is_lost = peer.is_none();
+        if !self.links.put(Link::new(l, peer, self.now, origin)) {
+            return Err(SocketFailed);
+        }
+        if is_lost {
+            return self.lose_link(l, FailKind::Refused);
+        }
+        Ok(())
+    }
+
+    /// Reads from a link. That it has failed is kept until the next turn begins.
+    fn read_from_link(&mut self, l: u64, buf: &mut [u8]) -> Result<Received, SocketFailed>
+        ensures within { IfOk result (IsReceived (length buf.old)) }
+        ensures length { length buf.new ≡ length buf.old }
+        ensures accepts { self.new.accepts ≡ self.old.accepts }
+        ensures reads { self.new.reads ≡ self.old.reads }
+        ensures failures { self.new.failures ≡ self.old.failures }
+    {
+        match read_link(&mut self.links, l, buf, self.now, &mut self.more) {
+            Ok(received) => Ok(received),
+            Err(_) => match self.lose_link(l, FailKind::Closed) {
+                Ok(()) => Ok(Received::Nothing),
+                Err(failed) => Err(failed),
+            },
         }
     }
 }
@@ -605,7 +690,7 @@ impl<'a, R: Net> Sockets for LiveSockets<'a, R> {
         let received = match end {
             End::Listener => Ok(Received::Nothing),
             End::Client(n) => self.read_client(n, buf),
-            End::Link(l) => read_link(&mut self.links, l, buf, self.now, &mut self.more),
+            End::Link(l) => self.read_from_link(l, buf),
         };
         if self.log.is_some() {
             hear(&mut self.clients, end, &received, buf);
@@ -642,7 +727,7 @@ impl<'a, R: Net> Sockets for LiveSockets<'a, R> {
     fn shut(&mut self, end: End) -> Result<(), SocketFailed> {
         match end {
             End::Client(n) => self.clients.close(n, self.now),
-            End::Link(l) => self.links.remove(l),
+            End::Link(l) => self.asked.shut(self.links.remove(l, self.now)),
             End::Listener => {}
         }
         Ok(())

@@ -2,6 +2,7 @@
 
 use crate::client::Client;
 use crate::clients::Clients;
+use crate::endings::{Cut, Lateness};
 use crate::limits::{HASTE, IDLE, Limits, PATIENCE, QUIET};
 use crate::lines::Line;
 use proxy_turn::End;
@@ -22,6 +23,23 @@ fn is_over(client: &Client, line: Line, limits: &Limits, now: u64, draining: boo
         Line::Partial => client.is_late(now, limits.request_timeout),
         Line::Leaving => quiet > limits.client_timeout.min(PATIENCE),
         Line::Lingering => quiet > QUIET || now.saturating_sub(client.closed) > PATIENCE,
+    }
+}
+
+/// Which time is over of one that stands in a line and had its time; none of one that has nothing more to come.
+fn lateness_of(client: &Client, line: Line, limits: &Limits, now: u64) -> Option<Lateness> {
+    let is_silent = now.saturating_sub(client.peer.heard) > limits.client_timeout;
+    match line {
+        Line::Idle => if is_silent {
+            Some(Lateness::Client)
+        } else {
+            None
+        },
+        Line::Taking => Some(Lateness::Client),
+        Line::Leaving => Some(Lateness::Client),
+        Line::Long => Some(Lateness::Request),
+        Line::Partial => Some(Lateness::Request),
+        _ => None,
     }
 }
 
@@ -54,11 +72,15 @@ impl Clients {
             };
             from = stamp.saturating_add(1);
             let limits = self.limits;
-            let over = match self.stream(key) {
-                Some(client) => is_over(client, line, &limits, now, draining),
-                None => true,
+            let (over, lateness) = match self.stream(key) {
+                Some(client) => (
+                    is_over(client, line, &limits, now, draining),
+                    lateness_of(client, line, &limits, now),
+                ),
+                None => (true, None),
             };
             if over {
+                self.endings.count_if_late(lateness);
                 self.drop_stream(key);
             } else if is_in_order(line, draining) {
                 return;
@@ -78,8 +100,27 @@ impl Clients {
         if self.len() < self.limits.connections {
             return;
         }
-        if let Some(key) = self.lines.first_of(&[Line::Lingering, Line::Idle]) {
+        if let Some(key) = self.lines.first(Line::Lingering) {
             self.drop_stream(key);
+        } else {
+            let _ = self.drop_idle();
+        }
+    }
+
+    /// Counts why the engine is told that a client is gone.
+    pub(crate) fn count_forgotten(&mut self, n: u64, now: u64) {
+        let limits = self.limits;
+        let Some(client) = self.get(n) else {
+            return;
+        };
+        if client.is_late(now, limits.request_timeout) {
+            self.endings.count_lateness(Lateness::Request);
+        } else if client.has_left(now, limits.abandon_timeout, false) {
+            self.endings.count_lateness(Lateness::Abandon);
+        } else if client.peer.is_silent(now, limits.client_timeout) {
+            self.endings.count_lateness(Lateness::Client);
+        } else {
+            self.endings.count_cut(Cut::Place);
         }
     }
 

@@ -36,6 +36,9 @@ pub(crate) struct Peer {
     pub(crate) heard: u64,
     /// Nothing is sent any more, and the peer was told so.
     half_closed: bool,
+    /// Bytes that have come, and that the system has taken.
+    pub(crate) received: u64,
+    pub(crate) written: u64,
 }
 
 /// Writes as many of the bytes as the system takes; answers how many.
@@ -72,6 +75,8 @@ impl Peer {
             sent: 0,
             heard: now,
             half_closed: false,
+            received: 0,
+            written: 0,
         }
     }
 
@@ -152,6 +157,7 @@ impl Peer {
             return self.keep(bytes);
         }
         let n = write_some(&mut self.stream, bytes)?;
+        self.written = self.written.saturating_add(n as u64);
         if n > 0 {
             self.connecting = false;
         }
@@ -191,6 +197,7 @@ impl Peer {
                 Ok(0) => return Ok(()),
                 Ok(n) => {
                     self.heard = now;
+                    self.written = self.written.saturating_add(n as u64);
                     self.sent = self.sent.saturating_add(n);
                     self.move_up();
                 }
@@ -222,6 +229,7 @@ impl Peer {
             }
             Ok(n) => {
                 self.heard = now;
+                self.received = self.received.saturating_add(n as u64);
                 // A short read took all that had come, unless the peer's end stands behind it.
                 self.readable = n == buf.len() || self.hung;
                 Ok(Received::Bytes(n))

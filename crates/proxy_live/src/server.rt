@@ -5,6 +5,7 @@ ghost use Rattle.proxy_engine.specs.State.{Stands, begun};
 ghost use Rattle.proxy_turn.specs.Served.{IsServing, GoesOn, LosesOn, Serves};
 ghost use Rattle.proxy_live.specs.Serving.{Answers};
 
+use crate::doors::Troubles;
 use crate::live_sockets::LiveSockets;
 use crate::recorder::{RecordFault, Recorder};
 use crate::recording::Recording;
@@ -57,7 +58,7 @@ pub struct Turned {
 pub struct Server<'a, S: Shelf + Drop, R: Net, W: Write + Drop> {
     alloc: Global,
     engine: Engine<S>,
-    ends: Recording<LiveSockets<'a, R>, W>,
+    pub(crate) ends: Recording<LiveSockets<'a, R>, W>,
     /// There may be something to do that no event will tell of.
     busy: bool,
     /// Nothing is due from the last turn.
@@ -77,13 +78,13 @@ impl<'a, S: Shelf + Drop, R: Net, W: Write + Drop> Model for Server<'a, S, R, W>
     ghost invariant = { λ s. HasLived s.engine };
 }
 
-/// The moment of a clock, in Unix seconds; 0 before 1970.
-fn moment<C: Clock>(clock: &C) -> Result<u64, ServeFault>
-    ensures { IfOk result (λ now. now < END_OF_TIME) }
+/// The moment of a clock, in Unix seconds, and its milliseconds; 0 before 1970.
+fn moment<C: Clock>(clock: &C) -> Result<(u64, u64), ServeFault>
+    ensures { IfOk result (λ now. now.0 < END_OF_TIME) }
 {
     match clock.since_1970() {
-        Ok(now) => Ok(now.as_secs().min(LATEST)),
-        Err(e) if e.kind() == ErrorKind::InvalidData => Ok(0),
+        Ok(now) => Ok((now.as_secs().min(LATEST), u64::from(now.subsec_millis()))),
+        Err(e) if e.kind() == ErrorKind::InvalidData => Ok((0, 0)),
         Err(_) => Err(ServeFault::Clock),
     }
 }
@@ -128,6 +129,11 @@ impl<'a, S: Shelf + Drop, R: Net, W: Write + Drop> Server<'a, S, R, W> {
     /// Seconds of the clock that never goes back, at the last turn.
     pub fn second(&self) -> u64 {
         self.ends.sockets.second()
+    }
+
+    /// What the server couldn't do that was asked of it, since its start, and how many requests wait now since no place is free.
+    pub fn troubles(&self) -> Troubles {
+        self.ends.sockets.troubles()
     }
 
     /// Whether a record has ended before the limit of a script.
@@ -179,11 +185,11 @@ impl<'a, S: Shelf + Drop, R: Net, W: Write + Drop> Server<'a, S, R, W> {
         let Ok(now) = moment(clock) else {
             return Err(ServeFault::Clock);
         };
-        self.serve_at(elapsed, now)
+        self.serve_at(elapsed, now.0, now.1)
     }
 
-    /// Serves a turn at so many milliseconds of the clock that never goes back, and a moment.
-    fn serve_at(&mut self, elapsed: u64, now: u64) -> Result<Turned, ServeFault>
+    /// Serves a turn at so many milliseconds of the clock that never goes back, and a moment with its milliseconds.
+    fn serve_at(&mut self, elapsed: u64, now: u64, milliseconds: u64) -> Result<Turned, ServeFault>
         requires { now < END_OF_TIME }
         ensures { Answers self.old self.new result }
     {
@@ -195,7 +201,7 @@ impl<'a, S: Shelf + Drop, R: Net, W: Write + Drop> Server<'a, S, R, W> {
             self.sweeping = true;
         }
         let moment = self.ends.begin(now, self.settled).min(LATEST);
-        self.ends.sockets.set_moment(moment);
+        self.ends.sockets.set_moment(moment, now, milliseconds);
         let told = self.turn_at(moment);
         if let Some(fault) = self.ends.fault() {
             return Err(ServeFault::Record(fault));
@@ -224,6 +230,7 @@ impl<'a, S: Shelf + Drop, R: Net, W: Write + Drop> Server<'a, S, R, W> {
     fn look_ahead(&mut self, told: Result<Report, TurnFault>)
         ensures { self.new ≡ self.old }
     {
+        self.ends.sockets.note_turn(told);
         match told {
             Ok(report) => {
                 let freed = report.works > 0 || report.faults > 0;
@@ -253,6 +260,7 @@ impl<'a, S: Shelf + Drop, R: Net, W: Write + Drop> Server<'a, S, R, W> {
         a_turn_is_served_behind_losses();
         if let Some(happening) = loss(end, kind) {
             if self.ends.note_between(happening) {
+                self.ends.sockets.note_lost(end);
                 // It takes no memory, and the end was there.
                 let _ = self.engine.take(self.alloc, happening);
             }

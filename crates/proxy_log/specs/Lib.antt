@@ -1,2 +1,3 @@
 pub mod Cases
 pub mod Line
+pub mod Seconds

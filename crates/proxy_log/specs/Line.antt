@@ -1,9 +1,11 @@
--- The text of a line of the log: seven words with single spaces between them, and an LF. Only the last has spaces of its own.
+-- The text of a line of the log: nine words with single spaces between them, and an LF. Only the reason, which is the last but two,
+-- has spaces of its own.
 --
 -- is_shown, shown_byte, shown_text: bytes as they stand in a line, so that none of them breaks it
 -- word_text: a word, which is never empty
 -- line_text: the line
 use Rattle.std.specs.Prelude.{ℕ, ◌+◌, ◌/◌, ◌%◌, ◌==◌, Bool, true, false, not, ◌&&◌, ◌||◌, nat_lt, if◌then◌else◌, List, [], ◌∷◌, ◌++◌, codes, decimal}
+use Rattle.proxy_log.specs.Seconds.{seconds_text}
 use Rattle.proxy_log.specs.declared.line.Line.{Line}
 
 -- a byte that stands for itself: 21 to 7E (hex) but the backslash, and where blanks may stand the space
@@ -27,8 +29,9 @@ abbrev pub word_text : List ℕ → List ℕ
 word_text [] = codes "-"
 word_text (b ∷ bs) = shown_text false (b ∷ bs)
 
--- moment, client, method, target, status, bytes of content, and what Cache-Status or Refusal says
+-- moment, client, method, target, status, bytes of content, what Cache-Status or Refusal says, how long it took, and the origin
 abbrev pub line_text : Line → List ℕ
 line_text line =
-    decimal line.moment ++ codes " " ++ word_text line.client ++ codes " " ++ word_text line.method ++ codes " " ++ word_text line.target
-    ++ codes " " ++ decimal line.status ++ codes " " ++ decimal line.length ++ codes " " ++ shown_text true line.reason ++ codes "\n"
+    seconds_text line.moment ++ codes " " ++ word_text line.client ++ codes " " ++ word_text line.method ++ codes " " ++ word_text line.target
+    ++ codes " " ++ decimal line.status ++ codes " " ++ decimal line.length ++ codes " " ++ shown_text true line.reason ++ codes " "
+    ++ seconds_text line.took ++ codes " " ++ word_text line.origin ++ codes "\n"

@@ -8,10 +8,12 @@ mod asked;
 mod line;
 mod lines;
 mod request_line;
+mod seconds;
 mod told;
 pub mod worked_cases;
 
 pub use crate::asked::{Asked, Question};
 pub use crate::line::{Line, line_text};
 pub use crate::lines::Lines;
+pub use crate::seconds::push_seconds;
 pub use crate::told::{Told, told_by};

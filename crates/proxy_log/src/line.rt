@@ -1,7 +1,9 @@
 //! A line of the log, and its text.
 ghost use Rattle.std.specs.Prelude.{◌≡◌, ◌<◌, ◌++◌, codes, decimal, false, IfOk, OnOk};
 ghost use Rattle.proxy_log.specs.Line.{is_shown, hex_digit, shown_byte, shown_text, word_text, line_text};
+ghost use Rattle.proxy_log.specs.Seconds.{seconds_text};
 
+use crate::seconds::push_seconds;
 use hx_fields::Bytes;
 use itoa::Buffer;
 use std::alloc::{AllocError, Global};
@@ -9,7 +11,7 @@ use std::alloc::{AllocError, Global};
 /// What a line says of a reply.
 #[derive(Drop)]
 pub struct Line {
-    /// When it was written, in Unix seconds.
+    /// When it was written, in milliseconds since 1970.
     pub moment: u64,
     /// The client's address and port.
     pub client: Bytes,
@@ -22,6 +24,10 @@ pub struct Line {
     pub length: u64,
     /// What the proxy's member of Cache-Status says behind the proxy's name, or the text of Refusal.
     pub reason: Bytes,
+    /// From the request's first byte to the reply, in milliseconds.
+    pub took: u64,
+    /// The address of the origin that was asked; empty where none was.
+    pub origin: Bytes,
 }
 
 /// Whether a byte stands for itself in a line.
@@ -67,6 +73,13 @@ fn push_word(text: &mut Vec<u8>, bytes: &[u8]) -> Result<(), AllocError>
     text.extend_from_slice(b" ")
 }
 
+fn push_time(text: &mut Vec<u8>, milliseconds: u64) -> Result<(), AllocError>
+    ensures { OnOk result (text.new.items ≡ text.old.items ++ (seconds_text milliseconds ++ codes " ")) }
+{
+    push_seconds(text, milliseconds)?;
+    text.extend_from_slice(b" ")
+}
+
 fn push_number(text: &mut Vec<u8>, n: u64) -> Result<(), AllocError>
     ensures { OnOk result (text.new.items ≡ text.old.items ++ (decimal n ++ codes " ")) }
 {
@@ -75,18 +88,31 @@ fn push_number(text: &mut Vec<u8>, n: u64) -> Result<(), AllocError>
     text.extend_from_slice(b" ")
 }
 
+/// The last word, and the end of the line.
+fn push_last(text: &mut Vec<u8>, bytes: &[u8]) -> Result<(), AllocError>
+    ensures { OnOk result (text.new.items ≡ text.old.items ++ (word_text bytes.now ++ codes "\n")) }
+{
+    if bytes.is_empty() {
+        return text.extend_from_slice(b"-\n");
+    }
+    push_shown(text, false, bytes)?;
+    text.extend_from_slice(b"\n")
+}
+
 /// The text of a line, with its LF. Its only error is want of memory.
 pub fn line_text(alloc: Global, line: &Line) -> Result<Bytes, AllocError>
     ensures { IfOk result (λ text. text ≡ line_text line.now) }
 {
     let mut text = Vec::new(alloc);
-    push_number(&mut text, line.moment)?;
+    push_time(&mut text, line.moment)?;
     push_word(&mut text, line.client.as_slice())?;
     push_word(&mut text, line.method.as_slice())?;
     push_word(&mut text, line.target.as_slice())?;
     push_number(&mut text, u64::from(line.status))?;
     push_number(&mut text, line.length)?;
     push_shown(&mut text, true, line.reason.as_slice())?;
-    text.extend_from_slice(b"\n")?;
+    text.extend_from_slice(b" ")?;
+    push_time(&mut text, line.took)?;
+    push_last(&mut text, line.origin.as_slice())?;
     Ok(Bytes::from_vec(text))
 }

@@ -11,6 +11,7 @@ const MOST_KEPT: usize = 65_536;
 pub struct Lines {
     alloc: Global,
     text: Vec<u8>,
+    added: u64,
     lost: u64,
 }
 
@@ -19,6 +20,7 @@ impl Lines {
         Lines {
             alloc,
             text: Vec::new(alloc),
+            added: 0,
             lost: 0,
         }
     }
@@ -29,7 +31,9 @@ impl Lines {
             Ok(text) => self.text.extend_from_slice(text.as_slice()).is_ok(),
             Err(_) => false,
         };
-        if !added {
+        if added {
+            self.added = self.added.saturating_add(1);
+        } else {
             self.lose();
         }
     }
@@ -37,6 +41,11 @@ impl Lines {
     /// Counts a line that is lost.
     pub fn lose(&mut self) {
         self.lost = self.lost.saturating_add(1);
+    }
+
+    /// How many lines were added.
+    pub fn added(&self) -> u64 {
+        self.added
     }
 
     /// How many lines were lost for want of memory.

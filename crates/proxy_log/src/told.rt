@@ -1,5 +1,6 @@
 //! What a reply says of itself, read from its bytes.
 
+use memchr::{memchr, memmem};
 use std::str;
 
 /// The status of a reply, the bytes of its content, and its reason.
@@ -11,23 +12,9 @@ pub struct Told<'a> {
     pub reason: &'a [u8],
 }
 
-/// The line in front of the first CR LF, and what stands behind it.
-fn first_line(text: &[u8]) -> Option<(&[u8], &[u8])> {
-    for i in 1..text.len() {
-        if text[i] == b'\n' && text[i - 1] == b'\r' {
-            return Some((&text[..i - 1], &text[i + 1..]));
-        }
-    }
-    None
-}
-
-/// The value of a line of a name, as the proxy writes it.
-fn value_of<'a>(line: &'a [u8], name: &[u8]) -> Option<&'a [u8]> {
-    if line.starts_with(name) {
-        line.get(name.len()..)
-    } else {
-        None
-    }
+/// What stands behind the first LF.
+fn behind_line(text: &[u8]) -> Option<&[u8]> {
+    text.get(memchr(b'\n', text)?.saturating_add(1)..)
 }
 
 /// The three digits of a status line.
@@ -40,44 +27,65 @@ fn status_of(line: &[u8]) -> Option<u16> {
 
 /// A member of Cache-Status without the name in front.
 fn behind_name(member: &[u8]) -> &[u8] {
-    for i in 0..member.len() {
-        if member[i] == b';' {
-            return &member[i + 1..];
-        }
+    match memchr(b';', member) {
+        Some(at) => member.get(at.saturating_add(1)..).unwrap_or(member),
+        None => member,
     }
-    member
 }
 
-/// What a reply says of itself. An interim response says nothing: it is no reply.
+/// What stands behind the first line of a name, `name` being an LF, the name and its colon.
+fn behind_name_line<'a>(text: &'a [u8], name: &[u8]) -> Option<&'a [u8]> {
+    text.get(memmem::find(text, name)?.saturating_add(name.len())..)
+}
+
+/// Whether a line is one that the writer puts behind the proxy's own, or the empty one behind all.
+fn is_last(line: &[u8]) -> bool {
+    line.starts_with(b"\r\n")
+        || line.starts_with(b"Content-Length: ")
+        || line.starts_with(b"Connection: close\r\n")
+}
+
+/// The value of the proxy's own line of a name, and what stands behind that line. The lines of others with the name stand in front.
+fn own_line<'a>(reply: &'a [u8], name: &[u8]) -> Option<(&'a [u8], &'a [u8])> {
+    let mut from = reply;
+    for _line in 0..reply.len() {
+        let value = behind_name_line(from, name)?;
+        let behind = behind_line(value)?;
+        if is_last(behind) {
+            // Its CR and LF aren't of the value.
+            let end = value.len().saturating_sub(behind.len()).saturating_sub(2);
+            return Some((value.get(..end)?, behind));
+        }
+        from = value;
+    }
+    None
+}
+
+/// The content, behind the empty line that ends the last lines of a head.
+fn content_behind(lines: &[u8]) -> Option<&[u8]> {
+    let mut rest = lines;
+    for _line in 0..lines.len() {
+        if let Some(content) = rest.strip_prefix(b"\r\n".as_slice()) {
+            return Some(content);
+        }
+        rest = behind_line(rest)?;
+    }
+    None
+}
+
+/// What a reply says of itself, as the proxy writes it. An interim response says nothing: it is no reply.
 pub fn told_by(reply: &[u8]) -> Option<Told<'_>> {
-    let (line, rest) = first_line(reply)?;
-    let status = status_of(line)?;
+    let status = status_of(reply)?;
     if status < 200 {
         return None;
     }
-    let mut rest = rest;
-    let mut refusal: &[u8] = b"";
-    let mut member: Option<&[u8]> = None;
-    for _line in 0..reply.len() {
-        let (line, behind) = first_line(rest)?;
-        rest = behind;
-        if line.is_empty() {
-            let reason = match member {
-                Some(member) => behind_name(member),
-                None => refusal,
-            };
-            return Some(Told {
-                status,
-                length: rest.len() as u64,
-                reason,
-            });
-        }
-        // The proxy's own line stands behind those of others.
-        if let Some(value) = value_of(line, b"Cache-Status: ") {
-            member = Some(value);
-        } else if let Some(value) = value_of(line, b"Refusal: ") {
-            refusal = value;
-        }
-    }
-    None
+    let (reason, rest) = match own_line(reply, b"\nCache-Status: ") {
+        Some((member, rest)) => (behind_name(member), rest),
+        None => own_line(reply, b"\nRefusal: ")?,
+    };
+    Some(Told {
+        status,
+        length: content_behind(rest)?.len() as u64,
+        reason,
+    })
 }

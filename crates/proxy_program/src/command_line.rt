@@ -1,5 +1,6 @@
 //! The three forms of the command line.
 
+use crate::fault::Fault;
 use clap::builder::ValueParser;
 use clap::{Arg, ArgAction, ArgMatches, Command, Error};
 use proxy_live::Limits;
@@ -7,7 +8,7 @@ use std::alloc::Global;
 use std::net::SocketAddr;
 
 /// The program's version.
-const VERSION: &str = "0.1.0";
+pub(crate) const VERSION: &str = "0.2.0";
 
 /// The most seconds of a time-out that can be asked for: a day.
 const LONGEST: u64 = 86_400;
@@ -35,6 +36,8 @@ pub(crate) struct Service<'a> {
     pub(crate) record: Option<&'a str>,
     /// The file to which a line about each reply is added; a dash is standard output.
     pub(crate) log: Option<&'a str>,
+    /// The file that has the figures.
+    pub(crate) stats: Option<&'a str>,
 }
 
 /// What the words ask for.
@@ -84,6 +87,27 @@ fn check<'a>(alloc: Global) -> Result<Command<'a>, Error> {
     Ok(command)
 }
 
+/// What stands behind the options of a command, and of the program.
+const STATUSES: &str = "Exit statuses:
+  0   done
+  1   a script, a file, an address, the clock or memory is at fault
+  2   the table is at fault
+  64  the command line is at fault
+
+A line on standard error names a fault; what it was about, and what to do, stands on standard output.";
+
+const SERVE_HELP: &str = "Example:
+  revcache serve /etc/revcache/table.toml --listen 127.0.0.1:8080 --log /var/log/revcache/access.log
+
+Exit statuses:
+  0   it was drained, or its turns are over
+  1   a file, an address, the clock or memory is at fault
+  2   the table is at fault
+  64  the command line is at fault
+
+A line on standard error names a fault; what it was about, and what to do, stands on standard output, unless the log
+is there. Seconds are whole ones, 1 to 86400.";
+
 /// What is served, and how much of it.
 fn served<'a>(alloc: Global) -> Result<Command<'a>, Error> {
     let listen = option(
@@ -118,17 +142,21 @@ fn served<'a>(alloc: Global) -> Result<Command<'a>, Error> {
     .value_parser(ValueParser::unsigned(1, MOST_UNSENT));
     let command = command(alloc, "serve")
         .about("Serves clients by a table, until it is stopped")
+        .after_help(SERVE_HELP)
         .arg(word(alloc, "table", "the table"))?
         .arg(listen)?
-        .arg(turns)?
+        .next_help_heading("Bounds")
         .arg(connections)?
-        .arg(unsent)?;
+        .arg(unsent)?
+        .next_help_heading("For tests")
+        .arg(turns)?;
     Ok(command)
 }
 
 /// How long clients may take.
 fn with_client_times<'a>(alloc: Global, command: Command<'a>) -> Result<Command<'a>, Error> {
     let command = command
+        .next_help_heading("Times of clients")
         .arg(seconds(
             alloc,
             "client-timeout",
@@ -153,6 +181,7 @@ fn with_client_times<'a>(alloc: Global, command: Command<'a>) -> Result<Command<
 /// How long origins may take.
 fn with_origin_times<'a>(alloc: Global, command: Command<'a>) -> Result<Command<'a>, Error> {
     let command = command
+        .next_help_heading("Times of origins")
         .arg(seconds(
             alloc,
             "connect-timeout",
@@ -177,6 +206,7 @@ fn with_origin_times<'a>(alloc: Global, command: Command<'a>) -> Result<Command<
 /// The files that a server looks for or writes.
 fn with_files<'a>(alloc: Global, command: Command<'a>) -> Result<Command<'a>, Error> {
     let command = command
+        .next_help_heading("Files")
         .arg(option(
             alloc,
             "drain",
@@ -195,6 +225,12 @@ fn with_files<'a>(alloc: Global, command: Command<'a>) -> Result<Command<'a>, Er
             "log",
             "FILE",
             "adds a line about each reply to a file; - is standard output",
+        ))?
+        .arg(option(
+            alloc,
+            "stats",
+            "FILE",
+            "writes figures once a second, in Prometheus' text format",
         ))?;
     Ok(command)
 }
@@ -211,6 +247,7 @@ fn program<'a>(alloc: Global) -> Result<Command<'a>, Error> {
         .about(
             "A caching reverse proxy for HTTP/1.1; without a command, replays the script on standard input",
         )
+        .after_help(STATUSES)
         .subcommand(check(alloc)?)?
         .subcommand(serve(alloc)?)?;
     Ok(command)
@@ -243,25 +280,51 @@ fn limits_of(matches: &ArgMatches<'_>) -> Option<Limits> {
     })
 }
 
-fn service_of<'a>(matches: &ArgMatches<'a>) -> Option<Service<'a>> {
+fn service_of<'a>(matches: &ArgMatches<'a>, listen: SocketAddr) -> Option<Service<'a>> {
     Some(Service {
         table: matches.get_str("table")?,
-        listen: address_of(matches.get_str("listen")?)?,
+        listen,
         turns: matches.get_one::<u32>("turns"),
         limits: limits_of(matches)?,
         drain: matches.get_str("drain"),
         drain_timeout: matches.get_one::<u64>("drain-timeout")?,
         record: matches.get_str("record"),
         log: matches.get_str("log"),
+        stats: matches.get_str("stats"),
     })
 }
 
-/// What the words ask for, if they are one of the forms.
-pub(crate) fn form_of<'a>(matches: &ArgMatches<'a>) -> Option<Form<'a>> {
+/// That a text is no address to listen on.
+fn no_address(alloc: Global, text: &str) -> Fault {
+    let words = format!(in alloc;
+        "error: invalid value '{text}' for '--listen <ADDRESS>': an IPv4 address and a port, as in 127.0.0.1:8080"
+    );
+    Fault::Usage(words.ok())
+}
+
+/// The service that is asked for.
+fn serve_of<'a>(alloc: Global, matches: &ArgMatches<'a>) -> Result<Form<'a>, Fault> {
+    let Some(text) = matches.get_str("listen") else {
+        return Err(Fault::Usage(None));
+    };
+    let Some(listen) = address_of(text) else {
+        return Err(no_address(alloc, text));
+    };
+    match service_of(matches, listen) {
+        Some(service) => Ok(Form::Serve(service)),
+        None => Err(Fault::Usage(None)),
+    }
+}
+
+/// What the words ask for.
+pub(crate) fn form_of<'a>(alloc: Global, matches: &ArgMatches<'a>) -> Result<Form<'a>, Fault> {
     match matches.subcommand() {
-        None => Some(Form::Replay),
-        Some(("check", inner)) => Some(Form::Check(inner.get_str("table")?)),
-        Some((_, inner)) => Some(Form::Serve(service_of(inner)?)),
+        None => Ok(Form::Replay),
+        Some(("check", inner)) => match inner.get_str("table") {
+            Some(path) => Ok(Form::Check(path)),
+            None => Err(Fault::Usage(None)),
+        },
+        Some((_, inner)) => serve_of(alloc, inner),
     }
 }
 

@@ -1,32 +1,41 @@
-//! The line that names a fault on standard error, and the program's exit status.
+//! The line that names a fault on standard error, what is said of it besides, and the program's exit status.
 
 use hx_allow::ConfigFault;
 use proxy_live::{RecordFault, ServeFault};
 use proxy_server::ReplayFault;
-use std::alloc::AllocError;
+use std::alloc::{AllocError, Global};
 use std::fmt::Formatter;
 use std::io::ErrorKind;
 use std::{fmt, io};
 
-/// Why the program ends early.
+/// Why the program ends early. Most have words for what it was about; none where there was no memory for them.
 #[derive(Drop)]
 pub(crate) enum Fault {
     /// The command line is none of the program's.
-    Usage,
+    Usage(Option<String>),
     /// The operator's table is at fault.
     Table(ReplayFault),
     /// A file or a clock can't be read.
-    Read,
+    Read(Option<String>),
     /// A file or standard output can't be written.
-    Write,
-    /// The file that a record was to begin is there already.
-    RecordExists,
-    /// The address can't be listened on, or the system can't tell what is ready.
-    Socket,
-    /// No number of a link is left.
-    Spent,
+    Write(Option<String>),
+    /// The address can't be listened on.
+    Socket(Option<String>),
+    /// A server can't go on.
+    Serving(ServeFault),
     /// Memory ran out.
     NoMemory,
+}
+
+/// What a call of the system that failed is about: a thing, its name, and what can't be done with it.
+pub(crate) fn words_of(
+    alloc: Global,
+    front: &str,
+    name: &str,
+    behind: &str,
+    error: &io::Error,
+) -> Option<String> {
+    format!(in alloc; "{front}{name}{behind}: {error}").ok()
 }
 
 /// What a call of the system that failed is told as: want of memory for what it is, else as this fault.
@@ -52,38 +61,45 @@ impl From<AllocError> for Fault {
 
 impl From<RecordFault> for Fault {
     fn from(fault: RecordFault) -> Fault {
-        match fault {
-            RecordFault::Write => Fault::Write,
-            RecordFault::NoMemory => Fault::NoMemory,
-        }
+        Fault::Serving(ServeFault::Record(fault))
     }
 }
 
 impl From<ServeFault> for Fault {
     fn from(fault: ServeFault) -> Fault {
-        match fault {
-            ServeFault::Socket => Fault::Socket,
-            ServeFault::Clock => Fault::Read,
-            ServeFault::Record(fault) => Fault::from(fault),
-            ServeFault::Spent => Fault::Spent,
-        }
+        Fault::Serving(fault)
+    }
+}
+
+fn serving_text(fault: ServeFault) -> &'static str {
+    match fault {
+        ServeFault::Socket => "socket fault",
+        ServeFault::Clock => "read fault",
+        ServeFault::Record(RecordFault::Write) => "write fault",
+        ServeFault::Record(RecordFault::NoMemory) => "no memory",
+        ServeFault::Spent => "engine fault 4",
     }
 }
 
 impl fmt::Display for Fault {
     fn fmt<W: fmt::Write>(&self, f: &mut Formatter<W>) -> fmt::Result {
         match self {
-            Fault::Usage => f.write_str("usage fault"),
+            Fault::Usage(_) => f.write_str("usage fault"),
             Fault::Table(fault) => write!(f, "{fault}"),
-            Fault::Read => f.write_str("read fault"),
-            Fault::Write => f.write_str("write fault"),
-            Fault::RecordExists => f.write_str(
-                "write fault: the file of the record is there already; take another name, or %s in it for the moment of the start",
-            ),
-            Fault::Socket => f.write_str("socket fault"),
-            Fault::Spent => f.write_str("engine fault 4"),
+            Fault::Read(_) => f.write_str("read fault"),
+            Fault::Write(_) => f.write_str("write fault"),
+            Fault::Socket(_) => f.write_str("socket fault"),
+            Fault::Serving(fault) => f.write_str(serving_text(*fault)),
             Fault::NoMemory => f.write_str("no memory"),
         }
+    }
+}
+
+/// Prints words, where there are some.
+fn print_words<R: Print>(rt: &R, words: &Option<String>) -> io::Result<()> {
+    match words {
+        Some(words) => println!(rt; "{}", words.as_str().trim_end()),
+        None => Ok(()),
     }
 }
 
@@ -91,9 +107,27 @@ impl Fault {
     /// The program's exit status: 64 for the command line, 2 where the table is at fault, else 1.
     pub(crate) fn exit_status(&self) -> u8 {
         match self {
-            Fault::Usage => 64,
+            Fault::Usage(_) => 64,
             Fault::Table(fault) => fault.exit_status(),
             _ => 1,
+        }
+    }
+
+    /// Says on standard output what it was about, and what to do.
+    pub(crate) fn explain<R: Print>(&self, rt: &R) -> io::Result<()> {
+        match self {
+            Fault::Usage(words) => print_words(rt, words),
+            Fault::Table(ReplayFault::Config(fault)) => println!(rt; "{fault}"),
+            Fault::Table(_) => Ok(()),
+            Fault::Read(words) => print_words(rt, words),
+            Fault::Write(words) => print_words(rt, words),
+            Fault::Socket(words) => print_words(rt, words),
+            Fault::Serving(fault) => println!(rt; "{fault}"),
+            Fault::NoMemory => {
+                println!(rt;
+                    "memory was refused; give the process more, or lower capacity, max_body or max_stored"
+                )
+            }
         }
     }
 }

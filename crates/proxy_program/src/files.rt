@@ -1,6 +1,6 @@
 //! The operator's table, from its file.
 
-use crate::fault::{Fault, fault_of};
+use crate::fault::{Fault, fault_of, words_of};
 use hx_allow::MOST_TABLE_BYTES;
 use std::io::Read;
 use std::rt::Files;
@@ -19,6 +19,9 @@ fn read_some<R: Files + AllocGlobal>(rt: &R, path: &str) -> io::Result<Vec<u8>> 
 pub(crate) fn read_table<R: Files + AllocGlobal>(rt: &R, path: &str) -> Result<Vec<u8>, Fault> {
     match read_some(rt, path) {
         Ok(text) => Ok(text),
-        Err(e) => Err(fault_of(&e, Fault::Read)),
+        Err(e) => {
+            let words = words_of(rt.alloc(), "the table ", path, " can't be read", &e);
+            Err(fault_of(&e, Fault::Read(words)))
+        }
     }
 }

@@ -7,10 +7,13 @@ mod clock_watch;
 mod command_line;
 mod descriptors;
 mod fault;
+mod figures;
 mod files;
 mod journal;
 mod program;
 mod serving;
+mod stats_file;
+mod warnings;
 mod watch;
 
 pub use crate::program::run;

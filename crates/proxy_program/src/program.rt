@@ -1,6 +1,6 @@
 //! What the command line asks for, done.
 
-use crate::command_line::{Form, form_of, read};
+use crate::command_line::{Form, Service, form_of, read};
 use crate::fault::{Fault, fault_of};
 use crate::files::read_table;
 use crate::serving::serve;
@@ -8,43 +8,82 @@ use clap::Error;
 use clap::error::ErrorKind;
 use hx_allow::Config;
 use std::env;
+use std::io::IsTerminal;
 use std::net::Net;
 use std::process::ExitCode;
 use std::random::RandomSource;
 use std::rt::{Clock, Env, Files};
 
-/// Checks a table, and tells how many lines it has, or in words what may stand where it is at fault.
+/// Checks a table, and tells how many lines it has.
 fn check<R: Files + Print + AllocGlobal>(rt: &R, path: &str) -> Result<(), Fault> {
     let table = read_table(rt, path)?;
     match Config::read(rt.alloc(), table.as_slice()) {
         Ok(config) => match println!(rt; "ok {} lines", config.lines()) {
             Ok(()) => Ok(()),
-            Err(_) => Err(Fault::Write),
+            Err(_) => Err(Fault::Write(None)),
         },
-        Err(fault) => {
-            // The line on standard error names the fault all the same.
-            let _ = println!(rt; "{fault}");
-            Err(Fault::from(fault))
-        }
+        Err(fault) => Err(Fault::from(fault)),
     }
 }
 
 /// What the words ask for in place of a form: help or the version, which the library prints; else they are at fault.
-fn explain<R: Print + Eprint>(rt: &R, error: &Error) -> Result<(), Fault> {
+fn explain<R: Print + Eprint + AllocGlobal>(rt: &R, error: &Error) -> Result<(), Fault> {
     match error.kind() {
         ErrorKind::DisplayHelp | ErrorKind::DisplayVersion => match error.print(rt) {
             Ok(()) => Ok(()),
-            Err(_) => Err(Fault::Write),
+            Err(_) => Err(Fault::Write(None)),
         },
         ErrorKind::OutOfMemory => Err(Fault::NoMemory),
-        _ => Err(Fault::Usage),
+        _ => Err(Fault::Usage(format!(in rt.alloc(); "{error}").ok())),
+    }
+}
+
+/// Tells who sits at a terminal what is waited for.
+fn tell_what_is_awaited<R: Input + Eprint>(rt: &R)
+where
+    <R as Input>::Reader: IsTerminal,
+{
+    if rt.reader().is_terminal() {
+        let _ = eprintln!(rt;
+            "a script is read from here, to its end (Ctrl-D); revcache --help shows what else there is"
+        );
+    }
+}
+
+/// Why the program ends early, and whether its standard output is kept for the log.
+#[derive(Drop)]
+struct Ended {
+    fault: Fault,
+    is_quiet: bool,
+}
+
+impl From<Fault> for Ended {
+    fn from(fault: Fault) -> Ended {
+        Ended {
+            fault,
+            is_quiet: false,
+        }
+    }
+}
+
+fn served<R>(rt: &R, service: &Service<'_>) -> Result<(), Ended>
+where
+    R: Files + Print + Eprint + AllocGlobal + Net + Clock + RandomSource,
+{
+    match serve(rt, service) {
+        Ok(()) => Ok(()),
+        Err(fault) => Err(Ended {
+            fault,
+            is_quiet: service.log == Some("-"),
+        }),
     }
 }
 
 /// Does what the words ask for; a replay tells its own exit status.
-fn done<R>(rt: &R, words: &[String]) -> Result<ExitCode, Fault>
+fn done<R>(rt: &R, words: &[String]) -> Result<ExitCode, Ended>
 where
     R: Files + Env + Input + Print + Eprint + AllocGlobal + Net + Clock + RandomSource,
+    <R as Input>::Reader: IsTerminal,
 {
     let matches = match read(rt.alloc(), words) {
         Ok(matches) => matches,
@@ -53,11 +92,13 @@ where
             return Ok(ExitCode::SUCCESS);
         }
     };
-    match form_of(&matches) {
-        Some(Form::Replay) => return Ok(proxy_server::program::run(rt)),
-        Some(Form::Check(path)) => check(rt, path)?,
-        Some(Form::Serve(service)) => serve(rt, &service)?,
-        None => return Err(Fault::Usage),
+    match form_of(rt.alloc(), &matches)? {
+        Form::Replay => {
+            tell_what_is_awaited(rt);
+            return Ok(proxy_server::program::run(rt));
+        }
+        Form::Check(path) => check(rt, path)?,
+        Form::Serve(service) => served(rt, &service)?,
     }
     Ok(ExitCode::SUCCESS)
 }
@@ -66,13 +107,14 @@ where
 fn words<R: Env + AllocGlobal>(rt: &R) -> Result<Vec<String>, Fault> {
     match env::args(rt) {
         Ok(args) => Ok(args.collect(rt.alloc())?),
-        Err(e) => Err(fault_of(&e, Fault::Usage)),
+        Err(e) => Err(fault_of(&e, Fault::Usage(None))),
     }
 }
 
-fn run_or_fail<R>(rt: &R) -> Result<ExitCode, Fault>
+fn run_or_fail<R>(rt: &R) -> Result<ExitCode, Ended>
 where
     R: Files + Env + Input + Print + Eprint + AllocGlobal + Net + Clock + RandomSource,
+    <R as Input>::Reader: IsTerminal,
 {
     let words = words(rt)?;
     done(rt, words.as_slice())
@@ -82,13 +124,17 @@ where
 pub fn run<R>(rt: &R) -> ExitCode
 where
     R: Files + Env + Input + Print + Eprint + AllocGlobal + Net + Clock + RandomSource,
+    <R as Input>::Reader: IsTerminal,
 {
     match run_or_fail(rt) {
         Ok(status) => status,
-        Err(fault) => {
-            // Where standard error fails too there is nobody left to tell.
+        Err(Ended { fault, is_quiet }) => {
+            // Where standard output or standard error fails too there is nobody left to tell.
             let status = fault.exit_status();
             let _ = eprintln!(rt; "{fault}");
+            if !is_quiet {
+                let _ = fault.explain(rt);
+            }
             ExitCode::from(status)
         }
     }

@@ -3,18 +3,21 @@
 use crate::clock_watch::ClockWatch;
 use crate::command_line::Service;
 use crate::descriptors::{allowed, wanted};
-use crate::fault::{Fault, fault_of};
+use crate::fault::{Fault, fault_of, words_of};
+use crate::figures::Figures;
 use crate::files::read_table;
 use crate::journal::{Journal, Target, log_file};
+use crate::stats_file::StatsFile;
+use crate::warnings::Warnings;
 use crate::watch::{Goes, Watch};
 use hx_allow::Config;
 use hx_store::{IndexedShelf, Shelf};
-use proxy_live::{Limits, LiveSockets, Recorder, Server};
+use proxy_live::{Limits, LiveSockets, Recorder, ServeFault, Server};
 use std::fs::OpenOptions;
 use std::hash::{BuildHasher, Hasher, RandomState};
 use std::io;
 use std::io::{ErrorKind, Write};
-use std::net::Net;
+use std::net::{Net, SocketAddr};
 use std::os::unix::fs::OpenOptionsExt;
 use std::random::RandomSource;
 use std::rt::{Clock, Files};
@@ -25,7 +28,7 @@ fn record_name<R: Clock + AllocGlobal>(rt: &R, path: &str) -> Result<String, Fau
         return Ok(String::from_str(rt.alloc(), path)?);
     };
     let Ok(now) = rt.since_1970() else {
-        return Err(Fault::Read);
+        return Err(Fault::from(ServeFault::Clock));
     };
     let seconds = now.as_secs();
     Ok(format!(in rt.alloc(); "{front}{seconds}{back}")?)
@@ -46,19 +49,24 @@ fn record_of<R: Files + Clock + AllocGlobal>(
     how.write(true).create_new(true).mode(0o600);
     match how.open(rt, name.as_str()) {
         Ok(file) => Ok(Some(Recorder::begin(rt.alloc(), file, table)?)),
-        Err(e) if e.kind() == ErrorKind::AlreadyExists => Err(Fault::RecordExists),
-        Err(e) => Err(fault_of(&e, Fault::Write)),
+        Err(e) => Err(record_fault(rt, name.as_str(), &e)),
     }
 }
 
+/// Why a record can't be begun.
+fn record_fault<R: AllocGlobal>(rt: &R, name: &str, error: &io::Error) -> Fault {
+    let hint = if error.kind() == ErrorKind::AlreadyExists {
+        " is never written over: take another name, or %s in it for the moment of the start"
+    } else {
+        " can't be begun"
+    };
+    let words = words_of(rt.alloc(), "the record ", name, hint, error);
+    fault_of(error, Fault::Write(words))
+}
+
 /// Tells on which address it listens, and where fewer descriptors are allowed than may be wanted.
-fn announce<R: Net + Files + Eprint + AllocGlobal>(
-    rt: &R,
-    sockets: &LiveSockets<'_, R>,
-    limits: &Limits,
-) {
+fn announce<R: Files + Eprint + AllocGlobal>(rt: &R, address: SocketAddr, limits: &Limits) {
     // Where standard error fails there is nobody left to tell.
-    let address = sockets.address();
     let _ = eprintln!(rt; "listening on {address}");
     let wants = wanted(limits.connections as u64);
     if let Some(allows) = allowed(rt) {
@@ -78,17 +86,22 @@ fn warn_of_clock<R: Eprint>(rt: &R, seconds: u64) {
 }
 
 /// Serves as many turns as are asked for, or until it is to end. Lines about replies are written behind each turn.
-fn serve_turns<'a, R: Net + Clock + Files + Eprint, S: Shelf + Drop, P: Write + Drop>(
+fn serve_turns<'a, R, S: Shelf + Drop, P: Write + Drop>(
     rt: &R,
     turns: u64,
     watch: Watch<'_>,
     server: &mut Server<'a, S, R, R::File>,
     journal: &mut Option<Journal<R::File, P>>,
-) -> Result<(), Fault> {
+    figures: &mut Option<Figures<'_>>,
+) -> Result<(), Fault>
+where
+    R: Net + Clock + Files + Eprint + AllocGlobal,
+{
     let mut watch = watch;
     let mut told = false;
     let mut log_told = false;
     let mut clock = ClockWatch::new();
+    let mut warnings = Warnings::new();
     for _ in 0..turns {
         // What a turn that ended early left undone is done in the next one.
         let turned = server.serve_turn(rt)?;
@@ -99,10 +112,15 @@ fn serve_turns<'a, R: Net + Clock + Files + Eprint, S: Shelf + Drop, P: Write + 
             told = true;
             let _ = eprintln!(rt; "record ended");
         }
-        if write_log(server, journal) > 0 && !log_told {
+        let lost = write_log(server, journal);
+        if lost > 0 && !log_told {
             log_told = true;
             let _ = eprintln!(rt; "log fault");
         }
+        if let Some(figures) = figures {
+            figures.follow(rt, server, lost);
+        }
+        warnings.look(rt, server);
         match watch.look(rt, server, journal) {
             Goes::On => {}
             Goes::Draining => {
@@ -132,7 +150,7 @@ fn write_log<'a, S: Shelf + Drop, R: Net, F: Write + Drop, P: Write + Drop>(
 }
 
 /// Where the lines of a log go, if one is kept.
-fn journal_of<R: Files, P: Write + Drop>(
+fn journal_of<R: Files + AllocGlobal, P: Write + Drop>(
     rt: &R,
     path: Option<&str>,
     print: P,
@@ -142,17 +160,55 @@ fn journal_of<R: Files, P: Write + Drop>(
         Some("-") => Ok(Some(Journal::new(Target::Print(print)))),
         Some(path) => match log_file(rt, path) {
             Ok(file) => Ok(Some(Journal::new(Target::File(file)))),
-            Err(e) => Err(fault_of(&e, Fault::Write)),
+            Err(e) => {
+                let words = words_of(rt.alloc(), "the log ", path, " can't be opened", &e);
+                Err(fault_of(&e, Fault::Write(words)))
+            }
         },
     }
 }
 
+/// Where the figures go, if they are asked for, and that they are counted.
+fn figures_of<'a, 'n, R: Net + Clock + AllocGlobal>(
+    rt: &R,
+    path: Option<&'a str>,
+    config: &Config,
+    sockets: &mut LiveSockets<'n, R>,
+) -> Result<Option<Figures<'a>>, Fault> {
+    let Some(path) = path else {
+        return Ok(None);
+    };
+    let Ok(now) = rt.since_1970() else {
+        return Err(Fault::from(ServeFault::Clock));
+    };
+    sockets.keep_counts(config)?;
+    let whole = now.as_secs().saturating_mul(1000);
+    let began = whole.saturating_add(u64::from(now.subsec_millis()));
+    let file = StatsFile::new(rt, path)?;
+    Ok(Some(Figures::new(file, began, config.capacity() as u64)))
+}
+
 /// A number that nobody can foresee, for what tells variants apart before they are looked at.
-fn seed_of<R: RandomSource>(rt: &R) -> Result<u64, Fault> {
+fn seed_of<R: RandomSource + AllocGlobal>(rt: &R) -> Result<u64, Fault> {
     match RandomState::new(rt) {
         Ok(state) => Ok(state.build_hasher().finish()),
-        Err(_) => Err(Fault::Read),
+        Err(e) => {
+            let words = words_of(
+                rt.alloc(),
+                "",
+                "",
+                "the system gives no number by chance",
+                &e,
+            );
+            Err(Fault::Read(words))
+        }
     }
+}
+
+/// Why an address can't be listened on.
+fn listen_fault<R: AllocGlobal>(rt: &R, address: SocketAddr, error: &io::Error) -> Fault {
+    let words = format!(in rt.alloc(); "{address} can't be listened on: {error}").ok();
+    fault_of(error, Fault::Socket(words))
 }
 
 /// Serves, and tells at the end how many lines of the log were lost.
@@ -166,7 +222,7 @@ pub(crate) fn serve<R: Net + Clock + Files + Print + Eprint + AllocGlobal + Rand
     limits.max_body = config.max_body();
     let mut sockets = match LiveSockets::bind(rt, rt.alloc(), service.listen, limits) {
         Ok(sockets) => sockets,
-        Err(e) => return Err(fault_of(&e, Fault::Socket)),
+        Err(e) => return Err(listen_fault(rt, service.listen, &e)),
     };
     let record = record_of(rt, service.record, table.as_slice())?;
     let shelf = IndexedShelf::seeded(rt.alloc(), config.capacity(), seed_of(rt)?)?;
@@ -174,17 +230,35 @@ pub(crate) fn serve<R: Net + Clock + Files + Print + Eprint + AllocGlobal + Rand
     if journal.is_some() {
         sockets.keep_log();
     }
-    announce(rt, &sockets, &limits);
+    let mut figures = figures_of(rt, service.stats, &config, &mut sockets)?;
+    let address = sockets.address();
     let mut server = Server::new(rt.alloc(), config, shelf, sockets, record);
+    if let Some(figures) = &figures {
+        if let Err(e) = figures.write(rt, &server, 0) {
+            let words = words_of(
+                rt.alloc(),
+                "the file of --stats",
+                "",
+                " can't be written",
+                &e,
+            );
+            return Err(fault_of(&e, Fault::Write(words)));
+        }
+    }
+    announce(rt, address, &limits);
     let turns = match service.turns {
         Some(turns) => u64::from(turns),
         None => u64::MAX,
     };
     let watch = Watch::new(service.drain, service.drain_timeout, service.log);
-    let served = serve_turns(rt, turns, watch, &mut server, &mut journal);
+    let served = serve_turns(rt, turns, watch, &mut server, &mut journal, &mut figures);
     let lost = write_log(&mut server, &mut journal);
     if lost > 0 {
         let _ = eprintln!(rt; "log fault {lost}");
+    }
+    if let Some(figures) = &figures {
+        // They have the last turn, too.
+        let _ = figures.write(rt, &server, lost);
     }
     served
 }

@@ -1,0 +1,159 @@
+//! What was counted of each origin. Those of the operator's table are the only ones.
+
+use crate::counts::count;
+use crate::sorts::{Cause, Sort};
+use hx_fields::Bytes;
+use std::alloc::{AllocError, Global};
+use std::str;
+
+/// An origin, and what was counted of it.
+#[derive(Drop)]
+pub(crate) struct Origin {
+    /// Its address, as the table has it.
+    pub(crate) address: Bytes,
+    /// Links that were begun, and of these the ones that are open.
+    pub(crate) begun: u64,
+    pub(crate) open: u64,
+    /// Milliseconds of the links that have ended.
+    pub(crate) lasted: u64,
+    /// Bytes of the links whose streams are gone.
+    pub(crate) received: u64,
+    pub(crate) written: u64,
+    /// Answers by the hundreds of their statuses, from 200 on.
+    pub(crate) answers: [u64; 4],
+    /// Failures by their kind, and those for which a stored response was sent.
+    pub(crate) failures: [u64; 6],
+}
+
+/// The hundreds of statuses, and the kinds of failures, in the order of their counts.
+pub(crate) const CLASSES: [&str; 4] = ["2xx", "3xx", "4xx", "5xx"];
+
+pub(crate) const KINDS: [&str; 6] = [
+    "refused",
+    "timed-out",
+    "closed",
+    "bad-answer",
+    "too-large",
+    "covered",
+];
+
+/// Where failures are counted for which a stored response was sent.
+pub(crate) const COVERED: usize = 5;
+
+impl Origin {
+    fn new(address: Bytes) -> Origin {
+        Origin {
+            address,
+            begun: 0,
+            open: 0,
+            lasted: 0,
+            received: 0,
+            written: 0,
+            answers: [0; 4],
+            failures: [0; 6],
+        }
+    }
+
+    /// Its address, which is text.
+    pub(crate) fn name(&self) -> &str {
+        match str::from_utf8(self.address.as_slice()) {
+            Ok(text) => text,
+            Err(_) => "",
+        }
+    }
+
+    fn count_answer(&mut self, status: u16) {
+        count(&mut self.answers, (status / 100).saturating_sub(2) as usize);
+    }
+
+    fn count_failure(&mut self, cause: Cause) {
+        let at = (cause as usize).saturating_sub(Cause::OriginRefused as usize);
+        count(&mut self.failures, at);
+    }
+
+    /// Counts what the origin said or did, by the reply that was made of it.
+    fn answered(&mut self, status: u16, sort: &Sort) {
+        if let Some(cause) = sort.cause {
+            self.count_failure(cause);
+        } else if sort.is_covered() {
+            count(&mut self.failures, COVERED);
+        } else {
+            self.count_answer(sort.fwd_status.unwrap_or(status));
+        }
+    }
+}
+
+/// The origins, each with its place.
+#[derive(Drop)]
+pub(crate) struct Origins {
+    alloc: Global,
+    items: Vec<Origin>,
+}
+
+impl Origins {
+    pub(crate) fn new(alloc: Global) -> Origins {
+        Origins {
+            alloc,
+            items: Vec::new(alloc),
+        }
+    }
+
+    /// The place of an address, which is added where it is new.
+    pub(crate) fn place(&mut self, address: &[u8]) -> Result<usize, AllocError> {
+        for i in 0..self.items.len() {
+            if self.items[i].address.as_slice() == address {
+                return Ok(i);
+            }
+        }
+        self.items
+            .push(Origin::new(Bytes::copy_of(self.alloc, address)?))?;
+        Ok(self.items.len().saturating_sub(1))
+    }
+
+    pub(crate) fn as_slice(&self) -> &[Origin] {
+        self.items.as_slice()
+    }
+
+    fn address_at(&self, place: usize) -> &[u8] {
+        match self.items.get(place) {
+            Some(origin) => origin.address.as_slice(),
+            None => b"",
+        }
+    }
+
+    /// The address at a place; empty where there is none.
+    pub(crate) fn address(&self, place: Option<usize>) -> &[u8] {
+        match place {
+            Some(place) => self.address_at(place),
+            None => b"",
+        }
+    }
+
+    pub(crate) fn begin(&mut self, place: usize) {
+        if let Some(origin) = self.items.get_mut(place) {
+            origin.begun = origin.begun.saturating_add(1);
+            origin.open = origin.open.saturating_add(1);
+        }
+    }
+
+    pub(crate) fn end(&mut self, place: usize, milliseconds: u64) {
+        if let Some(origin) = self.items.get_mut(place) {
+            origin.open = origin.open.saturating_sub(1);
+            origin.lasted = origin.lasted.saturating_add(milliseconds);
+        }
+    }
+
+    pub(crate) fn add_bytes(&mut self, place: usize, received: u64, written: u64) {
+        if let Some(origin) = self.items.get_mut(place) {
+            origin.received = origin.received.saturating_add(received);
+            origin.written = origin.written.saturating_add(written);
+        }
+    }
+
+    /// Counts what an origin said or did, by the reply that was made of it.
+    pub(crate) fn answered(&mut self, place: usize, status: u16, sort: &Sort) {
+        if let Some(origin) = self.items.get_mut(place) {
+            origin.answered(status, sort);
+        }
+    }
+}

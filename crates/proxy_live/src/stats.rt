@@ -1,0 +1,498 @@
+//! The page of figures: what a server counts and holds, in Prometheus' text format.
+//!
+//! A label's value is of a closed list, a status, or the address of an origin in the operator's table.
+
+use crate::endings::Endings;
+use crate::limits::PLACES;
+use crate::lines::Line;
+use crate::links::Links;
+use crate::live_sockets::LiveSockets;
+use crate::origins::{CLASSES, KINDS, Origin};
+use crate::page::{Kind, Page};
+use crate::replies::{BOUNDS, FIRST_STATUS, Replies, STATUSES, Times};
+use crate::server::Server;
+use crate::sorts::{ALL_CAUSES, ALL_DETAILS, ALL_REASONS, Detail, Reason};
+use hx_store::Shelf;
+use itoa::Buffer;
+use std::alloc::{AllocError, Global};
+use std::io::Write;
+use std::net::Net;
+
+/// What a server can't know of itself.
+#[derive(Clone, Copy, Debug)]
+pub struct About<'a> {
+    pub version: &'a str,
+    /// The commit that the program was built from; empty where that isn't known.
+    pub commit: &'a str,
+    /// When it began, in milliseconds since 1970.
+    pub began: u64,
+    /// The most responses that are stored.
+    pub capacity: u64,
+    /// Lines of the log that couldn't be written.
+    pub lost_lines: u64,
+}
+
+fn push_about(page: &mut Page<'_>, about: &About<'_>, now: u64) -> Result<(), AllocError> {
+    page.family("revcache_build_info", Kind::Gauge, "The program that runs.")?;
+    page.sample_of_both(
+        "revcache_build_info",
+        ("version", about.version),
+        ("commit", about.commit),
+        1,
+    )?;
+    page.family(
+        "revcache_start_time_seconds",
+        Kind::Gauge,
+        "When the server began, in Unix seconds.",
+    )?;
+    page.time("revcache_start_time_seconds", about.began)?;
+    page.family(
+        "revcache_stats_time_seconds",
+        Kind::Gauge,
+        "When this page was written, in Unix seconds.",
+    )?;
+    page.time("revcache_stats_time_seconds", now)?;
+    page.single(
+        "revcache_store_capacity_responses",
+        Kind::Gauge,
+        "The most responses that are stored.",
+        about.capacity,
+    )
+}
+
+fn push_reason(page: &mut Page<'_>, replies: &Replies, reason: Reason) -> Result<(), AllocError> {
+    for detail in &ALL_DETAILS {
+        let n = replies.with_reason(reason, *detail);
+        if n > 0 || *detail == Detail::Nothing {
+            page.sample_of_both(
+                "revcache_requests_total",
+                ("reason", reason.name()),
+                ("detail", detail.name()),
+                n,
+            )?;
+        }
+    }
+    Ok(())
+}
+
+fn push_reasons(page: &mut Page<'_>, replies: &Replies) -> Result<(), AllocError> {
+    page.family(
+        "revcache_requests_total",
+        Kind::Counter,
+        "Requests that were answered, by what Cache-Status or Refusal says.",
+    )?;
+    for reason in &ALL_REASONS {
+        push_reason(page, replies, *reason)?;
+    }
+    page.single(
+        "revcache_collapsed_requests_total",
+        Kind::Counter,
+        "Requests that waited for the answer to another one and were sent what was stored of it.",
+        replies.collapsed,
+    )?;
+    page.single(
+        "revcache_stored_responses_total",
+        Kind::Counter,
+        "Answers of origins that were stored.",
+        replies.stored,
+    )
+}
+
+fn push_statuses(page: &mut Page<'_>, replies: &Replies) -> Result<(), AllocError> {
+    page.family(
+        "revcache_responses_total",
+        Kind::Counter,
+        "Replies to clients by status.",
+    )?;
+    for i in 0..STATUSES {
+        let status = FIRST_STATUS + i as u16;
+        let n = replies.with_status(status);
+        if n > 0 {
+            let mut digits = Buffer::new();
+            page.sample_of("revcache_responses_total", "code", digits.format(status), n)?;
+        }
+    }
+    page.family(
+        "revcache_refusals_total",
+        Kind::Counter,
+        "Replies that the proxy made by itself, by cause.",
+    )?;
+    for cause in &ALL_CAUSES {
+        let n = replies.with_cause(*cause);
+        page.sample_of("revcache_refusals_total", "cause", cause.name(), n)?;
+    }
+    Ok(())
+}
+
+fn push_times(page: &mut Page<'_>, source: &str, times: &Times) -> Result<(), AllocError> {
+    let mut sum = 0u64;
+    for i in 0..BOUNDS.len() {
+        sum = sum.saturating_add(times.buckets[i]);
+        page.sample_of_both(
+            "revcache_request_duration_seconds_bucket",
+            ("source", source),
+            ("le", BOUNDS[i]),
+            sum,
+        )?;
+    }
+    sum = sum.saturating_add(times.buckets[BOUNDS.len()]);
+    page.sample_of_both(
+        "revcache_request_duration_seconds_bucket",
+        ("source", source),
+        ("le", "+Inf"),
+        sum,
+    )?;
+    page.time_of(
+        "revcache_request_duration_seconds_sum",
+        "source",
+        source,
+        times.sum,
+    )?;
+    page.sample_of(
+        "revcache_request_duration_seconds_count",
+        "source",
+        source,
+        sum,
+    )
+}
+
+fn push_replies(page: &mut Page<'_>, replies: &Replies) -> Result<(), AllocError> {
+    push_reasons(page, replies)?;
+    push_statuses(page, replies)?;
+    page.family(
+        "revcache_request_duration_seconds",
+        Kind::Histogram,
+        "From the first byte of a request to the turn in which its reply was written.",
+    )?;
+    push_times(page, "store", &replies.from_store)?;
+    push_times(page, "origin", &replies.from_origin)?;
+    push_times(page, "proxy", &replies.from_proxy)
+}
+
+fn push_endings(page: &mut Page<'_>, endings: &Endings) -> Result<(), AllocError> {
+    let name = "revcache_connections_cut_total";
+    page.family(
+        name,
+        Kind::Counter,
+        "Connections of clients that were closed early, but for time-outs.",
+    )?;
+    page.sample_of(name, "cause", "room", endings.for_room)?;
+    page.sample_of(name, "cause", "place", endings.for_place)?;
+    page.sample_of(name, "cause", "unsent-limit", endings.for_unsent)?;
+    page.sample_of(name, "cause", "memory", endings.for_memory)
+}
+
+fn push_timeouts<R: Net>(
+    page: &mut Page<'_>,
+    sockets: &LiveSockets<'_, R>,
+) -> Result<(), AllocError> {
+    let name = "revcache_timeouts_total";
+    let endings = &sockets.clients.endings;
+    let links = &sockets.links;
+    page.family(
+        name,
+        Kind::Counter,
+        "Time-outs, by the option that bounds them.",
+    )?;
+    page.sample_of(name, "kind", "client", endings.client_timeouts)?;
+    page.sample_of(name, "kind", "request", endings.request_timeouts)?;
+    page.sample_of(name, "kind", "abandon", endings.abandon_timeouts)?;
+    page.sample_of(name, "kind", "connect", links.connect_timeouts)?;
+    page.sample_of(name, "kind", "origin", links.origin_timeouts)?;
+    page.sample_of(name, "kind", "exchange", links.exchange_timeouts)
+}
+
+/// Connections of clients, by where they stand.
+fn push_states<R: Net>(
+    page: &mut Page<'_>,
+    sockets: &LiveSockets<'_, R>,
+) -> Result<(), AllocError> {
+    let name = "revcache_connections";
+    let lines = &sockets.clients.lines;
+    let parked = lines.len_of(&[Line::Idle, Line::Taking]);
+    let waiting = lines.len_of(&[Line::Fresh, Line::Whole, Line::Long, Line::Partial]);
+    let closing = lines.len_of(&[Line::Leaving, Line::Lingering]);
+    page.family(
+        name,
+        Kind::Gauge,
+        "Connections of clients that are open, by what they do.",
+    )?;
+    page.sample_of(name, "state", "open", sockets.clients.open_count() as u64)?;
+    page.sample_of(name, "state", "parked", parked as u64)?;
+    page.sample_of(name, "state", "waiting", waiting as u64)?;
+    page.sample_of(name, "state", "closing", closing as u64)?;
+    page.single(
+        "revcache_connections_limit",
+        Kind::Gauge,
+        "The most connections of clients that are open.",
+        sockets.limits.connections as u64,
+    )?;
+    page.single(
+        "revcache_places_limit",
+        Kind::Gauge,
+        "The most connections of clients with a request in progress.",
+        PLACES as u64,
+    )
+}
+
+/// How connections of clients were taken.
+fn push_doors<R: Net>(page: &mut Page<'_>, sockets: &LiveSockets<'_, R>) -> Result<(), AllocError> {
+    let doors = &sockets.doors;
+    page.single(
+        "revcache_connections_accepted_total",
+        Kind::Counter,
+        "Connections of clients that were taken.",
+        doors.accepted,
+    )?;
+    let name = "revcache_connections_refused_total";
+    page.family(
+        name,
+        Kind::Counter,
+        "Looks at the queue of the listener that could take nobody, by cause.",
+    )?;
+    page.sample_of(name, "cause", "full", doors.full)?;
+    page.sample_of(name, "cause", "descriptors", doors.no_descriptor)?;
+    page.sample_of(name, "cause", "memory", doors.no_memory)?;
+    page.sample_of(name, "cause", "other", doors.failed)?;
+    page.single(
+        "revcache_links_without_descriptor_total",
+        Kind::Counter,
+        "Connections to origins that could not be begun since no descriptor was left.",
+        doors.no_link,
+    )
+}
+
+/// Bytes of clients.
+fn push_bytes<R: Net>(page: &mut Page<'_>, sockets: &LiveSockets<'_, R>) -> Result<(), AllocError> {
+    let (received, written) = sockets.clients.bytes();
+    page.single(
+        "revcache_client_received_bytes_total",
+        Kind::Counter,
+        "Bytes that were read from clients.",
+        received,
+    )?;
+    page.single(
+        "revcache_client_sent_bytes_total",
+        Kind::Counter,
+        "Bytes for clients that the system took.",
+        written,
+    )?;
+    page.single(
+        "revcache_client_unsent_bytes",
+        Kind::Gauge,
+        "Bytes of replies that wait for clients.",
+        sockets.clients.unsent() as u64,
+    )?;
+    page.single(
+        "revcache_client_unsent_limit_bytes",
+        Kind::Gauge,
+        "The most bytes of replies that wait for clients.",
+        sockets.limits.unsent as u64,
+    )
+}
+
+fn push_clients<R: Net>(
+    page: &mut Page<'_>,
+    sockets: &LiveSockets<'_, R>,
+) -> Result<(), AllocError> {
+    push_states(page, sockets)?;
+    push_doors(page, sockets)?;
+    push_endings(page, &sockets.clients.endings)?;
+    push_timeouts(page, sockets)?;
+    push_bytes(page, sockets)
+}
+
+/// A count of each origin.
+#[derive(Clone, Copy, Debug, PartialEq, Eq)]
+enum Count {
+    Begun,
+    Open,
+    Received,
+    Sent,
+}
+
+fn count_of(links: &Links, place: usize, origin: &Origin, count: Count) -> u64 {
+    match count {
+        Count::Begun => origin.begun,
+        Count::Open => origin.open,
+        Count::Received => origin.received.saturating_add(links.open_bytes(place).0),
+        Count::Sent => origin.written.saturating_add(links.open_bytes(place).1),
+    }
+}
+
+fn push_count(
+    page: &mut Page<'_>,
+    links: &Links,
+    name: &str,
+    kind: Kind,
+    help: &str,
+    count: Count,
+) -> Result<(), AllocError> {
+    page.family(name, kind, help)?;
+    let origins = links.origins.as_slice();
+    for i in 0..origins.len() {
+        let origin = &origins[i];
+        page.sample_of(
+            name,
+            "origin",
+            origin.name(),
+            count_of(links, i, origin, count),
+        )?;
+    }
+    Ok(())
+}
+
+fn push_answers(page: &mut Page<'_>, links: &Links) -> Result<(), AllocError> {
+    let name = "revcache_origin_responses_total";
+    page.family(
+        name,
+        Kind::Counter,
+        "Answers of an origin, by the hundred of their status.",
+    )?;
+    for origin in links.origins.as_slice() {
+        for i in 0..CLASSES.len() {
+            let code = ("code", CLASSES[i]);
+            page.sample_of_both(name, ("origin", origin.name()), code, origin.answers[i])?;
+        }
+    }
+    Ok(())
+}
+
+fn push_failures(page: &mut Page<'_>, links: &Links) -> Result<(), AllocError> {
+    let name = "revcache_origin_failures_total";
+    page.family(
+        name,
+        Kind::Counter,
+        "Exchanges with an origin that failed, by kind.",
+    )?;
+    for origin in links.origins.as_slice() {
+        for i in 0..KINDS.len() {
+            let kind = ("kind", KINDS[i]);
+            page.sample_of_both(name, ("origin", origin.name()), kind, origin.failures[i])?;
+        }
+    }
+    Ok(())
+}
+
+fn push_lasted(page: &mut Page<'_>, links: &Links) -> Result<(), AllocError> {
+    let name = "revcache_origin_exchange_seconds_total";
+    page.family(
+        name,
+        Kind::Counter,
+        "Seconds of the links to an origin that have ended.",
+    )?;
+    for origin in links.origins.as_slice() {
+        page.time_of(name, "origin", origin.name(), origin.lasted)?;
+    }
+    Ok(())
+}
+
+fn push_origins(page: &mut Page<'_>, links: &Links) -> Result<(), AllocError> {
+    let name = "revcache_origin_exchanges_total";
+    push_count(
+        page,
+        links,
+        name,
+        Kind::Counter,
+        "Links to an origin that were begun.",
+        Count::Begun,
+    )?;
+    let name = "revcache_origin_exchanges";
+    push_count(
+        page,
+        links,
+        name,
+        Kind::Gauge,
+        "Links to an origin that are open.",
+        Count::Open,
+    )?;
+    push_answers(page, links)?;
+    push_failures(page, links)?;
+    push_lasted(page, links)?;
+    let name = "revcache_origin_received_bytes_total";
+    let help = "Bytes that were read from an origin.";
+    push_count(page, links, name, Kind::Counter, help, Count::Received)?;
+    let name = "revcache_origin_sent_bytes_total";
+    let help = "Bytes for an origin that the system took.";
+    push_count(page, links, name, Kind::Counter, help, Count::Sent)
+}
+
+/// The record's state.
+fn push_record(page: &mut Page<'_>, writing: bool, ended: bool) -> Result<(), AllocError> {
+    let name = "revcache_record_state";
+    page.family(name, Kind::Gauge, "Whether what happens is recorded.")?;
+    page.sample_of(name, "state", "none", u64::from(!writing && !ended))?;
+    page.sample_of(name, "state", "writing", u64::from(writing))?;
+    page.sample_of(name, "state", "ended", u64::from(ended))
+}
+
+fn push_log<R: Net>(
+    page: &mut Page<'_>,
+    sockets: &LiveSockets<'_, R>,
+    lost: u64,
+) -> Result<(), AllocError> {
+    let added = match sockets.log() {
+        Some(lines) => lines.added(),
+        None => 0,
+    };
+    page.single(
+        "revcache_log_lines_total",
+        Kind::Counter,
+        "Lines of the log that were made.",
+        added,
+    )?;
+    page.single(
+        "revcache_log_lost_lines_total",
+        Kind::Counter,
+        "Lines of the log that could not be written, or had no memory.",
+        lost,
+    )
+}
+
+impl<'a, S: Shelf + Drop, R: Net, W: Write + Drop> Server<'a, S, R, W> {
+    /// The page of figures. Its only error is want of memory. Replies are counted where the sockets keep counts.
+    pub fn stats(&self, alloc: Global, about: &About<'_>) -> Result<Vec<u8>, AllocError> {
+        let sockets = &self.ends.sockets;
+        let listen = sockets.address().to_string(alloc)?;
+        let mut page = Page::new(alloc, listen.as_str());
+        push_about(&mut page, about, sockets.moment.max(about.began))?;
+        self.push_turns(&mut page)?;
+        if let Some(replies) = &sockets.replies {
+            push_replies(&mut page, replies)?;
+        }
+        push_clients(&mut page, sockets)?;
+        push_origins(&mut page, &sockets.links)?;
+        page.family(
+            "revcache_oldest_exchange_age_seconds",
+            Kind::Gauge,
+            "For how long the oldest link to an origin is open.",
+        )?;
+        page.time(
+            "revcache_oldest_exchange_age_seconds",
+            sockets.links.oldest_age(sockets.now),
+        )?;
+        push_log(&mut page, sockets, about.lost_lines)?;
+        push_record(&mut page, self.ends.is_recording(), self.ends.has_ended())?;
+        Ok(page.into_text())
+    }
+
+    fn push_turns(&self, page: &mut Page<'_>) -> Result<(), AllocError> {
+        let turns = &self.ends.sockets.turns;
+        page.single(
+            "revcache_turns_total",
+            Kind::Counter,
+            "Turns that were served.",
+            turns.served,
+        )?;
+        let name = "revcache_turns_cut_total";
+        page.family(name, Kind::Counter, "Turns that ended early, by cause.")?;
+        page.sample_of(name, "cause", "listener", turns.without_listener)?;
+        page.sample_of(name, "cause", "memory", turns.without_memory)?;
+        page.single(
+            "revcache_draining",
+            Kind::Gauge,
+            "Whether the server is to end and takes no more connections.",
+            u64::from(self.ends.sockets.is_draining()),
+        )
+    }
+}

@@ -1,0 +1,90 @@
+//! What is told of each reply: its line in the log, and what it counts as.
+ghost use Rattle.std.specs.Prelude.{◌≡◌};
+
+use crate::clients::Clients;
+use crate::live_sockets::LiveSockets;
+use crate::sorts::{Sort, Source, sort_of};
+use proxy_log::{Lines, Told, told_by};
+use std::net::Net;
+
+/// Adds the line about a reply, where a log is kept.
+fn log_reply(
+    log: &mut Option<Lines>,
+    clients: &mut Clients,
+    n: u64,
+    moment: u64,
+    told: &Told<'_>,
+    took: u64,
+    origin: &[u8],
+) {
+    let Some(lines) = log else {
+        return;
+    };
+    let Some(client) = clients.get_mut(n) else {
+        return;
+    };
+    match client.line_about(moment, told, took, origin) {
+        Ok(Some(line)) => lines.add(&line),
+        Ok(None) => {}
+        Err(_) => lines.lose(),
+    }
+}
+
+impl<'a, R: Net> LiveSockets<'a, R> {
+    /// Counts a reply, and adds the line about it.
+    pub(crate) fn note_reply(&mut self, n: u64, reply: &[u8])
+        ensures accepts { self.new.accepts ≡ self.old.accepts }
+        ensures reads { self.new.reads ≡ self.old.reads }
+        ensures failures { self.new.failures ≡ self.old.failures }
+    {
+        let Some(told) = told_by(reply) else {
+            return;
+        };
+        let sort = sort_of(told.reason);
+        let took = match self.clients.get(n) {
+            Some(client) => client.took(self.now),
+            None => 0,
+        };
+        let origin = self.origin_of(sort);
+        self.count_reply(told.status, sort, took, origin);
+        let address = self.links.origins.address(origin);
+        log_reply(
+            &mut self.log,
+            &mut self.clients,
+            n,
+            self.moment,
+            &told,
+            took,
+            address,
+        );
+    }
+
+    /// The place of the origin that was asked for a reply: what an engine makes of an answer goes out right behind the end of its link.
+    fn origin_of(&mut self, sort: Option<Sort>) -> Option<usize>
+        ensures accepts { self.new.accepts ≡ self.old.accepts }
+        ensures reads { self.new.reads ≡ self.old.reads }
+        ensures failures { self.new.failures ≡ self.old.failures }
+    {
+        match sort {
+            Some(sort) if sort.source() == Source::Origin => self.asked.next(),
+            _ => {
+                self.asked.shut(None);
+                None
+            }
+        }
+    }
+
+    fn count_reply(&mut self, status: u16, sort: Option<Sort>, took: u64, origin: Option<usize>)
+        ensures accepts { self.new.accepts ≡ self.old.accepts }
+        ensures reads { self.new.reads ≡ self.old.reads }
+        ensures failures { self.new.failures ≡ self.old.failures }
+    {
+        let (Some(replies), Some(sort)) = (&mut self.replies, sort) else {
+            return;
+        };
+        replies.add(status, &sort, took);
+        if let Some(place) = origin {
+            self.links.origins.answered(place, status, &sort);
+        }
+    }
+}

@@ -1,0 +1,93 @@
+//! What an operator is told on standard error while it serves, each at most once a minute.
+
+use hx_store::Shelf;
+use proxy_live::Server;
+use std::io::Write;
+use std::net::Net;
+
+/// Seconds between two warnings of one kind, at the least.
+const BETWEEN: u64 = 60;
+
+/// When a warning was given last, in seconds of the clock that never goes back.
+#[derive(Clone, Copy, Debug)]
+pub(crate) struct Seldom {
+    last: Option<u64>,
+}
+
+impl Seldom {
+    pub(crate) fn new() -> Seldom {
+        Seldom { last: None }
+    }
+
+    /// Whether the warning is to be given. It counts as given then.
+    pub(crate) fn is_due(&mut self, second: u64) -> bool {
+        let is_early = match self.last {
+            Some(last) => second.saturating_sub(last) < BETWEEN,
+            None => false,
+        };
+        if !is_early {
+            self.last = Some(second);
+        }
+        !is_early
+    }
+}
+
+/// How often the server couldn't do what was asked, as it was told last.
+#[derive(Clone, Copy, Debug)]
+pub(crate) struct Warnings {
+    full: Seldom,
+    crowded: Seldom,
+    no_descriptor: Seldom,
+    no_link: Seldom,
+    refused: u64,
+    without_descriptor: u64,
+    links: u64,
+}
+
+impl Warnings {
+    pub(crate) fn new() -> Warnings {
+        Warnings {
+            full: Seldom::new(),
+            crowded: Seldom::new(),
+            no_descriptor: Seldom::new(),
+            no_link: Seldom::new(),
+            refused: 0,
+            without_descriptor: 0,
+            links: 0,
+        }
+    }
+
+    /// Tells what has come since the last look.
+    pub(crate) fn look<'s, R: Net + Eprint, S: Shelf + Drop, W: Write + Drop>(
+        &mut self,
+        rt: &R,
+        server: &Server<'s, S, R, W>,
+    ) {
+        let second = server.second();
+        let troubles = server.troubles();
+        if troubles.full > self.refused && self.full.is_due(second) {
+            let _ = eprintln!(rt;
+                "warning: as many connections of clients are open as may be, and none is idle: new ones wait"
+            );
+        }
+        self.refused = troubles.full;
+        if troubles.no_descriptor > self.without_descriptor && self.no_descriptor.is_due(second) {
+            let _ = eprintln!(rt;
+                "warning: no descriptor is left for a connection of a client: it waits"
+            );
+        }
+        self.without_descriptor = troubles.no_descriptor;
+        if troubles.no_link > self.links && self.no_link.is_due(second) {
+            let _ = eprintln!(rt;
+                "warning: no descriptor is left for a connection to an origin: the request is answered 502"
+            );
+        }
+        self.links = troubles.no_link;
+        let waiting = troubles.waiting;
+        if waiting > 0 && self.crowded.is_due(second) {
+            let _ = eprintln!(rt;
+                "warning: 256 requests are in progress, as many as may be, and {waiting} wait"
+            );
+        }
+    }
+}
