@@ -10,6 +10,7 @@ mod asked;
 mod client;
 mod clients;
 mod closing;
+mod counted_shelf;
 mod counts;
 mod doors;
 mod early;
@@ -34,6 +35,7 @@ mod stats;
 mod telling;
 mod turns;
 
+pub use crate::counted_shelf::{CountedShelf, StoreCounts};
 pub use crate::doors::Troubles;
 pub use crate::limits::Limits;
 pub use crate::live_sockets::LiveSockets;

@@ -2,6 +2,7 @@
 //!
 //! A label's value is of a closed list, a status, or the address of an origin in the operator's table.
 
+use crate::counted_shelf::StoreCounts;
 use crate::endings::Endings;
 use crate::limits::PLACES;
 use crate::lines::Line;
@@ -19,7 +20,7 @@ use std::io::Write;
 use std::net::Net;
 
 /// What a server can't know of itself.
-#[derive(Clone, Copy, Debug)]
+#[derive(Clone, Copy)]
 pub struct About<'a> {
     pub version: &'a str,
     /// The commit that the program was built from; empty where that isn't known.
@@ -28,6 +29,8 @@ pub struct About<'a> {
     pub began: u64,
     /// The most responses that are stored.
     pub capacity: u64,
+    /// What the store counts.
+    pub store: &'a StoreCounts,
     /// Lines of the log that couldn't be written.
     pub lost_lines: u64,
 }
@@ -52,11 +55,33 @@ fn push_about(page: &mut Page<'_>, about: &About<'_>, now: u64) -> Result<(), Al
         "When this page was written, in Unix seconds.",
     )?;
     page.time("revcache_stats_time_seconds", now)?;
+    push_store(page, about)
+}
+
+fn push_store(page: &mut Page<'_>, about: &About<'_>) -> Result<(), AllocError> {
     page.single(
         "revcache_store_capacity_responses",
         Kind::Gauge,
         "The most responses that are stored.",
         about.capacity,
+    )?;
+    page.single(
+        "revcache_store_responses",
+        Kind::Gauge,
+        "Responses that are stored.",
+        about.store.held(),
+    )?;
+    page.single(
+        "revcache_store_evictions_total",
+        Kind::Counter,
+        "Stored responses that went since the store was full.",
+        about.store.evicted(),
+    )?;
+    page.single(
+        "revcache_store_removals_total",
+        Kind::Counter,
+        "Stored responses that were replaced, invalidated, or not kept behind a 304.",
+        about.store.removed(),
     )
 }
 

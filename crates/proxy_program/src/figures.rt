@@ -4,7 +4,7 @@ use crate::command_line::VERSION;
 use crate::stats_file::StatsFile;
 use crate::warnings::Seldom;
 use hx_store::Shelf;
-use proxy_live::{About, Server};
+use proxy_live::{About, Server, StoreCounts};
 use std::io;
 use std::io::{ErrorKind, Write};
 use std::net::Net;
@@ -19,17 +19,24 @@ pub(crate) struct Figures<'a> {
     file: StatsFile<'a>,
     began: u64,
     capacity: u64,
+    store: &'a StoreCounts,
     /// The second in which they were written last.
     written: Option<u64>,
     warned: Seldom,
 }
 
 impl<'a> Figures<'a> {
-    pub(crate) fn new(file: StatsFile<'a>, began: u64, capacity: u64) -> Figures<'a> {
+    pub(crate) fn new(
+        file: StatsFile<'a>,
+        began: u64,
+        capacity: u64,
+        store: &'a StoreCounts,
+    ) -> Figures<'a> {
         Figures {
             file,
             began,
             capacity,
+            store,
             written: None,
             warned: Seldom::new(),
         }
@@ -47,6 +54,7 @@ impl<'a> Figures<'a> {
             commit: COMMIT,
             began: self.began,
             capacity: self.capacity,
+            store: self.store,
             lost_lines,
         };
         match server.stats(rt.alloc(), &about) {

@@ -12,7 +12,9 @@ use crate::warnings::Warnings;
 use crate::watch::{Goes, Watch};
 use hx_allow::Config;
 use hx_store::{IndexedShelf, Shelf};
-use proxy_live::{Limits, LiveSockets, Recorder, ServeFault, Server};
+use proxy_live::{
+    CountedShelf, Limits, LiveSockets, Recorder, ServeFault, Server, StoreCounts,
+};
 use std::fs::OpenOptions;
 use std::hash::{BuildHasher, Hasher, RandomState};
 use std::io;
@@ -173,6 +175,7 @@ fn figures_of<'a, 'n, R: Net + Clock + AllocGlobal>(
     rt: &R,
     path: Option<&'a str>,
     config: &Config,
+    store: &'a StoreCounts,
     sockets: &mut LiveSockets<'n, R>,
 ) -> Result<Option<Figures<'a>>, Fault> {
     let Some(path) = path else {
@@ -185,7 +188,8 @@ fn figures_of<'a, 'n, R: Net + Clock + AllocGlobal>(
     let whole = now.as_secs().saturating_mul(1000);
     let began = whole.saturating_add(u64::from(now.subsec_millis()));
     let file = StatsFile::new(rt, path)?;
-    Ok(Some(Figures::new(file, began, config.capacity() as u64)))
+    let capacity = config.capacity() as u64;
+    Ok(Some(Figures::new(file, began, capacity, store)))
 }
 
 /// A number that nobody can foresee, for what tells variants apart before they are looked at.
@@ -225,12 +229,14 @@ pub(crate) fn serve<R: Net + Clock + Files + Print + Eprint + AllocGlobal + Rand
         Err(e) => return Err(listen_fault(rt, service.listen, &e)),
     };
     let record = record_of(rt, service.record, table.as_slice())?;
+    let store = StoreCounts::new();
     let shelf = IndexedShelf::seeded(rt.alloc(), config.capacity(), seed_of(rt)?)?;
+    let shelf = CountedShelf::new(shelf, &store);
     let mut journal = journal_of(rt, service.log, io::writer(rt))?;
     if journal.is_some() {
         sockets.keep_log();
     }
-    let mut figures = figures_of(rt, service.stats, &config, &mut sockets)?;
+    let mut figures = figures_of(rt, service.stats, &config, &store, &mut sockets)?;
     let address = sockets.address();
     let mut server = Server::new(rt.alloc(), config, shelf, sockets, record);
     if let Some(figures) = &figures {
