@@ -73,7 +73,9 @@ def two_hundred_idle_connections(stage):
 
 @scenario
 def a_request_beyond_256_waits_its_turn(stage):
-    """256 requests are with their origin at a time. The next one, though it is stored, is answered when one of them is."""
+    """256 requests are with their origin at a time. The next one, though it is stored, is answered when one of them is. The server says
+    once that one waits."""
+    stage.lines = 1
     go = threading.Event()
     late = held_back(go, whole(200, "Cache-Control: no-store", content=b"late"))
     origin = stage.origin(Origin({"/a": whole(200, KEPT, content=b"hello"), "/late": late}))
