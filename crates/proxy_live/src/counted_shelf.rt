@@ -73,7 +73,10 @@ impl<'a, S: Shelf + Drop> CountedShelf<'a, S> {
         let evicted = usize::from(out.is_some());
         let kept = self.shelf.len().saturating_add(evicted);
         add(&self.counts.evicted, evicted);
-        add(&self.counts.removed, before.saturating_add(1).saturating_sub(kept));
+        add(
+            &self.counts.removed,
+            before.saturating_add(1).saturating_sub(kept),
+        );
         self.count_held();
     }
 

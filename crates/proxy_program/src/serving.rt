@@ -12,9 +12,7 @@ use crate::warnings::Warnings;
 use crate::watch::{Goes, Watch};
 use hx_allow::Config;
 use hx_store::{IndexedShelf, Shelf};
-use proxy_live::{
-    CountedShelf, Limits, LiveSockets, Recorder, ServeFault, Server, StoreCounts,
-};
+use proxy_live::{CountedShelf, Limits, LiveSockets, Recorder, ServeFault, Server, StoreCounts};
 use std::fs::OpenOptions;
 use std::hash::{BuildHasher, Hasher, RandomState};
 use std::io;
@@ -215,6 +213,42 @@ fn listen_fault<R: AllocGlobal>(rt: &R, address: SocketAddr, error: &io::Error) 
     fault_of(error, Fault::Socket(words))
 }
 
+/// The sockets at the address that is asked for.
+fn sockets_of<'n, R: Net + AllocGlobal>(
+    rt: &'n R,
+    listen: SocketAddr,
+    limits: Limits,
+) -> Result<LiveSockets<'n, R>, Fault> {
+    match LiveSockets::bind(rt, rt.alloc(), listen, limits) {
+        Ok(sockets) => Ok(sockets),
+        Err(e) => Err(listen_fault(rt, listen, &e)),
+    }
+}
+
+/// Writes the first page of figures, if they are asked for.
+fn begin_figures<'a, R: Net + Files + AllocGlobal, S: Shelf + Drop, W: Write + Drop>(
+    rt: &R,
+    figures: &Option<Figures<'_>>,
+    server: &Server<'a, S, R, W>,
+) -> Result<(), Fault> {
+    let Some(figures) = figures else {
+        return Ok(());
+    };
+    match figures.write(rt, server, 0) {
+        Ok(()) => Ok(()),
+        Err(e) => {
+            let words = words_of(
+                rt.alloc(),
+                "the file of --stats",
+                "",
+                " can't be written",
+                &e,
+            );
+            Err(fault_of(&e, Fault::Write(words)))
+        }
+    }
+}
+
 /// Serves, and tells at the end how many lines of the log were lost.
 pub(crate) fn serve<R: Net + Clock + Files + Print + Eprint + AllocGlobal + RandomSource>(
     rt: &R,
@@ -224,10 +258,7 @@ pub(crate) fn serve<R: Net + Clock + Files + Print + Eprint + AllocGlobal + Rand
     let config = Config::read(rt.alloc(), table.as_slice())?;
     let mut limits = service.limits;
     limits.max_body = config.max_body();
-    let mut sockets = match LiveSockets::bind(rt, rt.alloc(), service.listen, limits) {
-        Ok(sockets) => sockets,
-        Err(e) => return Err(listen_fault(rt, service.listen, &e)),
-    };
+    let mut sockets = sockets_of(rt, service.listen, limits)?;
     let record = record_of(rt, service.record, table.as_slice())?;
     let store = StoreCounts::new();
     let shelf = IndexedShelf::seeded(rt.alloc(), config.capacity(), seed_of(rt)?)?;
@@ -239,23 +270,9 @@ pub(crate) fn serve<R: Net + Clock + Files + Print + Eprint + AllocGlobal + Rand
     let mut figures = figures_of(rt, service.stats, &config, &store, &mut sockets)?;
     let address = sockets.address();
     let mut server = Server::new(rt.alloc(), config, shelf, sockets, record);
-    if let Some(figures) = &figures {
-        if let Err(e) = figures.write(rt, &server, 0) {
-            let words = words_of(
-                rt.alloc(),
-                "the file of --stats",
-                "",
-                " can't be written",
-                &e,
-            );
-            return Err(fault_of(&e, Fault::Write(words)));
-        }
-    }
+    begin_figures(rt, &figures, &server)?;
     announce(rt, address, &limits);
-    let turns = match service.turns {
-        Some(turns) => u64::from(turns),
-        None => u64::MAX,
-    };
+    let turns = service.turns.map_or(u64::MAX, u64::from);
     let watch = Watch::new(service.drain, service.drain_timeout, service.log);
     let served = serve_turns(rt, turns, watch, &mut server, &mut journal, &mut figures);
     let lost = write_log(&mut server, &mut journal);
