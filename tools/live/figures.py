@@ -104,7 +104,8 @@ def figures_are_what_was_done(stage):
     expect_samples(samples, {of("origin_failures_total", **here, kind="closed"): 1, of("origin_failures_total", **there, kind="refused"): 1})
     expect_samples(samples, {of("origin_responses_total", **here, code="2xx"): 3, of("origin_responses_total", **here, code="5xx"): 1})
     expect_bytes(samples, stage, client, origin)
-    expect_samples(samples, {of("stored_responses_total"): 1, of("connections_accepted_total"): 1, of("log_lines_total"): 0})
+    expect_samples(samples, {of("stored_responses_total"): 1, of("store_responses"): 1})
+    expect_samples(samples, {of("connections_accepted_total"): 1, of("log_lines_total"): 0})
     expect("replies by how long they took", 13, in_all(samples, "request_duration_seconds_count"))
     expect("replies of origins", 6, samples[of("request_duration_seconds_count", source="origin")])
 
@@ -148,6 +149,28 @@ def figures_of_connections_and_times(stage):
     expect_samples(samples, {of("timeouts_total", kind="client"): 3, of("timeouts_total", kind="origin"): 1})
     expect_samples(samples, {of("origin_failures_total", origin=origin.address, kind="timed-out"): 1})
     expect_samples(samples, {of("log_lines_total"): 3, of("log_lost_lines_total"): 0, of("connections", state="open"): 0})
+
+
+@scenario
+def figures_of_the_store(stage):
+    """What is held, what went since the store was full, and what an unsafe method or a new answer took out."""
+    kept = whole(200, KEPT, content=b"hello")
+    stage.origin(Origin({**{f"/{name}": kept for name in "abc"}, "/c": lambda fetch: (whole(201) if fetch.method == "POST" else kept)(fetch)}))
+    file = f"{stage.room.name}/figures"
+    client = stage.proxy(capacity=2, options=["--stats", file]).client()
+    told = lambda held, evicted, removed: {  # noqa: E731
+        of("store_capacity_responses"): 2, of("store_responses"): held, of("store_evictions_total"): evicted, of("store_removals_total"): removed}
+    expect_samples(read(file), told(0, 0, 0))
+    for name in "ab":
+        expect_answer(client.ask(f"/{name}"), 200, "edge;fwd=uri-miss;ttl=600;stored", b"hello")
+    expect_samples(figures_with(file, of("store_responses"), 2), told(2, 0, 0))
+    # The third takes the place of the first, which was used least lately.
+    expect_answer(client.ask("/c"), 200, "edge;fwd=uri-miss;ttl=600;stored", b"hello")
+    expect_samples(figures_with(file, of("store_evictions_total"), 1), told(2, 1, 0))
+    client.ask("/c", method="POST", content=b"x")
+    expect_samples(figures_with(file, of("store_removals_total"), 1), told(1, 1, 1))
+    client.ask("/b", "Cache-Control: no-cache")
+    expect_samples(figures_with(file, of("store_removals_total"), 2), told(1, 1, 2))
 
 
 @scenario
