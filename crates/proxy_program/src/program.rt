@@ -57,12 +57,25 @@ struct Ended {
     is_quiet: bool,
 }
 
+/// Of a fault before it is known what is asked for. Where memory was refused that may be a replay, whose standard output has
+/// its effects alone.
 impl From<Fault> for Ended {
     fn from(fault: Fault) -> Ended {
-        Ended {
+        let is_quiet = match &fault {
+            Fault::NoMemory => true,
+            _ => false,
+        };
+        Ended { fault, is_quiet }
+    }
+}
+
+fn checked<R: Files + Print + AllocGlobal>(rt: &R, path: &str) -> Result<(), Ended> {
+    match check(rt, path) {
+        Ok(()) => Ok(()),
+        Err(fault) => Err(Ended {
             fault,
             is_quiet: false,
-        }
+        }),
     }
 }
 
@@ -97,7 +110,7 @@ where
             tell_what_is_awaited(rt);
             return Ok(proxy_server::program::run(rt));
         }
-        Form::Check(path) => check(rt, path)?,
+        Form::Check(path) => checked(rt, path)?,
         Form::Serve(service) => served(rt, &service)?,
     }
     Ok(ExitCode::SUCCESS)
