@@ -135,7 +135,7 @@ class Proxy:
             time.sleep(0.5)
 
     def stop(self, lines):
-        """Ends the program as a supervisor does. It has said so many lines behind its first."""
+        """Ends the program as a supervisor does. It has said so many lines behind its first, or as many as a range has."""
         for it in self.clients:
             it.settle()
         ended = self.process.poll()
@@ -143,7 +143,7 @@ class Proxy:
             raise Unexpected("the program", "to run still", f"status {ended}, and {self.process.stderr.read()!r}")
         self.process.terminate()
         _, out, err = self.wait()
-        if out or err.count("\n") != lines:
+        if out or err.count("\n") not in (lines if isinstance(lines, range) else [lines]):
             raise Unexpected("of output nothing and of standard error", f"{lines} lines more", (out, err))
 
     def compare(self, origins, is_cut=False):

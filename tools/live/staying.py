@@ -92,6 +92,8 @@ def three_hundred_idle_clients_and_an_honest_one(stage):
 def three_hundred_clients_come_back_at_once(stage):
     """All of them are parked, and then ask in one moment: more than there are places, so some wait for a place, and all have
     their answers."""
+    # (a warning, where a turn ends with all places taken)
+    stage.lines = range(2)
     proxy = kept_by(stage)
     clients = [proxy.client() for _ in range(300)]
     expect_answer(clients[0].ask("/a"), 200, STORED, b"hello")
@@ -263,6 +265,8 @@ def connections_that_wait_keep_theirs(stage):
     go = threading.Event()
     late = held_back(go, whole(200, "Cache-Control: no-store", content=b"late"))
     origin = stage.origin(Origin({"/a": whole(200, KEPT, content=b"hello"), "/late": late}))
+    # (it warns that new ones wait)
+    stage.lines = 1
     proxy = stage.proxy(options=["--connections", "5"])
     busy = [proxy.client() for _ in range(5)]
     for i, it in enumerate(busy):
