@@ -1,2 +1,3 @@
+mod AskedLemmas
 mod Living
 mod Passing

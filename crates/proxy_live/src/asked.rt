@@ -1,19 +1,56 @@
 //! Which origin was asked for a reply.
 //!
-//! An engine works the least of its links that is due, and what it makes of the answer goes out right behind the end of that link. The end
-//! of a link that has failed isn't told: so these are kept in their order, as the engine takes them.
+//! What an engine makes of an answer goes out right behind the end of its link. The end of a link that has failed isn't told: so these
+//! are kept in the order in which the engine takes them, the least first. Where some of them may have no reply that order tells nothing,
+//! and a reply is of an origin only where it can be of no other.
+ghost use Rattle.std.specs.Prelude.{◌≡◌, ◌≤◌, length};
+ghost use Rattle.proxy_live.specs.Asked.{with_place, only_place, place_of};
 
+use crate::limits::PLACES;
 use std::alloc::Global;
+
+/// The origins of links that have failed, by their places.
+#[derive(Clone, Copy, Debug, PartialEq, Eq)]
+enum Places {
+    Nowhere,
+    One(usize),
+    Several,
+}
+
+impl Places {
+    /// These, and one more.
+    fn with(self, place: usize) -> Places
+        ensures { result ≡ with_place self place }
+    {
+        match self {
+            Places::Nowhere => Places::One(place),
+            Places::One(one) if one == place => self,
+            _ => Places::Several,
+        }
+    }
+
+    /// The place, where it is one.
+    fn only(self) -> Option<usize>
+        ensures { result ≡ only_place self }
+    {
+        match self {
+            Places::One(place) => Some(place),
+            _ => None,
+        }
+    }
+}
 
 /// The places of the origins that were asked for what goes out next.
 #[derive(Drop)]
 pub(crate) struct Asked {
     /// Of the link that was shut last.
     shut: Option<usize>,
-    /// Links that have failed, in their order, and the places of their origins.
+    /// Links that have failed and whose replies are to come, the least last, and the places of their origins; no more than can be open.
     failed: Vec<(u64, usize)>,
-    /// A client is lost: what failed may have been for it, and then no reply follows.
-    is_client_lost: bool,
+    /// The origins of all that have failed.
+    places: Places,
+    /// Some of what failed or was shut may have no reply.
+    is_unsure: bool,
 }
 
 impl Asked {
@@ -21,7 +58,8 @@ impl Asked {
         Asked {
             shut: None,
             failed: Vec::new(alloc),
-            is_client_lost: false,
+            places: Places::Nowhere,
+            is_unsure: false,
         }
     }
 
@@ -30,48 +68,72 @@ impl Asked {
         self.shut = place;
     }
 
-    /// A link has failed. Where there is no memory for it, its reply is of no origin.
-    pub(crate) fn lose_link(&mut self, l: u64, place: usize) {
-        if let Err(at) = self.failed.binary_search_by(|one| one.0.cmp(&l)) {
-            if at <= self.failed.len() {
-                let _ = self.failed.insert(at, (l, place));
-            }
+    /// A link has failed. Where it can't be kept the order of the others tells nothing.
+    pub(crate) fn lose_link(&mut self, l: u64, place: usize)
+        ensures places { self.new.places ≡ with_place self.old.places place }
+        ensures shut { self.new.shut ≡ self.old.shut }
+    {
+        self.places = self.places.with(place);
+        if !self.keep(l, place) {
+            self.is_unsure = true;
         }
     }
 
+    /// Keeps a link that has failed. Whether there was room and memory for it.
+    fn keep(&mut self, l: u64, place: usize) -> bool
+        ensures places { self.new.places ≡ self.old.places }
+        ensures shut { self.new.shut ≡ self.old.shut }
+    {
+        if self.failed.len() >= PLACES {
+            return false;
+        }
+        match self.failed.binary_search_by(|one| l.cmp(&one.0)) {
+            Ok(_) => true,
+            Err(at) => at <= self.failed.len() && self.failed.insert(at, (l, place)).is_ok(),
+        }
+    }
+
+    /// A link to an unknown origin has failed.
+    pub(crate) fn lose_any(&mut self) {
+        self.places = Places::Several;
+        self.is_unsure = true;
+    }
+
+    /// A client is lost that may have waited for an answer: no reply follows to what failed or is shut for it.
     pub(crate) fn lose_client(&mut self) {
-        self.is_client_lost = true;
+        self.is_unsure = true;
     }
 
-    /// Nothing is due any more of what has failed.
+    /// Nothing is due any more of what has failed or was shut.
     pub(crate) fn clear(&mut self) {
+        self.shut = None;
         self.failed.clear();
-        self.is_client_lost = false;
+        self.places = Places::Nowhere;
+        self.is_unsure = false;
     }
 
-    /// Whether all that failed were links to one origin.
-    fn is_of_one(&self) -> bool {
-        let Some((_, first)) = self.failed.first() else {
-            return true;
-        };
-        for (_, place) in &self.failed {
-            if place != first {
-                return false;
-            }
+    /// The place of the origin that was asked for the reply that goes out, where that is sure. `answered` tells whether that origin
+    /// answered, or failed.
+    #[tactic(auto, using(crate::proofs::AskedLemmas::least_place_append))]
+    pub(crate) fn next(&mut self, answered: bool) -> Option<usize>
+        ensures { result ≡ place_of self.old answered }
+    {
+        let shut = self.shut.take();
+        if answered {
+            return shut;
         }
-        true
-    }
-
-    /// The place of the origin that was asked for the reply that goes out, where that is sure.
-    pub(crate) fn next(&mut self) -> Option<usize> {
-        if let Some(place) = self.shut.take() {
-            return Some(place);
+        if self.is_unsure {
+            return match shut {
+                Some(place) => self.places.with(place).only(),
+                None => self.places.only(),
+            };
         }
-        let is_sure = !self.is_client_lost || self.is_of_one();
-        if self.failed.is_empty() {
-            return None;
+        match shut {
+            Some(place) => Some(place),
+            None => match self.failed.pop() {
+                Some((_, place)) => Some(place),
+                None => None,
+            },
         }
-        let (_, place) = self.failed.remove(0);
-        if is_sure { Some(place) } else { None }
     }
 }

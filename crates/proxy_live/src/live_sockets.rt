@@ -441,18 +441,32 @@ impl<'a, R: Net> LiveSockets<'a, R> {
             return Some((End::Link(l), kind));
         }
         let n = self.clients.next_lost()?;
+        self.asked.lose_client();
         Some((End::Client(n), FailKind::Closed))
     }
 
     /// The engine was told that an end is lost: no call on it follows.
     pub fn note_lost(&mut self, end: End) {
-        match end {
-            End::Listener => {}
-            End::Client(_) => self.asked.lose_client(),
-            End::Link(l) => {
-                if let Some(place) = self.links.remove(l, self.now) {
-                    self.asked.lose_link(l, place);
-                }
+        if let End::Link(l) = end {
+            self.end_failed(l);
+        }
+    }
+
+    /// Whether replies are counted, or a line of each is kept.
+    fn notes_replies(&self) -> bool {
+        self.log.is_some() || self.replies.is_some()
+    }
+
+    /// Takes a link out that has failed.
+    fn end_failed(&mut self, l: u64)
+        ensures accepts { self.new.accepts ≡ self.old.accepts }
+        ensures reads { self.new.reads ≡ self.old.reads }
+        ensures failures { self.new.failures ≡ self.old.failures }
+    {
+        let place = self.links.remove(l, self.now);
+        if self.notes_replies() {
+            if let Some(place) = place {
+                self.asked.lose_link(l, place);
             }
         }
     }
@@ -537,6 +551,7 @@ impl<'a, R: Net> LiveSockets<'a, R> {
             End::Client(n) => {
                 self.clients.count_forgotten(n, self.now);
                 self.clients.forget(n);
+                self.asked.lose_client();
             }
             End::Link(l) => {
                 self.links.count_overtime(l, self.now, &self.limits);
@@ -570,6 +585,7 @@ impl<'a, R: Net> LiveSockets<'a, R> {
         ensures failures { self.new.failures ≡ self.old.failures }
     {
         if !self.clients.write_to(n, bytes, self.now) {
+            self.asked.lose_client();
             return;
         }
         if !is_interim(bytes) {
@@ -605,7 +621,7 @@ impl<'a, R: Net> LiveSockets<'a, R> {
         if self.lost.push((l, kind)).is_ok() {
             return Ok(());
         }
-        let _ = self.links.remove(l, self.now);
+        self.end_failed(l);
         Err(SocketFailed)
     }
 
@@ -628,7 +644,10 @@ impl<'a, R: Net> LiveSockets<'a, R> {
         ensures reads { self.new.reads ≡ self.old.reads }
         ensures failures { self.new.failures ≡ self.old.failures }
     {
+        // What was shut last has no reply: its request goes forward once more.
+        self.asked.shut(None);
         let Ok(origin) = self.links.origins.place(address) else {
+            self.asked.lose_any();
             return Err(SocketFailed);
         };
         let begun = self.begin(l, address);
@@ -640,6 +659,7 @@ impl<'a, R: Net> LiveSockets<'a, R> {
         let peer = begun.ok();
         let is_lost = peer.is_none();
         if !self.links.put(Link::new(l, peer, self.now, origin)) {
+            self.asked.lose_link(l, origin);
             return Err(SocketFailed);
         }
         if is_lost {

@@ -346,6 +346,11 @@ impl Sort {
         }
     }
 
+    /// Whether an answer of the origin came, where it was asked; else it failed.
+    pub(crate) fn is_answered(&self) -> bool {
+        self.cause.is_none() && !self.is_covered()
+    }
+
     /// Whether a stored response was sent in place of a failure of the origin.
     pub(crate) fn is_covered(&self) -> bool {
         let after_failure = match self.detail {

@@ -66,7 +66,7 @@ impl<'a, R: Net> LiveSockets<'a, R> {
         ensures failures { self.new.failures ≡ self.old.failures }
     {
         match sort {
-            Some(sort) if sort.source() == Source::Origin => self.asked.next(),
+            Some(sort) if sort.source() == Source::Origin => self.asked.next(sort.is_answered()),
             _ => {
                 self.asked.shut(None);
                 None

@@ -1,0 +1,38 @@
+-- Which origin was asked for a reply, as far as the order of links tells. An origin is named by its place.
+use Rattle.std.specs.Prelude.{ℕ, ◌==◌, Bool, true, false, if◌then◌else◌, List, [], ◌∷◌, Option, Some, None}
+use Rattle.proxy_live.specs.declared.asked.Asked.{Asked}
+use Rattle.proxy_live.specs.declared.asked.Places.{Places}
+use Rattle.proxy_live.specs.declared.asked.Places.TheVariants.{Nowhere, One, Several}
+
+-- the origins of links that have failed, with one more
+abbrev pub with_place : Places → ℕ → Places
+with_place Nowhere place = One place
+with_place (One one) place = if one == place then One one else Several
+with_place Several place = Several
+
+-- the origin, where it is one
+abbrev pub only_place : Places → Option ℕ
+only_place Nowhere = None
+only_place (One place) = Some place
+only_place Several = None
+
+-- of links that have failed, the least last: the origin of the least
+abbrev pub least_place : List (ℕ × ℕ) → Option ℕ
+least_place [] = None
+least_place (one ∷ []) = Some one.1
+least_place (one ∷ (two ∷ rest)) = least_place (two ∷ rest)
+
+-- A failure of which the order tells nothing: its origin is the one of all that have failed, and of the link that was shut last.
+abbrev pub unsure_place : Places → Option ℕ → Option ℕ
+unsure_place places None = only_place places
+unsure_place places (Some place) = only_place (with_place places place)
+
+-- A failure: the link that was shut last had it, or else the least of those that have failed.
+abbrev pub failed_place : List (ℕ × ℕ) → Option ℕ → Option ℕ
+failed_place failed None = least_place failed
+failed_place failed (Some place) = Some place
+
+-- the origin of a reply; of an answer it is that of the link that was shut last
+abbrev pub place_of : Asked → Bool → Option ℕ
+place_of asked true = asked.shut
+place_of asked false = if asked.is_unsure then unsure_place asked.places asked.shut else failed_place asked.failed.items asked.shut
