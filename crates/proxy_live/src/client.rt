@@ -6,8 +6,9 @@ use crate::early::{Came, Early};
 use crate::lines::Line;
 use crate::peer::Peer;
 use crate::pieces::{LEAST, head_end};
+use crate::telling::Reply;
 use hx_fields::Bytes;
-use proxy_log::{Asked, Told};
+use proxy_log::Asked;
 use proxy_turn::Received;
 use std::alloc::{AllocError, Global};
 use std::io;
@@ -111,14 +112,10 @@ impl Client {
         }
     }
 
-    /// The line about a reply at a moment, in milliseconds since 1970, where a log is kept. It took so many milliseconds, and this origin
-    /// was asked, if any.
+    /// The line about a reply, where a log is kept.
     pub(crate) fn line_about(
         &mut self,
-        moment: u64,
-        told: &Told<'_>,
-        took: u64,
-        origin: &[u8],
+        reply: &Reply<'_>,
     ) -> Result<Option<proxy_log::Line>, AllocError> {
         let alloc = self.alloc;
         let Some(logged) = &mut self.logged else {
@@ -130,15 +127,15 @@ impl Client {
         let question = asked.next_question(alloc);
         let address = logged.address.to_string(alloc)?;
         Ok(Some(proxy_log::Line {
-            moment,
+            moment: reply.moment,
             client: Bytes::copy_of(alloc, address.as_str().as_bytes())?,
             method: question.method,
             target: question.target,
-            status: told.status,
-            length: told.length,
-            reason: Bytes::copy_of(alloc, told.reason)?,
-            took,
-            origin: Bytes::copy_of(alloc, origin)?,
+            status: reply.told.status,
+            length: reply.told.length(),
+            reason: Bytes::copy_of(alloc, reply.told.reason)?,
+            took: reply.took,
+            origin: Bytes::copy_of(alloc, reply.origin)?,
         }))
     }
 

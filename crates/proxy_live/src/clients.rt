@@ -259,11 +259,14 @@ impl Clients {
         false
     }
 
-    /// The request of a number was answered.
-    pub(crate) fn answered(&mut self, n: u64) {
-        if let Some(client) = self.get_mut(n) {
-            client.answered();
-        }
+    /// The request of a number was answered, so many milliseconds after its first byte had come.
+    pub(crate) fn answered(&mut self, n: u64, now: u64) -> u64 {
+        let Some(client) = self.get_mut(n) else {
+            return 0;
+        };
+        let took = client.took(now);
+        client.answered();
+        took
     }
 
     /// Whether something may have come that the next turn can read.

@@ -17,7 +17,7 @@ use hx_status::FailKind;
 use mio::event::Event;
 use mio::net::{TcpListener, TcpStream};
 use mio::{Events, Interest, Poll, Token};
-use proxy_log::Lines;
+use proxy_log::{Lines, ReplyReader};
 use proxy_turn::{End, MOST_WORKS, Received, Report, SocketFailed, Sockets, TurnFault};
 use std::alloc::{AllocError, Global};
 use std::io::ErrorKind;
@@ -68,6 +68,8 @@ pub struct LiveSockets<'a, R: Net> {
     pub(crate) log: Option<Lines>,
     /// Counts of replies, where they are kept.
     pub(crate) replies: Option<Replies>,
+    /// Reads replies, where they are counted or logged.
+    pub(crate) reader: ReplyReader,
     pub(crate) doors: Doors,
     pub(crate) turns: Turns,
     /// Who was asked for what goes out next.
@@ -224,6 +226,7 @@ impl<'a, R: Net> LiveSockets<'a, R> {
             limits,
             log: None,
             replies: None,
+            reader: ReplyReader::new(),
             doors: Doors::new(),
             turns: Turns::new(),
             asked: Asked::new(alloc),
@@ -589,10 +592,10 @@ impl<'a, R: Net> LiveSockets<'a, R> {
             return;
         }
         if !is_interim(bytes) {
-            if self.log.is_some() || self.replies.is_some() {
-                self.note_reply(n, bytes);
+            let took = self.clients.answered(n, self.now);
+            if self.notes_replies() {
+                self.note_reply(n, bytes, took);
             }
-            self.clients.answered(n);
         }
         self.clients.keep_within();
     }

@@ -415,7 +415,7 @@ fn refused(text: &[u8]) -> Option<Sort> {
 
 /// What a reply counts as, by what it says of itself.
 pub(crate) fn sort_of(text: &[u8]) -> Option<Sort> {
-    if text.starts_with(b"hit") {
+    if let [b'h', b'i', b't', ..] = text {
         return Some(Sort::plain(Reason::Hit));
     }
     match text.strip_prefix(b"fwd=".as_slice()) {

@@ -4,26 +4,30 @@ ghost use Rattle.std.specs.Prelude.{◌≡◌};
 use crate::clients::Clients;
 use crate::live_sockets::LiveSockets;
 use crate::sorts::{Sort, Source, sort_of};
-use proxy_log::{Lines, Told, told_by};
+use proxy_log::{Lines, Told};
 use std::net::Net;
 
-/// Adds the line about a reply, where a log is kept.
-fn log_reply(
-    log: &mut Option<Lines>,
-    clients: &mut Clients,
-    n: u64,
-    moment: u64,
-    told: &Told<'_>,
-    took: u64,
-    origin: &[u8],
-) {
+/// A reply that was written.
+#[derive(Clone, Copy, Debug)]
+pub(crate) struct Reply<'a> {
+    /// When, in milliseconds since 1970.
+    pub(crate) moment: u64,
+    pub(crate) told: Told<'a>,
+    /// Milliseconds since the first byte of its request came.
+    pub(crate) took: u64,
+    /// The address of the origin that was asked; empty where none was, or none is known.
+    pub(crate) origin: &'a [u8],
+}
+
+/// Adds the line about a reply to the client of a number, where a log is kept.
+fn log_reply(log: &mut Option<Lines>, clients: &mut Clients, n: u64, reply: &Reply<'_>) {
     let Some(lines) = log else {
         return;
     };
     let Some(client) = clients.get_mut(n) else {
         return;
     };
-    match client.line_about(moment, told, took, origin) {
+    match client.line_about(reply) {
         Ok(Some(line)) => lines.add(&line),
         Ok(None) => {}
         Err(_) => lines.lose(),
@@ -31,32 +35,25 @@ fn log_reply(
 }
 
 impl<'a, R: Net> LiveSockets<'a, R> {
-    /// Counts a reply, and adds the line about it.
-    pub(crate) fn note_reply(&mut self, n: u64, reply: &[u8])
+    /// Counts a reply that took so many milliseconds, and adds the line about it.
+    pub(crate) fn note_reply(&mut self, n: u64, bytes: &[u8], took: u64)
         ensures accepts { self.new.accepts ≡ self.old.accepts }
         ensures reads { self.new.reads ≡ self.old.reads }
         ensures failures { self.new.failures ≡ self.old.failures }
     {
-        let Some(told) = told_by(reply) else {
+        let Some(told) = self.reader.read(bytes) else {
             return;
         };
         let sort = sort_of(told.reason);
-        let took = match self.clients.get(n) {
-            Some(client) => client.took(self.now),
-            None => 0,
-        };
         let origin = self.origin_of(sort);
         self.count_reply(told.status, sort, took, origin);
-        let address = self.links.origins.address(origin);
-        log_reply(
-            &mut self.log,
-            &mut self.clients,
-            n,
-            self.moment,
-            &told,
+        let reply = Reply {
+            moment: self.moment,
+            told,
             took,
-            address,
-        );
+            origin: self.links.origins.address(origin),
+        };
+        log_reply(&mut self.log, &mut self.clients, n, &reply);
     }
 
     /// The place of the origin that was asked for a reply: what an engine makes of an answer goes out right behind the end of its link.

@@ -16,4 +16,4 @@ pub use crate::asked::{Asked, Question};
 pub use crate::line::{Line, line_text};
 pub use crate::lines::Lines;
 pub use crate::seconds::push_seconds;
-pub use crate::told::{Told, told_by};
+pub use crate::told::{ReplyReader, Told};

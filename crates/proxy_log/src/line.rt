@@ -1,5 +1,5 @@
 //! A line of the log, and its text.
-ghost use Rattle.std.specs.Prelude.{◌≡◌, ◌<◌, ◌++◌, codes, decimal, false, IfOk, OnOk};
+ghost use Rattle.std.specs.Prelude.{◌≡◌, ◌<◌, ◌++◌, codes, decimal, false, IfOk, OnOk, IsTrue};
 ghost use Rattle.proxy_log.specs.Line.{is_shown, hex_digit, shown_byte, shown_text, word_text, line_text};
 ghost use Rattle.proxy_log.specs.Seconds.{seconds_text};
 
@@ -54,9 +54,25 @@ fn push_byte(text: &mut Vec<u8>, blanks: bool, b: u8) -> Result<(), AllocError>
     text.extend_from_slice(&[b'\\', b'x', hex_digit(b / 16), hex_digit(b % 16)])
 }
 
+/// Whether each of these bytes stands for itself.
+fn are_shown(blanks: bool, bytes: &[u8]) -> bool
+    ensures { IsTrue result → shown_text blanks bytes.now ≡ bytes.now }
+{
+    for b in bytes {
+        if !is_shown(blanks, *b) {
+            return false;
+        }
+    }
+    true
+}
+
 fn push_shown(text: &mut Vec<u8>, blanks: bool, bytes: &[u8]) -> Result<(), AllocError>
     ensures { OnOk result (text.new.items ≡ text.old.items ++ shown_text blanks bytes.now) }
 {
+    // Nearly all words are such ones, and are copied at once.
+    if are_shown(blanks, bytes) {
+        return text.extend_from_slice(bytes);
+    }
     for b in bytes {
         push_byte(text, blanks, *b)?;
     }
