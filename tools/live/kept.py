@@ -1,6 +1,9 @@
-"""Scenarios of what memory keeps: nothing of a request's head, neither with what is stored nor with what is over."""
-from live.client import request
-from live.expect import Unexpected, expect_answer
+"""Scenarios of what memory keeps: nothing of a request's head, neither with what is stored nor with what is over; and of a want of it."""
+import resource
+import threading
+
+from live.client import PATIENCE, request
+from live.expect import Unexpected, expect, expect_answer
 from live.origin import Origin, whole
 from live.scenario import KEPT, scenario
 
@@ -45,3 +48,24 @@ def what_is_over_keeps_no_head(stage):
     grown = proxy.resident() - before
     if grown > 1 << 20:
         raise Unexpected("of 200 misses that aren't stored, with heads of 30,000 bytes,", "no memory", f"{grown} bytes")
+
+
+@scenario
+def a_turn_without_memory_is_done_later(stage):
+    """A process that gets no more memory says so once; the upload that wanted some goes on where there is memory again."""
+    stage.origin(Origin({"/a": whole(201, content=b"made")}))
+    proxy = stage.proxy(records=False)
+    client = proxy.client()
+    expect("status", 201, client.ask("/a", method="POST", content=b"x").status)
+    proxy.limit_memory(proxy.reserved())
+    content = b"y" * 900_000
+    sender = threading.Thread(target=client.send, args=[request("/a", method="POST", content=content)], daemon=True)
+    sender.start()
+    expect("a line on standard error in time", True, proxy.has_said(PATIENCE))
+    proxy.limit_memory(resource.RLIM_INFINITY)
+    sender.join(PATIENCE)
+    expect("status", 201, client.response().status)
+    expect("the content at the origin", content, stage.origins[0].fetches[1].content)
+    proxy.process.terminate()
+    said = "warning: no memory is left for the turn; nothing that was read is lost, and what is left undone is done in a later turn\n"
+    expect("on standard error", said, proxy.wait()[2])

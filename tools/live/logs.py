@@ -1,6 +1,7 @@
 """Scenarios of the log: a line for each reply, whatever a client sends, and whether or not it can be written."""
 import os
 import re
+import shutil
 import signal
 import subprocess
 import time
@@ -192,7 +193,7 @@ def a_log_on_standard_output(stage):
 
 @scenario
 def a_log_that_cannot_be_written(stage):
-    """A full disk: it is told once, and each reply goes out."""
+    """A full disk: it is told once, with the system's reason on standard output, and each reply goes out."""
     if not os.path.exists("/dev/full"):
         raise Skipped("there is no /dev/full")
     stage.origin(Origin({"/a": whole(200, KEPT, content=b"hello")}))
@@ -200,7 +201,75 @@ def a_log_that_cannot_be_written(stage):
     for it in ("edge;fwd=uri-miss;ttl=600;stored", "edge;hit;ttl=600", "edge;hit;ttl=600"):
         expect_answer(client.ask("/a"), 200, it, b"hello")
     time.sleep(0.2)
-    stage.lines = 1
+    stage.lines, stage.said = 1, b"the log /dev/full can't be written: No space left on device (os error 28)\n"
+
+
+@scenario
+def a_log_on_a_full_standard_output(stage):
+    """`--log -`: where standard output takes no line, nothing else is said there, and each reply goes out."""
+    if not os.path.exists("/dev/full"):
+        raise Skipped("there is no /dev/full")
+    origin = stage.origin(Origin({"/a": whole(200, KEPT, content=b"hello")}))
+    with open("/dev/full", "wb") as full:
+        proxy = Proxy(stage.program, stage.room.name, table_of([origin.address]), options=["--log", "-"], records=False, output=full)
+    try:
+        client = proxy.client()
+        for it in ("edge;fwd=uri-miss;ttl=600;stored", "edge;hit;ttl=600"):
+            expect_answer(client.ask("/a"), 200, it, b"hello")
+        time.sleep(0.2)
+        proxy.process.send_signal(signal.SIGTERM)
+        expect("on standard error", "log fault\n", proxy.wait()[2])
+    finally:
+        proxy.process.kill()
+
+
+REFUSER = os.path.join(os.path.dirname(os.path.dirname(os.path.realpath(__file__))), "refuse_memory", "refuse_memory.c")
+
+
+def told_of_a_denial(stage, library, n):
+    """A server whose Nth request for memory is refused is asked twice for what is denied: how many requests there were before the second
+    answer and behind it, and what it has said on standard output and standard error."""
+    file = f"{stage.room.name}/count"
+    with open(file, "wb") as it:
+        it.write(bytes(8))
+    more = {**os.environ, "LD_PRELOAD": library, "REFUSE_COUNT": file, "REFUSE_ONLY": str(n)}
+    table, log = table_of([("/", ["*"], "deny")]), f"{stage.room.name}/log"
+    proxy = Proxy(stage.program, stage.room.name, table, options=["--log", log], records=False, environment=more)
+    try:
+        client = proxy.client()
+        client.ask("/a")
+        before = number_in(file)
+        expect_refusal(client.ask("/a"), 403, "denied by line 1")
+        time.sleep(0.1)
+        proxy.process.terminate()
+        return before, number_in(file), *proxy.wait()[1:]
+    finally:
+        proxy.process.kill()
+
+
+def number_in(file):
+    with open(file, "rb") as it:
+        return int.from_bytes(it.read(), "little")
+
+
+@scenario
+def a_line_without_memory_is_lost(stage):
+    """The last requests for memory of an answer, for the line about it, are refused one by one: the answer goes out, and why its line is lost
+    is told."""
+    if not shutil.which("cc"):
+        raise Skipped("there is no cc")
+    library = f"{stage.room.name}/refuse_memory.so"
+    subprocess.run(["cc", "-O1", "-shared", "-fPIC", "-o", library, REFUSER], check=True)
+    first, last, *said = told_of_a_denial(stage, library, 0)
+    expect("where nothing is refused, on both outputs", [b"", ""], said)
+    lost = 0
+    for n in range(last, first, -1):
+        said = told_of_a_denial(stage, library, n)[2:]
+        if "log fault" not in said[1]:
+            break
+        expect("on both outputs", (b"no memory is left for lines of the log; give the process more\n", "log fault\n"), said)
+        lost += 1
+    expect("whether a line was lost", True, lost > 0)
 
 
 @scenario
@@ -214,7 +283,8 @@ def lines_that_were_lost_are_counted(stage):
     client = proxy.client()
     for _ in range(3):
         expect_refusal(client.ask("/a"), 403, "denied by line 1")
-    expect("status, output and standard error", (0, b"", "log fault\nlog fault 3\n"), proxy.wait())
+    said = b"the log /dev/full can't be written: No space left on device (os error 28)\n"
+    expect("status, output and standard error", (0, said, "log fault\nlog fault 3\n"), proxy.wait())
 
 
 @scenario

@@ -28,7 +28,7 @@ def table_of(lines, max_body=1000000, max_stored=100000, capacity=64):
 class Proxy:
     """A running program, and the clients that connect to it. It stays until it is stopped, but where it is given turns."""
 
-    def __init__(self, program, folder, table, turns=None, options=(), listen="127.0.0.1:0", records=True, environment=None):
+    def __init__(self, program, folder, table, turns=None, options=(), listen="127.0.0.1:0", records=True, environment=None, output=subprocess.PIPE):
         self.program, self.folder, self.clients, self.numbers = program, folder, [], itertools.count(1)
         # (a record is never written over another one)
         self.record = next(it for it in (f"{folder}/record-{i}" for i in itertools.count(1)) if not os.path.exists(it))
@@ -38,7 +38,7 @@ class Proxy:
         words += ["--turns", str(turns)] if turns else []
         words += ["--record", self.record] if records else []
         self.is_recorded = records
-        how = {"stdin": subprocess.DEVNULL, "stdout": subprocess.PIPE, "stderr": subprocess.PIPE, "env": environment}
+        how = {"stdin": subprocess.DEVNULL, "stdout": output, "stderr": subprocess.PIPE, "env": environment}
         self.process = subprocess.Popen([program, *words, *options], **how)
         self.port = self.read_port()
 
@@ -105,6 +105,14 @@ class Proxy:
     def limit_descriptors(self, count):
         resource.prlimit(self.process.pid, resource.RLIMIT_NOFILE, (count, count))
 
+    def limit_memory(self, count):
+        """The bytes of memory that the program may have, used or not; those that it has stay."""
+        resource.prlimit(self.process.pid, resource.RLIMIT_AS, (count, resource.RLIM_INFINITY))
+
+    def has_said(self, within):
+        """Whether something more comes on standard error in time."""
+        return bool(select.select([self.process.stderr], [], [], within)[0])
+
     def wait(self):
         """Waits for the end of the program by itself; its status, and what it wrote behind its first line."""
         try:
@@ -134,8 +142,9 @@ class Proxy:
             size = now
             time.sleep(0.5)
 
-    def stop(self, lines):
-        """Ends the program as a supervisor does. It has said so many lines behind its first, or as many as a range has."""
+    def stop(self, lines, said=b""):
+        """Ends the program as a supervisor does. It has said so many lines behind its first, or as many as a range has, and on standard
+        output what is given."""
         for it in self.clients:
             it.settle()
         ended = self.process.poll()
@@ -143,8 +152,8 @@ class Proxy:
             raise Unexpected("the program", "to run still", f"status {ended}, and {self.process.stderr.read()!r}")
         self.process.terminate()
         _, out, err = self.wait()
-        if out or err.count("\n") not in (lines if isinstance(lines, range) else [lines]):
-            raise Unexpected("of output nothing and of standard error", f"{lines} lines more", (out, err))
+        if out != said or err.count("\n") not in (lines if isinstance(lines, range) else [lines]):
+            raise Unexpected(f"of output {said!r} and of standard error", f"{lines} lines more", (out, err))
 
     def compare(self, origins, is_cut=False):
         """Replays the record of the run, and compares it with what every client and origin got."""
@@ -160,7 +169,7 @@ class Stage:
 
     def __init__(self, program):
         self.program, self.room = program, tempfile.TemporaryDirectory(prefix="live-test-")
-        self.origins, self.proxies, self.lines, self.is_cut = [], [], 0, False
+        self.origins, self.proxies, self.lines, self.said, self.is_cut = [], [], 0, b"", False
 
     def origin(self, it):
         self.origins.append(it)
@@ -177,7 +186,7 @@ class Stage:
         """Called where all that the scenario itself expects has come."""
         running = [it for it in self.proxies if it.process.returncode is None]
         for it in running:
-            it.stop(self.lines)
+            it.stop(self.lines, self.said)
         for it in (one for one in running if one.is_recorded):
             it.compare([one for one in self.origins if hasattr(one, "fetches")], self.is_cut)
 

@@ -30,6 +30,8 @@ pub(crate) struct Journal<F: Write + Drop, P: Write + Drop> {
     lost: u64,
     /// The last write failed, and may have left a part of a line.
     torn: bool,
+    /// Why a write failed, the last one that did.
+    why: Option<io::Error>,
 }
 
 /// The file of a log, to whose end lines are added.
@@ -54,6 +56,7 @@ impl<F: Write + Drop, P: Write + Drop> Journal<F, P> {
             target,
             lost: 0,
             torn: false,
+            why: None,
         }
     }
 
@@ -62,18 +65,33 @@ impl<F: Write + Drop, P: Write + Drop> Journal<F, P> {
         self.lost
     }
 
+    /// Why lines couldn't be written.
+    pub(crate) fn why(&self) -> Option<&io::Error> {
+        self.why.as_ref()
+    }
+
     /// Writes whole lines; an LF in front of them ends what a failed write has left.
+    fn write_whole(&mut self, lines: &[u8]) -> io::Result<()> {
+        if self.torn {
+            self.target.write_all(b"\n")?;
+        }
+        self.target.write_all(lines)
+    }
+
+    /// Writes whole lines, or counts them as lost.
     pub(crate) fn write(&mut self, lines: &[u8]) {
         if lines.is_empty() {
             return;
         }
-        let ended = !self.torn || self.target.write_all(b"\n").is_ok();
-        self.torn = !ended || self.target.write_all(lines).is_err();
-        if self.torn {
-            for b in lines {
-                if *b == b'\n' {
-                    self.lost = self.lost.saturating_add(1);
-                }
+        let Err(e) = self.write_whole(lines) else {
+            self.torn = false;
+            return;
+        };
+        self.torn = true;
+        self.why = Some(e);
+        for b in lines {
+            if *b == b'\n' {
+                self.lost = self.lost.saturating_add(1);
             }
         }
     }

@@ -1,6 +1,5 @@
 //! Serving: the table, the listener, the record and the log, and then turn after turn.
 
-use crate::clock_watch::ClockWatch;
 use crate::command_line::Service;
 use crate::descriptors::{allowed, wanted};
 use crate::fault::{Fault, fault_of, words_of};
@@ -78,13 +77,6 @@ fn announce<R: Files + Eprint + AllocGlobal>(rt: &R, address: SocketAddr, limits
     }
 }
 
-/// Tells that the clock went back.
-fn warn_of_clock<R: Eprint>(rt: &R, seconds: u64) {
-    let _ = eprintln!(rt;
-        "warning: the clock went back by {seconds} seconds; what was stored before may be sent for so much longer"
-    );
-}
-
 /// Serves as many turns as are asked for, or until it is to end. Lines about replies are written behind each turn.
 fn serve_turns<'a, R, S: Shelf + Drop, P: Write + Drop>(
     rt: &R,
@@ -95,27 +87,20 @@ fn serve_turns<'a, R, S: Shelf + Drop, P: Write + Drop>(
     figures: &mut Option<Figures<'_>>,
 ) -> Result<(), Fault>
 where
-    R: Net + Clock + Files + Eprint + AllocGlobal,
+    R: Net + Clock + Files + Print + Eprint + AllocGlobal,
 {
     let mut watch = watch;
-    let mut told = false;
     let mut log_told = false;
-    let mut clock = ClockWatch::new();
     let mut warnings = Warnings::new();
     for _ in 0..turns {
         // What a turn that ended early left undone is done in the next one.
         let turned = server.serve_turn(rt)?;
-        if let Some(seconds) = clock.look(turned.moment, server.second()) {
-            warn_of_clock(rt, seconds);
-        }
-        if !told && server.record_has_ended() {
-            told = true;
-            let _ = eprintln!(rt; "record ended");
-        }
+        warnings.look_back(rt, server, &turned);
         let lost = write_log(server, journal);
         if lost > 0 && !log_told {
             log_told = true;
             let _ = eprintln!(rt; "log fault");
+            let _ = watch.explain_log(rt, journal);
         }
         if let Some(figures) = figures {
             figures.follow(rt, server, lost);

@@ -1,7 +1,8 @@
-//! What an operator is told on standard error while it serves, each at most once a minute.
+//! What an operator is told on standard error while it serves: each warning at most once a minute.
 
+use crate::clock_watch::ClockWatch;
 use hx_store::Shelf;
-use proxy_live::Server;
+use proxy_live::{Server, Turned};
 use std::io::Write;
 use std::net::Net;
 
@@ -32,13 +33,16 @@ impl Seldom {
     }
 }
 
-/// How often the server couldn't do what was asked, as it was told last.
+/// How often the server couldn't do what was asked, as it was told last, and what else is told of its turns.
 #[derive(Clone, Copy, Debug)]
 pub(crate) struct Warnings {
     full: Seldom,
     crowded: Seldom,
     no_descriptor: Seldom,
     no_link: Seldom,
+    cut: Seldom,
+    clock: ClockWatch,
+    record_told: bool,
     refused: u64,
     without_descriptor: u64,
     links: u64,
@@ -51,9 +55,36 @@ impl Warnings {
             crowded: Seldom::new(),
             no_descriptor: Seldom::new(),
             no_link: Seldom::new(),
+            cut: Seldom::new(),
+            clock: ClockWatch::new(),
+            record_told: false,
             refused: 0,
             without_descriptor: 0,
             links: 0,
+        }
+    }
+
+    /// Tells what is to be told of a turn: that it ended early, that the clock went back, and once that the record has ended.
+    pub(crate) fn look_back<'s, R: Net + Eprint, S: Shelf + Drop, W: Write + Drop>(
+        &mut self,
+        rt: &R,
+        server: &Server<'s, S, R, W>,
+        turned: &Turned,
+    ) {
+        let second = server.second();
+        if let Err(fault) = &turned.told {
+            if self.cut.is_due(second) {
+                let _ = eprintln!(rt; "warning: {fault}");
+            }
+        }
+        if let Some(seconds) = self.clock.look(turned.moment, second) {
+            let _ = eprintln!(rt;
+                "warning: the clock went back by {seconds} seconds; what was stored before may be sent for so much longer"
+            );
+        }
+        if !self.record_told && server.record_has_ended() {
+            self.record_told = true;
+            let _ = eprintln!(rt; "record ended");
         }
     }
 

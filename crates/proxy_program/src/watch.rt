@@ -3,10 +3,10 @@
 use crate::journal::Journal;
 use hx_store::Shelf;
 use proxy_live::Server;
-use std::fs;
 use std::io::Write;
 use std::net::Net;
 use std::rt::{Clock, Files};
+use std::{fs, io};
 
 /// How a server is watched, and since when it is to end.
 #[derive(Clone, Copy, Debug)]
@@ -52,6 +52,24 @@ impl<'a> Watch<'a> {
                 Err(_) => false,
             },
             None => false,
+        }
+    }
+
+    /// Says on standard output why lines of the log are lost, unless the log itself is there.
+    pub(crate) fn explain_log<R: Print, F: Write + Drop, P: Write + Drop>(
+        &self,
+        rt: &R,
+        journal: &Option<Journal<F, P>>,
+    ) -> io::Result<()> {
+        let (Some(path), Some(journal)) = (self.log, journal) else {
+            return Ok(());
+        };
+        if path == "-" {
+            return Ok(());
+        }
+        match journal.why() {
+            Some(e) => println!(rt; "the log {path} can't be written: {e}"),
+            None => println!(rt; "no memory is left for lines of the log; give the process more"),
         }
     }
 
