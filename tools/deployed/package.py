@@ -22,6 +22,7 @@ def package(stand):
         raise Skipped("dpkg --root is root's")
     first, later = (built(stand, it) for it in (FIRST, NEXT))
     yield "lintian_has_no_error", lambda: lintian_has_no_error(first)
+    yield "its_program_names_its_commit", lambda: its_program_names_its_commit(stand, first)
     yield "man_reads_the_pages", lambda: man_reads_the_pages(stand, first)
     yield "systemd_reads_its_units", lambda: systemd_reads_its_units(stand, first)
     yield "the_pages_have_what_help_has", lambda: the_pages_have_what_help_has(stand, first)
@@ -50,6 +51,14 @@ def lintian_has_no_error(path):
 def unpacked(stand, path, name):
     run("dpkg-deb", "--extract", path, f"{stand.folder}/{name}")
     return f"{stand.folder}/{name}"
+
+
+def its_program_names_its_commit(stand, path):
+    """That of the package; the program that was packed doesn't."""
+    commit = run("git", "-C", ROOT, "rev-parse", "HEAD").strip()
+    program = f"{unpacked(stand, path, 'program')}/usr/bin/revcache"
+    expect("of the program in the package", f"revcache 0.2.0 ({commit})\n", run(program, "--version"))
+    expect("of the program that was packed", "revcache 0.2.0\n", run(stand.program, "--version"))
 
 
 def man_reads_the_pages(stand, path):

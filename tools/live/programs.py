@@ -10,9 +10,10 @@ import subprocess
 import sys
 import urllib.request
 
+from live.client import PATIENCE
 from live.expect import Skipped, Unexpected, expect, expect_answer
 from live.origin import Origin, whole
-from live.proxy import table_of
+from live.proxy import Proxy, table_of
 from live.scenario import KEPT, scenario
 
 TOOLS = os.path.dirname(os.path.dirname(os.path.realpath(__file__)))
@@ -180,6 +181,36 @@ def help_has_groups_defaults_and_statuses(stage):
         if it not in said:
             raise Unexpected("from --help", f"`{it}`", said)
     expect("from --version", "revcache 0.2.0\n", run(stage, "--version")[1])
+
+
+@scenario
+def a_stamped_program_names_its_commit(stage):
+    """tools/stamp: the copy says which commit it is of, to who asks for its version and in its figures; the program itself doesn't. What is
+    stamped already, has the bytes for the commit twice, or would get what is no commit's name is refused, and nothing is written."""
+    commit, copy = "0123456789abcdef0123456789abcdef01234567", f"{stage.room.name}/stamped"
+    expect("from tools/stamp", 0, stamped(stage.program, copy, commit))
+    ran = subprocess.run([copy, "--version"], stdin=subprocess.DEVNULL, capture_output=True, timeout=PATIENCE)
+    expect("status, output and standard error", (0, f"revcache 0.2.0 ({commit})\n".encode(), b""), (ran.returncode, ran.stdout, ran.stderr))
+    stage.origin(Origin({}))
+    for program, named in ((stage.program, ""), (copy, commit)):
+        file = f"{stage.room.name}/figures-{named}"
+        proxy = Proxy(program, stage.room.name, table_of([stage.origins[0].address]), options=["--stats", file], records=False)
+        proxy.stop(0)
+        with open(file, encoding="ascii") as it:
+            expect("the build in the figures", 1, it.read().count(f',version="0.2.0",commit="{named}"}} 1\n'))
+    twice, into = f"{stage.room.name}/twice", f"{stage.room.name}/into"
+    with open(stage.program, "rb") as it:
+        built = it.read()
+    with open(twice, "wb") as it:
+        it.write(built + built)
+    for program, name in ((copy, commit), (twice, commit), (stage.program, commit[1:]), (stage.program, "g" + commit[1:])):
+        expect("from tools/stamp", 1, stamped(program, into, name))
+        expect("whether a copy is there", False, os.path.exists(into))
+
+
+def stamped(program, into, commit):
+    words = [f"{TOOLS}/stamp", program, "--into", into, "--commit", commit]
+    return subprocess.run(words, capture_output=True, timeout=PATIENCE).returncode
 
 
 @scenario

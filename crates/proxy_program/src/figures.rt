@@ -10,15 +10,13 @@ use std::io::{ErrorKind, Write};
 use std::net::Net;
 use std::rt::Files;
 
-/// The commit that the program was built from. A build can't know it.
-const COMMIT: &str = "";
-
 /// Where the figures go, and what a server can't know of itself.
 #[derive(Drop)]
 pub(crate) struct Figures<'a> {
     file: StatsFile<'a>,
     began: u64,
     capacity: u64,
+    commit: String,
     store: &'a StoreCounts,
     /// The second in which they were written last.
     written: Option<u64>,
@@ -30,12 +28,14 @@ impl<'a> Figures<'a> {
         file: StatsFile<'a>,
         began: u64,
         capacity: u64,
+        commit: String,
         store: &'a StoreCounts,
     ) -> Figures<'a> {
         Figures {
             file,
             began,
             capacity,
+            commit,
             store,
             written: None,
             warned: Seldom::new(),
@@ -51,7 +51,7 @@ impl<'a> Figures<'a> {
     ) -> io::Result<()> {
         let about = About {
             version: VERSION,
-            commit: COMMIT,
+            commit: self.commit.as_str(),
             began: self.began,
             capacity: self.capacity,
             store: self.store,

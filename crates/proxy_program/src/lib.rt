@@ -5,6 +5,7 @@
 
 mod clock_watch;
 mod command_line;
+mod commit;
 mod descriptors;
 mod fault;
 mod figures;

@@ -1,18 +1,19 @@
 //! What the command line asks for, done.
 
-use crate::command_line::{Form, Service, form_of, read};
+use crate::command_line::{Form, Service, VERSION, form_of, read};
+use crate::commit::commit_of;
 use crate::fault::{Fault, fault_of};
 use crate::files::read_table;
 use crate::serving::serve;
 use clap::Error;
 use clap::error::ErrorKind;
 use hx_allow::Config;
-use std::env;
 use std::io::IsTerminal;
 use std::net::Net;
 use std::process::ExitCode;
 use std::random::RandomSource;
 use std::rt::{Clock, Env, Files};
+use std::{env, io};
 
 /// Checks a table, and tells how many lines it has.
 fn check<R: Files + Print + AllocGlobal>(rt: &R, path: &str) -> Result<(), Fault> {
@@ -26,10 +27,23 @@ fn check<R: Files + Print + AllocGlobal>(rt: &R, path: &str) -> Result<(), Fault
     }
 }
 
-/// What the words ask for in place of a form: help or the version, which the library prints; else they are at fault.
-fn explain<R: Print + Eprint + AllocGlobal>(rt: &R, error: &Error) -> Result<(), Fault> {
+/// Prints the program's name and version, and the commit that it was built from, where that is known.
+fn print_version<R: Print>(rt: &R, commit: &str) -> io::Result<()> {
+    if commit.is_empty() {
+        println!(rt; "revcache {VERSION}")
+    } else {
+        println!(rt; "revcache {VERSION} ({commit})")
+    }
+}
+
+/// What the words ask for in place of a form: help, which the library prints, or the version; else they are at fault.
+fn explain<R: Files + Print + Eprint + AllocGlobal>(rt: &R, error: &Error) -> Result<(), Fault> {
     match error.kind() {
-        ErrorKind::DisplayHelp | ErrorKind::DisplayVersion => match error.print(rt) {
+        ErrorKind::DisplayHelp => match error.print(rt) {
+            Ok(()) => Ok(()),
+            Err(_) => Err(Fault::Write(None)),
+        },
+        ErrorKind::DisplayVersion => match print_version(rt, commit_of(rt)?.as_str()) {
             Ok(()) => Ok(()),
             Err(_) => Err(Fault::Write(None)),
         },

@@ -1,6 +1,7 @@
 //! Serving: the table, the listener, the record and the log, and then turn after turn.
 
 use crate::command_line::Service;
+use crate::commit::commit_of;
 use crate::descriptors::{allowed, wanted};
 use crate::fault::{Fault, fault_of, words_of};
 use crate::figures::Figures;
@@ -154,7 +155,7 @@ fn journal_of<R: Files + AllocGlobal, P: Write + Drop>(
 }
 
 /// Where the figures go, if they are asked for, and that they are counted.
-fn figures_of<'a, 'n, R: Net + Clock + AllocGlobal>(
+fn figures_of<'a, 'n, R: Net + Clock + Files + AllocGlobal>(
     rt: &R,
     path: Option<&'a str>,
     config: &Config,
@@ -172,7 +173,8 @@ fn figures_of<'a, 'n, R: Net + Clock + AllocGlobal>(
     let began = whole.saturating_add(u64::from(now.subsec_millis()));
     let file = StatsFile::new(rt, path)?;
     let capacity = config.capacity() as u64;
-    Ok(Some(Figures::new(file, began, capacity, store)))
+    let commit = commit_of(rt)?;
+    Ok(Some(Figures::new(file, began, capacity, commit, store)))
 }
 
 /// A number that nobody can foresee, for what tells variants apart before they are looked at.
