@@ -1,5 +1,9 @@
 -- The words by which replies are counted: those of Cache-Status (RFC 9211, section 2) and of Refusal.
-use Rattle.std.specs.Prelude.{ℕ, List, [], ◌∷◌, codes}
+use Rattle.std.specs.Prelude.{ℕ, List, [], ◌∷◌, ◌++◌, codes}
+use Rattle.hx_framing.specs.declared.fault.FrameFault.TheVariants as frame
+use Rattle.hx_target.specs.declared.faults.TargetFault.TheVariants as target
+use Rattle.hx_status.specs.declared.cause.FailKind.TheVariants.{Refused, TimedOut, Closed, BadAnswer, TooLarge}
+use Rattle.hx_status.specs.Refusals.{kind_word, frame_word, target_word}
 use Rattle.proxy_live.specs.declared.sorts.Reason.{Reason}
 use Rattle.proxy_live.specs.declared.sorts.Reason.TheVariants as reason
 use Rattle.proxy_live.specs.declared.sorts.Detail.{Detail}
@@ -42,31 +46,32 @@ detail_text detail.ReuseAfterError = codes "reuse-after-error"
 detail_text detail.ReuseAfter304 = codes "reuse-after-304"
 detail_text detail.Other = codes "other"
 
+-- what an origin did, and what is wrong with a message or its target, have the words of Refusal
 abbrev pub cause_text : Cause → List ℕ
 cause_text cause.Denied = codes "denied"
 cause_text cause.NoLine = codes "no-line"
 cause_text cause.OnlyIfCached = codes "only-if-cached"
-cause_text cause.OriginRefused = codes "origin-refused"
-cause_text cause.OriginTimedOut = codes "origin-timed-out"
-cause_text cause.OriginClosed = codes "origin-closed"
-cause_text cause.OriginBadAnswer = codes "origin-bad-answer"
-cause_text cause.OriginTooLarge = codes "origin-too-large"
-cause_text cause.Head = codes "head"
-cause_text cause.Version = codes "version"
-cause_text cause.BothLengths = codes "both-lengths"
-cause_text cause.Length = codes "length"
-cause_text cause.Coding = codes "coding"
-cause_text cause.Chunk = codes "chunk"
-cause_text cause.TooLarge = codes "too-large"
-cause_text cause.Expect = codes "expect"
-cause_text cause.Form = codes "form"
-cause_text cause.Scheme = codes "scheme"
-cause_text cause.Host = codes "host"
-cause_text cause.Port = codes "port"
-cause_text cause.Userinfo = codes "userinfo"
-cause_text cause.Escape = codes "escape"
-cause_text cause.DotSegment = codes "dot-segment"
-cause_text cause.TooLong = codes "too-long"
+cause_text cause.OriginRefused = codes "origin-" ++ kind_word Refused
+cause_text cause.OriginTimedOut = codes "origin-" ++ kind_word TimedOut
+cause_text cause.OriginClosed = codes "origin-" ++ kind_word Closed
+cause_text cause.OriginBadAnswer = codes "origin-" ++ kind_word BadAnswer
+cause_text cause.OriginTooLarge = codes "origin-" ++ kind_word TooLarge
+cause_text cause.Head = frame_word frame.Head
+cause_text cause.Version = frame_word frame.Version
+cause_text cause.BothLengths = frame_word frame.BothLengths
+cause_text cause.Length = frame_word frame.Length
+cause_text cause.Coding = frame_word frame.Coding
+cause_text cause.Chunk = frame_word frame.Chunk
+cause_text cause.TooLarge = frame_word frame.TooLarge
+cause_text cause.Expect = frame_word frame.Expect
+cause_text cause.Form = target_word target.Form
+cause_text cause.Scheme = target_word target.Scheme
+cause_text cause.Host = target_word target.Host
+cause_text cause.Port = target_word target.Port
+cause_text cause.Userinfo = target_word target.Userinfo
+cause_text cause.Escape = target_word target.Escape
+cause_text cause.DotSegment = target_word target.DotSegment
+cause_text cause.TooLong = target_word target.TooLong
 
 -- how an origin fails
 abbrev pub failures : List Cause
@@ -74,9 +79,9 @@ failures = cause.OriginRefused ∷ (cause.OriginTimedOut ∷ (cause.OriginClosed
 
 -- the word of a failure: none of another cause
 abbrev pub failure_word : Cause → List ℕ
-failure_word cause.OriginRefused = codes "refused"
-failure_word cause.OriginTimedOut = codes "timed-out"
-failure_word cause.OriginClosed = codes "closed"
-failure_word cause.OriginBadAnswer = codes "bad-answer"
-failure_word cause.OriginTooLarge = codes "too-large"
+failure_word cause.OriginRefused = kind_word Refused
+failure_word cause.OriginTimedOut = kind_word TimedOut
+failure_word cause.OriginClosed = kind_word Closed
+failure_word cause.OriginBadAnswer = kind_word BadAnswer
+failure_word cause.OriginTooLarge = kind_word TooLarge
 failure_word other = []

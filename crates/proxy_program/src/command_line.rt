@@ -108,48 +108,64 @@ Exit statuses:
 A line on standard error names a fault; what it was about, and what to do, stands on standard output, unless the log
 is there. Seconds are whole ones, 1 to 86400.";
 
-/// What is served, and how much of it.
-fn served<'a>(alloc: Global) -> Result<Command<'a>, Error> {
-    let listen = option(
+/// Where it listens.
+fn listen<'a>(alloc: Global) -> Arg<'a> {
+    option(
         alloc,
         "listen",
         "ADDRESS",
         "an IPv4 address and a port; port 0 lets the system choose",
     )
-    .required(true);
-    let turns = option(
-        alloc,
-        "turns",
-        "N",
-        "ends after so many turns, 1 to 4294967295; without it the server stays until it is stopped",
-    )
-    .value_parser(ValueParser::unsigned(1, 4_294_967_295));
-    let connections = option(
+    .required(true)
+}
+
+/// How many connections of clients there may be.
+fn connections<'a>(alloc: Global) -> Arg<'a> {
+    option(
         alloc,
         "connections",
         "N",
         "connections of clients, 1 to 65536",
     )
     .default_value("4096")
-    .value_parser(ValueParser::unsigned(1, MOST_CONNECTIONS));
-    let unsent = option(
+    .value_parser(ValueParser::unsigned(1, MOST_CONNECTIONS))
+}
+
+/// How much may wait for clients.
+fn unsent<'a>(alloc: Global) -> Arg<'a> {
+    option(
         alloc,
         "unsent-limit",
         "BYTES",
         "bytes that clients haven't taken yet, of all of them; beyond it the slowest is cut off",
     )
     .default_value("268435456")
-    .value_parser(ValueParser::unsigned(1, MOST_UNSENT));
+    .value_parser(ValueParser::unsigned(1, MOST_UNSENT))
+}
+
+/// For how long it serves.
+fn turns<'a>(alloc: Global) -> Arg<'a> {
+    option(
+        alloc,
+        "turns",
+        "N",
+        "ends after so many turns, 1 to 4294967295; without it the server stays until it is stopped",
+    )
+    .value_parser(ValueParser::unsigned(1, 4_294_967_295))
+}
+
+/// What is served, and how much of it.
+fn served<'a>(alloc: Global) -> Result<Command<'a>, Error> {
     let command = command(alloc, "serve")
         .about("Serves clients by a table, until it is stopped")
         .after_help(SERVE_HELP)
         .arg(word(alloc, "table", "the table"))?
-        .arg(listen)?
+        .arg(listen(alloc))?
         .next_help_heading("Bounds")
-        .arg(connections)?
-        .arg(unsent)?
+        .arg(connections(alloc))?
+        .arg(unsent(alloc))?
         .next_help_heading("For tests")
-        .arg(turns)?;
+        .arg(turns(alloc))?;
     Ok(command)
 }
 
