@@ -15,6 +15,8 @@ from live.scenario import KEPT
 # Spellings of /admin/secret.txt for origins that merge slashes, decode %2F, read a backslash as a slash, or cut at a semicolon.
 SPELLINGS = ["//admin/secret.txt", "/%2Fadmin/secret.txt", "/%2fadmin/secret.txt", "/admin%2Fsecret.txt", "/x%2F..%2Fadmin/secret.txt"]
 SPELLINGS += ["/x/a%2F..%2F..%2Fadmin/secret.txt", "/admin;x/secret.txt", "/x/..%5Cadmin/secret.txt", "/x/..\\admin/secret.txt", "/x//..//admin/secret.txt"]
+# The second cache of the files, which stands in while the first is restarted.
+SECOND = "127.0.0.1:8180"
 # Six seconds of time-out for an origin, in place of the default of 60: more than a crowd's answers take on a busy machine.
 SHORT = ["--origin-timeout", "6"]
 
@@ -69,8 +71,9 @@ def haproxy_says(path, words):
 
 
 def start_front(stand, kind, numbers, words):
-    """The front of a file of deploy/, with these words in place of others."""
+    """The front of a file of deploy/, with these words in place of others. Nobody is its second cache, unless they name one."""
     http, https, cache, purge, log = numbers
+    words = {SECOND: f"127.0.0.1:{free_port()}", **words}
     stand.certificate()
     if kind == "nginx":
         ports = {"listen 80;": f"listen 127.0.0.1:{http};", "listen 443 ssl": f"listen 127.0.0.1:{https} ssl"}
