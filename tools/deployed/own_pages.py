@@ -1,14 +1,14 @@
 """A page of the front's own where an origin fails, by the lines that are comments as they stand: visitors read it, and the log has the reason."""
 import os
 
-from deployed.fronts import Front
-from deployed.stand import part, wait_until
+from deployed.fronts import FILES, Front
+from deployed.stand import part, taken_in, wait_until
 from live.expect import expect
 from live.origin import whole
 
 PAGE = "<!doctype html><title>Soon</title><p>We are back soon."
 LINES = {
-    "nginx": ["proxy_intercept_errors on;", "error_page 502 504 /502.html;", "location = /502.html {"],
+    "nginx": ["proxy_intercept_errors", "error_page 502", "location = /502.html"],
     "haproxy": ["http-response return status 502"],
 }
 
@@ -18,7 +18,7 @@ def own_pages(stand):
     os.mkdir(f"{stand.folder}/pages")
     stand.file("pages/502.html", PAGE)
     for kind, lines in LINES.items():
-        front = Front(stand, kind, {f"#{it}": it for it in lines}, records=False)
+        front = Front(stand, kind, taken_in(FILES[kind], *lines), records=False)
         yield f"visitors_read_the_page_{kind}", lambda front=front: visitors_read_the_page(front)
 
 
