@@ -8,6 +8,8 @@ import time
 from collections import Counter
 
 from deployed.fronts import SECOND, Front, expect_from
+from deployed.scale_out import Fleet
+from deployed.scale_out_nginx import NginxFleet
 from deployed.stand import curl, free_port, need, part, wait_until
 from live.client import PATIENCE
 from live.expect import Unexpected, expect, expect_within
@@ -114,7 +116,7 @@ class Restarted:
         self.wait_for_both()
 
     def under_load(self, restart, times=1):
-        """What a crowd was told meanwhile, and how often the origin had each of its requests."""
+        """What a crowd was told meanwhile, and what came to the origin."""
         before, crowd = len(self.front.origin.fetches), Crowd(self.front.http)
         time.sleep(0.5)
         for i in range(times):
@@ -122,9 +124,7 @@ class Restarted:
             restart()
             expect("what was under way", [(200, b"slow")], slow[0]())
             time.sleep(0.5)
-        told = crowd.stop()
-        asked = Counter((it.method, it.target) for it in self.front.origin.fetches[before:] if it.method in ("POST", "PUT", "DELETE"))
-        return told, asked
+        return crowd.stop(), self.front.origin.fetches[before:]
 
     def slowly(self, number):
         """Begins a request that takes two seconds; to be called for what came of it."""
@@ -152,6 +152,13 @@ def restarts_haproxy(stand):
     yield from checks_of(stand, "haproxy")
 
 
+@part
+def restarts_of_several(stand):
+    for name, kind in (("haproxy", Fleet), ("nginx", NginxFleet)):
+        fleet = kind(stand)
+        yield f"one_after_the_other_loses_no_request_{name}", lambda fleet=fleet: one_after_the_other_loses_no_request(fleet)
+
+
 def checks_of(stand, kind):
     behind = Restarted(stand, kind)
     for it in (a_restart_loses_no_request, an_upgrade_loses_no_request, a_kill_loses_what_may_not_be_sent_again, the_second_one_forgets_by_its_restart):
@@ -166,28 +173,52 @@ def lost(told):
 def a_restart_loses_no_request(behind):
     """Three restarts by the file of `--drain`, as the unit stops: each request has its answer, and each that changes something is at the
     origin once."""
-    told, asked = behind.under_load(behind.drained, 3)
-    expect("requests that are lost", [], lost(told))
-    sent = {(method, target) for method, target, _ in told if method != "GET"}
-    expect("requests that weren't once at the origin", [], [it for it in sent if asked[it] != 1])
+    told, fetches = behind.under_load(behind.drained, 3)
+    expect_each_once(told, fetches)
     return f"0 of {len(told)} lost"
+
+
+def one_after_the_other_loses_no_request(fleet):
+    """Each of four caches ends by its file of `--drain` and is started again, by nobody's leave but its own."""
+    fleet.origin.answers.update({"/a": whole(200, KEPT), "/new": whole(200, KEPT), "/post": whole(201), "/put": whole(204)})
+    before, crowd = len(fleet.origin.fetches), Crowd(fleet.http)
+    time.sleep(0.5)
+    for i, it in enumerate(fleet.caches):
+        with open(fleet.drain(i), "w", encoding="ascii"):
+            pass
+        expect("status of the program that ends", 0, it.process.wait(ENDING))
+        time.sleep(ABSENCE)
+        os.remove(fleet.drain(i))
+        fleet.start(i)
+        # (haproxy asks each second, and twice; nginx tries again behind two)
+        time.sleep(2.5)
+    told = crowd.stop()
+    expect_each_once(told, fleet.origin.fetches[before:])
+    return f"0 of {len(told)} lost"
+
+
+def expect_each_once(told, fetches):
+    """Each request has its answer, and each that changes something is at the origin once."""
+    expect("requests that are lost", [], lost(told))
+    asked = Counter((it.method, it.target) for it in fetches)
+    expect("requests that weren't once at the origin", [], [it for it in told if it[0] != "GET" and asked[it[:2]] != 1])
 
 
 def an_upgrade_loses_no_request(behind):
     """The second one first, which serves nobody, and then the other."""
-    told, _ = behind.under_load(lambda: (behind.begin_second_anew(), behind.drained()))
-    expect("requests that are lost", [], lost(told))
+    told, fetches = behind.under_load(lambda: (behind.begin_second_anew(), behind.drained()))
+    expect_each_once(told, fetches)
     return f"0 of {len(told)} lost"
 
 
 def a_kill_loses_what_may_not_be_sent_again(behind):
     """Three ends at once, as by a lack of memory: of what was under way a front sends again what does no harm twice (RFC 9110, 9.2.2), and
     nothing else."""
-    told, asked = behind.under_load(behind.killed, 3)
-    gone = lost(told)
+    told, fetches = behind.under_load(behind.killed, 3)
+    gone, asked = lost(told), Counter((it.method, it.target) for it in fetches if it.method not in SENT_AGAIN[behind.kind])
     expect("lost requests that may be sent again", [], [it for it in gone if it[0] in SENT_AGAIN[behind.kind]])
     expect_within("requests that are lost", 0, 3 * CLIENTS, len(gone))
-    expect("requests that were sent again", [], [it for it in asked if asked[it] > 1 and it[0] not in SENT_AGAIN[behind.kind]])
+    expect("others that were sent again", [], [it for it in asked if asked[it] > 1])
     return f"{len(gone)} of {len(told)} lost"
 
 
