@@ -3,6 +3,7 @@ import os
 
 from deployed.fronts import FILES, Front
 from deployed.stand import part, taken_in, wait_until
+from deployed.strangers import FOR_OPERATORS, NEAR
 from live.expect import expect
 from live.origin import whole
 
@@ -20,6 +21,8 @@ def own_pages(stand):
     for kind, lines in LINES.items():
         front = Front(stand, kind, taken_in(FILES[kind], *lines), records=False)
         yield f"visitors_read_the_page_{kind}", lambda front=front: visitors_read_the_page(front)
+        both = Front(stand, kind, {**taken_in(FILES[kind], *lines, *FOR_OPERATORS[kind]), **NEAR}, records=False)
+        yield f"strangers_read_the_page_and_nothing_else_{kind}", lambda both=both: strangers_read_the_page_and_nothing_else(both)
 
 
 def visitors_read_the_page(front):
@@ -34,3 +37,11 @@ def visitors_read_the_page(front):
     expect("its type", True, (answer.value("Content-Type") or "").startswith("text/html"))
     expect("the path of the page itself", True, front.ask("/502.html").status in (404, 502))
     wait_until(lambda: any("origin refused;fwd=uri-miss" in it for it in front.log()), "the reason in the log")
+
+
+def strangers_read_the_page_and_nothing_else(front):
+    """With the lines that keep the cache's words for operators beside it."""
+    front.stand.origins.remove(front.origin)
+    front.origin.close()
+    answer = front.ask("/new", "--interface", "127.0.0.9")
+    expect("where the origin is away", (502, PAGE.encode(), "none"), (answer.status, answer.content, answer.reason()))

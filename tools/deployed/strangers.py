@@ -185,7 +185,7 @@ def not_through(stand, kind, origin):
 # What keeps the cache's own words from strangers, in each front's file and in those for several caches.
 FOR_OPERATORS = {
     "nginx": ["proxy_hide_header Cache-Status", "proxy_hide_header Refusal", "add_header Cache-Status", "add_header Refusal"],
-    "haproxy": ["http-response del-header Cache-Status", "http-response del-header Refusal"],
+    "haproxy": ["http-response return status 403", "http-response del-header Cache-Status", "http-response del-header Refusal"],
 }
 # (every address of this test is one of 127.0.0.0/8)
 NEAR = {"127.0.0.0/8": "127.0.0.1/32"}
@@ -203,7 +203,10 @@ def reasons_are_hidden(front):
     """The option of the file: strangers get neither Cache-Status nor Refusal, operators get both, and the front's log has them."""
     for target, status, reason in (("/a", 200, "edge;fwd=uri-miss;ttl=;stored"), ("/a", 200, "edge;hit;ttl="), ("/admin", 403, "denied by line 1")):
         expect_from(front.ask(target), status, reason)
-        expect_from(front.ask(target, "--interface", "127.0.0.9"), status, "none")
+        answer = expect_from(front.ask(target, "--interface", "127.0.0.9"), status, "none")
+        # (nginx can't tell a denial of the cache from one of the origin, whose content is its own matter)
+        if front.kind == "haproxy":
+            expect("denials in the content", False, b"denied" in answer.content)
     wait_until(lambda: sum("denied by line 1" in it for it in front.log()) == 2, "two such lines in the front's log", 5)
 
 
