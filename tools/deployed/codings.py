@@ -18,12 +18,12 @@ DONT += ["gzip;q=0, *", "gzip;Q=0", "identity, gzip;q=0.00", "gzip-like", "not-g
 
 def tried(port, origin):
     """Many values each: one fetch for those that take gzip, and one for those that don't."""
-    origin.answers["/varies"] = whole(200, KEPT, "Vary: Accept-Encoding", content=b"hello")
+    origin.answers["/varies"] = lambda fetch: whole(200, KEPT, "Vary: Accept-Encoding", content=f"for {value_of(fetch, 'Accept-Encoding')}".encode())(fetch)
     for values, at_the_origin in ((TAKE, "gzip"), (DONT, None)):
         before = len(origin.fetches)
         for it in values:
             words = ["--header", f"Accept-Encoding: {it}"] if it else []
-            expect(f"status for {it!r}", 200, curl(port, "http://h.example/varies", *words).status)
+            expect(f"content for {it!r}", f"for {at_the_origin}".encode(), curl(port, "http://h.example/varies", *words).content)
         expect(f"what the origin was asked for, of {values}", [at_the_origin], [value_of(it, "Accept-Encoding") for it in origin.fetches[before:]])
     return f"{len(TAKE) + len(DONT)} values, 2 fetches"
 
