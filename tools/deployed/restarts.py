@@ -47,7 +47,8 @@ class Crowd:
             time.sleep(PAUSE)
         connection.close()
 
-    def ask(self, connection, method, target):
+    @staticmethod
+    def ask(connection, method, target):
         """The status, or what became of the connection."""
         try:
             connection.request(method, target, body=b"x" if method in ("POST", "PUT") else None, headers={"Host": "h.example"})
@@ -161,7 +162,13 @@ def restarts_of_several(stand):
 
 def checks_of(stand, kind):
     behind = Restarted(stand, kind)
-    for it in (a_restart_loses_no_request, an_upgrade_loses_no_request, a_kill_loses_what_may_not_be_sent_again, the_second_one_forgets_by_its_restart):
+    for it in (
+        a_restart_loses_no_request,
+        an_upgrade_loses_no_request,
+        a_kill_loses_what_may_not_be_sent_again,
+        what_is_under_way_is_sent_again_where_it_may_be,
+        the_second_one_forgets_by_its_restart,
+    ):
         yield it.__name__, lambda it=it: it(behind)
     yield "without_the_second_one_requests_are_lost", lambda: without_the_second_one_requests_are_lost(stand, kind)
 
@@ -220,6 +227,20 @@ def a_kill_loses_what_may_not_be_sent_again(behind):
     expect_within("requests that are lost", 0, 3 * CLIENTS, len(gone))
     expect("others that were sent again", [], [it for it in asked if asked[it] > 1])
     return f"{len(gone)} of {len(told)} lost"
+
+
+def what_is_under_way_is_sent_again_where_it_may_be(behind):
+    """A kill while the origin has a request: who waits has an answer of the second cache's, or learns that there is none."""
+    for method in ("GET", "PUT", "POST"):
+        answers, target = [], f"/slow?{method}"
+        connection = http.client.HTTPConnection("127.0.0.1", behind.front.http, timeout=PATIENCE)
+        one = threading.Thread(target=lambda: answers.append(Crowd.ask(connection, method, target)))
+        one.start()
+        wait_until(lambda: [it.target for it in behind.front.origin.fetches].count(target) == 1, "the request at the origin")
+        behind.killed()
+        one.join()
+        count, is_answered = [it.target for it in behind.front.origin.fetches].count(target), answers == [200]
+        expect(f"{method}: requests at the origin, and whether it is answered", (2, True) if method in SENT_AGAIN[behind.kind] else (1, False), (count, is_answered))
 
 
 def the_second_one_forgets_by_its_restart(behind):
