@@ -132,8 +132,11 @@ class Restarted:
         answers = []
 
         def ask():
-            answer = self.front.ask(f"/slow?{number}&{time.monotonic()}", scheme="http")
-            answers.append((answer.status, answer.content))
+            try:
+                answer = self.front.ask(f"/slow?{number}&{time.monotonic()}", scheme="http")
+                answers.append((answer.status, answer.content))
+            except Unexpected as fault:
+                answers.append(fault)
 
         one = threading.Thread(target=ask)
         one.start()
