@@ -1,7 +1,6 @@
 """What an operator does on a bad day, tried: docs/BAD_DAYS.md."""
 import signal
 import subprocess
-import threading
 import time
 from collections import Counter
 
@@ -28,7 +27,6 @@ def bad_days_of_nginx(stand):
     need("nginx", "curl")
     limits = {"rate=200r/s": "rate=10r/s", "burst=400": "burst=20"}
     yield "a_client_that_floods_is_held_back", lambda: a_client_that_floods_is_held_back(Front(stand, "nginx", limits))
-    yield "an_upgrade_loses_no_request", lambda: an_upgrade_loses_no_request(Front(stand, "nginx", records=False))
 
 
 @part
@@ -36,7 +34,6 @@ def bad_days_of_haproxy(stand):
     need("haproxy", "curl")
     limits = {"gt 2000": "gt 30"}
     yield "a_client_that_floods_is_held_back", lambda: a_client_that_floods_is_held_back(Front(stand, "haproxy", limits))
-    yield "an_upgrade_loses_no_request", lambda: an_upgrade_loses_no_request(Front(stand, "haproxy", records=False))
 
 
 def cache_before(stand, origin, words=(), **more):
@@ -132,51 +129,3 @@ def a_client_that_floods_is_held_back(front):
     expect_within("refused of 300", 100, 290, told["429"])
     expect_from(front.ask("/a", "--interface", "127.0.0.8"), 200, "edge;hit;ttl=")
     return f"{told['429']} of 300 refused"
-
-
-def an_upgrade_loses_no_request(front):
-    """A second program takes the place of the first while clients ask: none of them gets an error."""
-    told, over = Counter(), threading.Event()
-
-    def ask():
-        while not over.is_set():
-            told[front.ask("/a", "--http1.1").status] += 1
-
-    crowd = [threading.Thread(target=ask) for _ in range(4)]
-    for it in crowd:
-        it.start()
-    time.sleep(1)
-    second = front.stand.proxy(front.table)
-    if front.kind == "nginx":
-        change_nginx(front, second.port)
-    else:
-        change_haproxy(front, second.port)
-    # (what was begun at the first is over by now: in earnest, wait for a time-out)
-    time.sleep(1)
-    front.proxy.process.send_signal(signal.SIGTERM)
-    front.proxy.wait()
-    before = told[200]
-    time.sleep(1)
-    over.set()
-    for it in crowd:
-        it.join()
-    expect("statuses", [200], sorted(told))
-    if told[200] <= before:
-        raise Unexpected("answers behind the end of the first", "some", told[200] - before)
-    return f"{told[200]} requests, {told[200] - before} of them behind the end of the first"
-
-
-def change_nginx(front, port):
-    """The other port in the file, and `nginx -s reload`: old workers end what they have begun."""
-    file = f"{front.stand.folder}/nginx.conf"
-    with open(file, encoding="utf-8") as it:
-        text = put_for(it.read(), {f"server 127.0.0.1:{front.proxy.port};": f"server 127.0.0.1:{port};"})
-    front.stand.file("nginx.conf", text)
-    front.process.send_signal(signal.SIGHUP)
-
-
-def change_haproxy(front, port):
-    """The other port by haproxy's socket, as `socat` would."""
-    said = front.told(f"set server cache/cache addr 127.0.0.1 port {port}")
-    if "port changed" not in said:
-        raise Unexpected("from haproxy", "port changed", said)

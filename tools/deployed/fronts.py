@@ -6,7 +6,7 @@ import socket
 import threading
 import time
 
-from deployed.stand import curl, deployed, free_port, need, part, put_for, wait_until
+from deployed.stand import curl, deployed, free_port, need, part, wait_until
 from live.expect import Unexpected, expect, expect_within
 from live.origin import Origin, silent, whole
 from live.script import happenings_of
@@ -15,6 +15,10 @@ from live.scenario import KEPT
 # Spellings of /admin/secret.txt for origins that merge slashes, decode %2F, read a backslash as a slash, or cut at a semicolon.
 SPELLINGS = ["//admin/secret.txt", "/%2Fadmin/secret.txt", "/%2fadmin/secret.txt", "/admin%2Fsecret.txt", "/x%2F..%2Fadmin/secret.txt"]
 SPELLINGS += ["/x/a%2F..%2F..%2Fadmin/secret.txt", "/admin;x/secret.txt", "/x/..%5Cadmin/secret.txt", "/x/..\\admin/secret.txt", "/x//..//admin/secret.txt"]
+# The file of each front.
+FILES = {"nginx": "nginx.conf", "haproxy": "haproxy.cfg"}
+# The second cache of the files, which stands in while the first is restarted.
+SECOND = "127.0.0.1:8180"
 # Six seconds of time-out for an origin, in place of the default of 60: more than a crowd's answers take on a busy machine.
 SHORT = ["--origin-timeout", "6"]
 
@@ -23,6 +27,7 @@ class Front:
     """A front before a proxy before an origin, by the files of deploy/."""
 
     def __init__(self, stand, kind, words=(), options=SHORT, records=True):
+        """`words` take the place of others in the file."""
         self.stand, self.kind = stand, kind
         self.http, self.https, self.purge = free_port(), free_port(), free_port()
         self.origin = stand.origin(Origin(answers()))
@@ -33,7 +38,7 @@ class Front:
         self.logged.bind(("127.0.0.1", 0))
         self.logged.setblocking(False)
         ports = [self.http, self.https, self.proxy.port, self.purge, self.logged.getsockname()[1]]
-        self.process = start_front(stand, kind, ports, dict(words))
+        self.process = start_front(stand, kind, ports, {**dict(words), "127.0.0.1:8081": self.origin.address})
 
     def ask(self, target, *words, host="h.example", scheme="https"):
         return curl(self.https if scheme == "https" else self.http, f"{scheme}://{host}{target}", *words)
@@ -69,21 +74,20 @@ def haproxy_says(path, words):
 
 
 def start_front(stand, kind, numbers, words):
-    """The front of a file of deploy/, with these words in place of others."""
+    """The front of a file of deploy/, with these words in place of others. Nobody is its second cache, unless they name one."""
     http, https, cache, purge, log = numbers
     stand.certificate()
+    words = {SECOND: f"127.0.0.1:{free_port()}", **words, "/etc/revcache": stand.folder}
+    words |= {"127.0.0.1:8080": f"127.0.0.1:{cache}", "127.0.0.1:8089": f"127.0.0.1:{purge}"}
     if kind == "nginx":
-        ports = {"listen 80;": f"listen 127.0.0.1:{http};", "listen 443 ssl": f"listen 127.0.0.1:{https} ssl"}
-        paths = {"/run/nginx.pid": f"{stand.folder}/nginx.pid", "/var/log/nginx": stand.folder, "/etc/revcache": stand.folder}
-        text = deployed("nginx.conf", {**ports, **paths, "127.0.0.1:8080": f"127.0.0.1:{cache}", "127.0.0.1:8089": f"127.0.0.1:{purge}"})
+        words |= {"listen 80;": f"listen 127.0.0.1:{http};", "listen 443 ssl": f"listen 127.0.0.1:{https} ssl"}
         folders = "".join(f" {it}_temp_path {stand.folder}/{it};" for it in ("client_body", "proxy", "fastcgi", "uwsgi", "scgi"))
-        file = stand.file("nginx.conf", put_for(text, {"    server_tokens off;": f"    server_tokens off;{folders}", **words}))
-        words = ["nginx", "-e", f"{stand.folder}/error.log", "-c", file, "-g", "daemon off;"]
-        return stand.start("nginx", words, https)
-    ports = {"bind :80\n": f"bind 127.0.0.1:{http}\n", "bind :443 ssl": f"bind 127.0.0.1:{https} ssl"}
-    paths = {"    user haproxy\n    group haproxy\n": "", "/run/haproxy": stand.folder, "/etc/revcache": stand.folder}
-    text = deployed("haproxy.cfg", {**ports, **paths, "127.0.0.1:8080": f"127.0.0.1:{cache}", "127.0.0.1:8089": f"127.0.0.1:{purge}"})
-    file = stand.file("haproxy.cfg", put_for(text, {"/dev/log": f"127.0.0.1:{log}", **words}))
+        words |= {"/run/nginx.pid": f"{stand.folder}/nginx.pid", "/var/log/nginx": stand.folder, "server_tokens off;": f"server_tokens off;{folders}"}
+        file = stand.file("nginx.conf", deployed("nginx.conf", words))
+        return stand.start("nginx", ["nginx", "-e", f"{stand.folder}/error.log", "-c", file, "-g", "daemon off;"], https)
+    words |= {"bind :80\n": f"bind 127.0.0.1:{http}\n", "bind :443 ssl": f"bind 127.0.0.1:{https} ssl"}
+    words |= {"    user haproxy\n    group haproxy\n": "", "/run/haproxy": stand.folder, "/dev/log": f"127.0.0.1:{log}"}
+    file = stand.file("haproxy.cfg", deployed("haproxy.cfg", words))
     return stand.start("haproxy", ["haproxy", "-f", file], https)
 
 

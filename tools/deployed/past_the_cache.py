@@ -3,8 +3,8 @@ whole, and a stranger claims as little there as elsewhere."""
 import socket
 import threading
 
-from deployed.fronts import start_front, value_of
-from deployed.stand import curl, free_port, need, part
+from deployed.fronts import FILES, start_front, value_of
+from deployed.stand import curl, free_port, need, part, taken_in
 from deployed.strangers import CLAIMS, headers
 from live.client import PATIENCE
 from live.expect import Unexpected, expect
@@ -13,23 +13,8 @@ from live.origin import Origin, whole
 PATH = "/past-the-cache"
 HEAD = b"HTTP/1.1 200 OK\r\nContent-Type: text/event-stream\r\nConnection: close\r\n\r\n"
 LINES = {
-    "nginx": [
-        '"~*^/past-the-cache/.* websocket$" websocket;',
-        "location /past-the-cache/ {",
-        "    proxy_pass http://127.0.0.1:8081;",
-        "    proxy_buffering off;",
-        "    proxy_read_timeout 1h;",
-        "    client_max_body_size 1g;",
-        "}\n",
-    ],
-    "haproxy": [
-        "http-request set-header Connection upgrade if",
-        "use_backend past_the_cache if",
-        "backend past_the_cache",
-        "    timeout server 1h",
-        "    timeout tunnel 1h",
-        "    server origin 127.0.0.1:8081",
-    ],
+    "nginx": ['"~*^/past-the-cache/', "location /past-the-cache/"],
+    "haproxy": ["acl answers_options path -m beg /past", "http-request set-header Connection upgrade", "use_backend past_the_cache", "backend past_the_cache"],
 }
 
 
@@ -40,9 +25,9 @@ class Past:
         need(kind, "curl")
         self.kind, self.go_on, self.http = kind, threading.Event(), free_port()
         answers = {"/events": self.events, "/large": whole(200, content=b"x" * 3000000), "/post": whole(200, content=b"posted")}
+        answers["/options"] = whole(204, "Access-Control-Allow-Origin: https://page.example")
         self.origin = stand.origin(Origin({f"{PATH}{name}": it for name, it in answers.items()} | {f"{PATH}/socket": switched}))
-        words = {f"#{it}": it for it in LINES[kind]}
-        words["127.0.0.1:8081"] = self.origin.address
+        words = {**taken_in(FILES[kind], *LINES[kind]), "127.0.0.1:8081": self.origin.address}
         start_front(stand, kind, [self.http, free_port(), free_port(), free_port(), free_port()], words)
 
     def events(self, fetch):
@@ -90,6 +75,7 @@ def past_the_cache(stand):
             a_stranger_claims_no_field,
             no_path_climbs_past_the_table,
             another_protocol_is_passed_on,
+            a_preflight_is_passed_on,
         ):
             yield f"{it.__name__}_{kind}", lambda it=it, front=front: it(front)
 
@@ -131,3 +117,10 @@ def another_protocol_is_passed_on(front):
         expect("the answer", b"HTTP/1.1 101", until(it, b"\r\n\r\n")[:12])
         it.sendall(b"hello")
         until(it, b"HELLO")
+
+
+def a_preflight_is_passed_on(front):
+    """OPTIONS, too, is a matter of that origin."""
+    words = ["--request", "OPTIONS", "--header", "Origin: https://page.example", "--header", "Access-Control-Request-Method: PUT"]
+    answer = curl(front.http, f"http://h.example{PATH}/options", "--http1.1", *words)
+    expect("what the origin allows", "https://page.example", answer.value("Access-Control-Allow-Origin"))

@@ -24,24 +24,33 @@ LEAST, MOST = 200, 300
 class Fleet:
     """haproxy before four caches before one origin that counts."""
 
-    def __init__(self, stand):
+    def __init__(self, stand, words=()):
+        """`words` take the place of others in the file."""
         need("haproxy")
         stand.certificate()
         self.stand, self.http, self.purge, self.socket = stand, free_port(), free_port(), f"{stand.folder}/admin.sock"
         self.origin = stand.origin(Origin({f"/{i}": whole(200, KEPT, content=b"%d" % i) for i in range(OBJECTS)}))
         self.table = deployed("table.toml", {"127.0.0.1:8081": self.origin.address, "127.0.0.1:8089": f"127.0.0.1:{self.purge}"})
-        self.caches = [stand.proxy(self.table, ["--log", self.log(i)]) for i in range(CACHES)]
+        self.caches = [stand.proxy(self.table, self.options(i)) for i in range(CACHES)]
         ports = {"bind :80\n": f"bind 127.0.0.1:{self.http}\n", "bind :443 ssl": f"bind 127.0.0.1:{free_port()} ssl"}
-        ports |= {f"127.0.0.1:{8101 + i}\n": f"127.0.0.1:{it.port}\n" for i, it in enumerate(self.caches)}
+        ports |= {f"127.0.0.1:{8101 + i}": f"127.0.0.1:{it.port}" for i, it in enumerate(self.caches)}
         paths = {"    user haproxy\n    group haproxy\n": "", "/run/haproxy": stand.folder, "/etc/revcache": stand.folder}
         ports["127.0.0.1:8089"] = f"127.0.0.1:{self.purge}"
-        text = put_for(deployed("scale-out/haproxy.cfg", {**ports, **paths}), {"/dev/log": f"{stand.folder}/log", "gt 2000": "gt 1000000"})
+        limits = {"/dev/log": f"{stand.folder}/log", "gt 2000": "gt 1000000"}
+        text = deployed("scale-out/haproxy.cfg", {**dict(words), **ports, **paths, **limits})
         self.process = stand.start("haproxy", ["haproxy", "-f", stand.file("haproxy.cfg", text)], self.http)
         self.wait_for("abcd")
 
     def log(self, index):
         """The log of a cache, which goes on behind a restart."""
         return f"{self.stand.folder}/access-{index}.log"
+
+    def drain(self, index):
+        """The file by which a cache ends."""
+        return f"{self.stand.folder}/drain-{index}"
+
+    def options(self, index):
+        return ["--log", self.log(index), "--drain", self.drain(index)]
 
     def told(self, words):
         """What haproxy answers on its socket."""
@@ -89,7 +98,7 @@ class Fleet:
 
     def start(self, index):
         listen = f"127.0.0.1:{self.caches[index].port}"
-        self.caches[index] = self.stand.proxy(self.table, ["--log", self.log(index)], listen=listen)
+        self.caches[index] = self.stand.proxy(self.table, self.options(index), listen=listen)
 
     def begin_anew(self, index, between=lambda: None):
         """A cache is taken out, started again with an empty store, and put back; clients ask behind it. Answers how many
@@ -125,6 +134,7 @@ def scale_out(stand):
         a_cache_is_drained_without_an_error,
         a_cache_is_warmed_before_clients_come,
         a_stranger_takes_and_claims_no_field,
+        a_post_takes_away_what_its_cache_has,
         an_origin_that_fails_takes_no_cache_out,
     ):
         yield it.__name__, lambda it=it: it(fleet)
@@ -221,6 +231,15 @@ def a_stranger_takes_and_claims_no_field(fleet):
         answer = curl(fleet.http, "http://h.example/strange", "--http1.1", *long_head(fleet.stand, lines))
         # (haproxy itself refuses a name of more than 255 bytes)
         expect(f"is refused: {lines}", True, answer.status in (400, 431))
+
+
+def a_post_takes_away_what_its_cache_has(fleet):
+    """RFC 9111, 4.4, although it goes to its cache by a way of its own: to the one that holds the target."""
+    for i in range(20):
+        url = f"http://h.example/{i}?posted"
+        fleet.origin.answers[f"/{i}"] = whole(200, KEPT, content=b"%d" % i)
+        for words, reason in (([], "fwd=uri-miss;ttl=;stored"), ([], "hit;ttl="), (["--data", "x"], "fwd=method"), ([], "fwd=uri-miss;ttl=;stored")):
+            expect(f"of {url} {words} the reason", f"edge;{reason}", curl(fleet.http, url, *words).reason())
 
 
 def an_origin_that_fails_takes_no_cache_out(fleet):

@@ -1,9 +1,10 @@
 """Several caches behind nginx, by deploy/scale-out/nginx.conf; and a purge that reaches all of them, through nginx and through haproxy."""
 import signal
 
-from deployed.scale_out import CACHES, LEAST, MOST, OBJECTS, Fleet, expect_all
-from deployed.stand import curl, deployed, free_port, need, part, put_for, wait_until
-from deployed.strangers import CLAIMS, HONEST, LONG, headers, long_head
+from deployed.fronts import FILES
+from deployed.scale_out import CACHES, LEAST, MOST, OBJECTS, Fleet, a_post_takes_away_what_its_cache_has, expect_all
+from deployed.stand import curl, deployed, free_port, need, part, put_for, taken_in, wait_until
+from deployed.strangers import CLAIMS, FOR_OPERATORS, HONEST, LONG, NEAR, headers, long_head
 from live.expect import expect, expect_within
 from live.origin import Origin, whole
 from live.scenario import KEPT
@@ -12,13 +13,13 @@ from live.scenario import KEPT
 class NginxFleet(Fleet):
     """nginx before four caches before one origin that counts."""
 
-    def __init__(self, stand):
+    def __init__(self, stand, words=()):
         need("nginx", "curl")
         stand.certificate()
         self.stand, self.http, self.purge = stand, free_port(), free_port()
         self.origin = stand.origin(Origin({f"/{i}": whole(200, KEPT, content=b"%d" % i) for i in range(OBJECTS)}))
         self.table = deployed("table.toml", {"127.0.0.1:8081": self.origin.address, "127.0.0.1:8089": f"127.0.0.1:{self.purge}"})
-        self.caches = [stand.proxy(self.table) for _ in range(CACHES)]
+        self.caches = [stand.proxy(self.table, self.options(i)) for i in range(CACHES)]
         ports = {"listen 80;": f"listen 127.0.0.1:{self.http};", "listen 443 ssl": f"listen 127.0.0.1:{free_port()} ssl"}
         ports |= {f"127.0.0.1:{8101 + i}": f"127.0.0.1:{it.port}" for i, it in enumerate(self.caches)}
         paths = {"/run/nginx.pid": f"{stand.folder}/nginx.pid", "/var/log/nginx": stand.folder, "/etc/revcache": stand.folder}
@@ -26,7 +27,7 @@ class NginxFleet(Fleet):
         folders = "".join(f" {it}_temp_path {stand.folder}/{it};" for it in ("client_body", "proxy", "fastcgi", "uwsgi", "scgi"))
         # (one address asks for 1,000 objects as fast as it can)
         limits = {"rate=200r/s": "rate=100000r/s", "burst=400": "burst=100000", "    server_tokens off;": f"    server_tokens off;{folders}"}
-        text = put_for(deployed("scale-out/nginx.conf", {**ports, **paths}), limits)
+        text = deployed("scale-out/nginx.conf", {**dict(words), **ports, **paths, **limits})
         words = ["nginx", "-e", f"{stand.folder}/error.log", "-c", stand.file("nginx.conf", text), "-g", "daemon off;"]
         self.process = stand.start("nginx", words, self.http)
 
@@ -43,6 +44,7 @@ def scale_out_nginx(stand):
         a_cache_that_stops_costs_its_part,
         a_cache_that_comes_back_takes_its_part,
         a_stranger_takes_and_claims_no_field,
+        a_post_takes_away_what_its_cache_has,
         a_purge_through_nginx_asks_each_cache,
         a_cache_that_is_away_stands_in_the_log,
         a_strangers_purge_is_refused,
@@ -56,6 +58,22 @@ def purge_of_several(stand):
     fleet = Fleet(stand)
     for it in (a_purge_through_haproxy_is_done_by_each_cache, a_cache_that_is_away_is_left_out, a_purge_that_fails_is_told, a_client_steers_no_purge):
         yield it.__name__, lambda it=it: it(fleet)
+
+
+@part
+def a_reason_of_several_for_operators_alone(stand):
+    for kind, (name, lines) in zip((NginxFleet, Fleet), FOR_OPERATORS.items()):
+        fleet = kind(stand, {**taken_in(f"scale-out/{FILES[name]}", *lines), **NEAR})
+        yield name, lambda fleet=fleet: reasons_are_hidden(fleet)
+
+
+def reasons_are_hidden(fleet):
+    """The option of the file: strangers get neither Cache-Status nor Refusal, operators get both."""
+    for target, status, reason in (("/7", 200, "edge;fwd=uri-miss;ttl=;stored"), ("/7", 200, "edge;hit;ttl="), ("/admin", 403, "denied by line 1")):
+        url = f"http://h.example{target}"
+        for words, told in (([], reason), (["--interface", "127.0.0.9"], "none")):
+            answer = curl(fleet.http, url, *words)
+            expect(f"status and reason of {target} {words}", (status, told), (answer.status, answer.reason()))
 
 
 def each_object_is_fetched_once(fleet):

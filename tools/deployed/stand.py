@@ -1,5 +1,6 @@
 """What a part starts: programs in a temporary folder, with the files of deploy/ for free ports; and curl."""
 import os
+import re
 import shutil
 import signal
 import socket
@@ -55,6 +56,31 @@ def put_for(text, words):
             raise Unexpected("in the file", old, "it isn't there")
         text = text.replace(old, new)
     return text
+
+
+def taken_in(name, *beginnings):
+    """Options of a file of deploy/, as words for `put_for`: lines that are comments as they stand and begin so, each with what belongs to it."""
+    with open(f"{DEPLOY}/{name}", encoding="utf-8") as it:
+        lines = it.read().splitlines(keepends=True)
+    words = {}
+    for beginning in beginnings:
+        found = [i for i, it in enumerate(lines) if it.lstrip(" ").startswith(f"#{beginning}")]
+        if not found:
+            raise Unexpected(f"in deploy/{name}", f"#{beginning}", "it isn't there")
+        for i in found:
+            old = "".join(option_at(lines, i))
+            words[old] = re.sub(r"^( *)#", r"\1", old, flags=re.M)
+    return words
+
+
+def option_at(lines, i):
+    """The line, those that are further in behind it, and their closing bracket."""
+    yield lines[i]
+    indent = lines[i].partition("#")[0] + "#"
+    for it in lines[i + 1 :]:
+        if not it.startswith((f"{indent}    ", f"{indent}}}")):
+            return
+        yield it
 
 
 class Answer:
