@@ -10,6 +10,7 @@ use case_text::push_shown;
 use hx_framing::FrameFault;
 use hx_reuse::{ErrorRule, ReuseRule};
 use hx_status::{Cause, Detail, How, Status, member, refusal};
+use hx_storable::StoreRule;
 use hx_target::TargetFault;
 
 static REUSE_RULES: [(&str, ReuseRule); 18] = [
@@ -82,6 +83,27 @@ fn error_rule(name: &str) -> Option<ErrorRule> {
     None
 }
 
+static STORING_RULES: [(&str, StoreRule); 18] = [
+    ("Operator", StoreRule::Operator),
+    ("Method", StoreRule::Method),
+    ("Bypass", StoreRule::Bypass),
+    ("Status", StoreRule::Status),
+    ("MustUnderstand", StoreRule::MustUnderstand),
+    ("ResponseNoStore", StoreRule::ResponseNoStore),
+    ("RequestNoStore", StoreRule::RequestNoStore),
+    ("Private", StoreRule::Private),
+    ("Authorization", StoreRule::Authorization),
+    ("NothingAllows", StoreRule::NothingAllows),
+    ("VaryStar", StoreRule::VaryStar),
+    ("ConnectionField", StoreRule::ConnectionField),
+    ("NothingToReuse", StoreRule::NothingToReuse),
+    ("TooLarge", StoreRule::TooLarge),
+    ("Overtaken", StoreRule::Overtaken),
+    ("Serials", StoreRule::Serials),
+    ("SetCookie", StoreRule::SetCookie),
+    ("ErrorStatus", StoreRule::ErrorStatus),
+];
+
 fn frame_fault(name: &str) -> Option<FrameFault> {
     for fault in &FRAME_FAULTS {
         if frame_word(*fault) == name {
@@ -95,6 +117,15 @@ fn target_fault(name: &str) -> Option<TargetFault> {
     for fault in &TARGET_FAULTS {
         if target_word(*fault) == name {
             return Some(*fault);
+        }
+    }
+    None
+}
+
+fn storing_rule(name: &str) -> Option<StoreRule> {
+    for (named, rule) in &STORING_RULES {
+        if *named == name {
+            return Some(*rule);
         }
     }
     None
@@ -122,6 +153,7 @@ fn with_word(mut status: Status, text: &str) -> Option<Status> {
     match text.split_once(' ') {
         Some(("ttl", seconds)) => status.ttl = Some(seconds.parse::<i64>().ok()?),
         Some(("status", code)) => status.fwd_status = Some(code.parse::<u16>().ok()?),
+        Some(("not-stored", rule)) => status.not_stored = Some(storing_rule(rule)?),
         Some(_) => return None,
         None if text == "stored" => status.stored = true,
         None if text == "collapsed" => status.collapsed = true,
@@ -139,6 +171,7 @@ fn status_of(text: &str) -> Option<Status> {
         stored: false,
         collapsed: false,
         detail: None,
+        not_stored: None,
     };
     for word in words {
         status = with_word(status, word)?;

@@ -13,6 +13,7 @@ mod files;
 mod lines;
 mod parts;
 mod passing;
+mod policies;
 mod requests;
 mod reuse;
 mod scripts;

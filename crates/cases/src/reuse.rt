@@ -2,18 +2,20 @@
 //! moment when it came, or `stored 1 at 2, asked for at 0`, and its lines; behind `for` the lines of the request that it
 //! answered. Last comes the request, as `at 59 GET`.
 //!
-//! `cache off` may stand in front of all: the request then goes over a line without cache.
+//! `cache off` may stand in front of all: the request then goes over a line without cache; or `words` with the words of its line.
 //!
 //! A response without a Date is given that of its moment. `hit 1` is answered, or `forward` with the number and the name of
 //! the least rule against it, and which response that one is about.
 
 use crate::lines::{Fault, Line};
 use crate::parts::{Part, word};
+use crate::policies::policy_of;
 use crate::requests::asked_of;
 use hx_age::Times;
 use hx_directives::Directives;
 use hx_fields::{Bytes, END_OF_TIME, Fields};
 use hx_hop::{Asked, dated};
+use hx_policy::Policy;
 use hx_reuse::{Decision, ErrorRule, decide, may_serve_on_error};
 use hx_store::{Entry, ListShelf, Shelf};
 use hx_vary::{Nominated, Nomination};
@@ -155,10 +157,10 @@ fn decided(
     shelf: &ListShelf,
     asked: &Asked,
     now: u64,
-    caches: bool,
+    policy: Policy,
 ) -> Result<Decision, AllocError> {
     let directives = Directives::of(alloc, &asked.fields)?;
-    decide(alloc, asked, &directives, shelf, now, caches)
+    decide(alloc, asked, &directives, shelf, now, policy)
 }
 
 fn write_decision(text: &mut String, decision: Decision) -> Result<(), AllocError> {
@@ -176,47 +178,60 @@ fn write_decided(
     text: &mut String,
     label: Line<'_>,
     parts: &[Part<'_>],
-    caches: bool,
+    policy: Policy,
 ) -> Result<(), Fault> {
     let [stored @ .., request] = parts else {
         return Err(label.fault("no request"));
     };
     let shelf = shelf_of(*text.allocator(), stored)?;
     let (now, asked) = asked_at(*text.allocator(), request)?;
-    let decision = decided(*text.allocator(), &shelf, &asked, now, caches)?;
+    let decision = decided(*text.allocator(), &shelf, &asked, now, policy)?;
     Ok(write_decision(text, decision)?)
+}
+
+/// What the line of the request says of caching, and what follows.
+fn said_in_front<'a, 'b>(parts: &'a [Part<'b>]) -> Result<(Policy, &'a [Part<'b>]), Fault> {
+    let [first, rest @ ..] = parts else {
+        return Ok((Policy::plain(true), parts));
+    };
+    let said = match first.head.text {
+        "cache off" => Some(Policy::plain(false)),
+        text => policy_of(text),
+    };
+    match said {
+        Some(_) if first.fields.len() > 0 => Err(
+            first.head.fault("field lines behind what a line says"),
+        ),
+        Some(policy) => Ok((policy, rest)),
+        None => Ok((Policy::plain(true), parts)),
+    }
 }
 
 /// What is decided of a request.
 pub fn reuse(text: &mut String, label: Line<'_>, parts: &[Part<'_>]) -> Result<(), Fault> {
-    match parts {
-        [word, rest @ ..] if word.head.text == "cache off" => {
-            if word.fields.len() > 0 {
-                return Err(word.head.fault("field lines behind `cache off`"));
-            }
-            write_decided(text, label, rest, false)
-        }
-        _ => write_decided(text, label, parts, true),
-    }
+    let (policy, rest) = said_in_front(parts)?;
+    write_decided(text, label, rest, policy)
 }
 
 fn on_error_at(
     alloc: Global,
     stored: &Part<'_>,
     request: &Part<'_>,
+    policy: Policy,
 ) -> Result<Result<(), ErrorRule>, Fault> {
     let entry = stored_of(alloc, stored, &Fields::new(alloc))?;
     let (now, asked) = asked_at(alloc, request)?;
     let directives = Directives::of(alloc, &asked.fields)?;
-    Ok(may_serve_on_error(&directives, &entry, now))
+    Ok(may_serve_on_error(&directives, &entry, now, policy))
 }
 
 /// Whether a stored response may be sent in place of an error.
 pub fn on_error(text: &mut String, label: Line<'_>, parts: &[Part<'_>]) -> Result<(), Fault> {
+    let (policy, parts) = said_in_front(parts)?;
     let [stored, request] = parts else {
         return Err(label.fault("not a stored response and a request"));
     };
-    match on_error_at(*text.allocator(), stored, request)? {
+    match on_error_at(*text.allocator(), stored, request, policy)? {
         Ok(()) => word(text, "sent"),
         Err(rule) => Ok(write!(text, "{} {:?}", rule.number(), rule)?),
     }

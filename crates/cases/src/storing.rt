@@ -2,16 +2,15 @@
 //!
 //! `stored` is answered, or the number and the name of the least rule against it.
 
-ghost use Rattle.std.specs.Prelude.{◌≡◌};
-ghost use Rattle.hx_directives.specs.Occurrences.{occurrences_of};
-
 use crate::lines::{Fault, Line};
 use crate::parts::{Part, word};
+use crate::policies::policy_of;
 use crate::requests::asked_by;
-use hx_age::Lifetime;
 use hx_directives::Directives;
 use hx_fields::Fields;
 use hx_hop::{Answered, Asked};
+use hx_policy::Policy;
+use hx_reuse::lifetime_under;
 use hx_storable::{Facts, StoreRule, first_rule_against};
 use hx_validate::has_validator;
 use hx_vary::{Nominated, Nomination};
@@ -35,20 +34,13 @@ fn is_star(alloc: Global, asked: &Asked, fields: &Fields) -> Result<bool, AllocE
     }
 }
 
-/// What the lines of an answer say, and nothing else.
-fn facts_of(
-    alloc: Global,
-    asked: &Asked,
-    fields: &Fields,
-    directives: &Directives,
-) -> Result<Facts, AllocError>
-    requires { directives.now ≡ occurrences_of fields.now }
-{
+/// What the lines of an answer say, and nothing else. Whether it has a lifetime is found behind the words of its line.
+fn facts_of(alloc: Global, asked: &Asked, fields: &Fields) -> Result<Facts, AllocError> {
     Ok(Facts {
-        operator: false,
+        policy: Policy::plain(true),
         vary_star: is_star(alloc, asked, fields)?,
         listed: false,
-        explicit: Lifetime::of(fields, directives).explicit,
+        explicit: false,
         validator: has_validator(fields),
         too_large: false,
         overtaken: false,
@@ -62,12 +54,15 @@ fn with_part(mut facts: Facts, part: &Part<'_>) -> Result<Facts, Fault> {
         return Err(part.head.fault("field lines behind what is known besides"));
     }
     match part.head.text {
-        "a line without cache" => facts.operator = true,
+        "a line without cache" => facts.policy.caches = false,
         "Connection names a cache field" => facts.listed = true,
         "too large" => facts.too_large = true,
         "overtaken" => facts.overtaken = true,
         "no serial left" => facts.no_serial = true,
-        _ => return Err(part.head.fault("nothing that is known of an answer")),
+        text => match policy_of(text) {
+            Some(policy) => facts.policy = policy,
+            None => return Err(part.head.fault("nothing that is known of an answer")),
+        },
     }
     Ok(facts)
 }
@@ -80,10 +75,12 @@ fn rule_against(
 ) -> Result<Option<StoreRule>, Fault> {
     let asked_directives = Directives::of(alloc, &asked.fields)?;
     let directives = Directives::of(alloc, &answered.fields)?;
-    let mut facts = facts_of(alloc, asked, &answered.fields, &directives)?;
+    let mut facts = facts_of(alloc, asked, &answered.fields)?;
     for part in known {
         facts = with_part(facts, part)?;
     }
+    let lifetime = lifetime_under(facts.policy, answered.status, &answered.fields, &directives);
+    facts.explicit = lifetime.explicit;
     Ok(first_rule_against(asked, &asked_directives, answered, &directives, facts))
 }
 

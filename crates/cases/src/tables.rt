@@ -3,12 +3,14 @@
 use crate::case_file::Case;
 use crate::lines::{Fault, Line, push_spelled, spelled};
 use crate::parts::{lines_of, only_line};
+use crate::policies::write_words;
 use crate::requests::method_of;
 use crate::targets::write_refused;
 use case_text::push_shown;
 use http::Method;
 use hx_allow::{Config, ConfigFault, Verdict};
 use hx_fields::{Bytes, Fields};
+use hx_policy::Policy;
 use hx_target::{Target, TargetFault, read_target};
 use std::alloc::{AllocError, Global};
 
@@ -28,15 +30,18 @@ fn write_fault(text: &mut String, fault: &ConfigFault) -> Result<(), AllocError>
         ConfigFault::NoLines => text.push_str("NoLines"),
         ConfigFault::OutOfMemory => text.push_str("OutOfMemory"),
         ConfigFault::BadCache(line) => write!(text, "BadCache line {line}"),
+        ConfigFault::BadWord(line, word) => write!(text, "BadWord line {line} {}", word.as_str()),
     }
 }
 
-/// Tells that a table is read, and which of its lines, 256 at most, have no cache.
+/// Tells that a table is read, and which of its lines, 256 at most, have words on caching or no cache.
 fn write_read(text: &mut String, config: &Config) -> Result<(), AllocError> {
     text.push_str("read")?;
     for line in 1..=256u16 {
-        if usize::from(line) <= config.lines() && !config.caches(line) {
-            write!(text, ", line {line} cache=off")?;
+        let policy = config.policy(line);
+        if usize::from(line) <= config.lines() && policy != Policy::plain(true) {
+            write!(text, ", line {line}")?;
+            write_words(text, policy)?;
         }
     }
     Ok(())
@@ -122,14 +127,10 @@ pub fn changed_tables(text: &mut String, front: &[Line<'_>], case: &Case<'_>) ->
     )
 }
 
-/// The line that allows a request, its origin, and that it has no cache where it has none.
+/// The line that allows a request, its origin, and its words on caching.
 fn write_allowed(text: &mut String, config: &Config, line: u16) -> Result<(), AllocError> {
     write!(text, "allowed by line {line} to {}", config.origin(line))?;
-    if config.caches(line) {
-        Ok(())
-    } else {
-        text.push_str(" cache=off")
-    }
+    write_words(text, config.policy(line))
 }
 
 fn write_verdict(

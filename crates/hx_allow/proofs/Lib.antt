@@ -5,10 +5,12 @@ pub mod LinesRead
 pub mod Readings
 pub mod TablePaths
 pub mod Versions
+pub mod WordsRead
 pub mod Origins
 pub mod PathTails
 pub mod LeastUnknown
 pub mod Deciding
 pub mod TomlTables
+pub mod NeverReached
 pub mod SortedNodes
 pub mod SortedTexts

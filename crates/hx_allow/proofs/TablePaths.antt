@@ -1,6 +1,6 @@
 -- A verdict rests on host and table path, and the paths of a table's lines are table paths themselves.
 use Rattle.std.proofs.Common.{◌≡◌, inl, inr, ℕ, ◌+◌, Bool, true, false, cond, List, [], ◌∷◌, codes, Option, Some, None, refl, ap, sym, ◌∙◌}
-use Rattle.std.specs.Prelude.{Ok, not, ◌&&◌, ◌==◌, slice_index, unwrap_or}
+use Rattle.std.specs.Prelude.{Ok, not, ◌&&◌, ◌==◌, slice_index, unwrap_or, option_map}
 use Rattle.std.specs.List.{All, list_all}
 use Rattle.std.proofs.lemmas.Bool.{and_parts}
 use Rattle.http_uri.specs.ByteClasses.{slash}
@@ -8,11 +8,12 @@ use Rattle.toml.specs.Data.{Members}
 use Rattle.hx_target.specs.declared.targets.Target.{Target}
 use Rattle.hx_target.specs.Paths.{has_bad_escape, has_dot_segment, table_path_of}
 use Rattle.hx_allow.specs.Lines.{Line as PlainLine, Table}
+use Rattle.hx_allow.specs.LineWords.{first_bad_word}
 use Rattle.hx_allow.specs.LineTables.{is_line_host, are_line_methods, is_path_byte, ends_open, is_line_path, is_line_origin, is_line_cache, line_fault, line_of}
 use Rattle.hx_allow.specs.Matching.{matches_host, matches_method, matches_path, matches_line, verdict_by, verdict_from, verdict_of}
 use Rattle.hx_allow.specs.Tables.{ReadsAs, version_of}
 use Rattle.hx_allow.specs.Values.{first_unknown, text_at, items_at, is_some_and}
-use Rattle.hx_allow.specs.declared.faults.ConfigFault.TheVariants.{UnknownKey, BadHost, BadMethod, BadPath, BadOrigin, BadCache}
+use Rattle.hx_allow.specs.declared.faults.ConfigFault.TheVariants.{UnknownKey, BadHost, BadMethod, BadPath, BadOrigin, BadCache, BadWord}
 use Rattle.hx_allow.specs.declared.values.Scope.TheVariants.{Line}
 use Rattle.hx_allow.specs.declared.values.TableVersion.{TableVersion}
 use Rattle.hx_allow.proofs.LinesRead.{none_stands, each_line_read}
@@ -66,7 +67,7 @@ line_is once version n ms none = by_keys (first_unknown (Line version) ms) refl
     by_keys : (o : Option (List ℕ)) → first_unknown (Line version) ms ≡ o → IsTablePath (line_of ms)
     by_keys (Some key) e = let bad : line_fault version n ms ≡ Some (UnknownKey key) = rw e refl in cc
     by_keys None e =
-        let cache = cond (not (is_line_cache ms)) (Some (BadCache n)) None in
+        let cache = cond (not (is_line_cache ms)) (Some (BadCache n)) (option_map (BadWord n) (first_bad_word ms)) in
         let origin = cond (not (is_some_and is_line_origin (text_at (codes "origin") ms))) (Some (BadOrigin n)) cache in
         let path = cond (not (is_some_and is_line_path (text_at (codes "path") ms))) (Some (BadPath n)) origin in
         let methods = cond (not (is_some_and are_line_methods (items_at (codes "methods") ms))) (Some (BadMethod n)) path in

@@ -1,58 +1,53 @@
--- What the versions of the table share: a line without `cache` says the same in each, and a table of the first has no
--- line with it.
+-- What the versions of the table share: a line without the keys that a version adds says the same in each, a table of the
+-- first has no line with `cache`, and one of the first two none with a word of the third.
 use Rattle.std.proofs.Common.{◌≡◌, Less, Equal, Greater, Ordering, is_eq, nat_cmp, ℕ, ◌+◌, Bool, true, false, cond, List, codes, Option, Some, None, refl, ap, sym, ◌∙◌, subst}
-use Rattle.std.specs.Prelude.{Ok, Err, not, is_none, bytes_eq, unwrap_or}
+use Rattle.std.specs.Prelude.{Ok, Err, not, is_none, bytes_eq, unwrap_or, option_map}
 use Rattle.std.specs.List.{All}
 use Rattle.std.specs.Ordering.{match_ordering}
 use Rattle.std.specs.Cmp.Lexicographic.{slice_cmp, nat_list_eq_equiv}
 use Rattle.std.proofs.lemmas.Slice.Eq.{bytes_eq-Decides}
 use Rattle.std.proofs.lemmas.Map.Text.{is_eq-slice_cmp}
 use Rattle.toml.specs.Data.{Data, Items, no_items, item, Members, no_members, member, get_member, as_table}
+use Rattle.hx_policy.specs.Words.{plain}
 use Rattle.hx_allow.specs.Lines.{Line as PlainLine, Table}
-use Rattle.hx_allow.specs.LineTables.{is_line_host, are_line_methods, is_line_path, is_line_origin, is_line_cache, is_cached, line_fault, line_of, lines_fault, or_later, item_fault}
+use Rattle.hx_allow.specs.LineWords.{says, first_bad_word, policy_read}
+use Rattle.hx_allow.specs.LineTables.{is_line_host, are_line_methods, is_line_path, is_line_origin, is_line_cache, line_fault, line_of, lines_fault, or_later, item_fault}
 use Rattle.hx_allow.specs.Tables.{is_name, number_fault, lines_at, version_of, table_fault, judge_table, fault_or_table}
 use Rattle.hx_allow.specs.Values.{is_known, first_unknown, text_at, items_at, is_some_and}
+use Rattle.hx_allow.specs.Versions.{HasNoWord}
 use Rattle.hx_allow.specs.declared.faults.ConfigFault.{ConfigFault}
-use Rattle.hx_allow.specs.declared.faults.ConfigFault.TheVariants.{UnknownKey, BadName, BadNumber, BadHost, BadMethod, BadPath, BadOrigin, BadCache, NoLines}
+use Rattle.hx_allow.specs.declared.faults.ConfigFault.TheVariants.{UnknownKey, BadName, BadNumber, BadHost, BadMethod, BadPath, BadOrigin, BadCache, BadWord, NoLines}
+use Rattle.hx_allow.specs.declared.faults.LineWord.{LineWord}
 use Rattle.hx_allow.specs.declared.faults.NumberKey.{NumberKey}
+use Rattle.hx_allow.specs.declared.values.Scope.{Scope}
 use Rattle.hx_allow.specs.declared.values.Scope.TheVariants.{Top, Line}
 use Rattle.hx_allow.specs.declared.values.TableVersion.{TableVersion}
-use Rattle.hx_allow.specs.declared.values.TableVersion.TheVariants.{One, Two}
+use Rattle.hx_allow.specs.declared.values.TableVersion.TheVariants.{One, Two, Three}
 use Rattle.hx_allow.proofs.LinesRead.{each_line_read}
 
--- a key that stands where the members of `cache` are looked for is another one
-is_other : (key : List ℕ) (value : Data) (found : Option Data) → match_ordering (slice_cmp nat_cmp (codes "cache") key) found (Some value) found ≡ None → (bytes_eq key (codes "cache") ≡ false) × (found ≡ None)
-is_other key value found none = by_order (slice_cmp nat_cmp (codes "cache") key) refl none
-  where
-    differs : (o : Ordering) → slice_cmp nat_cmp (codes "cache") key ≡ o → is_eq o ≡ false → bytes_eq key (codes "cache") ≡ false
-    differs o is other = nat_list_eq_equiv.symm key (codes "cache") ∙ (sym (is_eq-slice_cmp (codes "cache") key) ∙ (ap is_eq is ∙ other))
+-- ---- keys
 
-    by_order : (o : Ordering) → slice_cmp nat_cmp (codes "cache") key ≡ o → match_ordering o found (Some value) found ≡ None → (bytes_eq key (codes "cache") ≡ false) × (found ≡ None)
+-- a key that stands where another one is looked for and isn't found is another key
+is_other : (word key : List ℕ) (value : Data) (found : Option Data) → match_ordering (slice_cmp nat_cmp word key) found (Some value) found ≡ None → (bytes_eq key word ≡ false) × (found ≡ None)
+is_other word key value found none = by_order (slice_cmp nat_cmp word key) refl none
+  where
+    differs : (o : Ordering) → slice_cmp nat_cmp word key ≡ o → is_eq o ≡ false → bytes_eq key word ≡ false
+    differs o is other = nat_list_eq_equiv.symm key word ∙ (sym (is_eq-slice_cmp word key) ∙ (ap is_eq is ∙ other))
+
+    by_order : (o : Ordering) → slice_cmp nat_cmp word key ≡ o → match_ordering o found (Some value) found ≡ None → (bytes_eq key word ≡ false) × (found ≡ None)
     by_order Less is absent = (differs Less is refl, absent)
     by_order Equal is absent = cc
     by_order Greater is absent = (differs Greater is refl, absent)
 
--- where `cache` doesn't stand, both versions know the same keys
-same_unknown : (ms : Members) → get_member (codes "cache") ms ≡ None → first_unknown (Line Two) ms ≡ first_unknown (Line One) ms
-same_unknown no_members none = refl
-same_unknown (member key value ms) none =
-    let other = is_other key value (get_member (codes "cache") ms) none in
-    rw other.0 (rw (same_unknown ms other.1) refl)
-
-pub same_fault : (version : TableVersion) (n : ℕ) (ms : Members) → get_member (codes "cache") ms ≡ None → line_fault version n ms ≡ line_fault One n ms
-unfolding line_fault
-same_fault One n ms none = refl
-same_fault Two n ms none = rw (same_unknown ms none) refl
-
--- a key that the first version knows isn't `cache`
-known_is_other : (key : List ℕ) (value : Data) (found : Option Data) → is_known (Line One) key ≡ true → match_ordering (slice_cmp nat_cmp (codes "cache") key) found (Some value) found ≡ found
-known_is_other key value found known = by_order (slice_cmp nat_cmp (codes "cache") key) refl
+-- a key that is known isn't one that isn't
+known_is_other : (scope : Scope) (word key : List ℕ) (value : Data) (found : Option Data) → is_known scope word ≡ false → is_known scope key ≡ true → match_ordering (slice_cmp nat_cmp word key) found (Some value) found ≡ found
+known_is_other scope word key value found unknown known = by_order (slice_cmp nat_cmp word key) refl
   where
-    by_order : (o : Ordering) → slice_cmp nat_cmp (codes "cache") key ≡ o → match_ordering (slice_cmp nat_cmp (codes "cache") key) found (Some value) found ≡ found
+    by_order : (o : Ordering) → slice_cmp nat_cmp word key ≡ o → match_ordering (slice_cmp nat_cmp word key) found (Some value) found ≡ found
     by_order Less is = rw is refl
     by_order Equal is =
-        let same : codes "cache" ≡ key = (bytes_eq-Decides (codes "cache") key).0 (sym (is_eq-slice_cmp (codes "cache") key) ∙ ap is_eq is) in
-        let bad : is_known (Line One) (codes "cache") ≡ true = subst (λ k. is_known (Line One) k ≡ true) (sym same) known in
+        let same : word ≡ key = (bytes_eq-Decides word key).0 (sym (is_eq-slice_cmp word key) ∙ ap is_eq is) in
+        let bad : is_known scope word ≡ true = subst (λ k. is_known scope k ≡ true) (sym same) known in
         cc
     by_order Greater is = rw is refl
 
@@ -60,84 +55,212 @@ all_known : (known : Bool) (rest : Option (List ℕ)) (key : List ℕ) → cond 
 all_known true rest key none = (refl, none)
 all_known false rest key none = cc
 
+-- where each key is known, one that isn't doesn't stand
+pub not_among_known : (scope : Scope) (word : List ℕ) (ms : Members) → is_known scope word ≡ false → first_unknown scope ms ≡ None → get_member word ms ≡ None
+not_among_known scope word no_members unknown none = refl
+not_among_known scope word (member key value ms) unknown none =
+    let known = all_known (is_known scope key) (first_unknown scope ms) key none in
+    known_is_other scope word key value (get_member word ms) unknown known.0 ∙ not_among_known scope word ms unknown known.1
+
 no_cache : (ms : Members) → first_unknown (Line One) ms ≡ None → get_member (codes "cache") ms ≡ None
-no_cache no_members none = refl
-no_cache (member key value ms) none =
-    let known = all_known (is_known (Line One) key) (first_unknown (Line One) ms) key none in
-    known_is_other key value (get_member (codes "cache") ms) known.0 ∙ no_cache ms known.1
+no_cache ms none = not_among_known (Line One) (codes "cache") ms refl none
+
+-- where no word of the third version stands none is bad, and the policy is that of the versions before
+pub no_bad_word : (ms : Members) → HasNoWord ms → first_bad_word ms ≡ None
+no_bad_word ms none = rw none.lifetime (rw none.stale_if_error (rw none.set_cookie (rw none.errors (rw none.request_directives (rw none.explain refl)))))
+
+pub plain_policy : (ms : Members) → HasNoWord ms → policy_read ms ≡ plain (not (says (codes "cache") (codes "off") ms))
+plain_policy ms none = rw none.lifetime (rw none.stale_if_error (rw none.set_cookie (rw none.errors (rw none.request_directives (rw none.explain refl)))))
+
+no_words : (version : TableVersion) (ms : Members) → ¬ (version ≡ Three) → first_unknown (Line version) ms ≡ None → HasNoWord ms
+no_words One ms other none = record {
+  lifetime = not_among_known (Line One) (codes "lifetime") ms refl none;
+  stale_if_error = not_among_known (Line One) (codes "stale-if-error") ms refl none;
+  set_cookie = not_among_known (Line One) (codes "set-cookie") ms refl none;
+  errors = not_among_known (Line One) (codes "errors") ms refl none;
+  request_directives = not_among_known (Line One) (codes "request-directives") ms refl none;
+  explain = not_among_known (Line One) (codes "explain") ms refl none;
+}
+no_words Two ms other none = record {
+  lifetime = not_among_known (Line Two) (codes "lifetime") ms refl none;
+  stale_if_error = not_among_known (Line Two) (codes "stale-if-error") ms refl none;
+  set_cookie = not_among_known (Line Two) (codes "set-cookie") ms refl none;
+  errors = not_among_known (Line Two) (codes "errors") ms refl none;
+  request_directives = not_among_known (Line Two) (codes "request-directives") ms refl none;
+  explain = not_among_known (Line Two) (codes "explain") ms refl none;
+}
+no_words Three ms other none = absurd (other refl)
+
+-- ---- lines that say nothing new read alike
+
+-- where `cache` doesn't stand, the first two versions know the same keys
+same_unknown : (ms : Members) → get_member (codes "cache") ms ≡ None → first_unknown (Line Two) ms ≡ first_unknown (Line One) ms
+same_unknown no_members none = refl
+same_unknown (member key value ms) none =
+    let other = is_other (codes "cache") key value (get_member (codes "cache") ms) none in
+    rw other.0 (rw (same_unknown ms other.1) refl)
+
+-- where no word stands, the last two do
+pub without_words : (ms : Members) → HasNoWord ms → first_unknown (Line Three) ms ≡ first_unknown (Line Two) ms
+without_words no_members none = refl
+without_words (member key value ms) none =
+    let lifetime = is_other (codes "lifetime") key value (get_member (codes "lifetime") ms) none.lifetime in
+    let stale_if_error = is_other (codes "stale-if-error") key value (get_member (codes "stale-if-error") ms) none.stale_if_error in
+    let set_cookie = is_other (codes "set-cookie") key value (get_member (codes "set-cookie") ms) none.set_cookie in
+    let errors = is_other (codes "errors") key value (get_member (codes "errors") ms) none.errors in
+    let request_directives = is_other (codes "request-directives") key value (get_member (codes "request-directives") ms) none.request_directives in
+    let explain = is_other (codes "explain") key value (get_member (codes "explain") ms) none.explain in
+    let rest : HasNoWord ms = record { lifetime = lifetime.1; stale_if_error = stale_if_error.1; set_cookie = set_cookie.1; errors = errors.1; request_directives = request_directives.1; explain = explain.1 } in
+    rw lifetime.0 (rw stale_if_error.0 (rw set_cookie.0 (rw errors.0 (rw request_directives.0 (rw explain.0 (rw (without_words ms rest) refl))))))
+
+pub same_fault : (version : TableVersion) (n : ℕ) (ms : Members) → get_member (codes "cache") ms ≡ None → HasNoWord ms → line_fault version n ms ≡ line_fault One n ms
+unfolding line_fault
+same_fault One n ms none no_word = refl
+same_fault Two n ms none no_word = rw (same_unknown ms none) refl
+same_fault Three n ms none no_word = rw (without_words ms no_word) (rw (same_unknown ms none) refl)
+
+pub same_fault_of_two : (n : ℕ) (ms : Members) → HasNoWord ms → line_fault Three n ms ≡ line_fault Two n ms
+unfolding line_fault
+same_fault_of_two n ms no_word = rw (without_words ms no_word) refl
+
+-- ---- faults that a version never has
+
+-- the fault is of a key that a version adds
+abbrev is_of_added_key : ConfigFault → Bool
+is_of_added_key (BadCache line) = true
+is_of_added_key (BadWord line word) = true
+is_of_added_key _ = false
 
 -- a fault that isn't this one is passed over
 other_stands : (b : Bool) (x : ConfigFault) (o : Option ConfigFault) (fault : ConfigFault) → ¬ (x ≡ fault) → cond b (Some x) o ≡ Some fault → o ≡ Some fault
 other_stands true x o fault other e = let same : x ≡ fault = cc in absurd (other same)
 other_stands false x o fault other e = e
 
-not_refused : (n : ℕ) (ms : Members) (line : ℕ) → ¬ (line_fault One n ms ≡ Some (BadCache line))
-unfolding line_fault
-not_refused n ms line bad = by_keys (first_unknown (Line One) ms) refl
-  where
-    by_keys : (o : Option (List ℕ)) → first_unknown (Line One) ms ≡ o → ⊥
-    by_keys (Some key) e = let is : line_fault One n ms ≡ Some (UnknownKey key) = rw e refl in cc
-    by_keys None e =
-        let good : is_line_cache ms ≡ true = rw (no_cache ms e) refl in
-        let origin = cond (not (is_some_and is_line_origin (text_at (codes "origin") ms))) (Some (BadOrigin n)) None in
-        let path = cond (not (is_some_and is_line_path (text_at (codes "path") ms))) (Some (BadPath n)) origin in
-        let methods = cond (not (is_some_and are_line_methods (items_at (codes "methods") ms))) (Some (BadMethod n)) path in
-        let is : line_fault One n ms ≡ cond (not (is_some_and is_line_host (text_at (codes "host") ms))) (Some (BadHost n)) methods = rw e (rw good refl) in
-        let past_host = other_stands (not (is_some_and is_line_host (text_at (codes "host") ms))) (BadHost n) methods (BadCache line) (λ same. cc) (sym is ∙ bad) in
-        let past_methods = other_stands (not (is_some_and are_line_methods (items_at (codes "methods") ms))) (BadMethod n) path (BadCache line) (λ same. cc) past_host in
-        let past_path = other_stands (not (is_some_and is_line_path (text_at (codes "path") ms))) (BadPath n) origin (BadCache line) (λ same. cc) past_methods in
-        let past_origin = other_stands (not (is_some_and is_line_origin (text_at (codes "origin") ms))) (BadOrigin n) None (BadCache line) (λ same. cc) past_path in
-        cc
-
 neither_gives : (a b : Option ConfigFault) (fault : ConfigFault) → ¬ (a ≡ Some fault) → ¬ (b ≡ Some fault) → ¬ (or_later a b ≡ Some fault)
 neither_gives None b fault first later = later
 neither_gives (Some x) b fault first later = first
 
-item_not_refused : (n : ℕ) (o : Option Members) (line : ℕ) → ¬ (item_fault One n o ≡ Some (BadCache line))
-item_not_refused n None line bad = cc
-item_not_refused n (Some ms) line bad = not_refused n ms line bad
+-- what is told of the added keys of a line
+abbrev added_fault : ℕ → Members → Option ConfigFault
+added_fault n ms = cond (not (is_line_cache ms)) (Some (BadCache n)) (option_map (BadWord n) (first_bad_word ms))
 
-lines_not_refused : (n : ℕ) (ds : Items) (line : ℕ) → ¬ (lines_fault One n ds ≡ Some (BadCache line))
-lines_not_refused n no_items line = λ bad. cc
-lines_not_refused n (item d ds) line =
-    neither_gives (item_fault One n (as_table d)) (lines_fault One (n + 1) ds) (BadCache line) (item_not_refused n (as_table d) line) (lines_not_refused (n + 1) ds line)
+module _ (fault : ConfigFault) (is_added : is_of_added_key fault ≡ true) where
+  not_it : (x : ConfigFault) → is_of_added_key x ≡ false → ¬ (x ≡ fault)
+  not_it x other same =
+      let bad : is_of_added_key fault ≡ false = subst (λ f. is_of_added_key f ≡ false) same other in
+      cc
 
-table_not_refused : (t : Members) (line : ℕ) → version_of t ≡ One → ¬ (table_fault t ≡ Some (BadCache line))
-unfolding table_fault
-table_not_refused t line one bad = by_keys (first_unknown Top t) refl (number_fault t) refl
+  module _ (version : TableVersion) (never : (n : ℕ) (ms : Members) → first_unknown (Line version) ms ≡ None → ¬ (added_fault n ms ≡ Some fault)) where
+    not_refused : (n : ℕ) (ms : Members) → ¬ (line_fault version n ms ≡ Some fault)
+    unfolding line_fault
+    not_refused n ms bad = by_keys (first_unknown (Line version) ms) refl
+      where
+        by_keys : (o : Option (List ℕ)) → first_unknown (Line version) ms ≡ o → ⊥
+        by_keys (Some key) e =
+            let is : line_fault version n ms ≡ Some (UnknownKey key) = rw e refl in
+            not_it (UnknownKey key) refl cc
+        by_keys None e =
+            let origin = cond (not (is_some_and is_line_origin (text_at (codes "origin") ms))) (Some (BadOrigin n)) (added_fault n ms) in
+            let path = cond (not (is_some_and is_line_path (text_at (codes "path") ms))) (Some (BadPath n)) origin in
+            let methods = cond (not (is_some_and are_line_methods (items_at (codes "methods") ms))) (Some (BadMethod n)) path in
+            let is : line_fault version n ms ≡ cond (not (is_some_and is_line_host (text_at (codes "host") ms))) (Some (BadHost n)) methods = rw e refl in
+            let past_host = other_stands (not (is_some_and is_line_host (text_at (codes "host") ms))) (BadHost n) methods fault (not_it (BadHost n) refl) (sym is ∙ bad) in
+            let past_methods = other_stands (not (is_some_and are_line_methods (items_at (codes "methods") ms))) (BadMethod n) path fault (not_it (BadMethod n) refl) past_host in
+            let past_path = other_stands (not (is_some_and is_line_path (text_at (codes "path") ms))) (BadPath n) origin fault (not_it (BadPath n) refl) past_methods in
+            let past_origin = other_stands (not (is_some_and is_line_origin (text_at (codes "origin") ms))) (BadOrigin n) (added_fault n ms) fault (not_it (BadOrigin n) refl) past_path in
+            never n ms e past_origin
+
+    item_not_refused : (n : ℕ) (o : Option Members) → ¬ (item_fault version n o ≡ Some fault)
+    item_not_refused n None bad = cc
+    item_not_refused n (Some ms) bad = not_refused n ms bad
+
+    lines_not_refused : (n : ℕ) (ds : Items) → ¬ (lines_fault version n ds ≡ Some fault)
+    lines_not_refused n no_items = λ bad. cc
+    lines_not_refused n (item d ds) =
+        neither_gives (item_fault version n (as_table d)) (lines_fault version (n + 1) ds) fault (item_not_refused n (as_table d)) (lines_not_refused (n + 1) ds)
+
+    table_not_refused : (t : Members) → version_of t ≡ version → ¬ (table_fault t ≡ Some fault)
+    unfolding table_fault
+    table_not_refused t same bad = by_keys (first_unknown Top t) refl (number_fault t) refl
+      where
+        by_keys : (o : Option (List ℕ)) → first_unknown Top t ≡ o → (p : Option NumberKey) → number_fault t ≡ p → ⊥
+        by_keys (Some key) e p f =
+            let is : table_fault t ≡ Some (UnknownKey key) = rw e refl in
+            not_it (UnknownKey key) refl cc
+        by_keys None e (Some key) f =
+            let is : table_fault t ≡ cond (not (is_some_and is_name (text_at (codes "name") t))) (Some BadName) (Some (BadNumber key)) = rw e (rw f refl) in
+            let past_name = other_stands (not (is_some_and is_name (text_at (codes "name") t))) BadName (Some (BadNumber key)) fault (not_it BadName refl) (sym is ∙ bad) in
+            not_it (BadNumber key) refl cc
+        by_keys None e None f =
+            let lines = lines_fault version 1 (unwrap_or (lines_at t) no_items) in
+            let many = cond (is_none (lines_at t)) (Some NoLines) lines in
+            let is : table_fault t ≡ cond (not (is_some_and is_name (text_at (codes "name") t))) (Some BadName) many = rw e (rw f (rw same refl)) in
+            let past_name = other_stands (not (is_some_and is_name (text_at (codes "name") t))) BadName many fault (not_it BadName refl) (sym is ∙ bad) in
+            lines_not_refused 1 (unwrap_or (lines_at t) no_items) (other_stands (is_none (lines_at t)) NoLines lines fault (not_it NoLines refl) past_name)
+
+    never_judged : (t : Members) → version_of t ≡ version → ¬ (judge_table t ≡ Err fault)
+    unfolding judge_table
+    never_judged t same bad = by_fault (table_fault t) refl
+      where
+        by_fault : (o : Option ConfigFault) → table_fault t ≡ o → ⊥
+        by_fault None e = let is : judge_table t ≡ fault_or_table None t = rw e refl in cc
+        by_fault (Some other) e =
+            let is : judge_table t ≡ Err other = rw e refl in
+            let both : other ≡ fault = cc in
+            table_not_refused t same (e ∙ ap Some both)
+
+no_fault_of_words : (n line : ℕ) (o : Option LineWord) → ¬ (option_map (BadWord n) o ≡ Some (BadCache line))
+no_fault_of_words n line None bad = cc
+no_fault_of_words n line (Some word) bad = cc
+
+never_of_cache : (line n : ℕ) (ms : Members) → first_unknown (Line One) ms ≡ None → ¬ (added_fault n ms ≡ Some (BadCache line))
+never_of_cache line n ms known bad =
+    let good : is_line_cache ms ≡ true = rw (no_cache ms known) refl in
+    let is : added_fault n ms ≡ option_map (BadWord n) (first_bad_word ms) = rw good refl in
+    no_fault_of_words n line (first_bad_word ms) (sym is ∙ bad)
+
+never_of_words : (version : TableVersion) (line : ℕ) (word : LineWord) (n : ℕ) (ms : Members) → ¬ (version ≡ Three) → first_unknown (Line version) ms ≡ None → ¬ (added_fault n ms ≡ Some (BadWord line word))
+never_of_words version line word n ms other known bad =
+    let none : first_bad_word ms ≡ None = no_bad_word ms (no_words version ms other known) in
+    let is : added_fault n ms ≡ cond (not (is_line_cache ms)) (Some (BadCache n)) None = rw none refl in
+    by_cache (not (is_line_cache ms)) (sym is ∙ bad)
   where
-    by_keys : (o : Option (List ℕ)) → first_unknown Top t ≡ o → (p : Option NumberKey) → number_fault t ≡ p → ⊥
-    by_keys (Some key) e p f = let is : table_fault t ≡ Some (UnknownKey key) = rw e refl in cc
-    by_keys None e (Some key) f =
-        let is : table_fault t ≡ cond (not (is_some_and is_name (text_at (codes "name") t))) (Some BadName) (Some (BadNumber key)) = rw e (rw f refl) in
-        let past_name = other_stands (not (is_some_and is_name (text_at (codes "name") t))) BadName (Some (BadNumber key)) (BadCache line) (λ same. cc) (sym is ∙ bad) in
-        cc
-    by_keys None e None f =
-        let lines = lines_fault One 1 (unwrap_or (lines_at t) no_items) in
-        let many = cond (is_none (lines_at t)) (Some NoLines) lines in
-        let is : table_fault t ≡ cond (not (is_some_and is_name (text_at (codes "name") t))) (Some BadName) many = rw e (rw f (rw one refl)) in
-        let past_name = other_stands (not (is_some_and is_name (text_at (codes "name") t))) BadName many (BadCache line) (λ same. cc) (sym is ∙ bad) in
-        lines_not_refused 1 (unwrap_or (lines_at t) no_items) line (other_stands (is_none (lines_at t)) NoLines lines (BadCache line) (λ same. cc) past_name)
+    by_cache : (b : Bool) → ¬ (cond b (Some (BadCache n)) None ≡ Some (BadWord line word))
+    by_cache true e = cc
+    by_cache false e = cc
 
 pub never_refused : (t : Members) (line : ℕ) → version_of t ≡ One → ¬ (judge_table t ≡ Err (BadCache line))
-unfolding judge_table
-never_refused t line one bad = by_fault (table_fault t) refl
-  where
-    by_fault : (o : Option ConfigFault) → table_fault t ≡ o → ⊥
-    by_fault None e = let is : judge_table t ≡ fault_or_table None t = rw e refl in cc
-    by_fault (Some fault) e =
-        let is : judge_table t ≡ Err fault = rw e refl in
-        let same : fault ≡ BadCache line = cc in
-        table_not_refused t line one (e ∙ ap Some same)
+never_refused t line one = never_judged (BadCache line) refl One (never_of_cache line) t one
 
-is_cached_line : (n : ℕ) (ms : Members) → line_fault One n ms ≡ None → (line_of ms).caches ≡ true
-unfolding line_fault line_of
-is_cached_line n ms none = by_keys (first_unknown (Line One) ms) refl
-  where
-    by_keys : (o : Option (List ℕ)) → first_unknown (Line One) ms ≡ o → is_cached (text_at (codes "cache") ms) ≡ true
-    by_keys (Some key) e = let is : line_fault One n ms ≡ Some (UnknownKey key) = rw e refl in cc
-    by_keys None e = rw (no_cache ms e) refl
+pub never_refused_for_words : (t : Members) (line : ℕ) (word : LineWord) → ¬ (version_of t ≡ Three) → ¬ (judge_table t ≡ Err (BadWord line word))
+never_refused_for_words t line word other =
+    never_judged (BadWord line word) refl (version_of t) (λ n ms known. never_of_words (version_of t) line word n ms other known) t refl
 
-pub each_is_cached : (t : Members) (table : Table) → version_of t ≡ One → judge_table t ≡ Ok table → All (λ (line : PlainLine). line.caches ≡ true) table.lines
+-- ---- what lines say
+
+all_keys_known : (version : TableVersion) (n : ℕ) (ms : Members) → line_fault version n ms ≡ None → first_unknown (Line version) ms ≡ None
+unfolding line_fault
+all_keys_known version n ms none = by_keys (first_unknown (Line version) ms) refl
+  where
+    by_keys : (o : Option (List ℕ)) → first_unknown (Line version) ms ≡ o → first_unknown (Line version) ms ≡ None
+    by_keys (Some key) e = let is : line_fault version n ms ≡ Some (UnknownKey key) = rw e refl in cc
+    by_keys None e = e
+
+is_cached_line : (n : ℕ) (ms : Members) → line_fault One n ms ≡ None → (line_of ms).policy ≡ plain true
+unfolding line_of
+is_cached_line n ms none =
+    let known = all_keys_known One n ms none in
+    let caches : not (says (codes "cache") (codes "off") ms) ≡ true = rw (no_cache ms known) refl in
+    plain_policy ms (no_words One ms (λ same. cc) known) ∙ ap plain caches
+
+is_plain_line : (version : TableVersion) (n : ℕ) (ms : Members) → ¬ (version ≡ Three) → line_fault version n ms ≡ None → (line_of ms).policy ≡ plain (line_of ms).policy.caches
+unfolding line_of
+is_plain_line version n ms other none = plain_policy ms (no_words version ms other (all_keys_known version n ms none))
+
+pub each_is_cached : (t : Members) (table : Table) → version_of t ≡ One → judge_table t ≡ Ok table → All (λ (line : PlainLine). line.policy ≡ plain true) table.lines
 each_is_cached t table one e =
-    each_line_read (λ (line : PlainLine). line.caches ≡ true) t table (λ n ms none. is_cached_line n ms (subst (λ v. line_fault v n ms ≡ None) one none)) (sym e)
+    each_line_read (λ (line : PlainLine). line.policy ≡ plain true) t table (λ n ms none. is_cached_line n ms (subst (λ v. line_fault v n ms ≡ None) one none)) (sym e)
+
+pub each_is_plain : (t : Members) (table : Table) → ¬ (version_of t ≡ Three) → judge_table t ≡ Ok table → All (λ (line : PlainLine). line.policy ≡ plain line.policy.caches) table.lines
+each_is_plain t table other e =
+    each_line_read (λ (line : PlainLine). line.policy ≡ plain line.policy.caches) t table (λ n ms none. is_plain_line (version_of t) n ms other none) (sym e)

@@ -1,6 +1,6 @@
 -- Addresses of origins: four decimal numbers and a port.
-use Rattle.std.specs.Prelude.{ℕ, nat_le, ◌==◌, nat_lt, Bool, false, not, ◌&&◌, if◌then◌else◌, List, [], ◌∷◌, length, slice_index, Option, Some, None}
-use Rattle.std.specs.Option.{option_map, option_and_then}
+use Rattle.std.specs.Prelude.{ℕ, nat_le, ◌==◌, nat_lt, Bool, false, not, ◌&&◌, if◌then◌else◌, List, length, slice_index, Option, Some, None}
+use Rattle.std.specs.Option.{option_and_then}
 use Rattle.hx_fields.specs.Names.{cut_at}
 use Rattle.hx_target.specs.Hosts.{short_number}
 

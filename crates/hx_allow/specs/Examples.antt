@@ -3,6 +3,7 @@ use Rattle.std.specs.Prelude.{ℕ, zero, suc, pos, true, false, List, [], ◌∷
 use Rattle.toml.specs.Data.{Data, string, integer, array, Items, no_items, item, Members, no_members, member}
 use Rattle.hx_target.specs.declared.targets.Target.{Target}
 use Rattle.hx_target.specs.Paths.{table_path_of}
+use Rattle.hx_policy.specs.Words.{plain}
 use Rattle.hx_allow.specs.Lines.{Line}
 
 -- a key and its value
@@ -65,7 +66,7 @@ asks host path = record { key = record { host = host; port = 80; path_query = pa
 
 -- a line that is read, with one method
 abbrev pub reads : Option (List ℕ) → List ℕ → List ℕ → Option (List ℕ) → Line
-reads host name path origin = record { host = host; methods = name ∷ []; path = path; origin = origin; caches = true }
+reads host name path origin = record { host = host; methods = name ∷ []; path = path; origin = origin; policy = plain true }
 
 -- the origin of the first run
 abbrev pub origin_8081 : Option (List ℕ)
@@ -88,4 +89,4 @@ indexed_lines =
 -- a line without cache, and one with it
 abbrev pub line_without_cache : List Line
 line_without_cache =
-    record (reads None (codes "*") (codes "/live") origin_8081) { caches = false } ∷ reads None (codes "GET") (codes "/") origin_8081 ∷ []
+    record (reads None (codes "*") (codes "/live") origin_8081) { policy = plain false } ∷ reads None (codes "GET") (codes "/") origin_8081 ∷ []

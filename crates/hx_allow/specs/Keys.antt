@@ -1,7 +1,9 @@
--- The keys of numbers, as they stand in the table, and the numbers of faults.
-use Rattle.std.specs.Prelude.{ℕ, List, codes}
+-- The keys of numbers and of a line's words, as they stand in the table, and the numbers of faults.
+use Rattle.std.specs.Prelude.{ℕ, List, [], ◌∷◌, codes, map}
 use Rattle.hx_allow.specs.declared.faults.ConfigFault.{ConfigFault}
-use Rattle.hx_allow.specs.declared.faults.ConfigFault.TheVariants.{NotToml, UnknownKey, BadName, BadNumber, BadHost, BadMethod, BadPath, BadOrigin, NoLines, OutOfMemory, BadCache}
+use Rattle.hx_allow.specs.declared.faults.ConfigFault.TheVariants.{NotToml, UnknownKey, BadName, BadNumber, BadHost, BadMethod, BadPath, BadOrigin, NoLines, OutOfMemory, BadCache, BadWord}
+use Rattle.hx_allow.specs.declared.faults.LineWord.{LineWord}
+use Rattle.hx_allow.specs.declared.faults.LineWord.TheVariants.{Lifetime, StaleIfError, SetCookie, Errors, RequestDirectives, Explain}
 use Rattle.hx_allow.specs.declared.faults.NumberKey.{NumberKey}
 use Rattle.hx_allow.specs.declared.faults.NumberKey.TheVariants.{Version, Capacity, MaxBody, MaxStored}
 
@@ -10,6 +12,21 @@ key_text Version = codes "version"
 key_text Capacity = codes "capacity"
 key_text MaxBody = codes "max_body"
 key_text MaxStored = codes "max_stored"
+
+abbrev pub word_key : LineWord → List ℕ
+word_key Lifetime = codes "lifetime"
+word_key StaleIfError = codes "stale-if-error"
+word_key SetCookie = codes "set-cookie"
+word_key Errors = codes "errors"
+word_key RequestDirectives = codes "request-directives"
+word_key Explain = codes "explain"
+
+-- the words of a line, in the order in which they are looked at
+abbrev pub line_words : List LineWord
+line_words = Lifetime ∷ StaleIfError ∷ SetCookie ∷ Errors ∷ RequestDirectives ∷ Explain ∷ []
+
+abbrev pub word_keys : List (List ℕ)
+word_keys = map word_key line_words
 
 -- the numbers of the faults, which order them
 abbrev pub fault_number : ConfigFault → ℕ
@@ -24,3 +41,4 @@ fault_number (BadOrigin line) = 8
 fault_number NoLines = 9
 fault_number OutOfMemory = 10
 fault_number (BadCache line) = 11
+fault_number (BadWord line word) = 12

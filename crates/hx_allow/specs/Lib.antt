@@ -3,11 +3,14 @@ pub mod FaultTexts
 pub mod Index
 pub mod Keys
 pub mod LineTables
+pub mod LineWords
 pub mod Lines
 pub mod Matching
 pub mod PathTails
+pub mod NeverReached
 pub mod Tables
 pub mod Values
+pub mod Versions
 pub mod Unknown
 pub mod Deciding
 pub mod Examples

@@ -1,5 +1,5 @@
 -- What a `[[line]]` table says, or its first fault.
-use Rattle.std.specs.Prelude.{ℕ, ◌+◌, ◌-◌, ◌==◌, nat_le, Bool, true, not, ◌&&◌, ◌||◌, if◌then◌else◌, List, [], ◌∷◌, length, slice_index, codes, bytes_eq, Option, Some, None, is_none, unwrap_or}
+use Rattle.std.specs.Prelude.{ℕ, ◌+◌, ◌-◌, ◌==◌, nat_le, Bool, not, ◌&&◌, ◌||◌, if◌then◌else◌, List, [], ◌∷◌, length, slice_index, codes, bytes_eq, Option, Some, None, is_none, unwrap_or, option_map}
 use Rattle.std.specs.List.{list_any, list_all}
 use Rattle.std.specs.Char.{is_ascii_uppercase}
 use Rattle.http_uri.specs.ByteClasses.{slash, hash_sign, question_mark}
@@ -9,6 +9,7 @@ use Rattle.hx_target.specs.Hosts.{is_host}
 use Rattle.hx_target.specs.Paths.{has_bad_escape, has_dot_segment, table_path_of}
 use Rattle.hx_allow.specs.Addresses.{is_address}
 use Rattle.hx_allow.specs.Lines.{Line as PlainLine}
+use Rattle.hx_allow.specs.LineWords.{first_bad_word, policy_read}
 use Rattle.hx_allow.specs.Matching.{is_never_allowed}
 use Rattle.hx_allow.specs.Values.{first_unknown, text_at, is_some_and, counts_within, all_items, unless_text, texts_of, items_at}
 use Rattle.hx_allow.specs.declared.values.Scope.TheVariants.{Line}
@@ -16,7 +17,7 @@ use Rattle.hx_allow.specs.declared.values.TableVersion.{TableVersion}
 use Rattle.hx_allow.specs.declared.faults.ConfigFault.{ConfigFault}
 use Rattle.hx_allow.specs.declared.faults.FoundFault.{FoundFault}
 use Rattle.hx_allow.specs.declared.faults.FoundFault.TheVariants as found
-use Rattle.hx_allow.specs.declared.faults.ConfigFault.TheVariants.{UnknownKey, BadHost, BadMethod, BadPath, BadOrigin, BadCache}
+use Rattle.hx_allow.specs.declared.faults.ConfigFault.TheVariants.{UnknownKey, BadHost, BadMethod, BadPath, BadOrigin, BadCache, BadWord}
 
 -- `*`, or a host in lower case
 unfoldable pub is_line_host : List ℕ → Bool
@@ -71,12 +72,7 @@ line_fault version n ms = after_keys (first_unknown (Line version) ms)
         else if not (is_some_and is_line_path (text_at (codes "path") ms)) then Some (BadPath n)
         else if not (is_some_and is_line_origin (text_at (codes "origin") ms)) then Some (BadOrigin n)
         else if not (is_line_cache ms) then Some (BadCache n)
-        else None
-
--- a line is cached unless it says no
-abbrev pub is_cached : Option (List ℕ) → Bool
-is_cached None = true
-is_cached (Some text) = not (bytes_eq text (codes "off"))
+        else option_map (BadWord n) (first_bad_word ms)
 
 -- the line, where it has no fault
 unfoldable pub line_of : Members → PlainLine
@@ -85,7 +81,7 @@ line_of ms = record {
   methods = texts_of (unwrap_or (items_at (codes "methods") ms) no_items);
   path = table_path_of (unwrap_or (text_at (codes "path") ms) []);
   origin = unless_text (codes "deny") (text_at (codes "origin") ms);
-  caches = is_cached (text_at (codes "cache") ms);
+  policy = policy_read ms;
 }
 
 abbrev pub or_later : Option ConfigFault → Option ConfigFault → Option ConfigFault

@@ -1,14 +1,15 @@
 -- The operator's table as plain lists.
-use Rattle.std.specs.Prelude.{ℕ, Bool, List, Option}
+use Rattle.std.specs.Prelude.{ℕ, List, Option}
+use Rattle.hx_policy.specs.declared.words.Policy.{Policy}
 
 -- A line: the only host that it matches or none for every one, its methods with `*` among them, its path, the address
--- of its origin or none where it denies, and whether its requests are answered from the store and their responses kept.
+-- of its origin or none where it denies, and what it says of caching.
 pub record Line : Type 0 where
   pub host : Option (List ℕ)
   pub methods : List (List ℕ)
   pub path : List ℕ
   pub origin : Option (List ℕ)
-  pub caches : Bool
+  pub policy : Policy
 
 -- The whole table. Limits are bytes, but for the capacity, which is entries.
 pub record Table : Type 0 where

@@ -2,13 +2,14 @@
 --
 -- matches_line: a line's host, a method and its path match
 -- verdict_of: the first line that matches
--- origin_of, caches_of: what the line of a number says     longest_origin: the most bytes of an origin's address
-use Rattle.std.specs.Prelude.{◌≤◌, IsSome, ℕ, ◌+◌, ◌-◌, ◌==◌, nat_lt, Bool, true, not, ◌&&◌, ◌||◌, if◌then◌else◌, List, [], ◌∷◌, length, max, fold, take, slice_index, slice_get, codes, bytes_eq, Option, Some, None, is_some, unwrap_or}
+-- origin_of, policy_of: what the line of a number says     longest_origin: the most bytes of an origin's address
+use Rattle.std.specs.Prelude.{◌≤◌, IsSome, ℕ, ◌+◌, ◌-◌, ◌==◌, nat_lt, Bool, true, false, not, ◌&&◌, ◌||◌, if◌then◌else◌, List, [], ◌∷◌, length, max, fold, take, slice_index, slice_get, codes, bytes_eq, Option, Some, None, is_some, unwrap_or, option_map}
 use Rattle.std.specs.Option.{option_and_then}
 use Rattle.std.specs.List.{list_any}
 use Rattle.hx_target.specs.declared.targets.Target.{Target}
+use Rattle.hx_policy.specs.declared.words.Policy.{Policy}
+use Rattle.hx_policy.specs.Words.{plain}
 use Rattle.hx_allow.specs.Lines.{Line}
-use Rattle.hx_allow.specs.Values.{is_some_and}
 use Rattle.hx_allow.specs.declared.verdicts.Verdict.{Verdict}
 use Rattle.hx_allow.specs.declared.verdicts.Verdict.TheVariants.{Allowed, DeniedBy, NoLine}
 
@@ -67,9 +68,9 @@ origin_of lines n = option_and_then (λ (line : Line). line.origin) (numbered li
 abbrev pub longest_origin : List Line → ℕ
 longest_origin lines = fold (λ n (line : Line). max n (length (unwrap_or line.origin []))) 0 lines
 
--- what the line with this number says of the store; what the table doesn't say isn't kept
-unfoldable pub caches_of : List Line → ℕ → Bool
-caches_of lines n = is_some_and (λ (line : Line). line.caches) (numbered lines n)
+-- what the line with this number says of caching; what no line says anything of isn't kept
+unfoldable pub policy_of : List Line → ℕ → Policy
+policy_of lines n = unwrap_or (option_map (λ (line : Line). line.policy) (numbered lines n)) (plain false)
 
 -- a line of this number stands and has an origin
 abbrev pub IsAllowing : List Line → ℕ → Type 0

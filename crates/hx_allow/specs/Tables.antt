@@ -15,7 +15,7 @@ use Rattle.hx_allow.specs.LineTables.{lines_fault, lines_of}
 use Rattle.hx_allow.specs.Values.{first_unknown, text_at, number_between, is_some_and, counts_within, all_items, items_at}
 use Rattle.hx_allow.specs.declared.values.Scope.TheVariants.{Top}
 use Rattle.hx_allow.specs.declared.values.TableVersion.{TableVersion}
-use Rattle.hx_allow.specs.declared.values.TableVersion.TheVariants.{One, Two}
+use Rattle.hx_allow.specs.declared.values.TableVersion.TheVariants.{One, Two, Three}
 use Rattle.hx_allow.specs.declared.faults.ConfigFault.{ConfigFault}
 use Rattle.hx_allow.specs.declared.faults.ConfigFault.TheVariants.{NotToml, UnknownKey, BadName, BadNumber, NoLines}
 use Rattle.hx_allow.specs.declared.faults.NumberKey.{NumberKey}
@@ -40,7 +40,7 @@ least MaxBody = 0
 least MaxStored = 0
 
 abbrev pub greatest : NumberKey → ℕ
-greatest Version = 2
+greatest Version = 3
 greatest Capacity = 65536
 greatest MaxBody = 16777216
 greatest MaxStored = 16777216
@@ -50,7 +50,10 @@ number_at key t = number_between (least key) (greatest key) (get_member (key_tex
 
 -- the version that the number of `version` names
 abbrev pub version_of : Members → TableVersion
-version_of t = if is_some_and (λ n. n == 2) (number_at Version t) then Two else One
+version_of t =
+    if is_some_and (λ n. n == 2) (number_at Version t) then Two
+    else if is_some_and (λ n. n == 3) (number_at Version t) then Three
+    else One
 
 -- an array of 1 to 256 tables
 abbrev pub are_lines : Items → Bool

@@ -6,12 +6,14 @@ use Rattle.toml.specs.Data.{Data, as_integer, Items, no_items, item, Members, no
 use Rattle.hx_allow.specs.declared.values.Scope.{Scope}
 use Rattle.hx_allow.specs.declared.values.Scope.TheVariants.{Top, Line}
 use Rattle.hx_allow.specs.declared.values.TableVersion.{TableVersion}
-use Rattle.hx_allow.specs.declared.values.TableVersion.TheVariants.{One, Two}
+use Rattle.hx_allow.specs.Keys.{word_keys}
+use Rattle.hx_allow.specs.declared.values.TableVersion.TheVariants.{One, Two, Three}
 
 -- the keys of a line that a version has besides those of the first
 abbrev pub further_keys : TableVersion → List (List ℕ)
 further_keys One = []
 further_keys Two = codes "cache" ∷ []
+further_keys Three = codes "cache" ∷ word_keys
 
 -- the keys that stand at the top, and in a line
 abbrev pub known_keys : Scope → List (List ℕ)

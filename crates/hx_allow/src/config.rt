@@ -1,13 +1,16 @@
 //! The operator's table, read.
 ghost use Rattle.std.specs.Prelude.{◌≡◌, ◌≤◌, ℕ, [], length, Err, unwrap_or};
-ghost use Rattle.hx_allow.specs.Matching.{verdict_of, origin_of, caches_of, longest_origin, NamesAnOrigin};
+ghost use Rattle.hx_allow.specs.Matching.{verdict_of, origin_of, policy_of, longest_origin, NamesAnOrigin};
+ghost use Rattle.hx_allow.specs.NeverReached.{taken_by};
 ghost use Rattle.hx_allow.specs.Tables.{ReadsAs};
 
 use crate::host_index::HostIndex;
 use crate::lines::{Line, is_never_allowed};
 use crate::matching::{line_at, verdict_among};
+use crate::shadows::first_taking;
 use crate::{ConfigFault, Verdict, reading};
 use http::Method;
+use hx_policy::Policy;
 use hx_target::Target;
 use std::alloc::Global;
 use std::marker::Model;
@@ -55,7 +58,7 @@ impl Model for Config {
 }
 
 impl Config {
-    /// Reads a table of version 1 or 2. The first fault in the order of looking is answered; want of memory is told in its place
+    /// Reads a table of version 1, 2 or 3. The first fault in the order of looking is answered; want of memory is told in its place
     /// where the text or a key couldn't be copied.
     pub fn read(alloc: Global, bytes: &[u8]) -> Result<Config, ConfigFault>
         ensures table { ¬ (result ≡ Err ConfigFault.OutOfMemory) → ReadsAs bytes.now result }
@@ -102,16 +105,25 @@ impl Config {
         self.longest_origin
     }
 
-    /// Whether the requests of a line, counted from 1, may be answered from the store, and their responses stored. It is
-    /// false where the table has no such line, and true of a line that denies, whose requests reach no store.
-    #[tactic(auto, unfolding(crate::specs::Matching::caches_of))]
-    pub fn caches(&self, line: u16) -> bool
-        ensures { result ≡ caches_of self.now.lines line }
+    /// What a line, counted from 1, says of caching. A line that the table doesn't have caches nothing; one that denies has
+    /// the policy of a line without words, though its requests reach no store.
+    #[tactic(auto, unfolding(crate::specs::Matching::policy_of))]
+    pub fn policy(&self, line: u16) -> Policy
+        ensures { result ≡ policy_of self.now.lines line }
     {
         match line_at(&self.lines, line) {
-            Some(line) => line.caches,
-            None => false,
+            Some(line) => line.policy,
+            None => Policy::plain(false),
         }
+    }
+
+    /// The first line in front of one, both counted from 1, that takes all that this could match, so that it never decides
+    /// on a request.
+    pub fn taken_by(&self, line: u16) -> Option<u16>
+        ensures { result ≡ taken_by self.now.lines line }
+    {
+        let later = line_at(&self.lines, line)?;
+        first_taking(&self.lines[..usize::from(line) - 1], later)
     }
 
     /// The proxy's name, as it stands in Via and Cache-Status.

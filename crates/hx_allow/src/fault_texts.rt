@@ -1,8 +1,8 @@
 //! What is wrong with a table and what may stand there, in words for the operator. No text takes memory.
 ghost use Rattle.std.specs.Prelude.{◌≡◌, None, Some};
-ghost use Rattle.hx_allow.specs.FaultTexts.{line_at_fault, words_of_number, words_of};
+ghost use Rattle.hx_allow.specs.FaultTexts.{line_at_fault, words_of_number, words_of_word, words_of};
 
-use crate::faults::{ConfigFault, NumberKey};
+use crate::faults::{ConfigFault, LineWord, NumberKey};
 use std::fmt;
 use std::fmt::Formatter;
 
@@ -16,6 +16,7 @@ fn line_at_fault(fault: &ConfigFault) -> Option<u16>
         ConfigFault::BadPath(line) => Some(*line),
         ConfigFault::BadOrigin(line) => Some(*line),
         ConfigFault::BadCache(line) => Some(*line),
+        ConfigFault::BadWord(line, _) => Some(*line),
         _ => None,
     }
 }
@@ -25,12 +26,32 @@ fn words_of_number(key: NumberKey) -> &'static str
     ensures { result.now ≡ words_of_number key }
 {
     match key {
-        NumberKey::Version => "version has to be 1 or 2, without quotes",
+        NumberKey::Version => "version has to be 1, 2 or 3, without quotes",
         NumberKey::Capacity => "capacity has to be a whole number from 1 to 65536, without quotes",
         NumberKey::MaxBody =>
             "max_body has to be a whole number from 0 to 16777216, without quotes",
         NumberKey::MaxStored =>
             "max_stored has to be a whole number from 0 to 16777216, without quotes",
+    }
+}
+
+/// What this key of a line has to be.
+fn words_of_word(word: LineWord) -> &'static str
+    ensures { result.now ≡ words_of_word word }
+{
+    match word {
+        LineWord::Lifetime =>
+            "lifetime has to be a whole number of seconds from 1 to 2147483648, without quotes, in a line that has an origin and its cache on",
+        LineWord::StaleIfError =>
+            "stale-if-error has to be a whole number of seconds from 0 to 2147483648, without quotes, in a line that has an origin and its cache on",
+        LineWord::SetCookie =>
+            "set-cookie has to be \"stored\" or \"not-stored\", in a line that has an origin and its cache on",
+        LineWord::Errors =>
+            "errors has to be \"stored\" or \"not-stored\", in a line that has an origin and its cache on",
+        LineWord::RequestDirectives =>
+            "request-directives has to be \"heeded\" or \"ignored\", in a line that has an origin and its cache on",
+        LineWord::Explain =>
+            "explain has to be \"reuse\" or \"storing\", in a line that has an origin and its cache on",
     }
 }
 
@@ -42,7 +63,7 @@ fn words_of(fault: &ConfigFault) -> &'static str
         ConfigFault::NotToml =>
             "the table is no TOML, has a key twice, or has more than 1048576 bytes; look for a quote or bracket that is missing",
         ConfigFault::UnknownKey(_) =>
-            "a key isn't known where it stands; correct its spelling or delete it: behind [[line]] keys belong to that line, and cache needs version = 2",
+            "a key isn't known where it stands; correct its spelling or delete it: behind [[line]] keys belong to that line; cache needs version = 2 or 3, and lifetime, stale-if-error, set-cookie, errors, request-directives and explain need version = 3",
         ConfigFault::BadName =>
             "name has to be a lower-case letter and at most 31 of a-z, 0-9 and -, in quotes",
         ConfigFault::BadNumber(key) => words_of_number(*key),
@@ -58,6 +79,7 @@ fn words_of(fault: &ConfigFault) -> &'static str
         ConfigFault::OutOfMemory => "no memory is left for the table",
         ConfigFault::BadCache(_) =>
             "cache has to be \"on\" or \"off\", and not to stand in a line that denies",
+        ConfigFault::BadWord(_, word) => words_of_word(*word),
     }
 }
 

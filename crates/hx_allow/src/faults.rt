@@ -1,7 +1,7 @@
 //! Why an operator's table is refused.
 ghost use Rattle.std.specs.Prelude.{◌≡◌};
 ghost use Rattle.hx_allow.specs.declared.faults.ConfigFault.TheVariants.{OutOfMemory};
-ghost use Rattle.hx_allow.specs.Keys.{fault_number, key_text};
+ghost use Rattle.hx_allow.specs.Keys.{fault_number, key_text, word_key};
 
 use hx_fields::Bytes;
 use std::alloc::AllocError;
@@ -9,7 +9,7 @@ use std::alloc::AllocError;
 /// A key of the table that has a number.
 #[derive(Clone, Copy, Debug, PartialEq, Eq, Hash)]
 pub enum NumberKey {
-    /// The version of the table's format, 1 or 2.
+    /// The version of the table's format, 1, 2 or 3.
     Version,
     /// The most entries of the store, 1 to 65,536.
     Capacity,
@@ -29,6 +29,40 @@ impl NumberKey {
             NumberKey::Capacity => "capacity",
             NumberKey::MaxBody => "max_body",
             NumberKey::MaxStored => "max_stored",
+        }
+    }
+}
+
+/// A key of a line of version 3 that says more of caching, in the table's order.
+#[derive(Clone, Copy, Debug, PartialEq, Eq, Hash)]
+pub enum LineWord {
+    /// The lifetime of what states none, 1 to 2,147,483,648 seconds (RFC 9111, section 4.2.2).
+    Lifetime,
+    /// The staleness in which a stored response is sent in place of an error, 0 to 2,147,483,648 seconds (RFC 5861, section
+    /// 4).
+    StaleIfError,
+    /// Whether a response with Set-Cookie is stored (RFC 9111, section 7.3).
+    SetCookie,
+    /// Whether a response with a status of an error is stored.
+    Errors,
+    /// Whether a request's no-cache, max-age and min-fresh count (RFC 9111, section 5.2.1).
+    RequestDirectives,
+    /// Whether an answer that isn't stored tells why (RFC 9211, section 2.8).
+    Explain,
+}
+
+impl LineWord {
+    /// The key as it stands in the table.
+    pub fn as_str(self) -> &'static str
+        ensures { result.now ≡ word_key self }
+    {
+        match self {
+            LineWord::Lifetime => "lifetime",
+            LineWord::StaleIfError => "stale-if-error",
+            LineWord::SetCookie => "set-cookie",
+            LineWord::Errors => "errors",
+            LineWord::RequestDirectives => "request-directives",
+            LineWord::Explain => "explain",
         }
     }
 }
@@ -60,10 +94,12 @@ pub enum ConfigFault {
     OutOfMemory,
     /// `cache` of this line is neither `"on"` nor `"off"`, or stands in a line that denies.
     BadCache(u16),
+    /// This key of this line has a value that it can't have, or stands in a line that denies or has its cache off.
+    BadWord(u16, LineWord),
 }
 
 impl ConfigFault {
-    /// The fault's number, 1 to 11.
+    /// The fault's number, 1 to 12.
     pub fn number(&self) -> u8
         ensures { result ≡ fault_number self.now }
     {
@@ -79,6 +115,7 @@ impl ConfigFault {
             ConfigFault::NoLines => 9,
             ConfigFault::OutOfMemory => 10,
             ConfigFault::BadCache(_) => 11,
+            ConfigFault::BadWord(_, _) => 12,
         }
     }
 }

@@ -7,14 +7,18 @@ ghost use Rattle.toml.specs.Parse.{parse_document};
 ghost use Rattle.hx_target.specs.declared.targets.Target.{Target};
 ghost use Rattle.hx_target.specs.Judgement.{Judged};
 ghost use Rattle.hx_target.specs.Paths.{table_path_of};
+ghost use Rattle.hx_policy.specs.Words.{plain};
 ghost use Rattle.hx_allow.specs.Lines.{Line, Table};
 ghost use Rattle.hx_allow.specs.LineTables.{line_fault, lines_fault, tables};
 ghost use Rattle.hx_allow.specs.Matching.{matches_line, verdict_of, line_number};
+ghost use Rattle.hx_allow.specs.NeverReached.{taken_by};
 ghost use Rattle.hx_allow.specs.Tables.{version_of, judge_table, ReadsAs};
+ghost use Rattle.hx_allow.specs.Versions.{HasNoWord, TakesItsWords};
 ghost use Rattle.hx_allow.specs.declared.faults.ConfigFault.{ConfigFault as Fault};
+ghost use Rattle.hx_allow.specs.declared.faults.LineWord.{LineWord as Word};
 ghost use Rattle.hx_allow.specs.declared.faults.NumberKey.TheVariants.{Version};
 ghost use Rattle.hx_allow.specs.declared.values.TableVersion.{TableVersion};
-ghost use Rattle.hx_allow.specs.declared.values.TableVersion.TheVariants.{One};
+ghost use Rattle.hx_allow.specs.declared.values.TableVersion.TheVariants.{One, Two, Three};
 
 use hx_target::normalising_twice_is_once;
 
@@ -44,24 +48,42 @@ pub fn the_first_line_at_fault_is_told()
     ensures { (version : TableVersion) (before : List Members) (members : Members) (after : List Members) (fault : Fault) → lines_fault version 1 (tables before) ≡ None → line_fault version (1 + length before) members ≡ Some fault → lines_fault version 1 (tables (before ++ members ∷ after)) ≡ Some fault }
 {}
 
-/// A table of the first version is never refused for `cache`, and each of its lines is cached. A line without the key is
-/// read alike in both versions.
+/// A table of the first version is never refused for `cache`, and each of its lines is cached, without a word of the third.
+/// A line without the keys that later versions add is read alike in all.
 pub fn version_one_reads_as_before()
     ensures never { (t : Members) (line : ℕ) → version_of t ≡ One → ¬ (judge_table t ≡ Err (Fault.BadCache line)) }
-    ensures cached { (t : Members) (table : Table) → version_of t ≡ One → judge_table t ≡ Ok table → All (λ (line : Line). line.caches ≡ true) table.lines }
-    ensures alike { (version : TableVersion) (n : ℕ) (members : Members) → get_member (codes "cache") members ≡ None → line_fault version n members ≡ line_fault One n members }
+    ensures cached { (t : Members) (table : Table) → version_of t ≡ One → judge_table t ≡ Ok table → All (λ (line : Line). line.policy ≡ plain true) table.lines }
+    ensures alike { (version : TableVersion) (n : ℕ) (members : Members) → get_member (codes "cache") members ≡ None → HasNoWord members → line_fault version n members ≡ line_fault One n members }
+{}
+
+/// A table of the first two versions is never refused for a word of the third, and none of its lines has one. A line without
+/// them is read alike in the last two.
+pub fn version_two_reads_as_before()
+    ensures never { (t : Members) (line : ℕ) (word : Word) → ¬ (version_of t ≡ Three) → ¬ (judge_table t ≡ Err (Fault.BadWord line word)) }
+    ensures plain { (t : Members) (table : Table) → ¬ (version_of t ≡ Three) → judge_table t ≡ Ok table → All (λ (line : Line). line.policy ≡ plain line.policy.caches) table.lines }
+    ensures alike { (n : ℕ) (members : Members) → HasNoWord members → line_fault Three n members ≡ line_fault Two n members }
+{}
+
+/// A line that has a word of the third version allows, and has its cache on.
+pub fn words_stand_where_a_line_caches()
+    ensures { (t : Members) (table : Table) → judge_table t ≡ Ok table → All TakesItsWords table.lines }
+{}
+
+/// A line that one in front of it takes never decides on a request.
+pub fn a_taken_line_never_decides()
+    ensures { (lines : List Line) (method : List ℕ) (target : Target) (n k : ℕ) → taken_by lines n ≡ Some k → line_number (verdict_of lines method target) ≡ Some n → ⊥ }
 {}
 
 /// The table of the first example.
 #[tactic(auto, unfolding(toml::proofs::OnLiterals::toml_on_literals, crate::specs::Tables::judge_table, crate::specs::Tables::table_fault, crate::specs::Tables::table_of, crate::specs::Tables::is_name, crate::specs::LineTables::line_fault, crate::specs::LineTables::line_of, crate::specs::LineTables::is_line_host, crate::specs::LineTables::is_line_method, crate::specs::LineTables::is_line_path, crate::specs::Addresses::is_address, hx_target::specs::Hosts::short_number, hx_target::specs::Paths::has_dot_segment))]
 pub fn a_whole_table_is_read()
-    ensures { option_map judge_table (parse_document (codes "version = 1\nname = \"edge\"\ncapacity = 2\nmax_body = 1000\nmax_stored = 1000\n\n[[line]]\nhost = \"*\"\nmethods = [\"GET\", \"HEAD\", \"POST\"]\npath = \"/\"\norigin = \"127.0.0.1:8081\"\n")) ≡ Some (Ok (record { name = codes "edge"; capacity = 2; max_body = 1000; max_stored = 1000; lines = record { host = None; methods = codes "GET" ∷ codes "HEAD" ∷ codes "POST" ∷ []; path = codes "/"; origin = Some (codes "127.0.0.1:8081"); caches = true } ∷ [] })) }
+    ensures { option_map judge_table (parse_document (codes "version = 1\nname = \"edge\"\ncapacity = 2\nmax_body = 1000\nmax_stored = 1000\n\n[[line]]\nhost = \"*\"\nmethods = [\"GET\", \"HEAD\", \"POST\"]\npath = \"/\"\norigin = \"127.0.0.1:8081\"\n")) ≡ Some (Ok (record { name = codes "edge"; capacity = 2; max_body = 1000; max_stored = 1000; lines = record { host = None; methods = codes "GET" ∷ codes "HEAD" ∷ codes "POST" ∷ []; path = codes "/"; origin = Some (codes "127.0.0.1:8081"); policy = plain true } ∷ [] })) }
 {}
 
 /// A table of two lines, in their order: the first denies a path, the second allows what is left.
 #[tactic(auto, unfolding(toml::proofs::OnLiterals::toml_on_literals, crate::specs::Tables::judge_table, crate::specs::Tables::table_fault, crate::specs::Tables::table_of, crate::specs::Tables::is_name, crate::specs::LineTables::line_fault, crate::specs::LineTables::line_of, crate::specs::LineTables::is_line_host, crate::specs::LineTables::is_line_method, crate::specs::LineTables::is_line_path, crate::specs::Addresses::is_address, hx_target::specs::Hosts::is_host, hx_target::specs::Hosts::short_number, hx_target::specs::Paths::has_dot_segment))]
 pub fn a_table_of_two_lines_is_read()
-    ensures { option_map judge_table (parse_document (codes "version = 1\nname = \"edge\"\ncapacity = 2\nmax_body = 1000\nmax_stored = 1000\n\n[[line]]\nhost = \"*\"\nmethods = [\"*\"]\npath = \"/admin\"\norigin = \"deny\"\n\n[[line]]\nhost = \"x\"\nmethods = [\"GET\"]\npath = \"/\"\norigin = \"127.0.0.1:8081\"\n")) ≡ Some (Ok (record { name = codes "edge"; capacity = 2; max_body = 1000; max_stored = 1000; lines = record { host = None; methods = codes "*" ∷ []; path = codes "/admin"; origin = None; caches = true } ∷ record { host = Some (codes "x"); methods = codes "GET" ∷ []; path = codes "/"; origin = Some (codes "127.0.0.1:8081"); caches = true } ∷ [] })) }
+    ensures { option_map judge_table (parse_document (codes "version = 1\nname = \"edge\"\ncapacity = 2\nmax_body = 1000\nmax_stored = 1000\n\n[[line]]\nhost = \"*\"\nmethods = [\"*\"]\npath = \"/admin\"\norigin = \"deny\"\n\n[[line]]\nhost = \"x\"\nmethods = [\"GET\"]\npath = \"/\"\norigin = \"127.0.0.1:8081\"\n")) ≡ Some (Ok (record { name = codes "edge"; capacity = 2; max_body = 1000; max_stored = 1000; lines = record { host = None; methods = codes "*" ∷ []; path = codes "/admin"; origin = None; policy = plain true } ∷ record { host = Some (codes "x"); methods = codes "GET" ∷ []; path = codes "/"; origin = Some (codes "127.0.0.1:8081"); policy = plain true } ∷ [] })) }
 {}
 
 /// A fault of the second line has its number, and the first in the order of looking is named.
@@ -73,14 +95,14 @@ pub fn a_fault_of_the_second_line_has_its_number()
 /// A table of the second version: a line without cache, one that says that it has one, and one that says nothing.
 #[tactic(auto, unfolding(toml::proofs::OnLiterals::toml_on_literals, crate::specs::Tables::judge_table, crate::specs::Tables::table_fault, crate::specs::Tables::table_of, crate::specs::Tables::is_name, crate::specs::LineTables::line_fault, crate::specs::LineTables::line_of, crate::specs::LineTables::is_line_host, crate::specs::LineTables::is_line_method, crate::specs::LineTables::is_line_path, crate::specs::Addresses::is_address, hx_target::specs::Hosts::is_host, hx_target::specs::Hosts::short_number, hx_target::specs::Paths::has_dot_segment))]
 pub fn lines_without_cache_are_read()
-    ensures { option_map judge_table (parse_document (codes "version = 2\nname = \"edge\"\ncapacity = 2\nmax_body = 1000\nmax_stored = 1000\n\n[[line]]\nhost = \"*\"\nmethods = [\"*\"]\npath = \"/live\"\norigin = \"127.0.0.1:8081\"\ncache = \"off\"\n\n[[line]]\nhost = \"*\"\nmethods = [\"GET\"]\npath = \"/shop\"\norigin = \"127.0.0.1:8081\"\ncache = \"on\"\n\n[[line]]\nhost = \"*\"\nmethods = [\"GET\"]\npath = \"/\"\norigin = \"127.0.0.1:8081\"\n")) ≡ Some (Ok (record { name = codes "edge"; capacity = 2; max_body = 1000; max_stored = 1000; lines = record { host = None; methods = codes "*" ∷ []; path = codes "/live"; origin = Some (codes "127.0.0.1:8081"); caches = false } ∷ record { host = None; methods = codes "GET" ∷ []; path = codes "/shop"; origin = Some (codes "127.0.0.1:8081"); caches = true } ∷ record { host = None; methods = codes "GET" ∷ []; path = codes "/"; origin = Some (codes "127.0.0.1:8081"); caches = true } ∷ [] })) }
+    ensures { option_map judge_table (parse_document (codes "version = 2\nname = \"edge\"\ncapacity = 2\nmax_body = 1000\nmax_stored = 1000\n\n[[line]]\nhost = \"*\"\nmethods = [\"*\"]\npath = \"/live\"\norigin = \"127.0.0.1:8081\"\ncache = \"off\"\n\n[[line]]\nhost = \"*\"\nmethods = [\"GET\"]\npath = \"/shop\"\norigin = \"127.0.0.1:8081\"\ncache = \"on\"\n\n[[line]]\nhost = \"*\"\nmethods = [\"GET\"]\npath = \"/\"\norigin = \"127.0.0.1:8081\"\n")) ≡ Some (Ok (record { name = codes "edge"; capacity = 2; max_body = 1000; max_stored = 1000; lines = record { host = None; methods = codes "*" ∷ []; path = codes "/live"; origin = Some (codes "127.0.0.1:8081"); policy = plain false } ∷ record { host = None; methods = codes "GET" ∷ []; path = codes "/shop"; origin = Some (codes "127.0.0.1:8081"); policy = plain true } ∷ record { host = None; methods = codes "GET" ∷ []; path = codes "/"; origin = Some (codes "127.0.0.1:8081"); policy = plain true } ∷ [] })) }
 {}
 
 /// The first fault of tables that differ in their version and in the `cache` of their line: a version that isn't known,
 /// the key in a table of the first version, a word that isn't known, and the key in a line that denies.
 #[tactic(auto, unfolding(toml::proofs::OnLiterals::toml_on_literals, crate::specs::Tables::judge_table, crate::specs::Tables::table_fault, crate::specs::Tables::table_of, crate::specs::Tables::is_name, crate::specs::LineTables::line_fault, crate::specs::LineTables::line_of, crate::specs::LineTables::is_line_host, crate::specs::LineTables::is_line_method, crate::specs::LineTables::is_line_path, crate::specs::Addresses::is_address, hx_target::specs::Hosts::is_host, hx_target::specs::Hosts::short_number, hx_target::specs::Paths::has_dot_segment))]
 pub fn table_versions()
-    ensures unknown { option_map judge_table (parse_document (codes "version = 3\nname = \"edge\"\ncapacity = 2\nmax_body = 1000\nmax_stored = 1000\n\n[[line]]\nhost = \"*\"\nmethods = [\"*\"]\npath = \"/live\"\norigin = \"127.0.0.1:8081\"\n")) ≡ Some (Err (Fault.BadNumber Version)) }
+    ensures unknown { option_map judge_table (parse_document (codes "version = 4\nname = \"edge\"\ncapacity = 2\nmax_body = 1000\nmax_stored = 1000\n\n[[line]]\nhost = \"*\"\nmethods = [\"*\"]\npath = \"/live\"\norigin = \"127.0.0.1:8081\"\n")) ≡ Some (Err (Fault.BadNumber Version)) }
     ensures first { option_map judge_table (parse_document (codes "version = 1\nname = \"edge\"\ncapacity = 2\nmax_body = 1000\nmax_stored = 1000\n\n[[line]]\nhost = \"*\"\nmethods = [\"*\"]\npath = \"/live\"\norigin = \"127.0.0.1:8081\"\ncache = \"off\"\n")) ≡ Some (Err (Fault.UnknownKey (codes "cache"))) }
     ensures word { option_map judge_table (parse_document (codes "version = 2\nname = \"edge\"\ncapacity = 2\nmax_body = 1000\nmax_stored = 1000\n\n[[line]]\nhost = \"*\"\nmethods = [\"*\"]\npath = \"/live\"\norigin = \"127.0.0.1:8081\"\ncache = \"no\"\n")) ≡ Some (Err (Fault.BadCache 1)) }
     ensures denying { option_map judge_table (parse_document (codes "version = 2\nname = \"edge\"\ncapacity = 2\nmax_body = 1000\nmax_stored = 1000\n\n[[line]]\nhost = \"*\"\nmethods = [\"*\"]\npath = \"/live\"\norigin = \"deny\"\ncache = \"off\"\n")) ≡ Some (Err (Fault.BadCache 1)) }

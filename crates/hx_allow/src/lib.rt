@@ -12,10 +12,13 @@ mod host_index;
 mod laws;
 mod limits;
 mod line_tables;
+mod line_word_cases;
+mod line_words;
 mod lines;
 mod matching;
 mod path_tails;
 mod reading;
+mod shadows;
 mod table_cases;
 mod table_laws;
 mod tables;
@@ -24,14 +27,19 @@ mod verdicts;
 mod worked_cases;
 
 pub use config::Config;
-pub use faults::{ConfigFault, NumberKey};
+pub use faults::{ConfigFault, LineWord, NumberKey};
 pub use laws::{
     a_fault_of_the_second_line_has_its_number, a_table_is_read_in_one_way,
-    a_table_of_two_lines_is_read, a_whole_table_is_read, lines_without_cache_are_read,
-    one_verdict_for_each_table_path, table_versions, the_first_line_at_fault_is_told,
-    the_first_line_that_matches_decides, version_one_reads_as_before,
+    a_table_of_two_lines_is_read, a_taken_line_never_decides, a_whole_table_is_read,
+    lines_without_cache_are_read, one_verdict_for_each_table_path, table_versions,
+    the_first_line_at_fault_is_told, the_first_line_that_matches_decides,
+    version_one_reads_as_before, version_two_reads_as_before, words_stand_where_a_line_caches,
 };
 pub use limits::MOST_TABLE_BYTES;
+pub use line_word_cases::{
+    a_table_with_words_is_read, keys_of_words, seconds_of_a_line, texts_of_a_line, what_words_say,
+    where_words_stand,
+};
 pub use table_cases::{
     a_table_has_1_to_256_lines, cache_of_a_line, faults_of_a_line_in_order,
     faults_of_a_table_in_order, faults_of_texts, lines_in_their_order, missing_keys_of_a_line,
@@ -47,6 +55,6 @@ pub use worked_cases::{
     lines_of_a_host_decide, methods_of_lines, names_of_proxies,
     numbers_are_whole_and_within_bounds, numbers_in_addresses, origins_of_lines, paths_of_lines,
     several_lines_decide, tails_of_paths, texts_are_strings, the_first_line_denies,
-    which_hosts_match, which_lines_are_cached, which_methods_match, which_origin_a_line_has,
-    which_paths_match,
+    which_hosts_match, which_lines_are_cached, which_lines_are_never_reached, which_methods_match,
+    which_origin_a_line_has, which_paths_match,
 };

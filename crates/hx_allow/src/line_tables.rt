@@ -7,11 +7,12 @@ ghost use Rattle.std.specs.List.{list_any, list_all};
 ghost use Rattle.std.specs.Char.{is_ascii_uppercase};
 ghost use Rattle.toml.specs.View.{table_view, items_view, view};
 ghost use Rattle.hx_allow.specs.Values.{is_some_and, items_at, unless_text, texts_of};
-ghost use Rattle.hx_allow.specs.LineTables.{is_line_host, is_line_method, are_line_methods, is_path_byte, ends_open, is_line_path, is_line_origin, denies, is_cache_word, is_line_cache, is_cached, line_fault, line_of, lines_fault, lines_of, item_fault, fault_found};
+ghost use Rattle.hx_allow.specs.LineTables.{is_line_host, is_line_method, are_line_methods, is_path_byte, ends_open, is_line_path, is_line_origin, denies, is_cache_word, is_line_cache, line_fault, line_of, lines_fault, lines_of, item_fault, fault_found};
 
 use crate::ConfigFault;
 use crate::addresses::is_address;
 use crate::faults::FoundFault;
+use crate::line_words::{first_bad_word, policy_read};
 use crate::lines::{Line, is_never_allowed};
 use crate::path_tails::PathTail;
 use crate::values::{
@@ -181,7 +182,8 @@ fn line_fault(version: TableVersion, number: u16, table: &Table) -> Option<Found
     if !is_good_cache(table) {
         return Some(FoundFault::Other(ConfigFault::BadCache(number)));
     }
-    None
+    let word = first_bad_word(table)?;
+    Some(FoundFault::Other(ConfigFault::BadWord(number, word)))
 }
 
 /// The text of a host, but for one that stands for every host.
@@ -211,16 +213,6 @@ fn path_rule(alloc: Global, text: Option<&str>) -> Result<Bytes, AllocError>
     match text {
         Some(text) => table_path(alloc, text.as_bytes()),
         None => Ok(Bytes::new(alloc)),
-    }
-}
-
-/// Whether a line is cached, which it is unless it says no.
-fn cache_rule(text: Option<&str>) -> bool
-    ensures { result ≡ is_cached (option_copied text.entry) }
-{
-    match text {
-        Some(text) => text != "off",
-        None => true,
     }
 }
 
@@ -257,7 +249,7 @@ fn line_of(alloc: Global, table: &Table) -> Result<Line, AllocError>
         methods: method_texts(alloc, table)?,
         path,
         origin: origin_rule(alloc, text_at(table, "origin"))?,
-        caches: cache_rule(text_at(table, "cache")),
+        policy: policy_read(table),
     })
 }
 

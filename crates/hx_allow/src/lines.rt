@@ -2,11 +2,12 @@
 ghost use Rattle.std.specs.Prelude.{◌≡◌, ◌≤◌, [], length, drop, option_map, string_bytes, unwrap_or};
 ghost use Rattle.std.specs.Option.{option_copied};
 ghost use Rattle.std.specs.List.{list_any};
-ghost use Rattle.hx_allow.specs.Matching.{matches_host, is_never_allowed, is_any_or_same, matches_path, longest_origin};
+ghost use Rattle.hx_allow.specs.Matching.{matches_host, is_never_allowed, is_any_or_same, matches_path, is_continued, longest_origin};
 ghost use Rattle.hx_allow.specs.Index.{can_match, matches_beside_host};
 
 use crate::path_tails::PathTail;
 use hx_fields::Bytes;
+use hx_policy::Policy;
 use std::marker::Model;
 
 /// A line of the table.
@@ -22,8 +23,8 @@ pub struct Line {
     pub path: Bytes,
     /// The address of the origin, or none where the line denies.
     pub origin: Option<String>,
-    /// Whether its requests may be answered from the store, and their responses stored.
-    pub caches: bool,
+    /// What it says of caching.
+    pub policy: Policy,
 }
 
 impl Model for Line {
@@ -33,7 +34,7 @@ impl Model for Line {
 
     ghost Value = { PlainLine };
 
-    ghost view = { λ l. record { host = l.host; methods = l.methods.items; path = l.path; origin = option_map string_bytes l.origin; caches = l.caches } };
+    ghost view = { λ l. record { host = l.host; methods = l.methods.items; path = l.path; origin = option_map string_bytes l.origin; policy = l.policy } };
 
     ghost invariant = { λ l. l.tail ≡ tail_of l.path };
 }
@@ -62,7 +63,7 @@ fn is_any_or_same(text: &[u8], method: &[u8]) -> bool
     text == b"*".as_slice() || text == method
 }
 
-fn has_any_or_same(methods: &[Bytes], method: &[u8]) -> bool
+pub(crate) fn has_any_or_same(methods: &[Bytes], method: &[u8]) -> bool
     ensures { result ≡ list_any (is_any_or_same method.now) methods.now }
 {
     methods
@@ -74,9 +75,13 @@ fn has_any_or_same(methods: &[Bytes], method: &[u8]) -> bool
 fn matches_path(path: &[u8], asked: &[u8]) -> bool
     ensures { result ≡ matches_path path.now asked.now }
 {
-    if path == b"/".as_slice() || path == asked {
-        return true;
-    }
+    path == b"/".as_slice() || path == asked || is_continued(path, asked)
+}
+
+/// Whether a path begins a longer one, and a slash follows.
+pub(crate) fn is_continued(path: &[u8], asked: &[u8]) -> bool
+    ensures { result ≡ is_continued path.now asked.now }
+{
     path.len() < asked.len() && &asked[..path.len()] == path && asked[path.len()] == b'/'
 }
 

@@ -3,12 +3,13 @@
 ghost use Rattle.std.specs.Prelude.{◌≡◌, ◌∷◌, [], Some, None, Ok, Err, true, false, codes, option_map, pos};
 ghost use Rattle.toml.specs.Data.{array, boolean, integer, no_items, no_members, string, table};
 ghost use Rattle.toml.specs.Parse.{parse_document};
+ghost use Rattle.hx_policy.specs.Words.{plain};
 ghost use Rattle.hx_allow.specs.Examples.{denying_with, line_table, many, method, number, of_items, of_pairs, reads, origin_8081, text, top_table, with_keys};
 ghost use Rattle.hx_allow.specs.LineTables.{line_fault, line_of, lines_fault, lines_of};
 ghost use Rattle.hx_allow.specs.Tables.{judge_table, lines_at, version_of, wants_memory};
 ghost use Rattle.hx_allow.specs.declared.faults.ConfigFault.TheVariants.{UnknownKey, BadName, BadNumber, BadHost, BadMethod, BadPath, BadOrigin, NoLines, BadCache};
 ghost use Rattle.hx_allow.specs.declared.faults.NumberKey.TheVariants.{Version, Capacity, MaxBody, MaxStored};
-ghost use Rattle.hx_allow.specs.declared.values.TableVersion.TheVariants.{One, Two};
+ghost use Rattle.hx_allow.specs.declared.values.TableVersion.TheVariants.{One, Two, Three};
 
 /// The faults of a line in their order: with each that is mended the next one is told.
 #[tactic(auto, unfolding(crate::specs::LineTables::line_fault, crate::specs::LineTables::is_line_host, crate::specs::LineTables::is_line_method, crate::specs::LineTables::is_line_path, crate::specs::Addresses::is_address, hx_target::specs::Hosts::is_host, hx_target::specs::Hosts::short_number, hx_target::specs::Paths::has_dot_segment))]
@@ -52,9 +53,9 @@ pub fn cache_of_a_line()
 pub fn what_a_line_says()
     ensures every_host { line_of (line_table (codes "*") (codes "GET") (codes "/") (codes "127.0.0.1:8081")) ≡ reads None (codes "GET") (codes "/") origin_8081 }
     ensures one_host { line_of (line_table (codes "x") (codes "*") (codes "/%61dmin%2f") (codes "deny")) ≡ reads (Some (codes "x")) (codes "*") (codes "/admin%2F") None }
-    ensures off { line_of (with_keys (text (codes "cache") (codes "off") ∷ [])) ≡ record (reads None (codes "GET") (codes "/") origin_8081) { caches = false } }
+    ensures off { line_of (with_keys (text (codes "cache") (codes "off") ∷ [])) ≡ record (reads None (codes "GET") (codes "/") origin_8081) { policy = plain false } }
     ensures on { line_of (with_keys (text (codes "cache") (codes "on") ∷ [])) ≡ reads None (codes "GET") (codes "/") origin_8081 }
-    ensures two_methods { line_of (of_pairs (text (codes "host") (codes "*") ∷ (codes "methods", array (of_items (string (codes "GET") ∷ string (codes "HEAD") ∷ []))) ∷ text (codes "origin") (codes "deny") ∷ text (codes "path") (codes "/") ∷ [])) ≡ record { host = None; methods = codes "GET" ∷ codes "HEAD" ∷ []; path = codes "/"; origin = None; caches = true } }
+    ensures two_methods { line_of (of_pairs (text (codes "host") (codes "*") ∷ (codes "methods", array (of_items (string (codes "GET") ∷ string (codes "HEAD") ∷ []))) ∷ text (codes "origin") (codes "deny") ∷ text (codes "path") (codes "/") ∷ [])) ≡ record { host = None; methods = codes "GET" ∷ codes "HEAD" ∷ []; path = codes "/"; origin = None; policy = plain true } }
 {}
 
 /// Lines are read in their order and counted from 1, and the first at fault is told.
@@ -81,6 +82,7 @@ pub fn a_table_has_1_to_256_lines()
 pub fn versions_of_tables()
     ensures one { version_of (top_table 1 2 no_items) ≡ One }
     ensures two { version_of (top_table 2 2 no_items) ≡ Two }
+    ensures three { version_of (top_table 3 2 no_items) ≡ Three }
     ensures missing { version_of no_members ≡ One }
 {}
 
@@ -100,14 +102,14 @@ pub fn faults_of_a_table_in_order()
     ensures cache_of_one { judge_table (top_table 1 2 (many 1 (table (with_keys (text (codes "cache") (codes "on") ∷ []))))) ≡ Err (UnknownKey (codes "cache")) }
     ensures cache_of_two { judge_table (top_table 2 2 (many 1 (table (with_keys (text (codes "cache") (codes "no") ∷ []))))) ≡ Err (BadCache 1) }
     ensures capacity_0 { judge_table (top_table 1 0 (many 1 (table (with_keys [])))) ≡ Err (BadNumber Capacity) }
-    ensures version_3 { judge_table (top_table 3 2 (many 1 (table (with_keys [])))) ≡ Err (BadNumber Version) }
+    ensures version_4 { judge_table (top_table 4 2 (many 1 (table (with_keys [])))) ≡ Err (BadNumber Version) }
 {}
 
 /// What a table without a fault says.
 #[tactic(auto, unfolding(crate::specs::Tables::judge_table, crate::specs::Tables::table_fault, crate::specs::Tables::table_of, crate::specs::Tables::is_name, crate::specs::LineTables::line_fault, crate::specs::LineTables::line_of, crate::specs::LineTables::is_line_host, crate::specs::LineTables::is_line_method, crate::specs::LineTables::is_line_path, crate::specs::Addresses::is_address, hx_target::specs::Hosts::is_host, hx_target::specs::Hosts::short_number, hx_target::specs::Paths::has_dot_segment))]
 pub fn what_a_table_says()
     ensures first { judge_table (top_table 1 2 (many 1 (table (with_keys [])))) ≡ Ok (record { name = codes "edge"; capacity = 2; max_body = 1000; max_stored = 1000; lines = reads None (codes "GET") (codes "/") origin_8081 ∷ [] }) }
-    ensures second { judge_table (top_table 2 65536 (many 1 (table (with_keys (text (codes "cache") (codes "off") ∷ []))))) ≡ Ok (record { name = codes "edge"; capacity = 65536; max_body = 1000; max_stored = 1000; lines = record (reads None (codes "GET") (codes "/") origin_8081) { caches = false } ∷ [] }) }
+    ensures second { judge_table (top_table 2 65536 (many 1 (table (with_keys (text (codes "cache") (codes "off") ∷ []))))) ≡ Ok (record { name = codes "edge"; capacity = 65536; max_body = 1000; max_stored = 1000; lines = record (reads None (codes "GET") (codes "/") origin_8081) { policy = plain false } ∷ [] }) }
     ensures limits { judge_table (of_pairs (number (codes "capacity") 1 ∷ (codes "line", array (many 1 (table (with_keys [])))) ∷ number (codes "max_body") 7 ∷ number (codes "max_stored") 5 ∷ text (codes "name") (codes "a") ∷ number (codes "version") 1 ∷ [])) ≡ Ok (record { name = codes "a"; capacity = 1; max_body = 7; max_stored = 5; lines = reads None (codes "GET") (codes "/") origin_8081 ∷ [] }) }
 {}
 

@@ -57,7 +57,7 @@ fn number_at(table: &Table, key: NumberKey) -> Option<u32>
     ensures { result ≡ number_at key (table_view table.now) }
 {
     match key {
-        NumberKey::Version => number_between(table, "version", 1, 2),
+        NumberKey::Version => number_between(table, "version", 1, 3),
         NumberKey::Capacity => number_between(table, "capacity", 1, 65_536),
         NumberKey::MaxBody => number_between(table, "max_body", 0, 16_777_216),
         NumberKey::MaxStored => number_between(table, "max_stored", 0, 16_777_216),
@@ -69,6 +69,7 @@ fn version_of(table: &Table) -> TableVersion
 {
     match number_at(table, NumberKey::Version) {
         Some(2) => TableVersion::Two,
+        Some(3) => TableVersion::Three,
         _ => TableVersion::One,
     }
 }

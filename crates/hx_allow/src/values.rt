@@ -1,9 +1,11 @@
 //! What the operator's table reads of a TOML table: keys, texts, numbers and arrays.
-ghost use Rattle.std.specs.Prelude.{◌≡◌, ◌≤◌, length, true, codes, find, not, string_bytes, option_map};
+ghost use Rattle.std.specs.Prelude.{◌≡◌, ◌≤◌, length, true, codes, find, not, string_bytes, option_map, bytes_eq};
+ghost use Rattle.std.specs.List.{list_any};
 ghost use Rattle.std.specs.BTreeMap.{keys};
 ghost use Rattle.std.specs.Option.{option_copied};
 ghost use Rattle.toml.specs.Data.{get_member};
 ghost use Rattle.toml.specs.View.{table_view, array_view, items_view, view};
+ghost use Rattle.hx_allow.specs.Keys.{word_keys};
 ghost use Rattle.hx_allow.specs.Values.{is_known, first_unknown, text_at, items_at, number_between, counts_within};
 
 use toml::value::Array;
@@ -16,6 +18,8 @@ pub enum TableVersion {
     One,
     /// A line may have the key `cache`.
     Two,
+    /// A line may have that key and those of `LineWord`.
+    Three,
 }
 
 /// Which part of the table keys stand in.
@@ -34,6 +38,9 @@ fn is_known(scope: Scope, key: &[u8]) -> bool
         Scope::Top => is_top_key(key),
         Scope::Line(TableVersion::One) => is_line_key(key),
         Scope::Line(TableVersion::Two) => is_line_key(key) || key == b"cache".as_slice(),
+        Scope::Line(TableVersion::Three) => is_line_key(key)
+            || key == b"cache".as_slice()
+            || is_word_key(key),
     }
 }
 
@@ -55,6 +62,17 @@ fn is_line_key(key: &[u8]) -> bool
         || key == b"methods".as_slice()
         || key == b"path".as_slice()
         || key == b"origin".as_slice()
+}
+
+fn is_word_key(key: &[u8]) -> bool
+    ensures { result ≡ list_any (bytes_eq key.now) word_keys }
+{
+    key == b"lifetime".as_slice()
+        || key == b"stale-if-error".as_slice()
+        || key == b"set-cookie".as_slice()
+        || key == b"errors".as_slice()
+        || key == b"request-directives".as_slice()
+        || key == b"explain".as_slice()
 }
 
 fn unknown_key(scope: Scope, table: &Table) -> Option<&String>

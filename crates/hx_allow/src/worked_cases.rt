@@ -2,16 +2,19 @@
 //! contract is the cases, and its body is empty.
 ghost use Rattle.std.specs.Prelude.{◌≡◌, ◌∷◌, ◌++◌, [], Some, None, true, false, codes, pos, negsuc};
 ghost use Rattle.toml.specs.Data.{string, integer, boolean, array, table, no_items, no_members};
+ghost use Rattle.hx_policy.specs.Words.{plain};
 ghost use Rattle.hx_allow.specs.Addresses.{is_address, is_number};
 ghost use Rattle.hx_allow.specs.Examples.{asks, bytes, first_line_denies, indexed_lines, line_without_cache, many, number, of_items, of_pairs, origin_8081, reads, several_lines, text};
 ghost use Rattle.hx_allow.specs.Index.{numbers_of, verdict_among};
 ghost use Rattle.hx_allow.specs.Keys.{fault_number, key_text};
 ghost use Rattle.hx_allow.specs.LineTables.{are_line_methods, is_line_host, is_line_method, is_line_origin, is_line_path};
-ghost use Rattle.hx_allow.specs.Matching.{caches_of, longest_origin, matches_host, matches_method, matches_path, origin_of, verdict_of};
+ghost use Rattle.hx_allow.specs.Matching.{policy_of, longest_origin, matches_host, matches_method, matches_path, origin_of, verdict_of};
 ghost use Rattle.hx_allow.specs.PathTails.{may_match, tail_of};
+ghost use Rattle.hx_allow.specs.NeverReached.{taken_by, takes_line};
 ghost use Rattle.hx_allow.specs.Tables.{is_name, number_at};
 ghost use Rattle.hx_allow.specs.Values.{is_known, items_at, number_between, text_at};
-ghost use Rattle.hx_allow.specs.declared.faults.ConfigFault.TheVariants.{NotToml, UnknownKey, BadName, BadNumber, BadHost, BadMethod, BadPath, BadOrigin, NoLines, OutOfMemory, BadCache};
+ghost use Rattle.hx_allow.specs.declared.faults.ConfigFault.TheVariants.{NotToml, UnknownKey, BadName, BadNumber, BadHost, BadMethod, BadPath, BadOrigin, NoLines, OutOfMemory, BadCache, BadWord};
+ghost use Rattle.hx_allow.specs.declared.faults.LineWord.TheVariants.{Lifetime};
 ghost use Rattle.hx_allow.specs.declared.faults.NumberKey.TheVariants.{Version, Capacity, MaxBody, MaxStored};
 ghost use Rattle.hx_allow.specs.declared.values.Scope.TheVariants.{Top, Line};
 ghost use Rattle.hx_allow.specs.declared.values.TableVersion.TheVariants.{One, Two};
@@ -30,6 +33,7 @@ pub fn faults_have_these_numbers()
     ensures no_lines { fault_number NoLines ≡ 9 }
     ensures out_of_memory { fault_number OutOfMemory ≡ 10 }
     ensures bad_cache { fault_number (BadCache 1) ≡ 11 }
+    ensures bad_word { fault_number (BadWord 1 Lifetime) ≡ 12 }
 {}
 
 /// The keys at the top of a table, and others.
@@ -97,7 +101,8 @@ pub fn bounds_of_the_numbers()
     ensures version_0 { number_at Version (of_pairs (number (codes "version") 0 ∷ [])) ≡ None }
     ensures version_1 { number_at Version (of_pairs (number (codes "version") 1 ∷ [])) ≡ Some 1 }
     ensures version_2 { number_at Version (of_pairs (number (codes "version") 2 ∷ [])) ≡ Some 2 }
-    ensures version_3 { number_at Version (of_pairs (number (codes "version") 3 ∷ [])) ≡ None }
+    ensures version_3 { number_at Version (of_pairs (number (codes "version") 3 ∷ [])) ≡ Some 3 }
+    ensures version_4 { number_at Version (of_pairs (number (codes "version") 4 ∷ [])) ≡ None }
     ensures capacity_0 { number_at Capacity (of_pairs (number (codes "capacity") 0 ∷ [])) ≡ None }
     ensures capacity_1 { number_at Capacity (of_pairs (number (codes "capacity") 1 ∷ [])) ≡ Some 1 }
     ensures capacity_65536 { number_at Capacity (of_pairs (number (codes "capacity") 65536 ∷ [])) ≡ Some 65536 }
@@ -320,12 +325,12 @@ pub fn lines_of_a_host_decide()
 {}
 
 /// Which lines are cached, and which say nothing.
-#[tactic(auto, unfolding(crate::specs::Matching::caches_of))]
+#[tactic(auto, unfolding(crate::specs::Matching::policy_of))]
 pub fn which_lines_are_cached()
-    ensures off { caches_of line_without_cache 1 ≡ false }
-    ensures on { caches_of line_without_cache 2 ≡ true }
-    ensures behind_the_last { caches_of line_without_cache 3 ≡ false }
-    ensures none { caches_of first_line_denies 0 ≡ false }
+    ensures off { policy_of line_without_cache 1 ≡ plain false }
+    ensures on { policy_of line_without_cache 2 ≡ plain true }
+    ensures behind_the_last { policy_of line_without_cache 3 ≡ plain false }
+    ensures none { policy_of first_line_denies 0 ≡ plain false }
 {}
 
 /// The origin of a line, and the longest of all.
@@ -355,4 +360,25 @@ pub fn keys_of_numbers()
     ensures capacity { key_text Capacity ≡ codes "capacity" }
     ensures max_body { key_text MaxBody ≡ codes "max_body" }
     ensures max_stored { key_text MaxStored ≡ codes "max_stored" }
+{}
+
+/// A line in front takes another where its host, its methods and its path take those.
+#[tactic(auto, unfolding(crate::specs::NeverReached::takes_line))]
+pub fn which_lines_are_never_reached()
+    ensures same { takes_line (reads None (codes "GET") (codes "/a") origin_8081) (reads None (codes "GET") (codes "/a") None) ≡ true }
+    ensures below { takes_line (reads None (codes "GET") (codes "/a") origin_8081) (reads None (codes "GET") (codes "/a/b") None) ≡ true }
+    ensures above { takes_line (reads None (codes "GET") (codes "/a/b") origin_8081) (reads None (codes "GET") (codes "/a") None) ≡ false }
+    ensures beside { takes_line (reads None (codes "GET") (codes "/a") origin_8081) (reads None (codes "GET") (codes "/ab") None) ≡ false }
+    ensures root { takes_line (reads None (codes "GET") (codes "/") origin_8081) (reads None (codes "GET") (codes "/admin") None) ≡ true }
+    ensures under_root { takes_line (reads None (codes "GET") (codes "/a") origin_8081) (reads None (codes "GET") (codes "/") None) ≡ false }
+    ensures any_method { takes_line (reads None (codes "*") (codes "/") origin_8081) (reads None (codes "POST") (codes "/") None) ≡ true }
+    ensures other_method { takes_line (reads None (codes "GET") (codes "/") origin_8081) (reads None (codes "POST") (codes "/") None) ≡ false }
+    ensures one_of_all { takes_line (reads None (codes "GET") (codes "/") origin_8081) (reads None (codes "*") (codes "/") None) ≡ false }
+    ensures any_host { takes_line (reads None (codes "GET") (codes "/") origin_8081) (reads (Some (codes "x")) (codes "GET") (codes "/") None) ≡ true }
+    ensures one_host { takes_line (reads (Some (codes "x")) (codes "GET") (codes "/") origin_8081) (reads None (codes "GET") (codes "/") None) ≡ false }
+    ensures other_host { takes_line (reads (Some (codes "x")) (codes "GET") (codes "/") origin_8081) (reads (Some (codes "y")) (codes "GET") (codes "/") None) ≡ false }
+    ensures denial_in_front { taken_by first_line_denies 2 ≡ None }
+    ensures denial_behind { taken_by (reads None (codes "*") (codes "/") origin_8081 ∷ reads None (codes "*") (codes "/admin") None ∷ []) 2 ≡ Some 1 }
+    ensures first { taken_by first_line_denies 1 ≡ None }
+    ensures missing { taken_by first_line_denies 3 ≡ None }
 {}

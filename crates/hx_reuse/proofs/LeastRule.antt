@@ -1,8 +1,9 @@
 -- The first rule of the table that stands is the least that does.
-use Rattle.std.proofs.Common.{◌≡◌, ℕ, inl, inr, Bool, true, false, List, refl}
+use Rattle.std.proofs.Common.{◌≡◌, ℕ, inl, inr, true, false, List, refl}
 use Rattle.std.specs.Prelude.{Some, None}
 use Rattle.hx_hop.specs.declared.request_view.Asked.{Asked}
 use Rattle.hx_store.specs.Stored.{Stored}
+use Rattle.hx_policy.specs.declared.words.Policy.{Policy}
 use Rattle.hx_reuse.specs.declared.rule.ReuseRule.{ReuseRule}
 use Rattle.hx_reuse.specs.declared.rule.ReuseRule.TheVariants.{Operator, Method, Content, Range, Precondition, UriMiss, VaryMiss, ResponseNoCache, RequestNoCache, AboveMaxAge, BelowMinFresh, MustRevalidate, NoLifetime, StaleNoCache, NoMaxStale, PastMaxStale, StaleMaxAge, StaleMinFresh}
 use Rattle.hx_reuse.specs.Words.{number_of}
@@ -35,23 +36,23 @@ in_order : ascends number_of 0 reuse_rules ≡ true
 unfolding ascends
 in_order = refl
 
-module _ (caches : Bool) (held : List Stored) (asked : Asked) (now : ℕ) where
-  pub rule_is_least : (rule : ReuseRule) → reuse_rule_of caches held asked now ≡ Some rule → IsLeast caches held asked now rule
+module _ (policy : Policy) (held : List Stored) (asked : Asked) (now : ℕ) where
+  pub rule_is_least : (rule : ReuseRule) → reuse_rule_of policy held asked now ≡ Some rule → IsLeast policy held asked now rule
   unfolding reuse_rule_of
   rule_is_least rule h =
       record {
-        it_stands = passes number_of (λ r. stands r caches held asked now) reuse_rules rule h;
-        none_before = λ r l. fails_before number_of (λ r. stands r caches held asked now) 0 reuse_rules rule r in_order h (listed r) l;
+        it_stands = passes number_of (λ r. stands r policy held asked now) reuse_rules rule h;
+        none_before = λ r l. fails_before number_of (λ r. stands r policy held asked now) 0 reuse_rules rule r in_order h (listed r) l;
       }
 
-  pub least_is_rule : (rule : ReuseRule) → IsLeast caches held asked now rule → reuse_rule_of caches held asked now ≡ Some rule
+  pub least_is_rule : (rule : ReuseRule) → IsLeast policy held asked now rule → reuse_rule_of policy held asked now ≡ Some rule
   unfolding reuse_rule_of
-  least_is_rule rule least = first_found number_of (λ r. stands r caches held asked now) 0 reuse_rules rule in_order (listed rule) least.it_stands least.none_before
+  least_is_rule rule least = first_found number_of (λ r. stands r policy held asked now) 0 reuse_rules rule in_order (listed rule) least.it_stands least.none_before
 
-  pub no_rule_stands : reuse_rule_of caches held asked now ≡ None → (rule : ReuseRule) → stands rule caches held asked now ≡ false
+  pub no_rule_stands : reuse_rule_of policy held asked now ≡ None → (rule : ReuseRule) → stands rule policy held asked now ≡ false
   unfolding reuse_rule_of
-  no_rule_stands h rule = none_passes number_of (λ r. stands r caches held asked now) reuse_rules rule h (listed rule)
+  no_rule_stands h rule = none_passes number_of (λ r. stands r policy held asked now) reuse_rules rule h (listed rule)
 
-  pub no_rule_found : ((rule : ReuseRule) → stands rule caches held asked now ≡ false) → reuse_rule_of caches held asked now ≡ None
+  pub no_rule_found : ((rule : ReuseRule) → stands rule policy held asked now ≡ false) → reuse_rule_of policy held asked now ≡ None
   unfolding reuse_rule_of
-  no_rule_found none = none_found number_of (λ r. stands r caches held asked now) reuse_rules none
+  no_rule_found none = none_found number_of (λ r. stands r policy held asked now) reuse_rules none

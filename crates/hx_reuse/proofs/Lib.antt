@@ -9,3 +9,4 @@ pub mod ReusableLemmas
 pub mod OnErrorLemmas
 pub mod PromiseLemmas
 pub mod WordLemmas
+pub mod LineLemmas

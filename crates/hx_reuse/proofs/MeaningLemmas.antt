@@ -3,6 +3,7 @@ use Rattle.std.proofs.Common.{◌≡◌, ℕ, ◌⊎◌, inl, inr, Bool, true, f
 use Rattle.std.specs.Prelude.{is_none, Option, Some, None, option_map}
 use Rattle.hx_hop.specs.declared.request_view.Asked.{Asked}
 use Rattle.hx_store.specs.Stored.{Stored}
+use Rattle.hx_policy.specs.declared.words.Policy.{Policy}
 use Rattle.hx_store.specs.Serials.{Distinct}
 use Rattle.hx_store.specs.Shelf.{serials, find_entry}
 use Rattle.hx_reuse.specs.declared.decision.Decision.TheVariants.{Hit, Forward}
@@ -54,15 +55,15 @@ never_true : false ≡ true → ⊥
 never_true h = cc
 
 -- a rule on the chosen response stands only where there is one
-entry_there : (caches : Bool) (held : List Stored) (asked : Asked) (now : ℕ) (rule : ReuseRule) → stands rule caches held asked now ≡ true → names_entry rule ≡ true → (e : Stored) × (chosen_of held asked ≡ Some e)
-entry_there caches held asked now Operator h l = absurd (never_true l)
-entry_there caches held asked now Method h l = absurd (never_true l)
-entry_there caches held asked now Content h l = absurd (never_true l)
-entry_there caches held asked now Range h l = absurd (never_true l)
-entry_there caches held asked now Precondition h l = absurd (never_true l)
-entry_there caches held asked now UriMiss h l = absurd (never_true l)
-entry_there caches held asked now VaryMiss h l = absurd (never_true l)
-entry_there caches held asked now rule h l = some_and (λ e. against rule (standing e asked now)) (chosen_of held asked) h
+entry_there : (policy : Policy) (held : List Stored) (asked : Asked) (now : ℕ) (rule : ReuseRule) → stands rule policy held asked now ≡ true → names_entry rule ≡ true → (e : Stored) × (chosen_of held asked ≡ Some e)
+entry_there policy held asked now Operator h l = absurd (never_true l)
+entry_there policy held asked now Method h l = absurd (never_true l)
+entry_there policy held asked now Content h l = absurd (never_true l)
+entry_there policy held asked now Range h l = absurd (never_true l)
+entry_there policy held asked now Precondition h l = absurd (never_true l)
+entry_there policy held asked now UriMiss h l = absurd (never_true l)
+entry_there policy held asked now VaryMiss h l = absurd (never_true l)
+entry_there policy held asked now rule h l = some_and (λ e. against rule (standing policy e asked now)) (chosen_of held asked) h
 
 -- a forward: the rule, and what is named with it
 forward_of : (o : Option ReuseRule) (s : Option ℕ) (rule : ReuseRule) (named : Option ℕ) → decided o s ≡ Forward rule named → (o ≡ Some rule) × (named ≡ cond (names_entry rule) s None)
@@ -76,46 +77,46 @@ named_by : (rule : ReuseRule) (s named : Option ℕ) (b : Bool) → names_entry 
 named_by rule s named true h k = inr (h, k)
 named_by rule s named false h k = inl (h, k)
 
-module _ (caches : Bool) (held : List Stored) (asked : Asked) (now : ℕ) where
-  pub may_be_sent : (serial : ℕ) → decision_of caches held asked now ≡ Hit serial → MayBeSent caches held asked now serial
+module _ (policy : Policy) (held : List Stored) (asked : Asked) (now : ℕ) where
+  pub may_be_sent : (serial : ℕ) → decision_of policy held asked now ≡ Hit serial → MayBeSent policy held asked now serial
   unfolding decision_of serial_of
   may_be_sent serial h =
-      let r = hit_of (reuse_rule_of caches held asked now) (chosen_of held asked) serial h (λ none. no_rule_stands caches held asked now none VaryMiss) in
-      record { response = r.1.0; chosen_is = r.1.1; serial_is = r.1.2; no_rule = no_rule_stands caches held asked now r.0 }
+      let r = hit_of (reuse_rule_of policy held asked now) (chosen_of held asked) serial h (λ none. no_rule_stands policy held asked now none VaryMiss) in
+      record { response = r.1.0; chosen_is = r.1.1; serial_is = r.1.2; no_rule = no_rule_stands policy held asked now r.0 }
 
-  pub is_sent : (serial : ℕ) → MayBeSent caches held asked now serial → decision_of caches held asked now ≡ Hit serial
+  pub is_sent : (serial : ℕ) → MayBeSent policy held asked now serial → decision_of policy held asked now ≡ Hit serial
   unfolding decision_of
   is_sent serial may =
-      let none : reuse_rule_of caches held asked now ≡ None = no_rule_found caches held asked now may.no_rule in
+      let none : reuse_rule_of policy held asked now ≡ None = no_rule_found policy held asked now may.no_rule in
       let some : option_map (λ e. e.serial) (chosen_of held asked) ≡ Some serial = ap (option_map (λ e. e.serial)) may.chosen_is ∙ ap Some may.serial_is in
       rw (none, some) refl
 
-  pub is_held : (serial : ℕ) → decision_of caches held asked now ≡ Hit serial → (response : Stored) × IsChosen held asked response × (response.serial ≡ serial)
+  pub is_held : (serial : ℕ) → decision_of policy held asked now ≡ Hit serial → (response : Stored) × IsChosen held asked response × (response.serial ≡ serial)
   is_held serial h =
       let may = may_be_sent serial h in
       (may.response, chosen_is_latest held asked may.response may.chosen_is, may.serial_is)
 
-  pub is_found : (serial : ℕ) → Distinct (serials held) → decision_of caches held asked now ≡ Hit serial → find_entry serial held ≡ chosen_of held asked
+  pub is_found : (serial : ℕ) → Distinct (serials held) → decision_of policy held asked now ≡ Hit serial → find_entry serial held ≡ chosen_of held asked
   is_found serial distinct h =
       let may = may_be_sent serial h in
       ap (λ (s : ℕ). find_entry s held) (sym may.serial_is) ∙ found_by_serial held distinct may.response (chosen_is_held held asked may.response may.chosen_is) ∙ sym may.chosen_is
 
-  names_the_response : (rule : ReuseRule) (named : Option ℕ) → stands rule caches held asked now ≡ true
+  names_the_response : (rule : ReuseRule) (named : Option ℕ) → stands rule policy held asked now ≡ true
       → ((names_entry rule ≡ false) × (named ≡ None)) ⊎ ((names_entry rule ≡ true) × (named ≡ option_map (λ e. e.serial) (chosen_of held asked))) → NamesTheResponse held asked rule named
   names_the_response rule named h (inl low) = inl low
   names_the_response rule named h (inr high) =
-      let there = entry_there caches held asked now rule h high.0 in
+      let there = entry_there policy held asked now rule h high.0 in
       inr (high.0, (there.0, there.1, high.1 ∙ ap (option_map (λ e. e.serial)) there.1))
 
-  pub names_the_least : (rule : ReuseRule) (named : Option ℕ) → decision_of caches held asked now ≡ Forward rule named → IsLeast caches held asked now rule × NamesTheResponse held asked rule named
+  pub names_the_least : (rule : ReuseRule) (named : Option ℕ) → decision_of policy held asked now ≡ Forward rule named → IsLeast policy held asked now rule × NamesTheResponse held asked rule named
   unfolding decision_of
   names_the_least rule named h =
-      let r = forward_of (reuse_rule_of caches held asked now) (option_map (λ e. e.serial) (chosen_of held asked)) rule named h in
-      let least = rule_is_least caches held asked now rule r.0 in
+      let r = forward_of (reuse_rule_of policy held asked now) (option_map (λ e. e.serial) (chosen_of held asked)) rule named h in
+      let least = rule_is_least policy held asked now rule r.0 in
       (least, names_the_response rule named least.it_stands (named_by rule (option_map (λ e. e.serial) (chosen_of held asked)) named (names_entry rule) refl r.1))
 
-  pub forwards : (rule : ReuseRule) → IsLeast caches held asked now rule → (named : Option ℕ) × (decision_of caches held asked now ≡ Forward rule named)
+  pub forwards : (rule : ReuseRule) → IsLeast policy held asked now rule → (named : Option ℕ) × (decision_of policy held asked now ≡ Forward rule named)
   unfolding decision_of
   forwards rule least =
-      let some : reuse_rule_of caches held asked now ≡ Some rule = least_is_rule caches held asked now rule least in
+      let some : reuse_rule_of policy held asked now ≡ Some rule = least_is_rule policy held asked now rule least in
       (cond (names_entry rule) (option_map (λ e. e.serial) (chosen_of held asked)) None, rw some refl)

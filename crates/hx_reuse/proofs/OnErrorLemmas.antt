@@ -1,5 +1,5 @@
 -- No rule stands after an error exactly where the response may be sent; the rule that is named is the least.
-use Rattle.std.proofs.Common.{◌≡◌, ℕ, ◌≤◌, ◌⊎◌, inl, inr, Bool, true, false, List, refl, ap}
+use Rattle.std.proofs.Common.{◌≡◌, ℕ, ◌≤◌, ◌⊎◌, inl, inr, Bool, true, false, cond, List, refl, ◌∙◌, ap}
 use Rattle.std.specs.Prelude.{◌&&◌, ◌||◌, nat_lt, is_none, Option, Some, None}
 use Rattle.hx_directives.specs.Answers.{has, seconds}
 use Rattle.hx_directives.specs.declared.occurrences.Occurrence.{Occurrence}
@@ -7,14 +7,15 @@ use Rattle.hx_directives.specs.declared.names.Directive.TheVariants as directive
 use Rattle.hx_directives.specs.declared.answers.Seconds.{Seconds}
 use Rattle.hx_directives.specs.declared.answers.Seconds.TheVariants as seconds_are
 use Rattle.hx_store.specs.Stored.{Stored}
+use Rattle.hx_policy.specs.declared.words.Policy.{Policy}
 use Rattle.hx_reuse.specs.declared.rule.ErrorRule.{ErrorRule}
 use Rattle.hx_reuse.specs.declared.rule.ErrorRule.TheVariants.{NoCache, MustRevalidate, NoLifetime, RequestNoCache, NoDirective, TooStale}
 use Rattle.hx_reuse.specs.Words.{error_number_of}
 use Rattle.hx_reuse.specs.Rules.{Standing, must_revalidate}
-use Rattle.hx_reuse.specs.ErrorRules.{stated_once, response_limit, request_limit, is_past, against_on_error, error_rules, standing_on, error_rule_on}
-use Rattle.hx_reuse.specs.OnError.{StatesLimit, AsksForLimit, staleness_at, MayBeSentOnError, IsLeastOnError}
+use Rattle.hx_reuse.specs.ErrorRules.{stated_once, response_limit, request_limit, operator_limit, is_past, against_on_error, error_rules, standing_on, error_rule_on}
+use Rattle.hx_reuse.specs.OnError.{StatesLimit, AsksForLimit, GivesLimit, staleness_at, MayBeSentOnError, IsLeastOnError}
 use Rattle.hx_fields.proofs.FirstThat.{IsMember, ascends, passes, fails_before, none_passes, none_found, first_found}
-use Rattle.hx_fields.proofs.JoinedTests.{not_false, not_true, left_false, right_false, neither, last_absent, first_absent, either_false, some_value, has_value, not_below, is_not_below}
+use Rattle.hx_fields.proofs.JoinedTests.{not_false, not_true, left_false, right_false, neither, last_absent, first_absent, second_false, either_false, some_value, has_value, not_below, is_not_below}
 use Rattle.hx_reuse.proofs.ValueTests.{test_false, none_tests}
 
 -- ---- the table
@@ -39,79 +40,124 @@ states seconds_are.Bad n h = absurd cc
 states seconds_are.Repeated n h = absurd cc
 states (seconds_are.Value m) n h = let same : m ≡ n = cc in ap seconds_are.Value same
 
-module _ (response : Stored) (request : List Occurrence) (now : ℕ) where
+module _ (policy : Policy) (response : Stored) (request : List Occurrence) (now : ℕ) where
   abbrev here : Standing
-  here = standing_on response request now
+  here = standing_on policy response request now
 
-  pub least_on_error : (least : ErrorRule) → error_rule_on response request now ≡ Some least → IsLeastOnError response request now least
+  pub least_on_error : (least : ErrorRule) → error_rule_on policy response request now ≡ Some least → IsLeastOnError policy response request now least
   unfolding error_rule_on
   least_on_error least h = record {
     it_stands = passes error_number_of (λ r. against_on_error r here) error_rules least h;
     none_before = λ r l. fails_before error_number_of (λ r. against_on_error r here) 0 error_rules least r in_order h (listed r) l;
   }
 
-  pub named_on_error : (least : ErrorRule) → IsLeastOnError response request now least → error_rule_on response request now ≡ Some least
+  pub named_on_error : (least : ErrorRule) → IsLeastOnError policy response request now least → error_rule_on policy response request now ≡ Some least
   unfolding error_rule_on
   named_on_error least is =
       first_found error_number_of (λ r. against_on_error r here) 0 error_rules least in_order (listed least) is.it_stands is.none_before
 
-  none_on_error : error_rule_on response request now ≡ None → (rule : ErrorRule) → against_on_error rule here ≡ false
+  none_on_error : error_rule_on policy response request now ≡ None → (rule : ErrorRule) → against_on_error rule here ≡ false
   unfolding error_rule_on
   none_on_error h rule = none_passes error_number_of (λ r. against_on_error r here) error_rules rule h (listed rule)
 
-  none_is_found : ((rule : ErrorRule) → against_on_error rule here ≡ false) → error_rule_on response request now ≡ None
+  none_is_found : ((rule : ErrorRule) → against_on_error rule here ≡ false) → error_rule_on policy response request now ≡ None
   unfolding error_rule_on
   none_is_found none = none_found error_number_of (λ r. against_on_error r here) error_rules none
 
+  -- ---- the limit of the operator's line
+
+  abbrev response_says : Bool
+  response_says = has here.response directive.StaleIfError
+
+  abbrev request_says : Bool
+  request_says = has here.request directive.StaleIfError
+
+  -- a value that stands only where neither says one
+  where_neither : (a b : Bool) (o : Option ℕ) (n : ℕ) → cond (a || b) None o ≡ Some n → (a ≡ false) × ((b ≡ false) × (o ≡ Some n))
+  where_neither true b o n h = absurd cc
+  where_neither false true o n h = absurd cc
+  where_neither false false o n h = (refl, (refl, h))
+
+  neither_says : (a b : Bool) (o : Option ℕ) → a ≡ false → b ≡ false → cond (a || b) None o ≡ o
+  neither_says a b o h k = rw (h, k) refl
+
+  gives : (most : ℕ) → operator_limit here ≡ Some most → GivesLimit policy response request most
+  gives most h =
+      let r = where_neither response_says request_says policy.stale_if_error most h in
+      record { line_has = r.1.1; response_has_none = r.0; request_has_none = r.1.0 }
+
+  pub is_given : (most : ℕ) → GivesLimit policy response request most → operator_limit here ≡ Some most
+  is_given most g = neither_says response_says request_says policy.stale_if_error g.response_has_none g.request_has_none ∙ g.line_has
+
+  abbrev IsAllowed : Type 0
+  IsAllowed = ((most : ℕ) × StatesLimit response most) ⊎ (((most : ℕ) × AsksForLimit request most) ⊎ ((most : ℕ) × GivesLimit policy response request most))
+
   -- ---- from no rule to what may be sent
 
-  within : (limit : Option ℕ) (most : ℕ) → is_past here limit ≡ false → limit ≡ Some most → staleness_at response now ≤ most
-  within limit most h is = not_below most (staleness_at response now) (test_false (λ m. nat_lt m (staleness_at response now)) limit most h is)
+  within : (limit : Option ℕ) (most : ℕ) → is_past here limit ≡ false → limit ≡ Some most → staleness_at policy response now ≤ most
+  within limit most h is = not_below most (staleness_at policy response now) (test_false (λ m. nat_lt m (staleness_at policy response now)) limit most h is)
 
   module _ (none : (rule : ErrorRule) → against_on_error rule here ≡ false) where
     revalidated : Bool
     revalidated = must_revalidate here
 
-    allowed : ((most : ℕ) × StatesLimit response most) ⊎ ((most : ℕ) × AsksForLimit request most)
-    allowed = at (either_false (is_none (response_limit here)) (is_none (request_limit here)) (none NoDirective))
+    allowed : IsAllowed
+    allowed = at (either_false (is_none (response_limit here) && is_none (request_limit here)) (is_none (operator_limit here)) (none NoDirective))
       where
-        at : (is_none (response_limit here) ≡ false) ⊎ (is_none (request_limit here) ≡ false) → ((most : ℕ) × StatesLimit response most) ⊎ ((most : ℕ) × AsksForLimit request most)
-        at (inl h) = let limit = some_value (response_limit here) h in inl (limit.0, states (seconds here.response directive.StaleIfError) limit.0 limit.1)
-        at (inr h) = let limit = some_value (request_limit here) h in inr (limit.0, limit.1)
+        stated : (is_none (response_limit here) ≡ false) ⊎ (is_none (request_limit here) ≡ false) → IsAllowed
+        stated (inl h) = let limit = some_value (response_limit here) h in inl (limit.0, states (seconds here.response directive.StaleIfError) limit.0 limit.1)
+        stated (inr h) = let limit = some_value (request_limit here) h in inr (inl (limit.0, limit.1))
 
-    sent : MayBeSentOnError response request now
+        at : (is_none (response_limit here) && is_none (request_limit here) ≡ false) ⊎ (is_none (operator_limit here) ≡ false) → IsAllowed
+        at (inl h) = stated (either_false (is_none (response_limit here)) (is_none (request_limit here)) h)
+        at (inr h) = let limit = some_value (operator_limit here) h in inr (inr (limit.0, gives limit.0 limit.1))
+
+    sent : MayBeSentOnError policy response request now
     sent =
         let must = has here.response directive.MustRevalidate in
         let proxy = has here.response directive.ProxyRevalidate in
         let shared = has here.response directive.SMaxage in
         let neither_two = left_false (must || proxy) shared (none MustRevalidate) in
+        let two = is_past here (response_limit here) || is_past here (request_limit here) in
+        let of_two = left_false two (is_past here (operator_limit here)) (none TooStale) in
         record {
           no_no_cache = none NoCache;
           no_must_revalidate = left_false must proxy neither_two;
           no_proxy_revalidate = right_false must proxy neither_two;
           no_s_maxage = right_false (must || proxy) shared (none MustRevalidate);
-          states_its_lifetime = not_false here.lifetime.explicit (none NoLifetime);
-          not_to_be_validated = none RequestNoCache;
+          has_a_lifetime = not_false here.lifetime.explicit (none NoLifetime);
+          not_to_be_validated = λ heeds. second_false policy.heeds_requests (has request directive.NoCache) heeds (none RequestNoCache);
           is_allowed = allowed;
-          within_its_limit = λ most h. within (response_limit here) most (left_false (is_past here (response_limit here)) (is_past here (request_limit here)) (none TooStale)) (ap stated_once h);
-          within_the_requests = λ most h. within (request_limit here) most (right_false (is_past here (response_limit here)) (is_past here (request_limit here)) (none TooStale)) h;
+          within_its_limit = λ most h. within (response_limit here) most (left_false (is_past here (response_limit here)) (is_past here (request_limit here)) of_two) (ap stated_once h);
+          within_the_requests = λ most h. within (request_limit here) most (right_false (is_past here (response_limit here)) (is_past here (request_limit here)) of_two) h;
+          within_the_operators = λ most h. within (operator_limit here) most (right_false two (is_past here (operator_limit here)) (none TooStale)) (is_given most h);
         }
 
-  pub sent_may_be : error_rule_on response request now ≡ None → MayBeSentOnError response request now
+  pub sent_may_be : error_rule_on policy response request now ≡ None → MayBeSentOnError policy response request now
   sent_may_be h = sent (none_on_error h)
 
   -- ---- and back
 
-  not_past : (limit : Option ℕ) → ((most : ℕ) → limit ≡ Some most → staleness_at response now ≤ most) → is_past here limit ≡ false
+  heeded : (word test : Bool) → (word ≡ true → test ≡ false) → word && test ≡ false
+  heeded true test h = h refl
+  heeded false test h = refl
+
+  not_past : (limit : Option ℕ) → ((most : ℕ) → limit ≡ Some most → staleness_at policy response now ≤ most) → is_past here limit ≡ false
   not_past limit below =
-      none_tests (λ m. nat_lt m (staleness_at response now)) limit (λ most h. is_not_below most (staleness_at response now) (below most h))
+      none_tests (λ m. nat_lt m (staleness_at policy response now)) limit (λ most h. is_not_below most (staleness_at policy response now) (below most h))
 
-  some_limit : ((most : ℕ) × StatesLimit response most) ⊎ ((most : ℕ) × AsksForLimit request most) → is_none (response_limit here) && is_none (request_limit here) ≡ false
+  some_limit : IsAllowed → against_on_error NoDirective here ≡ false
   some_limit (inl limit) =
-      first_absent (is_none (response_limit here)) (is_none (request_limit here)) (has_value (response_limit here) limit.0 (ap stated_once limit.1))
-  some_limit (inr limit) = last_absent (is_none (response_limit here)) (is_none (request_limit here)) (has_value (request_limit here) limit.0 limit.1)
+      first_absent (is_none (response_limit here) && is_none (request_limit here)) (is_none (operator_limit here))
+      (first_absent (is_none (response_limit here)) (is_none (request_limit here)) (has_value (response_limit here) limit.0 (ap stated_once limit.1)))
+  some_limit (inr (inl limit)) =
+      first_absent (is_none (response_limit here) && is_none (request_limit here)) (is_none (operator_limit here))
+      (last_absent (is_none (response_limit here)) (is_none (request_limit here)) (has_value (request_limit here) limit.0 limit.1))
+  some_limit (inr (inr limit)) =
+      last_absent (is_none (response_limit here) && is_none (request_limit here)) (is_none (operator_limit here))
+      (has_value (operator_limit here) limit.0 (is_given limit.0 limit.1))
 
-  module _ (may : MayBeSentOnError response request now) where
+  module _ (may : MayBeSentOnError policy response request now) where
     none_stands : (rule : ErrorRule) → against_on_error rule here ≡ false
     none_stands NoCache = may.no_no_cache
     none_stands MustRevalidate =
@@ -119,13 +165,15 @@ module _ (response : Stored) (request : List Occurrence) (now : ℕ) where
         let proxy = has here.response directive.ProxyRevalidate in
         let shared = has here.response directive.SMaxage in
         neither (must || proxy) shared (neither must proxy may.no_must_revalidate may.no_proxy_revalidate) may.no_s_maxage
-    none_stands NoLifetime = not_true here.lifetime.explicit may.states_its_lifetime
-    none_stands RequestNoCache = may.not_to_be_validated
+    none_stands NoLifetime = not_true here.lifetime.explicit may.has_a_lifetime
+    none_stands RequestNoCache = heeded policy.heeds_requests (has request directive.NoCache) may.not_to_be_validated
     none_stands NoDirective = some_limit may.is_allowed
     none_stands TooStale =
-        neither (is_past here (response_limit here)) (is_past here (request_limit here))
+        neither (is_past here (response_limit here) || is_past here (request_limit here)) (is_past here (operator_limit here))
+        (neither (is_past here (response_limit here)) (is_past here (request_limit here))
         (not_past (response_limit here) (λ most h. may.within_its_limit most (states (seconds here.response directive.StaleIfError) most h)))
-        (not_past (request_limit here) (λ most h. may.within_the_requests most h))
+        (not_past (request_limit here) (λ most h. may.within_the_requests most h)))
+        (not_past (operator_limit here) (λ most h. may.within_the_operators most (gives most h)))
 
-    pub may_be_sent_on_error : error_rule_on response request now ≡ None
+    pub may_be_sent_on_error : error_rule_on policy response request now ≡ None
     may_be_sent_on_error = none_is_found none_stands

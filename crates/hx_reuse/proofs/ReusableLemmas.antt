@@ -1,6 +1,6 @@
 -- No rule stands exactly where the standard's list holds of the chosen response.
 use Rattle.std.proofs.Common.{◌≡◌, ℕ, ◌+◌, ◌-◌, ◌⊎◌, inl, inr, Bool, true, false, List, refl, sym, ◌∙◌, ap}
-use Rattle.std.specs.Prelude.{◌||◌, not, nat_lt, codes, bytes_eq, is_none, is_some, Some}
+use Rattle.std.specs.Prelude.{◌&&◌, ◌||◌, not, nat_lt, codes, bytes_eq, is_none, is_some, Some, None}
 use Rattle.std.proofs.lemmas.Slice.Eq.{bytes_eq-Decides}
 use Rattle.hx_directives.specs.Answers.{has, first_valid, max_stale}
 use Rattle.hx_directives.specs.declared.names.Directive.TheVariants as directive
@@ -9,13 +9,14 @@ use Rattle.hx_directives.specs.declared.answers.MaxStale.TheVariants.{Absent, An
 use Rattle.hx_target.specs.Keys.{same_key}
 use Rattle.hx_hop.specs.declared.request_view.Asked.{Asked}
 use Rattle.hx_store.specs.Stored.{Stored}
+use Rattle.hx_policy.specs.declared.words.Policy.{Policy}
 use Rattle.hx_store.specs.Serials.{Distinct}
 use Rattle.hx_store.specs.Shelf.{serials}
 use Rattle.hx_reuse.specs.declared.decision.Decision.TheVariants.{Hit}
 use Rattle.hx_reuse.specs.declared.rule.ReuseRule.{ReuseRule}
 use Rattle.hx_reuse.specs.declared.rule.ReuseRule.TheVariants.{Operator, Method, Content, Range, Precondition, UriMiss, VaryMiss, ResponseNoCache, RequestNoCache, AboveMaxAge, BelowMinFresh, MustRevalidate, NoLifetime, StaleNoCache, NoMaxStale, PastMaxStale, StaleMaxAge, StaleMinFresh}
 use Rattle.hx_reuse.specs.Chosen.{of_key, chosen_of}
-use Rattle.hx_reuse.specs.Rules.{Standing, stands, against, standing, fresh, must_revalidate, above_max_age, below_min_fresh, accepts_stale, past_limit, is_some_and, decision_of}
+use Rattle.hx_reuse.specs.Rules.{Standing, stands, against, standing, fresh, must_revalidate, asks_to_validate, above_max_age, below_min_fresh, asks_for_freshness, accepts_stale, past_limit, is_some_and, decision_of}
 use Rattle.hx_reuse.specs.Reusable.{IsWithinMaxAge, IsFreshForMinFresh, IsSentFresh, IsSentStale, TakesStaleness, MayBeReused}
 use Rattle.hx_fields.proofs.JoinedTests.{never, second_false, first_absent, last_absent, under_not, not_first, not_false, left_false, right_false, neither, no_value, not_below, is_not_below, below, is_below, not_true}
 use Rattle.hx_reuse.proofs.ValueTests.{test_false, none_tests}
@@ -52,30 +53,40 @@ not_past_what_it_takes Absent n h = absurd h
 not_past_what_it_takes Any n h = refl
 not_past_what_it_takes (UpTo most) n h = is_not_below most n h
 
-module _ (e : Stored) (asked : Asked) (now : ℕ) where
+module _ (policy : Policy) (e : Stored) (asked : Asked) (now : ℕ) where
   abbrev here : Standing
-  here = standing e asked now
+  here = standing policy e asked now
 
   -- ---- what is so where no rule on the chosen response stands
 
-  within_max_age : above_max_age here ≡ false → IsWithinMaxAge e asked now
-  within_max_age h most is = not_below most here.age (test_false (λ m. nat_lt m here.age) (first_valid here.request directive.MaxAge) most h is)
+  not_to_be_validated : asks_to_validate here ≡ false → policy.heeds_requests ≡ true → has here.request directive.NoCache ≡ false
+  not_to_be_validated h heeds = second_false policy.heeds_requests (has here.request directive.NoCache) heeds h
 
-  fresh_for_min_fresh : below_min_fresh here ≡ false → IsFreshForMinFresh e asked now
-  fresh_for_min_fresh h least is =
-      not_below here.lifetime.seconds (here.age + least) (test_false (λ m. nat_lt here.lifetime.seconds (here.age + m)) (first_valid here.request directive.MinFresh) least h is)
+  within_max_age : above_max_age here ≡ false → policy.heeds_requests ≡ true → IsWithinMaxAge e asked now
+  within_max_age h heeds most is =
+      let over = is_some_and (λ m. nat_lt m here.age) (first_valid here.request directive.MaxAge) in
+      not_below most here.age (test_false (λ m. nat_lt m here.age) (first_valid here.request directive.MaxAge) most (second_false policy.heeds_requests over heeds h) is)
+
+  fresh_for_min_fresh : below_min_fresh here ≡ false → policy.heeds_requests ≡ true → IsFreshForMinFresh policy e asked now
+  fresh_for_min_fresh h heeds least is =
+      let short = is_some_and (λ m. nat_lt here.lifetime.seconds (here.age + m)) (first_valid here.request directive.MinFresh) in
+      not_below here.lifetime.seconds (here.age + least) (test_false (λ m. nat_lt here.lifetime.seconds (here.age + m)) (first_valid here.request directive.MinFresh) least (second_false policy.heeds_requests short heeds h) is)
+
+  no_min_fresh : asks_for_freshness here ≡ false → policy.heeds_requests ≡ true → first_valid here.request directive.MinFresh ≡ None
+  no_min_fresh h heeds =
+      no_value (first_valid here.request directive.MinFresh) (second_false policy.heeds_requests (is_some (first_valid here.request directive.MinFresh)) heeds h)
 
   module _ (none : (rule : ReuseRule) → against rule here ≡ false) where
-    sent_fresh : fresh here ≡ true → IsSentFresh e asked now
+    sent_fresh : fresh here ≡ true → IsSentFresh policy e asked now
     sent_fresh f =
         record {
           is_fresh = below here.age here.lifetime.seconds f;
-          not_to_be_validated = second_false (fresh here) (has here.request directive.NoCache) f (none RequestNoCache);
+          not_to_be_validated = not_to_be_validated (second_false (fresh here) (asks_to_validate here) f (none RequestNoCache));
           within_max_age = within_max_age (second_false (fresh here) (above_max_age here) f (none AboveMaxAge));
           fresh_for_min_fresh = fresh_for_min_fresh (second_false (fresh here) (below_min_fresh here) f (none BelowMinFresh));
         }
 
-    sent_stale : fresh here ≡ false → IsSentStale e asked now
+    sent_stale : fresh here ≡ false → IsSentStale policy e asked now
     sent_stale f =
         let must = has here.response directive.MustRevalidate in
         let proxy = has here.response directive.ProxyRevalidate in
@@ -89,45 +100,58 @@ module _ (e : Stored) (asked : Asked) (now : ℕ) where
           no_must_revalidate = left_false must proxy neither_two;
           no_proxy_revalidate = right_false must proxy neither_two;
           no_s_maxage = right_false (must || proxy) shared revalidate;
-          states_its_lifetime = not_false here.lifetime.explicit (under_not (fresh here) (not here.lifetime.explicit) f (none NoLifetime));
-          not_to_be_validated = under_not (fresh here) (has here.request directive.NoCache) f (none StaleNoCache);
+          has_a_lifetime = not_false here.lifetime.explicit (under_not (fresh here) (not here.lifetime.explicit) f (none NoLifetime));
+          not_to_be_validated = not_to_be_validated (under_not (fresh here) (asks_to_validate here) f (none StaleNoCache));
           within_max_stale = takes limit staleness (under_not (fresh here) (not (accepts_stale limit)) f (none NoMaxStale)) (under_not (fresh here) (past_limit staleness limit) f (none PastMaxStale));
           within_max_age = within_max_age (under_not (fresh here) (above_max_age here) f (none StaleMaxAge));
-          no_min_fresh = no_value (first_valid here.request directive.MinFresh) (under_not (fresh here) (is_some (first_valid here.request directive.MinFresh)) f (none StaleMinFresh));
+          no_min_fresh = no_min_fresh (under_not (fresh here) (asks_for_freshness here) f (none StaleMinFresh));
         }
 
-    sent_somehow : (t : Bool) → fresh here ≡ t → IsSentFresh e asked now ⊎ IsSentStale e asked now
+    sent_somehow : (t : Bool) → fresh here ≡ t → IsSentFresh policy e asked now ⊎ IsSentStale policy e asked now
     sent_somehow true f = inl (sent_fresh f)
     sent_somehow false f = inr (sent_stale f)
 
   -- ---- and no such rule stands where it is so
 
-  not_above : IsWithinMaxAge e asked now → above_max_age here ≡ false
+  -- a test that counts only where a word is set fails where it fails under that word
+  heeded : (word test : Bool) → (word ≡ true → test ≡ false) → word && test ≡ false
+  heeded true test h = h refl
+  heeded false test h = refl
+
+  not_asked : (policy.heeds_requests ≡ true → has here.request directive.NoCache ≡ false) → asks_to_validate here ≡ false
+  not_asked h = heeded policy.heeds_requests (has here.request directive.NoCache) h
+
+  not_above : (policy.heeds_requests ≡ true → IsWithinMaxAge e asked now) → above_max_age here ≡ false
   not_above within =
-      none_tests (λ m. nat_lt m here.age) (first_valid here.request directive.MaxAge) (λ most h. is_not_below most here.age (within most h))
+      heeded policy.heeds_requests (is_some_and (λ m. nat_lt m here.age) (first_valid here.request directive.MaxAge))
+      (λ heeds. none_tests (λ m. nat_lt m here.age) (first_valid here.request directive.MaxAge) (λ most h. is_not_below most here.age (within heeds most h)))
 
-  not_short : IsFreshForMinFresh e asked now → below_min_fresh here ≡ false
+  not_short : (policy.heeds_requests ≡ true → IsFreshForMinFresh policy e asked now) → below_min_fresh here ≡ false
   not_short long =
-      none_tests (λ m. nat_lt here.lifetime.seconds (here.age + m)) (first_valid here.request directive.MinFresh)
-      (λ least h. is_not_below here.lifetime.seconds (here.age + least) (long least h))
+      heeded policy.heeds_requests (is_some_and (λ m. nat_lt here.lifetime.seconds (here.age + m)) (first_valid here.request directive.MinFresh))
+      (λ heeds. none_tests (λ m. nat_lt here.lifetime.seconds (here.age + m)) (first_valid here.request directive.MinFresh)
+      (λ least h. is_not_below here.lifetime.seconds (here.age + least) (long heeds least h)))
 
-  none_where_fresh : has here.response directive.NoCache ≡ false → IsSentFresh e asked now → fresh here ≡ true → (rule : ReuseRule) → against rule here ≡ false
+  not_for_freshness : (policy.heeds_requests ≡ true → first_valid here.request directive.MinFresh ≡ None) → asks_for_freshness here ≡ false
+  not_for_freshness absent = heeded policy.heeds_requests (is_some (first_valid here.request directive.MinFresh)) (λ heeds. ap is_some (absent heeds))
+
+  none_where_fresh : has here.response directive.NoCache ≡ false → IsSentFresh policy e asked now → fresh here ≡ true → (rule : ReuseRule) → against rule here ≡ false
   none_where_fresh free sent f ResponseNoCache = free
-  none_where_fresh free sent f RequestNoCache = last_absent (fresh here) (has here.request directive.NoCache) sent.not_to_be_validated
+  none_where_fresh free sent f RequestNoCache = last_absent (fresh here) (asks_to_validate here) (not_asked sent.not_to_be_validated)
   none_where_fresh free sent f AboveMaxAge = last_absent (fresh here) (above_max_age here) (not_above sent.within_max_age)
   none_where_fresh free sent f BelowMinFresh = last_absent (fresh here) (below_min_fresh here) (not_short sent.fresh_for_min_fresh)
   none_where_fresh free sent f MustRevalidate = not_first (fresh here) (must_revalidate here) f
   none_where_fresh free sent f NoLifetime = not_first (fresh here) (not here.lifetime.explicit) f
-  none_where_fresh free sent f StaleNoCache = not_first (fresh here) (has here.request directive.NoCache) f
+  none_where_fresh free sent f StaleNoCache = not_first (fresh here) (asks_to_validate here) f
   none_where_fresh free sent f NoMaxStale = not_first (fresh here) (not (accepts_stale (max_stale here.request))) f
   none_where_fresh free sent f PastMaxStale = not_first (fresh here) (past_limit (here.age - here.lifetime.seconds) (max_stale here.request)) f
   none_where_fresh free sent f StaleMaxAge = not_first (fresh here) (above_max_age here) f
-  none_where_fresh free sent f StaleMinFresh = not_first (fresh here) (is_some (first_valid here.request directive.MinFresh)) f
+  none_where_fresh free sent f StaleMinFresh = not_first (fresh here) (asks_for_freshness here) f
   none_where_fresh free sent f rule = refl
 
-  none_where_stale : has here.response directive.NoCache ≡ false → IsSentStale e asked now → fresh here ≡ false → (rule : ReuseRule) → against rule here ≡ false
+  none_where_stale : has here.response directive.NoCache ≡ false → IsSentStale policy e asked now → fresh here ≡ false → (rule : ReuseRule) → against rule here ≡ false
   none_where_stale free sent f ResponseNoCache = free
-  none_where_stale free sent f RequestNoCache = first_absent (fresh here) (has here.request directive.NoCache) f
+  none_where_stale free sent f RequestNoCache = first_absent (fresh here) (asks_to_validate here) f
   none_where_stale free sent f AboveMaxAge = first_absent (fresh here) (above_max_age here) f
   none_where_stale free sent f BelowMinFresh = first_absent (fresh here) (below_min_fresh here) f
   none_where_stale free sent f MustRevalidate =
@@ -136,8 +160,8 @@ module _ (e : Stored) (asked : Asked) (now : ℕ) where
       let shared = has here.response directive.SMaxage in
       last_absent (not (fresh here)) (must_revalidate here)
       (neither (must || proxy) shared (neither must proxy sent.no_must_revalidate sent.no_proxy_revalidate) sent.no_s_maxage)
-  none_where_stale free sent f NoLifetime = last_absent (not (fresh here)) (not here.lifetime.explicit) (not_true here.lifetime.explicit sent.states_its_lifetime)
-  none_where_stale free sent f StaleNoCache = last_absent (not (fresh here)) (has here.request directive.NoCache) sent.not_to_be_validated
+  none_where_stale free sent f NoLifetime = last_absent (not (fresh here)) (not here.lifetime.explicit) (not_true here.lifetime.explicit sent.has_a_lifetime)
+  none_where_stale free sent f StaleNoCache = last_absent (not (fresh here)) (asks_to_validate here) (not_asked sent.not_to_be_validated)
   none_where_stale free sent f NoMaxStale =
       let limit = max_stale here.request in
       last_absent (not (fresh here)) (not (accepts_stale limit)) (not_true (accepts_stale limit) (accepts_what_it_takes limit (here.age - here.lifetime.seconds) sent.within_max_stale))
@@ -146,17 +170,17 @@ module _ (e : Stored) (asked : Asked) (now : ℕ) where
       let staleness = here.age - here.lifetime.seconds in
       last_absent (not (fresh here)) (past_limit staleness limit) (not_past_what_it_takes limit staleness sent.within_max_stale)
   none_where_stale free sent f StaleMaxAge = last_absent (not (fresh here)) (above_max_age here) (not_above sent.within_max_age)
-  none_where_stale free sent f StaleMinFresh = last_absent (not (fresh here)) (is_some (first_valid here.request directive.MinFresh)) (ap is_some sent.no_min_fresh)
+  none_where_stale free sent f StaleMinFresh = last_absent (not (fresh here)) (asks_for_freshness here) (not_for_freshness sent.no_min_fresh)
   none_where_stale free sent f rule = refl
 
-  none_against : has here.response directive.NoCache ≡ false → IsSentFresh e asked now ⊎ IsSentStale e asked now → (rule : ReuseRule) → against rule here ≡ false
+  none_against : has here.response directive.NoCache ≡ false → IsSentFresh policy e asked now ⊎ IsSentStale policy e asked now → (rule : ReuseRule) → against rule here ≡ false
   none_against free (inl sent) rule = none_where_fresh free sent (is_below here.age here.lifetime.seconds sent.is_fresh) rule
   none_against free (inr sent) rule = none_where_stale free sent (is_not_below here.age here.lifetime.seconds sent.is_stale) rule
 
-module _ (caches : Bool) (held : List Stored) (asked : Asked) (now : ℕ) where
+module _ (policy : Policy) (held : List Stored) (asked : Asked) (now : ℕ) where
   -- ---- from no rule to the list
 
-  none_on : (e : Stored) → chosen_of held asked ≡ Some e → ((rule : ReuseRule) → stands rule caches held asked now ≡ false) → (rule : ReuseRule) → against rule (standing e asked now) ≡ false
+  none_on : (e : Stored) → chosen_of held asked ≡ Some e → ((rule : ReuseRule) → stands rule policy held asked now ≡ false) → (rule : ReuseRule) → against rule (standing policy e asked now) ≡ false
   none_on e is none Operator = refl
   none_on e is none Method = refl
   none_on e is none Content = refl
@@ -164,26 +188,26 @@ module _ (caches : Bool) (held : List Stored) (asked : Asked) (now : ℕ) where
   none_on e is none Precondition = refl
   none_on e is none UriMiss = refl
   none_on e is none VaryMiss = refl
-  none_on e is none rule = sym (ap (is_some_and (λ x. against rule (standing x asked now))) is) ∙ none rule
+  none_on e is none rule = sym (ap (is_some_and (λ x. against rule (standing policy x asked now))) is) ∙ none rule
 
-  pub reused_is_allowed : (serial : ℕ) → decision_of caches held asked now ≡ Hit serial → (response : Stored) × MayBeReused caches held asked now response × (response.serial ≡ serial)
+  pub reused_is_allowed : (serial : ℕ) → decision_of policy held asked now ≡ Hit serial → (response : Stored) × MayBeReused policy held asked now response × (response.serial ≡ serial)
   reused_is_allowed serial h =
-      let may = may_be_sent caches held asked now serial h in
+      let may = may_be_sent policy held asked now serial h in
       let none = none_on may.response may.chosen_is may.no_rule in (
         may.response,
         record {
-          operator_allows = not_false caches (may.no_rule Operator);
+          operator_allows = not_false policy.caches (may.no_rule Operator);
           is_chosen = chosen_is_latest held asked may.response may.chosen_is;
           request_allows = record { method_allows = method_allows asked.method (may.no_rule Method); no_content = may.no_rule Content; no_range = may.no_rule Range; no_precondition = may.no_rule Precondition };
           no_no_cache = none ResponseNoCache;
-          fresh_or_stale = sent_somehow may.response asked now none (fresh (standing may.response asked now)) refl;
+          fresh_or_stale = sent_somehow policy may.response asked now none (fresh (standing policy may.response asked now)) refl;
         },
         may.serial_is,
       )
 
   -- ---- and back
 
-  none_stands : (e : Stored) → chosen_of held asked ≡ Some e → MayBeReused caches held asked now e → (rule : ReuseRule) → stands rule caches held asked now ≡ false
+  none_stands : (e : Stored) → chosen_of held asked ≡ Some e → MayBeReused policy held asked now e → (rule : ReuseRule) → stands rule policy held asked now ≡ false
   none_stands e is may Operator = ap not may.operator_allows
   none_stands e is may Method = method_is_allowed asked.method may.request_allows.method_allows
   none_stands e is may Content = may.request_allows.no_content
@@ -194,9 +218,9 @@ module _ (caches : Bool) (held : List Stored) (asked : Asked) (now : ℕ) where
       some_there (of_key held asked) e (member_filter (λ x. same_key x.key asked.target.key) held e candidate.has_the_key (member_contained held e candidate.is_held))
   none_stands e is may VaryMiss = ap is_none is
   none_stands e is may rule =
-      ap (is_some_and (λ x. against rule (standing x asked now))) is ∙ none_against e asked now may.no_no_cache may.fresh_or_stale rule
+      ap (is_some_and (λ x. against rule (standing policy x asked now))) is ∙ none_against policy e asked now may.no_no_cache may.fresh_or_stale rule
 
-  pub allowed_is_reused : (response : Stored) → Distinct (serials held) → MayBeReused caches held asked now response → decision_of caches held asked now ≡ Hit response.serial
+  pub allowed_is_reused : (response : Stored) → Distinct (serials held) → MayBeReused policy held asked now response → decision_of policy held asked now ≡ Hit response.serial
   allowed_is_reused response distinct may =
       let is = latest_is_the_chosen held asked response distinct may.is_chosen in
-      is_sent caches held asked now response.serial (record { response = response; chosen_is = is; serial_is = refl; no_rule = none_stands response is may })
+      is_sent policy held asked now response.serial (record { response = response; chosen_is = is; serial_is = refl; no_rule = none_stands response is may })

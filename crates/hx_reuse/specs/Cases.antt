@@ -1,5 +1,5 @@
 -- The requests and stored responses that the laws of worked cases speak of.
-use Rattle.std.specs.Prelude.{ℕ, List, [], ◌∷◌, codes, None, Some, false}
+use Rattle.std.specs.Prelude.{ℕ, List, [], ◌∷◌, codes, None, Some, true, false}
 use Rattle.hx_fields.specs.Examples.{line}
 use Rattle.hx_fields.specs.declared.field_line.Field.{Field}
 use Rattle.hx_directives.specs.Occurrences.{occurrences_of}
@@ -8,6 +8,8 @@ use Rattle.hx_target.specs.declared.keys.Key.{Key}
 use Rattle.hx_vary.specs.Vary.{kept_values}
 use Rattle.hx_hop.specs.declared.request_view.Asked.{Asked}
 use Rattle.hx_store.specs.Stored.{Stored}
+use Rattle.hx_policy.specs.declared.words.Policy.{Policy}
+use Rattle.hx_policy.specs.Words.{plain}
 
 -- one Cache-Control line
 abbrev pub control : List ℕ → List Field
@@ -75,3 +77,21 @@ held_with_tag more = stored_at 0 [] (line (codes "ETag") (codes "\"e\"") ∷ mor
 -- the directives of a request with one Cache-Control line
 abbrev pub asks : List ℕ → List Occurrence
 asks value = occurrences_of (control value)
+
+-- a line that caches and gives a lifetime, one that allows a staleness after an error, and one that heeds no advice of a request
+abbrev pub lasting : ℕ → Policy
+lasting n = record (plain true) { lifetime = Some n }
+
+abbrev pub lenient : ℕ → Policy
+lenient n = record (plain true) { stale_if_error = Some n }
+
+abbrev pub heedless : Policy
+heedless = record (plain true) { heeds_requests = false }
+
+-- what is stored at 0 with these lines, of another status
+abbrev pub of_status : ℕ → List Field → Stored
+of_status status fields = record (stored_at 0 [] fields) { status = status }
+
+-- the one response that is held, of a status, without lines
+abbrev pub bare : ℕ → List Stored
+bare status = of_status status [] ∷ []

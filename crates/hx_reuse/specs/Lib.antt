@@ -1,9 +1,12 @@
 pub mod Words
 pub mod Chosen
+pub mod Lifetimes
 pub mod Rules
 pub mod ErrorRules
 pub mod Meaning
 pub mod Reusable
 pub mod OnError
 pub mod Promises
+pub mod PlainLines
+pub mod LineWords
 pub mod Cases

@@ -4,12 +4,13 @@
 -- IsCandidate, IsChosen: a held response that matches, the latest of these     MayBeSent: it, where no rule stands
 -- IsLeast: a rule that stands, and none before it     NamesTheResponse: the response that a rule is named with
 -- Below them are the statements that the laws of `src/laws.rt` prove.
-use Rattle.std.specs.Prelude.{◌≡◌, ℕ, ◌<◌, ◌≤◌, ◌⊎◌, Bool, true, false, List, Option, Some, None}
+use Rattle.std.specs.Prelude.{◌≡◌, ℕ, ◌<◌, ◌≤◌, ◌⊎◌, true, false, List, Option, Some, None}
 use Rattle.std.specs.List.{Contains}
 use Rattle.hx_target.specs.Keys.{same_key}
 use Rattle.hx_vary.specs.Vary.{vary_matches}
 use Rattle.hx_hop.specs.declared.request_view.Asked.{Asked}
 use Rattle.hx_store.specs.Stored.{Stored}
+use Rattle.hx_policy.specs.declared.words.Policy.{Policy}
 use Rattle.hx_store.specs.Serials.{Distinct}
 use Rattle.hx_store.specs.Shelf.{serials, find_entry}
 use Rattle.hx_reuse.specs.Chosen.{comes_later, chosen_of}
@@ -33,16 +34,16 @@ pub record IsChosen (held : List Stored) (asked : Asked) (response : Stored) : T
   pub none_later : (other : Stored) → IsCandidate held asked other → comes_later other response ≡ false
 
 -- the chosen response has this serial, and no rule stands
-pub record MayBeSent (caches : Bool) (held : List Stored) (asked : Asked) (now serial : ℕ) : Type 0 where
+pub record MayBeSent (policy : Policy) (held : List Stored) (asked : Asked) (now serial : ℕ) : Type 0 where
   pub response : Stored
   pub chosen_is : chosen_of held asked ≡ Some response
   pub serial_is : response.serial ≡ serial
-  pub no_rule : (rule : ReuseRule) → stands rule caches held asked now ≡ false
+  pub no_rule : (rule : ReuseRule) → stands rule policy held asked now ≡ false
 
 -- the rule stands, and none of a smaller number does
-pub record IsLeast (caches : Bool) (held : List Stored) (asked : Asked) (now : ℕ) (rule : ReuseRule) : Type 0 where
-  pub it_stands : stands rule caches held asked now ≡ true
-  pub none_before : (other : ReuseRule) → number_of other < number_of rule → stands other caches held asked now ≡ false
+pub record IsLeast (policy : Policy) (held : List Stored) (asked : Asked) (now : ℕ) (rule : ReuseRule) : Type 0 where
+  pub it_stands : stands rule policy held asked now ≡ true
+  pub none_before : (other : ReuseRule) → number_of other < number_of rule → stands other policy held asked now ≡ false
 
 -- a rule on the chosen response is named with it, the others are named alone
 abbrev pub NamesTheResponse : List Stored → Asked → ReuseRule → Option ℕ → Type 0
@@ -72,34 +73,35 @@ ChoosesNoOther = (held : List Stored) (asked : Asked) (response : Stored) →
     Distinct (serials held) → IsChosen held asked response → chosen_of held asked ≡ Some response
 
 abbrev pub SendsWhatMayBeSent : Type 0
-SendsWhatMayBeSent = (caches : Bool) (held : List Stored) (asked : Asked) (now serial : ℕ) →
-    MayBeSent caches held asked now serial → decision_of caches held asked now ≡ Hit serial
+SendsWhatMayBeSent = (policy : Policy) (held : List Stored) (asked : Asked) (now serial : ℕ) →
+    MayBeSent policy held asked now serial → decision_of policy held asked now ≡ Hit serial
 
 abbrev pub SendsNothingElse : Type 0
-SendsNothingElse = (caches : Bool) (held : List Stored) (asked : Asked) (now serial : ℕ) →
-    decision_of caches held asked now ≡ Hit serial → MayBeSent caches held asked now serial
+SendsNothingElse = (policy : Policy) (held : List Stored) (asked : Asked) (now serial : ℕ) →
+    decision_of policy held asked now ≡ Hit serial → MayBeSent policy held asked now serial
 
 -- what is sent is held, for this request
 abbrev pub SendsWhatIsHeld : Type 0
-SendsWhatIsHeld = (caches : Bool) (held : List Stored) (asked : Asked) (now serial : ℕ) →
-    decision_of caches held asked now ≡ Hit serial → (response : Stored) × IsChosen held asked response × (response.serial ≡ serial)
+SendsWhatIsHeld = (policy : Policy) (held : List Stored) (asked : Asked) (now serial : ℕ) →
+    decision_of policy held asked now ≡ Hit serial → (response : Stored) × IsChosen held asked response × (response.serial ≡ serial)
 
 -- where each serial names one response, that of a hit finds the chosen one in the store
 abbrev pub FindsWhatIsSent : Type 0
-FindsWhatIsSent = (caches : Bool) (held : List Stored) (asked : Asked) (now serial : ℕ) →
-    Distinct (serials held) → decision_of caches held asked now ≡ Hit serial → find_entry serial held ≡ chosen_of held asked
+FindsWhatIsSent = (policy : Policy) (held : List Stored) (asked : Asked) (now serial : ℕ) →
+    Distinct (serials held) → decision_of policy held asked now ≡ Hit serial → find_entry serial held ≡ chosen_of held asked
 
 abbrev pub NamesTheLeast : Type 0
-NamesTheLeast = (caches : Bool) (held : List Stored) (asked : Asked) (now : ℕ) (rule : ReuseRule) (named : Option ℕ) →
-    decision_of caches held asked now ≡ Forward rule named → IsLeast caches held asked now rule × NamesTheResponse held asked rule named
+NamesTheLeast = (policy : Policy) (held : List Stored) (asked : Asked) (now : ℕ) (rule : ReuseRule) (named : Option ℕ) →
+    decision_of policy held asked now ≡ Forward rule named → IsLeast policy held asked now rule × NamesTheResponse held asked rule named
 
 abbrev pub ForwardsWhereOneStands : Type 0
-ForwardsWhereOneStands = (caches : Bool) (held : List Stored) (asked : Asked) (now : ℕ) (rule : ReuseRule) →
-    IsLeast caches held asked now rule → (named : Option ℕ) × (decision_of caches held asked now ≡ Forward rule named)
+ForwardsWhereOneStands = (policy : Policy) (held : List Stored) (asked : Asked) (now : ℕ) (rule : ReuseRule) →
+    IsLeast policy held asked now rule → (named : Option ℕ) × (decision_of policy held asked now ≡ Forward rule named)
 
 -- own: what the operator keeps from the store goes forward by its rule, whatever is held
 abbrev pub ForwardsWithoutCache : Type 0
-ForwardsWithoutCache = (held : List Stored) (asked : Asked) (now : ℕ) → decision_of false held asked now ≡ Forward Operator None
+ForwardsWithoutCache = (policy : Policy) (held : List Stored) (asked : Asked) (now : ℕ) →
+    policy.caches ≡ false → decision_of policy held asked now ≡ Forward Operator None
 
 -- a reader of Cache-Status knows the rule (RFC 9211, sections 2.2 and 2.8)
 abbrev pub WordsTellRulesApart : Type 0

@@ -2,7 +2,7 @@
 -- error, without the rules and their numbers (RFC 5861, section 4, and what RFC 9111, sections 4.2.4, 5.2.2.2, 5.2.2.4, 5.2.2.8 and
 -- 5.2.2.10 forbid to send stale).
 --
--- StatesLimit, AsksForLimit: the staleness that each allows    MayBeSentOnError: all that is asked
+-- StatesLimit, AsksForLimit, GivesLimit: the staleness that each allows    MayBeSentOnError: all that is asked
 -- IsLeastOnError: a rule that stands, and none before it
 -- Below them are the statements that the laws of `src/laws.rt` prove.
 use Rattle.std.specs.Prelude.{◌≡◌, ℕ, ◌-◌, ◌<◌, ◌≤◌, ◌⊎◌, true, false, List, Some, None}
@@ -11,9 +11,10 @@ use Rattle.hx_directives.specs.Answers.{has, seconds, first_valid}
 use Rattle.hx_directives.specs.declared.occurrences.Occurrence.{Occurrence}
 use Rattle.hx_directives.specs.declared.names.Directive.TheVariants.{NoCache, MustRevalidate, ProxyRevalidate, SMaxage, StaleIfError}
 use Rattle.hx_directives.specs.declared.answers.Seconds.TheVariants.{Value}
-use Rattle.hx_age.specs.Lifetime.{lifetime_of}
 use Rattle.hx_age.specs.Age.{age_of}
 use Rattle.hx_store.specs.Stored.{Stored}
+use Rattle.hx_policy.specs.declared.words.Policy.{Policy}
+use Rattle.hx_reuse.specs.Lifetimes.{lifetime_under}
 use Rattle.hx_reuse.specs.Words.{error_number_of}
 use Rattle.hx_reuse.specs.ErrorRules.{standing_on, against_on_error, error_rule_on}
 use Rattle.hx_reuse.specs.declared.rule.ErrorRule.{ErrorRule}
@@ -26,41 +27,50 @@ StatesLimit response most = seconds (occurrences_of response.fields) StaleIfErro
 abbrev pub AsksForLimit : List Occurrence → ℕ → Type 0
 AsksForLimit request most = first_valid request StaleIfError ≡ Some most
 
--- by how much the response is past its lifetime (RFC 9111, section 4.2)
-abbrev pub staleness_at : Stored → ℕ → ℕ
-staleness_at response now = age_of response.times now - (lifetime_of response.fields).seconds
+-- own: the operator's line has so many seconds, and neither the response nor the request has a stale-if-error
+pub record GivesLimit (policy : Policy) (response : Stored) (request : List Occurrence) (most : ℕ) : Type 0 where
+  pub line_has : policy.stale_if_error ≡ Some most
+  pub response_has_none : has (occurrences_of response.fields) StaleIfError ≡ false
+  pub request_has_none : has request StaleIfError ≡ false
 
--- own: its lifetime is stated, the request has no no-cache, and each limit counts
-pub record MayBeSentOnError (response : Stored) (request : List Occurrence) (now : ℕ) : Type 0 where
+-- by how much the response is past its lifetime (RFC 9111, section 4.2)
+abbrev pub staleness_at : Policy → Stored → ℕ → ℕ
+staleness_at policy response now = age_of response.times now - (lifetime_under policy response.status response.fields).seconds
+
+-- own: its lifetime is stated, or the operator gives it one; the request has no no-cache that is heeded; and each limit
+-- counts
+pub record MayBeSentOnError (policy : Policy) (response : Stored) (request : List Occurrence) (now : ℕ) : Type 0 where
   pub no_no_cache : has (occurrences_of response.fields) NoCache ≡ false
   pub no_must_revalidate : has (occurrences_of response.fields) MustRevalidate ≡ false
   pub no_proxy_revalidate : has (occurrences_of response.fields) ProxyRevalidate ≡ false
   pub no_s_maxage : has (occurrences_of response.fields) SMaxage ≡ false
-  pub states_its_lifetime : (lifetime_of response.fields).explicit ≡ true
-  pub not_to_be_validated : has request NoCache ≡ false
-  pub is_allowed : ((most : ℕ) × StatesLimit response most) ⊎ ((most : ℕ) × AsksForLimit request most)
-  pub within_its_limit : (most : ℕ) → StatesLimit response most → staleness_at response now ≤ most
-  pub within_the_requests : (most : ℕ) → AsksForLimit request most → staleness_at response now ≤ most
+  pub has_a_lifetime : (lifetime_under policy response.status response.fields).explicit ≡ true
+  pub not_to_be_validated : policy.heeds_requests ≡ true → has request NoCache ≡ false
+  pub is_allowed : ((most : ℕ) × StatesLimit response most)
+      ⊎ (((most : ℕ) × AsksForLimit request most) ⊎ ((most : ℕ) × GivesLimit policy response request most))
+  pub within_its_limit : (most : ℕ) → StatesLimit response most → staleness_at policy response now ≤ most
+  pub within_the_requests : (most : ℕ) → AsksForLimit request most → staleness_at policy response now ≤ most
+  pub within_the_operators : (most : ℕ) → GivesLimit policy response request most → staleness_at policy response now ≤ most
 
 -- the rule stands, and none of a smaller number does
-pub record IsLeastOnError (response : Stored) (request : List Occurrence) (now : ℕ) (least : ErrorRule) : Type 0 where
-  pub it_stands : against_on_error least (standing_on response request now) ≡ true
-  pub none_before : (other : ErrorRule) → error_number_of other < error_number_of least → against_on_error other (standing_on response request now) ≡ false
+pub record IsLeastOnError (policy : Policy) (response : Stored) (request : List Occurrence) (now : ℕ) (least : ErrorRule) : Type 0 where
+  pub it_stands : against_on_error least (standing_on policy response request now) ≡ true
+  pub none_before : (other : ErrorRule) → error_number_of other < error_number_of least → against_on_error other (standing_on policy response request now) ≡ false
 
 -- ---- the statements
 
 abbrev pub SendsOnErrorWhatMayBeSent : Type 0
-SendsOnErrorWhatMayBeSent = (response : Stored) (request : List Occurrence) (now : ℕ) →
-    MayBeSentOnError response request now → error_rule_on response request now ≡ None
+SendsOnErrorWhatMayBeSent = (policy : Policy) (response : Stored) (request : List Occurrence) (now : ℕ) →
+    MayBeSentOnError policy response request now → error_rule_on policy response request now ≡ None
 
 abbrev pub SendsOnErrorNothingElse : Type 0
-SendsOnErrorNothingElse = (response : Stored) (request : List Occurrence) (now : ℕ) →
-    error_rule_on response request now ≡ None → MayBeSentOnError response request now
+SendsOnErrorNothingElse = (policy : Policy) (response : Stored) (request : List Occurrence) (now : ℕ) →
+    error_rule_on policy response request now ≡ None → MayBeSentOnError policy response request now
 
 abbrev pub NamesTheLeastOnError : Type 0
-NamesTheLeastOnError = (response : Stored) (request : List Occurrence) (now : ℕ) (least : ErrorRule) →
-    error_rule_on response request now ≡ Some least → IsLeastOnError response request now least
+NamesTheLeastOnError = (policy : Policy) (response : Stored) (request : List Occurrence) (now : ℕ) (least : ErrorRule) →
+    error_rule_on policy response request now ≡ Some least → IsLeastOnError policy response request now least
 
 abbrev pub NamesOneThatStandsOnError : Type 0
-NamesOneThatStandsOnError = (response : Stored) (request : List Occurrence) (now : ℕ) (least : ErrorRule) →
-    IsLeastOnError response request now least → error_rule_on response request now ≡ Some least
+NamesOneThatStandsOnError = (policy : Policy) (response : Stored) (request : List Occurrence) (now : ℕ) (least : ErrorRule) →
+    IsLeastOnError policy response request now least → error_rule_on policy response request now ≡ Some least

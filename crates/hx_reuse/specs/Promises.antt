@@ -1,8 +1,9 @@
--- What an origin can rely on once its response is stored, whatever the requests say: it follows from the rules.
+-- What an origin can rely on once its response is stored, whatever the requests and the operator's line say: it follows from
+-- the rules.
 --
 -- ForbidsStale: the response may not be sent stale    IsSent: it is the one that answers
 -- Below them are the statements that the laws of `src/laws.rt` prove.
-use Rattle.std.specs.Prelude.{◌≡◌, ℕ, ◌<◌, ◌⊎◌, Bool, true, List, None}
+use Rattle.std.specs.Prelude.{◌≡◌, ℕ, ◌<◌, ◌⊎◌, true, List, None}
 use Rattle.std.specs.List.{Contains}
 use Rattle.hx_fields.specs.Lines.{combined_of}
 use Rattle.hx_fields.specs.declared.field_line.Field.{Field}
@@ -16,8 +17,10 @@ use Rattle.hx_vary.specs.declared.nominated_values.NominatedValue.{NominatedValu
 use Rattle.hx_vary.specs.Vary.{kept_values, selects_both}
 use Rattle.hx_hop.specs.declared.request_view.Asked.{Asked}
 use Rattle.hx_store.specs.Stored.{Stored}
+use Rattle.hx_policy.specs.declared.words.Policy.{Policy}
 use Rattle.hx_store.specs.Serials.{Distinct}
 use Rattle.hx_store.specs.Shelf.{serials}
+use Rattle.hx_reuse.specs.Lifetimes.{lifetime_under}
 use Rattle.hx_reuse.specs.Rules.{decision_of}
 use Rattle.hx_reuse.specs.ErrorRules.{error_rule_on}
 use Rattle.hx_reuse.specs.declared.decision.Decision.TheVariants.{Hit}
@@ -29,36 +32,42 @@ ForbidsStale response =
     ⊎ ((has (occurrences_of response.fields) ProxyRevalidate ≡ true) ⊎ (has (occurrences_of response.fields) SMaxage ≡ true))
 
 -- a held response answers the request without the origin; each serial names one response
-pub record IsSent (caches : Bool) (held : List Stored) (asked : Asked) (now : ℕ) (response : Stored) : Type 0 where
+pub record IsSent (policy : Policy) (held : List Stored) (asked : Asked) (now : ℕ) (response : Stored) : Type 0 where
   pub names_one : Distinct (serials held)
   pub is_held : Contains held response
-  pub is_the_hit : decision_of caches held asked now ≡ Hit response.serial
+  pub is_the_hit : decision_of policy held asked now ≡ Hit response.serial
 
 -- ---- the statements
 
 -- the request has of each nominated field the value that the response was asked for with (RFC 9111, section 4.1)
 abbrev pub SendsNoOtherVariant : Type 0
-SendsNoOtherVariant = (caches : Bool) (held : List Stored) (asked : Asked) (now : ℕ) (response : Stored) →
-    IsSent caches held asked now response → (kept : NominatedValue) → Contains response.nominated kept →
+SendsNoOtherVariant = (policy : Policy) (held : List Stored) (asked : Asked) (now : ℕ) (response : Stored) →
+    IsSent policy held asked now response → (kept : NominatedValue) → Contains response.nominated kept →
     kept.value ≡ combined_of asked.fields kept.name
 
 -- so of a response that was stored with what its own request had, only a request gets it that has the same values of all that it
 -- nominates (RFC 9111, section 4.1)
 abbrev pub SendsNoOtherRequestsVariant : Type 0
-SendsNoOtherRequestsVariant = (caches : Bool) (held : List Stored) (asked : Asked) (now : ℕ) (response : Stored) (fields earlier : List Field) →
-    IsSent caches held asked now response → response.nominated ≡ kept_values fields earlier → selects_both fields earlier asked.fields ≡ true
+SendsNoOtherRequestsVariant = (policy : Policy) (held : List Stored) (asked : Asked) (now : ℕ) (response : Stored) (fields earlier : List Field) →
+    IsSent policy held asked now response → response.nominated ≡ kept_values fields earlier → selects_both fields earlier asked.fields ≡ true
 
--- one that forbids to be sent stale is fresh
+-- one that forbids to be sent stale is fresh, for as long as it states or the operator gives it
 abbrev pub NeverSendsStaleAgainst : Type 0
-NeverSendsStaleAgainst = (caches : Bool) (held : List Stored) (asked : Asked) (now : ℕ) (response : Stored) →
-    IsSent caches held asked now response → ForbidsStale response → age_of response.times now < (lifetime_of response.fields).seconds
+NeverSendsStaleAgainst = (policy : Policy) (held : List Stored) (asked : Asked) (now : ℕ) (response : Stored) →
+    IsSent policy held asked now response → ForbidsStale response → age_of response.times now < (lifetime_under policy response.status response.fields).seconds
+
+-- and where it states its lifetime no word of the operator's line lengthens that
+abbrev pub NeverOutlastsWhatItStates : Type 0
+NeverOutlastsWhatItStates = (policy : Policy) (held : List Stored) (asked : Asked) (now : ℕ) (response : Stored) →
+    IsSent policy held asked now response → ForbidsStale response → (lifetime_of response.fields).explicit ≡ true →
+    age_of response.times now < (lifetime_of response.fields).seconds
 
 -- one with no-cache is sent only once it was validated (RFC 9111, section 5.2.2.4)
 abbrev pub NeverSendsUnvalidated : Type 0
-NeverSendsUnvalidated = (caches : Bool) (held : List Stored) (asked : Asked) (now : ℕ) (response : Stored) →
-    IsSent caches held asked now response → has (occurrences_of response.fields) NoCache ≡ true → ⊥
+NeverSendsUnvalidated = (policy : Policy) (held : List Stored) (asked : Asked) (now : ℕ) (response : Stored) →
+    IsSent policy held asked now response → has (occurrences_of response.fields) NoCache ≡ true → ⊥
 
 -- nor is one of either kind sent in place of an error
 abbrev pub NeverSendsOnError : Type 0
-NeverSendsOnError = (response : Stored) (request : List Occurrence) (now : ℕ) →
-    error_rule_on response request now ≡ None → (has (occurrences_of response.fields) NoCache ≡ true) ⊎ ForbidsStale response → ⊥
+NeverSendsOnError = (policy : Policy) (response : Stored) (request : List Occurrence) (now : ℕ) →
+    error_rule_on policy response request now ≡ None → (has (occurrences_of response.fields) NoCache ≡ true) ⊎ ForbidsStale response → ⊥

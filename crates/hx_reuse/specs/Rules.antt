@@ -1,6 +1,7 @@
 -- Which rules keep a stored response from being sent (RFC 9111, sections 4 and 5.2.1), and which is the first.
 --
--- Standing: what the rules on a chosen response read     against: the condition of each of these rules
+-- Standing: what the rules on a chosen response read     asks_to_validate, above_max_age, below_min_fresh,
+-- asks_for_freshness: what a request wants                against: the condition of each of these rules
 -- stands: the condition of each rule                     reuse_rules: the rules by their numbers
 -- reuse_rule_of: the least that stands                   decision_of: what is done with a request
 use Rattle.std.specs.Prelude.{ℕ, ◌+◌, ◌==◌, nat_lt, if◌then◌else◌, Bool, true, false, not, ◌&&◌, ◌||◌, List, [], ◌∷◌, length, find, codes, bytes_eq, Option, Some, None, is_some, is_none, option_map}
@@ -11,11 +12,12 @@ use Rattle.hx_directives.specs.declared.names.Directive.TheVariants as directive
 use Rattle.hx_directives.specs.declared.answers.MaxStale.{MaxStale}
 use Rattle.hx_directives.specs.declared.answers.MaxStale.TheVariants.{Absent, UpTo}
 use Rattle.hx_age.specs.declared.lifetimes.Lifetime.{Lifetime}
-use Rattle.hx_age.specs.Lifetime.{lifetime_of}
 use Rattle.hx_age.specs.Age.{age_of, is_fresh_of, staleness_of}
 use Rattle.hx_hop.specs.declared.request_view.Asked.{Asked}
 use Rattle.hx_hop.specs.Bypass.{has_content, asks_for_range, has_precondition}
 use Rattle.hx_store.specs.Stored.{Stored}
+use Rattle.hx_policy.specs.declared.words.Policy.{Policy}
+use Rattle.hx_reuse.specs.Lifetimes.{lifetime_under}
 use Rattle.hx_reuse.specs.Chosen.{of_key, chosen_of}
 use Rattle.hx_reuse.specs.declared.rule.ReuseRule.{ReuseRule}
 use Rattle.hx_reuse.specs.declared.rule.ReuseRule.TheVariants.{Operator, Method, Content, Range, Precondition, UriMiss, VaryMiss, ResponseNoCache, RequestNoCache, AboveMaxAge, BelowMinFresh, MustRevalidate, NoLifetime, StaleNoCache, NoMaxStale, PastMaxStale, StaleMaxAge, StaleMinFresh}
@@ -27,19 +29,21 @@ abbrev pub is_some_and : {A : Type 0} → (A → Bool) → Option A → Bool
 is_some_and test None = false
 is_some_and test (Some x) = test x
 
--- what the rules on a chosen response read of it and of the request
+-- what the rules on a chosen response read of it, of the request and of the operator's line
 pub record Standing : Type 0 where
+  pub policy : Policy
   pub lifetime : Lifetime
   pub age : ℕ
   pub response : List Occurrence
   pub request : List Occurrence
 
-abbrev pub stands_at : Lifetime → ℕ → List Occurrence → List Occurrence → Standing
-stands_at lifetime age response request = record { lifetime = lifetime; age = age; response = response; request = request }
+abbrev pub stands_at : Policy → Lifetime → ℕ → List Occurrence → List Occurrence → Standing
+stands_at policy lifetime age response request =
+    record { policy = policy; lifetime = lifetime; age = age; response = response; request = request }
 
-abbrev pub standing : Stored → Asked → ℕ → Standing
-standing e asked now =
-    stands_at (lifetime_of e.fields) (age_of e.times now) (occurrences_of e.fields) (occurrences_of asked.fields)
+abbrev pub standing : Policy → Stored → Asked → ℕ → Standing
+standing policy e asked now =
+    stands_at policy (lifetime_under policy e.status e.fields) (age_of e.times now) (occurrences_of e.fields) (occurrences_of asked.fields)
 
 abbrev pub fresh : Standing → Bool
 fresh s = is_fresh_of s.lifetime s.age
@@ -49,13 +53,24 @@ abbrev pub must_revalidate : Standing → Bool
 must_revalidate s =
     (has s.response directive.MustRevalidate || has s.response directive.ProxyRevalidate) || has s.response directive.SMaxage
 
+-- the request has no-cache (RFC 9111, section 5.2.1.4). That a request's directives count is own, and of no-cache, max-age and
+-- min-fresh the operator's to say: the standard calls them advisory (RFC 9111, section 5.2.1). Its max-stale, only-if-cached,
+-- no-store and stale-if-error count whatever the line says.
+abbrev pub asks_to_validate : Standing → Bool
+asks_to_validate s = s.policy.heeds_requests && has s.request directive.NoCache
+
 -- the age is above the request's max-age (RFC 9111, section 5.2.1.1)
 abbrev pub above_max_age : Standing → Bool
-above_max_age s = is_some_and (λ most. nat_lt most s.age) (first_valid s.request directive.MaxAge)
+above_max_age s = s.policy.heeds_requests && is_some_and (λ most. nat_lt most s.age) (first_valid s.request directive.MaxAge)
 
 -- fresh for less than the request's min-fresh (RFC 9111, section 5.2.1.3)
 abbrev pub below_min_fresh : Standing → Bool
-below_min_fresh s = is_some_and (λ least. nat_lt s.lifetime.seconds (s.age + least)) (first_valid s.request directive.MinFresh)
+below_min_fresh s =
+    s.policy.heeds_requests && is_some_and (λ least. nat_lt s.lifetime.seconds (s.age + least)) (first_valid s.request directive.MinFresh)
+
+-- the request has min-fresh (RFC 9111, section 5.2.1.3)
+abbrev pub asks_for_freshness : Standing → Bool
+asks_for_freshness s = s.policy.heeds_requests && is_some (first_valid s.request directive.MinFresh)
 
 -- the request takes stale responses, up to a staleness (RFC 9111, section 5.2.1.2)
 abbrev pub accepts_stale : MaxStale → Bool
@@ -66,13 +81,12 @@ abbrev pub past_limit : ℕ → MaxStale → Bool
 past_limit n (UpTo limit) = nat_lt limit n
 past_limit n _ = false
 
--- the conditions of the rules on the chosen response. That a request's directives count is own: RFC 9111, section 5.2.1
--- calls them advisory.
+-- the conditions of the rules on the chosen response
 abbrev pub against : ReuseRule → Standing → Bool
 -- RFC 9111, section 5.2.2.4
 against ResponseNoCache s = has s.response directive.NoCache
 -- RFC 9111, section 5.2.1.4
-against RequestNoCache s = fresh s && has s.request directive.NoCache
+against RequestNoCache s = fresh s && asks_to_validate s
 -- RFC 9111, section 5.2.1.1
 against AboveMaxAge s = fresh s && above_max_age s
 -- RFC 9111, section 5.2.1.3
@@ -82,7 +96,7 @@ against MustRevalidate s = not (fresh s) && must_revalidate s
 -- own: what states no lifetime is never sent stale (RFC 9111, section 4.2.4 lets a cache send what isn't forbidden)
 against NoLifetime s = not (fresh s) && not s.lifetime.explicit
 -- RFC 9111, section 5.2.1.4
-against StaleNoCache s = not (fresh s) && has s.request directive.NoCache
+against StaleNoCache s = not (fresh s) && asks_to_validate s
 -- RFC 9111, section 4.2.4
 against NoMaxStale s = not (fresh s) && not (accepts_stale (max_stale s.request))
 -- RFC 9111, section 5.2.1.2
@@ -90,7 +104,7 @@ against PastMaxStale s = not (fresh s) && past_limit (staleness_of s.lifetime s.
 -- RFC 9111, section 5.2.1.1
 against StaleMaxAge s = not (fresh s) && above_max_age s
 -- RFC 9111, section 5.2.1.3: what is stale isn't fresh for any time
-against StaleMinFresh s = not (fresh s) && is_some (first_valid s.request directive.MinFresh)
+against StaleMinFresh s = not (fresh s) && asks_for_freshness s
 -- these speak of no response
 against Operator s = false
 against Method s = false
@@ -100,24 +114,24 @@ against Precondition s = false
 against UriMiss s = false
 against VaryMiss s = false
 
--- the condition of each rule; the first word is the operator's, whether a stored response may answer the request
-abbrev pub stands : ReuseRule → Bool → List Stored → Asked → ℕ → Bool
+-- the condition of each rule, under what the operator's line says of caching
+abbrev pub stands : ReuseRule → Policy → List Stored → Asked → ℕ → Bool
 -- own: what the operator keeps from the store
-stands Operator caches held asked now = not caches
+stands Operator policy held asked now = not policy.caches
 -- RFC 9111, section 4: the method of the request has to let a stored response answer it
-stands Method caches held asked now = not (bytes_eq asked.method (codes "GET") || bytes_eq asked.method (codes "HEAD"))
+stands Method policy held asked now = not (bytes_eq asked.method (codes "GET") || bytes_eq asked.method (codes "HEAD"))
 -- own: content of a GET or HEAD may change what it asks for
-stands Content caches held asked now = has_content asked
+stands Content policy held asked now = has_content asked
 -- own: ranges are the origin's matter (RFC 9111, section 3.3 lets a cache be without them)
-stands Range caches held asked now = asks_for_range asked
+stands Range policy held asked now = asks_for_range asked
 -- own: conditions of RFC 9111, section 4.3.2 that only the origin judges here
-stands Precondition caches held asked now = has_precondition asked
+stands Precondition policy held asked now = has_precondition asked
 -- RFC 9111, sections 2 and 4
-stands UriMiss caches held asked now = length (of_key held asked) == 0
+stands UriMiss policy held asked now = length (of_key held asked) == 0
 -- RFC 9111, section 4.1
-stands VaryMiss caches held asked now = is_none (chosen_of held asked)
+stands VaryMiss policy held asked now = is_none (chosen_of held asked)
 -- those on the chosen response
-stands rule caches held asked now = is_some_and (λ e. against rule (standing e asked now)) (chosen_of held asked)
+stands rule policy held asked now = is_some_and (λ e. against rule (standing policy e asked now)) (chosen_of held asked)
 
 -- the rules by their numbers
 abbrev pub request_rules : List ReuseRule
@@ -135,8 +149,8 @@ reuse_rules =
     ∷ NoMaxStale ∷ PastMaxStale ∷ StaleMaxAge ∷ StaleMinFresh ∷ []
 
 -- the least rule that stands
-unfoldable pub reuse_rule_of : Bool → List Stored → Asked → ℕ → Option ReuseRule
-reuse_rule_of caches held asked now = find (λ rule. stands rule caches held asked now) reuse_rules
+unfoldable pub reuse_rule_of : Policy → List Stored → Asked → ℕ → Option ReuseRule
+reuse_rule_of policy held asked now = find (λ rule. stands rule policy held asked now) reuse_rules
 
 -- the rule speaks of the chosen response
 abbrev pub names_entry : ReuseRule → Bool
@@ -156,5 +170,5 @@ decided None (Some serial) = Hit serial
 decided None None = Hit 0
 
 -- the chosen response is sent, or the request goes forward by the least rule; a rule on the chosen response names it
-unfoldable pub decision_of : Bool → List Stored → Asked → ℕ → Decision
-decision_of caches held asked now = decided (reuse_rule_of caches held asked now) (option_map (λ e. e.serial) (chosen_of held asked))
+unfoldable pub decision_of : Policy → List Stored → Asked → ℕ → Decision
+decision_of policy held asked now = decided (reuse_rule_of policy held asked now) (option_map (λ e. e.serial) (chosen_of held asked))

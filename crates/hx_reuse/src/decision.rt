@@ -10,6 +10,7 @@ use crate::reuse_rules::{request_rule, rule_on};
 use crate::rule::ReuseRule;
 use hx_directives::Directives;
 use hx_hop::Asked;
+use hx_policy::Policy;
 use hx_store::Shelf;
 use hx_target::Key;
 use std::alloc::{AllocError, Global};
@@ -23,21 +24,21 @@ pub enum Decision {
     Forward(ReuseRule, Option<u64>),
 }
 
-/// What is done with a request at a moment in Unix seconds: its directives, and the operator's word, whether a stored
-/// response may answer it, are handed in.
+/// What is done with a request at a moment in Unix seconds: its directives, and what its line of the operator's table says of
+/// caching, are handed in.
 pub fn decide<S: Shelf>(
     alloc: Global,
     asked: &Asked,
     asked_directives: &Directives,
     shelf: &S,
     now: u64,
-    caches: bool,
+    policy: Policy,
 ) -> Result<Decision, AllocError>
     requires { asked_directives.now ≡ occurrences_of asked.now.fields }
-    ensures { IfOk result (λ decision. decision ≡ decision_of caches (S.entries shelf.now) asked.now now) }
+    ensures { IfOk result (λ decision. decision ≡ decision_of policy (S.entries shelf.now) asked.now now) }
 {
-    if caches {
-        decide_from_store(alloc, asked, asked_directives, shelf, now)
+    if policy.caches {
+        decide_from_store(alloc, asked, asked_directives, shelf, now, policy)
     } else {
         Ok(Decision::Forward(ReuseRule::Operator, None))
     }
@@ -50,9 +51,11 @@ fn decide_from_store<S: Shelf>(
     asked_directives: &Directives,
     shelf: &S,
     now: u64,
+    policy: Policy,
 ) -> Result<Decision, AllocError>
-    requires { asked_directives.now ≡ occurrences_of asked.now.fields }
-    ensures { IfOk result (λ decision. decision ≡ decision_of true (S.entries shelf.now) asked.now now) }
+    requires directives { asked_directives.now ≡ occurrences_of asked.now.fields }
+    requires caches { policy.caches ≡ true }
+    ensures { IfOk result (λ decision. decision ≡ decision_of policy (S.entries shelf.now) asked.now now) }
 {
     if let Some(rule) = request_rule(asked) {
         return Ok(Decision::Forward(rule, None));
@@ -62,7 +65,7 @@ fn decide_from_store<S: Shelf>(
     let Some(entry) = latest_of(shelf, matching.as_slice()) else {
         return Ok(Decision::Forward(miss_rule(shelf, key), None));
     };
-    match rule_on(entry, asked, asked_directives, now) {
+    match rule_on(entry, asked, asked_directives, now, policy) {
         Some(rule) => Ok(Decision::Forward(rule, Some(entry.serial))),
         None => Ok(Decision::Hit(entry.serial)),
     }

@@ -7,7 +7,9 @@ ghost use Rattle.std.specs.Prelude.{◌≡◌, Some, None, codes};
 ghost use Rattle.hx_reuse.specs.declared.rule.ReuseRule.TheVariants as rule;
 ghost use Rattle.hx_reuse.specs.declared.rule.ErrorRule.TheVariants as on_error;
 ghost use Rattle.hx_reuse.specs.Words.{detail_of, error_word_of, reason_of};
-ghost use Rattle.hx_reuse.specs.Promises.{SendsNoOtherRequestsVariant, SendsNoOtherVariant, NeverSendsStaleAgainst, NeverSendsUnvalidated, NeverSendsOnError};
+ghost use Rattle.hx_reuse.specs.PlainLines.{PlainLineGivesNoLifetime, PlainLineAsksTheSame, PlainLineDecidesTheSame, PlainLineAsksTheSameOnError, PlainLineLeavesTheSame};
+ghost use Rattle.hx_reuse.specs.LineWords.{StatedLifetimeStays, OtherStatusesStay, GivenLifetimeCounts, IgnoredAdviceNeverStands, IgnoredAdviceNeverStandsOnError, IgnoredAdviceDecidesNothing, OperatorsLimitAllows, OperatorsLimitEnds, StatedLimitStays};
+ghost use Rattle.hx_reuse.specs.Promises.{SendsNoOtherRequestsVariant, SendsNoOtherVariant, NeverSendsStaleAgainst, NeverOutlastsWhatItStates, NeverSendsUnvalidated, NeverSendsOnError};
 
 use hx_vary::kept_is_enough;
 
@@ -75,12 +77,50 @@ pub fn no_other_requests_variant_is_sent()
     kept_is_enough();
 }
 
-/// Whatever a request says, a response with must-revalidate, proxy-revalidate or s-maxage is never sent stale, and one
-/// with no-cache never unvalidated; after an error neither is sent.
+/// Whatever a request and the operator's line say, a response with must-revalidate, proxy-revalidate or s-maxage is never sent
+/// stale, and one with no-cache never unvalidated; after an error neither is sent.
 pub fn what_has_to_be_validated_is()
     ensures stale { NeverSendsStaleAgainst }
+    ensures stated { NeverOutlastsWhatItStates }
     ensures no_cache { NeverSendsUnvalidated }
     ensures error { NeverSendsOnError }
+{}
+
+/// With a line that has no words nothing is asked but what the standards' conditions say, and a response lasts as long as it states.
+pub fn default_policy_changes_nothing()
+    ensures lifetime { PlainLineGivesNoLifetime }
+    ensures rules { PlainLineAsksTheSame }
+    ensures decision { PlainLineDecidesTheSame }
+    ensures error_rules { PlainLineAsksTheSameOnError }
+    ensures leave { PlainLineLeavesTheSame }
+{}
+
+/// The lifetime that a line gives changes nothing of a response that states its own, nor of one whose status isn't heuristically
+/// cacheable.
+pub fn a_stated_lifetime_stays()
+    ensures stated { StatedLifetimeStays }
+    ensures other_status { OtherStatusesStay }
+{}
+
+/// To any other response it gives a lifetime that counts as stated.
+pub fn a_given_lifetime_counts()
+    ensures { GivenLifetimeCounts }
+{}
+
+/// Where a line doesn't heed what requests want, no rule on a request's no-cache, max-age or min-fresh stands, and requests that
+/// differ in nothing else are answered alike.
+pub fn ignored_directives_are_not_asked()
+    ensures rules { IgnoredAdviceNeverStands }
+    ensures on_error { IgnoredAdviceNeverStandsOnError }
+    ensures decision { IgnoredAdviceDecidesNothing }
+{}
+
+/// The staleness that a line allows after an error counts where neither the response nor the request has stale-if-error, and
+/// changes nothing where either has.
+pub fn the_operators_stale_if_error_counts()
+    ensures within { OperatorsLimitAllows }
+    ensures past { OperatorsLimitEnds }
+    ensures stated { StatedLimitStays }
 {}
 
 /// No two reuse rules have the same reason and detail, and no two rules after an error the same word.

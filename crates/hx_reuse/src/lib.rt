@@ -1,14 +1,16 @@
-//! Whether a stored response may answer a request, and which rule is the first against it (RFC 9111, section 4).
+//! Whether a stored response may answer a request, and which rule is the first against it (RFC 9111, section 4), under what
+//! the request's line of the operator's table says of caching.
 //!
 //! The rules and their order stand in `specs/Rules.antt`, those after an error in `specs/ErrorRules.antt`, their words in
 //! `specs/Words.antt`. What they come to, in the standards' own lists, is `specs/Reusable.antt` and `specs/OnError.antt`,
-//! what an origin can rely on `specs/Promises.antt`; `laws` proves it.
+//! what an origin can rely on `specs/Promises.antt`, and what the words of a line change `specs/LineWords.antt`; `laws` proves it.
 //! Nothing here reads a clock or changes a store.
 #![tactic(auto)]
 
 mod chosen;
 mod decision;
 mod laws;
+mod lifetimes;
 mod on_error;
 mod reuse_rules;
 mod rule;
@@ -16,18 +18,20 @@ mod worked_cases;
 
 pub use crate::decision::{Decision, decide};
 pub use crate::laws::{
-    a_hit_is_held, details_of_the_rules, forward_names_the_least_rule,
-    no_other_requests_variant_is_sent, no_other_variant_is_sent,
+    a_given_lifetime_counts, a_hit_is_held, a_stated_lifetime_stays,
+    default_policy_changes_nothing, details_of_the_rules, forward_names_the_least_rule,
+    ignored_directives_are_not_asked, no_other_requests_variant_is_sent, no_other_variant_is_sent,
     nothing_is_reused_against_the_operator, reasons_of_the_rules, sent_on_error_where_it_may_be,
     sent_where_it_may_be_reused, sent_where_no_rule_stands, the_latest_that_matches_is_chosen,
-    the_least_error_rule_is_named, what_has_to_be_validated_is, words_of_the_error_rules,
-    words_tell_the_rule,
+    the_least_error_rule_is_named, the_operators_stale_if_error_counts,
+    what_has_to_be_validated_is, words_of_the_error_rules, words_tell_the_rule,
 };
+pub use crate::lifetimes::lifetime_under;
 pub use crate::on_error::may_serve_on_error;
 pub use crate::rule::{ErrorRule, ReuseRule};
 pub use crate::worked_cases::{
     age_equal_to_lifetime_is_stale, bypass_rules_in_order, least_error_rule, least_reuse_rule,
-    line_without_cache, moment_goes_backwards, no_lifetime_is_only_validated,
-    request_max_age_and_only_if_cached, stale_if_error_of_request, stale_if_error_of_response,
-    vary_values_are_compared,
+    line_without_cache, minute_after_an_error, minute_from_the_line, moment_goes_backwards,
+    no_lifetime_is_only_validated, reload_is_ignored, request_max_age_and_only_if_cached,
+    stale_if_error_of_request, stale_if_error_of_response, vary_values_are_compared,
 };

@@ -2,16 +2,18 @@
 //!
 //! The rules and their order stand in `specs/ErrorRules.antt`. Which response is asked about, and that no rule stands
 //! that asks of the request alone, is the caller's matter.
-ghost use Rattle.std.specs.Prelude.{◌≡◌, ◌||◌, ◌&&◌, nat_lt, find, is_none};
+ghost use Rattle.std.specs.Prelude.{◌≡◌, ◌||◌, ◌&&◌, nat_lt, if◌then◌else◌, find, None, is_none};
 ghost use Rattle.hx_directives.specs.Answers.{has, seconds, first_valid};
 ghost use Rattle.hx_directives.specs.declared.names.Directive.TheVariants.{StaleIfError};
 ghost use Rattle.hx_reuse.specs.Rules.{is_some_and, stands_at};
-ghost use Rattle.hx_reuse.specs.ErrorRules.{stated_once, error_rules, against_on_error, leave_on_error};
+ghost use Rattle.hx_reuse.specs.ErrorRules.{stated_once, error_rules, against_on_error, error_rule_on, leave_on_error};
 
-use crate::reuse_rules::must_revalidate;
+use crate::lifetimes::lifetime_under;
+use crate::reuse_rules::{asks_to_validate, must_revalidate};
 use crate::rule::ErrorRule;
 use hx_age::{Lifetime, current_age, staleness};
 use hx_directives::{Directive, Directives, Seconds};
+use hx_policy::Policy;
 use hx_store::Entry;
 
 /// The staleness that a response allows, in seconds.
@@ -24,6 +26,17 @@ fn response_limit(response: &Directives) -> Option<u32>
     }
 }
 
+/// The staleness that the operator's line allows, in seconds, where neither the response nor the request says any.
+fn operator_limit(policy: Policy, response: &Directives, request: &Directives) -> Option<u32>
+    ensures { result ≡ (if has response.now StaleIfError || has request.now StaleIfError then None else policy.stale_if_error) }
+{
+    if response.has(Directive::StaleIfError) || request.has(Directive::StaleIfError) {
+        None
+    } else {
+        policy.stale_if_error
+    }
+}
+
 fn is_past(stale_by: u32, limit: Option<u32>) -> bool
     ensures { result ≡ is_some_and (λ most. nat_lt most stale_by) limit }
 {
@@ -33,28 +46,35 @@ fn is_past(stale_by: u32, limit: Option<u32>) -> bool
     }
 }
 
-fn allows_no_staleness(response: &Directives, request: &Directives) -> bool
-    ensures { result ≡ (is_none (stated_once (seconds response.now StaleIfError)) && is_none (first_valid request.now StaleIfError)) }
+fn allows_no_staleness(policy: Policy, response: &Directives, request: &Directives) -> bool
+    ensures { result ≡ ((is_none (stated_once (seconds response.now StaleIfError)) && is_none (first_valid request.now StaleIfError))
+        && is_none (if has response.now StaleIfError || has request.now StaleIfError then None else policy.stale_if_error)) }
 {
-    response_limit(response).is_none() && request.first_valid(Directive::StaleIfError).is_none()
+    response_limit(response).is_none()
+        && request.first_valid(Directive::StaleIfError).is_none()
+        && operator_limit(policy, response, request).is_none()
 }
 
-/// Whether a response is staler than itself or the request allows.
-fn is_too_stale(stale_by: u32, response: &Directives, request: &Directives) -> bool
-    ensures { result ≡ (is_some_and (λ most. nat_lt most stale_by) (stated_once (seconds response.now StaleIfError)) || is_some_and (λ most. nat_lt most stale_by) (first_valid request.now StaleIfError)) }
+/// Whether a response is staler than itself, the request or the operator's line allows.
+fn is_too_stale(policy: Policy, stale_by: u32, response: &Directives, request: &Directives) -> bool
+    ensures { result ≡ ((is_some_and (λ most. nat_lt most stale_by) (stated_once (seconds response.now StaleIfError))
+        || is_some_and (λ most. nat_lt most stale_by) (first_valid request.now StaleIfError))
+        || is_some_and (λ most. nat_lt most stale_by) (if has response.now StaleIfError || has request.now StaleIfError then None else policy.stale_if_error)) }
 {
     is_past(stale_by, response_limit(response))
         || is_past(stale_by, request.first_valid(Directive::StaleIfError))
+        || is_past(stale_by, operator_limit(policy, response, request))
 }
 
 /// The least rule on a response that would be sent in place of an error.
 fn rule_on_error(
+    policy: Policy,
     lifetime: Lifetime,
     age: u32,
     response: &Directives,
     request: &Directives,
 ) -> Option<ErrorRule>
-    ensures { result ≡ find (λ r. against_on_error r (stands_at lifetime age response.now request.now)) error_rules }
+    ensures { result ≡ find (λ r. against_on_error r (stands_at policy lifetime age response.now request.now)) error_rules }
 {
     if response.has(Directive::NoCache) {
         Some(ErrorRule::NoCache)
@@ -62,30 +82,44 @@ fn rule_on_error(
         Some(ErrorRule::MustRevalidate)
     } else if !lifetime.explicit {
         Some(ErrorRule::NoLifetime)
-    } else if request.has(Directive::NoCache) {
+    } else if asks_to_validate(policy, request) {
         Some(ErrorRule::RequestNoCache)
-    } else if allows_no_staleness(response, request) {
+    } else if allows_no_staleness(policy, response, request) {
         Some(ErrorRule::NoDirective)
-    } else if is_too_stale(staleness(lifetime, age), response, request) {
+    } else if is_too_stale(policy, staleness(lifetime, age), response, request) {
         Some(ErrorRule::TooStale)
     } else {
         None
     }
 }
 
-/// Whether the response that was chosen for a request may be sent in place of an error, at a moment in Unix seconds; if
-/// not, the least rule against it. The request's directives are handed in. No memory is taken.
+/// The least rule on the response that was chosen for a request.
 #[tactic(auto, unfolding(crate::specs::ErrorRules::error_rule_on))]
+fn rule_on(
+    asked_directives: &Directives,
+    entry: &Entry,
+    now: u64,
+    policy: Policy,
+) -> Option<ErrorRule>
+    ensures { result ≡ error_rule_on policy entry.now asked_directives.now now }
+{
+    let lifetime = lifetime_under(policy, entry.status, &entry.fields, &entry.directives);
+    let age = current_age(&entry.times, now);
+    rule_on_error(policy, lifetime, age, &entry.directives, asked_directives)
+}
+
+/// Whether the response that was chosen for a request may be sent in place of an error, at a moment in Unix seconds and under
+/// what the request's line says of caching; if not, the least rule against it. The request's directives are handed in.
+/// No memory is taken.
 pub fn may_serve_on_error(
     asked_directives: &Directives,
     entry: &Entry,
     now: u64,
+    policy: Policy,
 ) -> Result<(), ErrorRule>
-    ensures { result ≡ leave_on_error entry.now asked_directives.now now }
+    ensures { result ≡ leave_on_error policy entry.now asked_directives.now now }
 {
-    let lifetime = Lifetime::of(&entry.fields, &entry.directives);
-    let age = current_age(&entry.times, now);
-    match rule_on_error(lifetime, age, &entry.directives, asked_directives) {
+    match rule_on(asked_directives, entry, now, policy) {
         Some(rule) => Err(rule),
         None => Ok(()),
     }

@@ -1,21 +1,24 @@
 //! The least rule against a request, and against the response that was chosen for it.
-ghost use Rattle.std.specs.Prelude.{◌≡◌, ℕ, Bool, List, false, find, ◌||◌, nat_lt, ◌+◌};
+ghost use Rattle.std.specs.Prelude.{◌≡◌, ℕ, List, false, find, ◌&&◌, ◌||◌, nat_lt, ◌+◌, is_some};
 ghost use Rattle.hx_directives.specs.Occurrences.{occurrences_of};
 ghost use Rattle.hx_directives.specs.Answers.{first_valid, has, max_stale};
 ghost use Rattle.hx_directives.specs.declared.names.Directive.TheVariants.{MaxAge, MinFresh, NoCache, MustRevalidate, ProxyRevalidate, SMaxage};
 ghost use Rattle.hx_age.specs.Age.{is_fresh_of, staleness_of};
 ghost use Rattle.hx_store.specs.Stored.{Stored};
+ghost use Rattle.hx_policy.specs.declared.words.Policy.{Policy as Words};
 ghost use Rattle.hx_reuse.specs.Rules.{is_some_and, against, stands, past_limit, accepts_stale, stands_at, standing, request_rules, entry_rules};
 
+use crate::lifetimes::lifetime_under;
 use crate::rule::ReuseRule;
 use hx_age::{Lifetime, current_age, is_fresh, staleness};
 use hx_directives::{Directive, Directives, MaxStale};
 use hx_hop::Asked;
+use hx_policy::Policy;
 use hx_store::Entry;
 
 /// The least rule on the request alone.
 pub(crate) fn request_rule(asked: &Asked) -> Option<ReuseRule>
-    ensures { (caches : Bool) (held : List Stored) (now : ℕ) → result ≡ find (λ r. stands r caches held asked.now now) request_rules }
+    ensures { (policy : Words) (held : List Stored) (now : ℕ) → result ≡ find (λ r. stands r policy held asked.now now) request_rules }
 {
     if asked.method.as_str() != "GET" && asked.method.as_str() != "HEAD" {
         return Some(ReuseRule::Method);
@@ -32,7 +35,21 @@ pub(crate) fn request_rule(asked: &Asked) -> Option<ReuseRule>
     None
 }
 
-fn is_above_max_age(age: u32, request: &Directives) -> bool
+/// Whether a request has no-cache, where the operator's line heeds it.
+pub(crate) fn asks_to_validate(policy: Policy, request: &Directives) -> bool
+    ensures { result ≡ (policy.heeds_requests && has request.now NoCache) }
+{
+    policy.heeds_requests && request.has(Directive::NoCache)
+}
+
+/// Whether an age is above a request's max-age, where the operator's line heeds it.
+fn is_above_max_age(policy: Policy, age: u32, request: &Directives) -> bool
+    ensures { result ≡ (policy.heeds_requests && is_some_and (λ most. nat_lt most age) (first_valid request.now MaxAge)) }
+{
+    policy.heeds_requests && is_above(age, request)
+}
+
+fn is_above(age: u32, request: &Directives) -> bool
     ensures { result ≡ is_some_and (λ most. nat_lt most age) (first_valid request.now MaxAge) }
 {
     match request.first_valid(Directive::MaxAge) {
@@ -41,13 +58,27 @@ fn is_above_max_age(age: u32, request: &Directives) -> bool
     }
 }
 
-fn is_below_min_fresh(lifetime: Lifetime, age: u32, request: &Directives) -> bool
+/// Whether a lifetime is over before a request's min-fresh is, where the operator's line heeds it.
+fn is_below_min_fresh(policy: Policy, lifetime: Lifetime, age: u32, request: &Directives) -> bool
+    ensures { result ≡ (policy.heeds_requests && is_some_and (λ least. nat_lt lifetime.seconds (age + least)) (first_valid request.now MinFresh)) }
+{
+    policy.heeds_requests && is_below(lifetime, age, request)
+}
+
+fn is_below(lifetime: Lifetime, age: u32, request: &Directives) -> bool
     ensures { result ≡ is_some_and (λ least. nat_lt lifetime.seconds (age + least)) (first_valid request.now MinFresh) }
 {
     match request.first_valid(Directive::MinFresh) {
         Some(least) => u64::from(lifetime.seconds) < u64::from(age) + u64::from(least),
         None => false,
     }
+}
+
+/// Whether a request has min-fresh, where the operator's line heeds it.
+fn asks_for_freshness(policy: Policy, request: &Directives) -> bool
+    ensures { result ≡ (policy.heeds_requests && is_some (first_valid request.now MinFresh)) }
+{
+    policy.heeds_requests && request.first_valid(Directive::MinFresh).is_some()
 }
 
 fn is_past_limit(lifetime: Lifetime, age: u32, request: &Directives) -> bool
@@ -76,34 +107,36 @@ pub(crate) fn must_revalidate(response: &Directives) -> bool
 
 /// The least rule on a response that would be sent.
 fn rule_against(
+    policy: Policy,
     lifetime: Lifetime,
     age: u32,
     response: &Directives,
     request: &Directives,
 ) -> Option<ReuseRule>
-    ensures { result ≡ find (λ r. against r (stands_at lifetime age response.now request.now)) entry_rules }
+    ensures { result ≡ find (λ r. against r (stands_at policy lifetime age response.now request.now)) entry_rules }
 {
     if response.has(Directive::NoCache) {
         return Some(ReuseRule::ResponseNoCache);
     }
     let fresh = is_fresh(lifetime, age);
-    if fresh && request.has(Directive::NoCache) {
+    if fresh && asks_to_validate(policy, request) {
         return Some(ReuseRule::RequestNoCache);
     }
-    if fresh && is_above_max_age(age, request) {
+    if fresh && is_above_max_age(policy, age, request) {
         return Some(ReuseRule::AboveMaxAge);
     }
-    if fresh && is_below_min_fresh(lifetime, age, request) {
+    if fresh && is_below_min_fresh(policy, lifetime, age, request) {
         return Some(ReuseRule::BelowMinFresh);
     }
     if fresh {
         return None;
     }
-    stale_rule(lifetime, age, response, request)
+    stale_rule(policy, lifetime, age, response, request)
 }
 
 /// The least rule on a stale response without no-cache.
 fn stale_rule(
+    policy: Policy,
     lifetime: Lifetime,
     age: u32,
     response: &Directives,
@@ -111,7 +144,7 @@ fn stale_rule(
 ) -> Option<ReuseRule>
     requires validated_not { has response.now NoCache ≡ false }
     requires stale { is_fresh_of lifetime age ≡ false }
-    ensures { result ≡ find (λ r. against r (stands_at lifetime age response.now request.now)) entry_rules }
+    ensures { result ≡ find (λ r. against r (stands_at policy lifetime age response.now request.now)) entry_rules }
 {
     if must_revalidate(response) {
         return Some(ReuseRule::MustRevalidate);
@@ -119,7 +152,7 @@ fn stale_rule(
     if !lifetime.explicit {
         return Some(ReuseRule::NoLifetime);
     }
-    if request.has(Directive::NoCache) {
+    if asks_to_validate(policy, request) {
         return Some(ReuseRule::StaleNoCache);
     }
     if !accepts_stale(request) {
@@ -128,10 +161,10 @@ fn stale_rule(
     if is_past_limit(lifetime, age, request) {
         return Some(ReuseRule::PastMaxStale);
     }
-    if is_above_max_age(age, request) {
+    if is_above_max_age(policy, age, request) {
         return Some(ReuseRule::StaleMaxAge);
     }
-    if request.first_valid(Directive::MinFresh).is_some() {
+    if asks_for_freshness(policy, request) {
         return Some(ReuseRule::StaleMinFresh);
     }
     None
@@ -143,11 +176,12 @@ pub(crate) fn rule_on(
     asked: &Asked,
     asked_directives: &Directives,
     now: u64,
+    policy: Policy,
 ) -> Option<ReuseRule>
     requires { asked_directives.now ≡ occurrences_of asked.now.fields }
-    ensures { result ≡ find (λ r. against r (standing entry.now asked.now now)) entry_rules }
+    ensures { result ≡ find (λ r. against r (standing policy entry.now asked.now now)) entry_rules }
 {
-    let lifetime = Lifetime::of(&entry.fields, &entry.directives);
+    let lifetime = lifetime_under(policy, entry.status, &entry.fields, &entry.directives);
     let age = current_age(&entry.times, now);
-    rule_against(lifetime, age, &entry.directives, asked_directives)
+    rule_against(policy, lifetime, age, &entry.directives, asked_directives)
 }

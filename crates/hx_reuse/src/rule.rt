@@ -21,7 +21,8 @@ pub enum ReuseRule {
     VaryMiss,
     /// The response has no-cache.
     ResponseNoCache,
-    /// The response is fresh, and the request has no-cache.
+    /// The response is fresh, and the request has no-cache; this and the other rules on no-cache, max-age and min-fresh of a
+    /// request stand only where the operator's line heeds them.
     RequestNoCache,
     /// The response is fresh, and its age is above the request's max-age.
     AboveMaxAge,
@@ -29,7 +30,7 @@ pub enum ReuseRule {
     BelowMinFresh,
     /// The response is stale, and has must-revalidate, proxy-revalidate or s-maxage.
     MustRevalidate,
-    /// The response is stale, and states no lifetime.
+    /// The response is stale, states no lifetime, and the operator gives it none.
     NoLifetime,
     /// The response is stale, and the request has no-cache.
     StaleNoCache,
@@ -104,13 +105,13 @@ pub enum ErrorRule {
     NoCache = 1,
     /// The response has must-revalidate, proxy-revalidate or s-maxage.
     MustRevalidate,
-    /// The response states no lifetime.
+    /// The response states no lifetime, and the operator gives it none.
     NoLifetime,
-    /// The request has no-cache.
+    /// The request has no-cache, and the operator's line heeds it.
     RequestNoCache,
-    /// Neither has a valid stale-if-error.
+    /// Neither has a valid stale-if-error, nor does the operator's line have one that counts.
     NoDirective,
-    /// The response is staler than a valid stale-if-error allows.
+    /// The response is staler than a valid stale-if-error allows, or the operator's where it counts.
     TooStale,
 }
 

@@ -2,9 +2,12 @@
 --
 -- member_text: the member
 -- how_text, fwd_status_text, ttl_text, flag_text, detail_text: its parameters
-use Rattle.std.specs.Prelude.{ℕ, ℤ, List, [], ◌++◌, codes, Bool, true, false, Option, Some, None}
+use Rattle.std.specs.Prelude.{◌≡◌, ℕ, ℤ, List, [], ◌++◌, codes, Bool, true, false, Option, Some, None, option_map}
 use Rattle.std.specs.Fmt.{decimal, signed_decimal}
 use Rattle.hx_reuse.specs.Words.{reason_of, detail_of}
+use Rattle.hx_storable.specs.Words.{storing_word_of}
+use Rattle.hx_storable.specs.declared.rule.StoreRule.{StoreRule}
+use Rattle.hx_storable.specs.declared.rule.StoreRule.TheVariants as storing
 use Rattle.hx_status.specs.declared.status.How.{How}
 use Rattle.hx_status.specs.declared.status.How.TheVariants.{Hit, Fwd}
 use Rattle.hx_status.specs.declared.status.Detail.{Detail}
@@ -41,13 +44,39 @@ abbrev pub rule_detail : How → Option (List ℕ)
 rule_detail Hit = None
 rule_detail (Fwd rule) = detail_of rule
 
--- the word of such a step stands in place of the rule's
+-- why an answer isn't stored, where nothing else is told: `not-stored-` and the word of the rule (law
+-- `not_stored_tells_the_rule`)
+abbrev pub not_stored_word : StoreRule → List ℕ
+not_stored_word storing.Operator = codes "not-stored-operator"
+not_stored_word storing.Method = codes "not-stored-method"
+not_stored_word storing.Bypass = codes "not-stored-bypass"
+not_stored_word storing.Status = codes "not-stored-status"
+not_stored_word storing.MustUnderstand = codes "not-stored-must-understand"
+not_stored_word storing.ResponseNoStore = codes "not-stored-no-store"
+not_stored_word storing.RequestNoStore = codes "not-stored-request-no-store"
+not_stored_word storing.Private = codes "not-stored-private"
+not_stored_word storing.Authorization = codes "not-stored-authorization"
+not_stored_word storing.NothingAllows = codes "not-stored-nothing-allows"
+not_stored_word storing.VaryStar = codes "not-stored-vary-star"
+not_stored_word storing.ConnectionField = codes "not-stored-connection-field"
+not_stored_word storing.NothingToReuse = codes "not-stored-no-lifetime"
+not_stored_word storing.TooLarge = codes "not-stored-too-large"
+not_stored_word storing.Overtaken = codes "not-stored-overtaken"
+not_stored_word storing.Serials = codes "not-stored-no-serial"
+not_stored_word storing.SetCookie = codes "not-stored-set-cookie"
+not_stored_word storing.ErrorStatus = codes "not-stored-error-status"
+
+abbrev pub word_or : Option (List ℕ) → Option StoreRule → Option (List ℕ)
+word_or (Some word) rule = Some word
+word_or None rule = option_map not_stored_word rule
+
+-- the word of such a step stands in place of the rule's, and either in place of the storing rule's
 abbrev pub detail_or : Option Detail → How → Option (List ℕ)
 detail_or (Some detail) how = Some (word_of detail)
 detail_or None how = rule_detail how
 
 abbrev pub detail_named : Status → Option (List ℕ)
-detail_named status = detail_or status.detail status.how
+detail_named status = word_or (detail_or status.detail status.how) status.not_stored
 
 abbrev pub word_text : Option (List ℕ) → List ℕ
 word_text None = []
@@ -61,3 +90,8 @@ abbrev pub member_text : List ℕ → Status → List ℕ
 member_text name status =
     name ++ how_text status.how ++ fwd_status_text status.fwd_status ++ ttl_text status.ttl
     ++ flag_text status.stored (codes ";stored") ++ flag_text status.collapsed (codes ";collapsed") ++ detail_text status
+
+-- ---- the statement
+
+abbrev pub NotStoredTellsTheRule : Type 0
+NotStoredTellsTheRule = (rule : StoreRule) → not_stored_word rule ≡ codes "not-stored-" ++ storing_word_of rule

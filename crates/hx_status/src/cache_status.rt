@@ -2,10 +2,11 @@
 ghost use Rattle.std.specs.Prelude.{◌≡◌, ◌++◌, IfOk, OnOk, Bool, option_copied};
 ghost use Rattle.std.specs.Fmt.{decimal, signed_decimal};
 ghost use Rattle.hx_reuse.specs.Words.{reason_of, detail_of};
-ghost use Rattle.hx_status.specs.Member.{member_text, how_text, fwd_status_text, ttl_text, flag_text, detail_text, word_text, detail_named, word_of};
+ghost use Rattle.hx_status.specs.Member.{member_text, how_text, fwd_status_text, ttl_text, flag_text, word_text, detail_or, detail_named, word_of, not_stored_word};
 
 use crate::status::{Detail, How, Status};
 use hx_fields::Bytes;
+use hx_storable::StoreRule;
 use itoa::Buffer;
 use std::alloc::{AllocError, Global};
 
@@ -70,9 +71,9 @@ fn word(detail: Detail) -> &'static str
     }
 }
 
-/// The detail in place of the rule's, else the rule's.
-fn detail_named(status: &Status) -> Option<&'static str>
-    ensures { option_copied result ≡ detail_named status.now }
+/// The detail of a step in place of the rule's, else the rule's.
+fn rule_detail(status: &Status) -> Option<&'static str>
+    ensures { option_copied result ≡ detail_or status.now.detail status.now.how }
 {
     match status.detail {
         Some(detail) => Some(word(detail)),
@@ -80,6 +81,42 @@ fn detail_named(status: &Status) -> Option<&'static str>
             How::Hit => None,
             How::Fwd(rule) => rule.detail(),
         },
+    }
+}
+
+/// That detail, else why the answer isn't stored.
+fn detail_named(status: &Status) -> Option<&'static str>
+    ensures { option_copied result ≡ detail_named status.now }
+{
+    match rule_detail(status) {
+        Some(word) => Some(word),
+        None => status.not_stored.map(not_stored_word),
+    }
+}
+
+/// Why an answer isn't stored.
+fn not_stored_word(rule: StoreRule) -> &'static str
+    ensures { result.now ≡ not_stored_word rule }
+{
+    match rule {
+        StoreRule::Operator => "not-stored-operator",
+        StoreRule::Method => "not-stored-method",
+        StoreRule::Bypass => "not-stored-bypass",
+        StoreRule::Status => "not-stored-status",
+        StoreRule::MustUnderstand => "not-stored-must-understand",
+        StoreRule::ResponseNoStore => "not-stored-no-store",
+        StoreRule::RequestNoStore => "not-stored-request-no-store",
+        StoreRule::Private => "not-stored-private",
+        StoreRule::Authorization => "not-stored-authorization",
+        StoreRule::NothingAllows => "not-stored-nothing-allows",
+        StoreRule::VaryStar => "not-stored-vary-star",
+        StoreRule::ConnectionField => "not-stored-connection-field",
+        StoreRule::NothingToReuse => "not-stored-no-lifetime",
+        StoreRule::TooLarge => "not-stored-too-large",
+        StoreRule::Overtaken => "not-stored-overtaken",
+        StoreRule::Serials => "not-stored-no-serial",
+        StoreRule::SetCookie => "not-stored-set-cookie",
+        StoreRule::ErrorStatus => "not-stored-error-status",
     }
 }
 

@@ -1,4 +1,5 @@
 //! What the texts tell their reader.
+ghost use Rattle.hx_status.specs.Member.{NotStoredTellsTheRule};
 ghost use Rattle.hx_status.specs.Refusals.{FrameWordsTellApart, KindWordsTellApart, OnlyTheTableForbids, TargetWordsTellApart, TextsTellRulesApart, TheTableForbids};
 
 /// No two reuse rules are named by the same text, in a refusal as in Cache-Status.
@@ -17,4 +18,9 @@ pub fn words_tell_the_fault()
 pub fn only_the_table_forbids()
     ensures only { OnlyTheTableForbids }
     ensures every { TheTableForbids }
+{}
+
+/// An answer that isn't stored tells its rule by `not-stored-` and the word of that rule.
+pub fn not_stored_tells_the_rule()
+    ensures { NotStoredTellsTheRule }
 {}

@@ -1,6 +1,7 @@
 //! What Cache-Status says of an answer.
 
 use hx_reuse::ReuseRule;
+use hx_storable::StoreRule;
 
 /// Whether the answer is a stored response that no rule forbade, or the rule that sent the request forward
 /// (RFC 9211, sections 2.1 and 2.2).
@@ -33,4 +34,7 @@ pub struct Status {
     pub collapsed: bool,
     /// Named in place of the detail of the rule. A hit has none: it would be told all the same.
     pub detail: Option<Detail>,
+    /// The first storing rule against an answer that is passed on and isn't stored, where it is to be told. It is named where no
+    /// other detail is.
+    pub not_stored: Option<StoreRule>,
 }

@@ -10,11 +10,12 @@ ghost use Rattle.hx_status.specs.declared.cause.Cause.TheVariants.{Denied, NoLin
 ghost use Rattle.hx_status.specs.declared.cause.FailKind.TheVariants.{Refused, TimedOut, Closed, BadAnswer, TooLarge};
 ghost use Rattle.hx_status.specs.Member.{member_text};
 ghost use Rattle.hx_status.specs.Refusals.{status_of, text_of};
-ghost use Rattle.hx_status.specs.Cases.{passed_on, passed_on_and_stored, sent_after_all};
+ghost use Rattle.hx_storable.specs.declared.rule.StoreRule.TheVariants as storing;
+ghost use Rattle.hx_status.specs.Cases.{not_stored_by, passed_on, passed_on_and_stored, sent_after_all};
 
 /// A hit, a first answer that is stored, one with no lifetime left, and denials by the operator's table.
 pub fn worked_texts()
-    ensures hit { member_text (codes "edge") (record { how = Hit; fwd_status = None; ttl = Some (pos 30); stored = false; collapsed = false; detail = None }) ≡ codes "edge;hit;ttl=30" }
+    ensures hit { member_text (codes "edge") (record { how = Hit; fwd_status = None; ttl = Some (pos 30); stored = false; collapsed = false; detail = None; not_stored = None }) ≡ codes "edge;hit;ttl=30" }
     ensures stored { member_text (codes "edge") (passed_on_and_stored rule.UriMiss (pos 59)) ≡ codes "edge;fwd=uri-miss;ttl=59;stored" }
     ensures over { member_text (codes "edge") (passed_on_and_stored rule.UriMiss (negsuc 0)) ≡ codes "edge;fwd=uri-miss;ttl=-1;stored" }
     ensures another_variant { member_text (codes "edge") (passed_on rule.VaryMiss) ≡ codes "edge;fwd=vary-miss" }
@@ -76,12 +77,12 @@ pub fn stale_if_error_of_request()
 
 /// The answer to a request that waited for another's.
 pub fn second_request_waits()
-    ensures { member_text (codes "edge") (record { how = Fwd rule.UriMiss; fwd_status = None; ttl = Some (pos 59); stored = false; collapsed = true; detail = None }) ≡ codes "edge;fwd=uri-miss;ttl=59;collapsed" }
+    ensures { member_text (codes "edge") (record { how = Fwd rule.UriMiss; fwd_status = None; ttl = Some (pos 59); stored = false; collapsed = true; detail = None; not_stored = None }) ≡ codes "edge;fwd=uri-miss;ttl=59;collapsed" }
 {}
 
 /// A stored answer of a request that others waited for: stored comes before collapsed.
 pub fn stored_comes_before_collapsed()
-    ensures { member_text (codes "edge") (record { how = Fwd rule.UriMiss; fwd_status = None; ttl = Some (pos 60); stored = true; collapsed = true; detail = None }) ≡ codes "edge;fwd=uri-miss;ttl=60;stored;collapsed" }
+    ensures { member_text (codes "edge") (record { how = Fwd rule.UriMiss; fwd_status = None; ttl = Some (pos 60); stored = true; collapsed = true; detail = None; not_stored = None }) ≡ codes "edge;fwd=uri-miss;ttl=60;stored;collapsed" }
 {}
 
 /// What each refused message is told by; one that was cut off gets no answer, and a bad status stands in no request.
@@ -140,4 +141,15 @@ pub fn failed_origins()
     ensures bad_answer { status_of (Origin BadAnswer rule.UriMiss None) ≡ 502 }
     ensures too_large { status_of (Origin TooLarge rule.UriMiss None) ≡ 502 }
     ensures too_large_text { text_of (Origin TooLarge rule.UriMiss None) ≡ codes "origin too-large;fwd=uri-miss" }
+{}
+
+/// Why an answer isn't stored, where no other detail is told.
+pub fn storing_rules_are_told()
+    ensures no_lifetime { member_text (codes "edge") (not_stored_by rule.UriMiss storing.NothingToReuse) ≡ codes "edge;fwd=uri-miss;detail=not-stored-no-lifetime" }
+    ensures no_store { member_text (codes "edge") (not_stored_by rule.UriMiss storing.ResponseNoStore) ≡ codes "edge;fwd=uri-miss;detail=not-stored-no-store" }
+    ensures private { member_text (codes "edge") (not_stored_by rule.NoMaxStale storing.Private) ≡ codes "edge;fwd=stale;detail=not-stored-private" }
+    ensures cookie { member_text (codes "edge") (not_stored_by rule.UriMiss storing.SetCookie) ≡ codes "edge;fwd=uri-miss;detail=not-stored-set-cookie" }
+    ensures method { member_text (codes "edge") (not_stored_by rule.Method storing.Method) ≡ codes "edge;fwd=method;detail=not-stored-method" }
+    ensures rule_first { member_text (codes "edge") (not_stored_by rule.Operator storing.Operator) ≡ codes "edge;fwd=bypass;detail=operator" }
+    ensures rule_of_the_request { member_text (codes "edge") (not_stored_by rule.RequestNoCache storing.TooLarge) ≡ codes "edge;fwd=request;detail=no-cache" }
 {}

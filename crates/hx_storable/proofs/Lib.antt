@@ -1,2 +1,5 @@
+pub mod Joined
 pub mod LeastRule
+pub mod LineLemmas
 pub mod StorableLemmas
+pub mod WordLemmas

@@ -10,11 +10,13 @@ use Rattle.hx_hop.specs.declared.response_view.Answered.{Answered}
 use Rattle.hx_hop.specs.Bypass.{has_content, asks_for_range, has_precondition}
 use Rattle.hx_storable.specs.declared.known_facts.Facts.{Facts}
 use Rattle.hx_storable.specs.declared.rule.StoreRule.{StoreRule}
-use Rattle.hx_storable.specs.declared.rule.StoreRule.TheVariants.{Operator, Method, Bypass, Status, MustUnderstand, ResponseNoStore, RequestNoStore, Private, Authorization, NothingAllows, VaryStar, ConnectionField, NothingToReuse, TooLarge, Overtaken, Serials}
-use Rattle.hx_storable.specs.Rules.{asks, says, is_heuristic, is_understood, allows_shared, allows_storing, stands}
+use Rattle.hx_storable.specs.declared.rule.StoreRule.TheVariants.{Operator, Method, Bypass, Status, MustUnderstand, ResponseNoStore, RequestNoStore, Private, Authorization, NothingAllows, VaryStar, ConnectionField, NothingToReuse, TooLarge, Overtaken, Serials, SetCookie, ErrorStatus}
+use Rattle.hx_policy.specs.Words.{is_heuristic}
+use Rattle.hx_storable.specs.Rules.{asks, says, is_understood, allows_shared, allows_storing, stands}
 use Rattle.hx_storable.specs.Storable.{IsFinal, NeedsUnderstanding, IsNotForbidden, AllowsShared, AllowsStoring, IsForTheStore, MayBeStored, IsStored}
 use Rattle.hx_fields.proofs.JoinedTests.{never, not_false, not_true, left_false, right_false, neither, one_of, or_left, or_right, second_false, either_false, first_absent, last_absent, is_equal, not_equal, implied}
 use Rattle.hx_storable.proofs.LeastRule.{no_rule_stands, no_rule_found}
+use Rattle.hx_storable.proofs.LineLemmas.{turned, within_the_words, cookie_stands, error_stands}
 
 -- ---- statuses and methods
 
@@ -125,7 +127,7 @@ module _ (asked : Asked) (answered : Answered) (facts : Facts) where
 
     may_be_stored : IsFinal answered → MayBeStored asked answered facts
     may_be_stored final = record {
-      operator_allows = none Operator;
+      operator_allows = not_false facts.policy.caches (none Operator);
       is_storable = record {
         method_is_understood = inl is_get;
         status_is_final = final;
@@ -139,6 +141,7 @@ module _ (asked : Asked) (answered : Answered) (facts : Facts) where
       is_for_the_store = no_bypass;
       is_of_use = record { names_its_fields = none VaryStar; keeps_its_fields = none ConnectionField; lasts_or_is_validated = lasts_or_is_validated; not_overtaken = none Overtaken };
       has_room = record { not_too_large = none TooLarge; has_serial = none Serials };
+      is_within_the_words = within_the_words asked answered facts none;
     }
 
   -- ---- and back
@@ -190,7 +193,7 @@ module _ (asked : Asked) (answered : Answered) (facts : Facts) where
 
   module _ (may : MayBeStored asked answered facts) where
     none_stands : (any : StoreRule) → stands any asked answered facts ≡ false
-    none_stands Operator = may.operator_allows
+    none_stands Operator = not_true facts.policy.caches may.operator_allows
     none_stands Method = get_is_method asked.method may.is_for_the_store.is_get
     none_stands Bypass =
         neither (has_content asked || asks_for_range asked) (has_precondition asked)
@@ -211,6 +214,8 @@ module _ (asked : Asked) (answered : Answered) (facts : Facts) where
     none_stands TooLarge = may.has_room.not_too_large
     none_stands Overtaken = may.is_of_use.not_overtaken
     none_stands Serials = may.has_room.has_serial
+    none_stands SetCookie = cookie_stands asked answered facts may.is_within_the_words.cookies
+    none_stands ErrorStatus = error_stands asked answered facts may.is_within_the_words.errors
 
     pub is_stored : IsStored asked answered facts
     is_stored = no_rule_found asked answered facts none_stands
@@ -256,5 +261,5 @@ module _ (asked : Asked) (answered : Answered) (facts : Facts) where
   pub other_methods_forbid : ((asked.method ≡ codes "GET") → ⊥) → IsStored asked answered facts → ⊥
   other_methods_forbid p h = p (is_get (λ any. no_rule_stands asked answered facts any h))
 
-  pub operator_forbids : facts.operator ≡ true → IsStored asked answered facts → ⊥
-  operator_forbids p h = never (sym p ∙ no_rule_stands asked answered facts Operator h)
+  pub operator_forbids : facts.policy.caches ≡ false → IsStored asked answered facts → ⊥
+  operator_forbids p h = never (sym (turned facts.policy.caches p) ∙ no_rule_stands asked answered facts Operator h)

@@ -1,3 +1,5 @@
 pub mod Rules
 pub mod Storable
+pub mod LineWords
 pub mod Cases
+pub mod Words

@@ -1,11 +1,11 @@
 -- Which rules keep a response from being stored (RFC 9111, sections 3 and 3.5), and which is the first.
 -- A cache may always store less (RFC 9111, section 2); the rules that do so are marked "own".
 --
--- is_heuristic, is_understood: statuses     allows_storing, allows_shared: what a response says of it
+-- is_understood: statuses     allows_storing, allows_shared: what a response says of it
+-- has_cookie_for_one, is_uncached_error: what the operator may keep from the store
 -- stands: the condition of each rule        storage_rules, number_of: the rules by their numbers
 -- storage_rule_of: the least that stands
-use Rattle.std.specs.Prelude.{ℕ, ◌==◌, Bool, not, ◌&&◌, ◌||◌, List, [], ◌∷◌, find, codes, bytes_eq, Option}
-use Rattle.std.specs.List.{list_any}
+use Rattle.std.specs.Prelude.{ℕ, ◌==◌, nat_le, Bool, not, ◌&&◌, ◌||◌, List, [], ◌∷◌, ◌++◌, find, codes, bytes_eq, Option}
 use Rattle.hx_fields.specs.Lines.{has as has_line}
 use Rattle.hx_directives.specs.Occurrences.{occurrences_of}
 use Rattle.hx_directives.specs.Answers.{has}
@@ -15,16 +15,10 @@ use Rattle.hx_directives.specs.declared.names.Directive.TheVariants as directive
 use Rattle.hx_hop.specs.declared.request_view.Asked.{Asked}
 use Rattle.hx_hop.specs.declared.response_view.Answered.{Answered}
 use Rattle.hx_hop.specs.Bypass.{has_content, asks_for_range, has_precondition}
+use Rattle.hx_policy.specs.Words.{is_heuristic}
 use Rattle.hx_storable.specs.declared.known_facts.Facts.{Facts}
 use Rattle.hx_storable.specs.declared.rule.StoreRule.{StoreRule}
-use Rattle.hx_storable.specs.declared.rule.StoreRule.TheVariants.{Operator, Method, Bypass, Status, MustUnderstand, ResponseNoStore, RequestNoStore, Private, Authorization, NothingAllows, VaryStar, ConnectionField, NothingToReuse, TooLarge, Overtaken, Serials}
-
--- the statuses that are heuristically cacheable (RFC 9110, section 15.1)
-abbrev pub heuristic_statuses : List ℕ
-heuristic_statuses = 200 ∷ 203 ∷ 204 ∷ 206 ∷ 300 ∷ 301 ∷ 308 ∷ 404 ∷ 405 ∷ 410 ∷ 414 ∷ 501 ∷ []
-
-abbrev pub is_heuristic : ℕ → Bool
-is_heuristic status = list_any (λ s. s == status) heuristic_statuses
+use Rattle.hx_storable.specs.declared.rule.StoreRule.TheVariants.{Operator, Method, Bypass, Status, MustUnderstand, ResponseNoStore, RequestNoStore, Private, Authorization, NothingAllows, VaryStar, ConnectionField, NothingToReuse, TooLarge, Overtaken, Serials, SetCookie, ErrorStatus}
 
 -- the statuses whose caching this cache understands (RFC 9111, section 5.2.2.3)
 -- own: those of the standard's list but 206, for no incomplete response is stored
@@ -48,10 +42,19 @@ allows_storing answered =
     (((says answered directive.Public || has_line answered.fields (codes "Expires")) || says answered directive.MaxAge)
     || says answered directive.SMaxage) || is_heuristic answered.status
 
+-- the response sets a cookie, and doesn't say that it is for all. Of itself Set-Cookie "does not inhibit caching" (RFC 9111,
+-- section 7.3): it takes a word of the operator's line
+abbrev pub has_cookie_for_one : Answered → Bool
+has_cookie_for_one answered = has_line answered.fields (codes "Set-Cookie") && not (says answered directive.Public)
+
+-- the status tells an error (RFC 9110, sections 15.5 and 15.6), and none of 404, 405, 410, 414 and 501
+abbrev pub is_uncached_error : ℕ → Bool
+is_uncached_error status = nat_le 400 status && not (is_heuristic status)
+
 -- the condition of each rule
 abbrev pub stands : StoreRule → Asked → Answered → Facts → Bool
 -- own: what the operator keeps from the store
-stands Operator asked answered facts = facts.operator
+stands Operator asked answered facts = not facts.policy.caches
 -- own: of all methods that it understands this cache stores answers to GET alone
 stands Method asked answered facts = not (bytes_eq asked.method (codes "GET"))
 -- own: such a request goes past the cache, in both directions
@@ -82,15 +85,22 @@ stands TooLarge asked answered facts = facts.too_large
 stands Overtaken asked answered facts = facts.overtaken
 -- own: each stored response has a number that no other ever has
 stands Serials asked answered facts = facts.no_serial
+-- own: where the operator stores no cookies (RFC 9111, section 7.3)
+stands SetCookie asked answered facts = not facts.policy.stores_cookies && has_cookie_for_one answered
+-- own: where the operator stores no errors
+stands ErrorStatus asked answered facts = not facts.policy.stores_errors && is_uncached_error answered.status
 
--- the rules by their numbers; the last six ask for nothing but the facts
+-- the rules by their numbers; six ask for nothing but the facts, and the last two are the words of the operator's line
 abbrev pub rules_on_facts : List StoreRule
 rules_on_facts = VaryStar ∷ ConnectionField ∷ NothingToReuse ∷ TooLarge ∷ Overtaken ∷ Serials ∷ []
+
+abbrev pub rules_of_words : List StoreRule
+rules_of_words = SetCookie ∷ ErrorStatus ∷ []
 
 abbrev pub storage_rules : List StoreRule
 storage_rules =
     Operator ∷ Method ∷ Bypass ∷ Status ∷ MustUnderstand ∷ ResponseNoStore ∷ RequestNoStore ∷ Private ∷ Authorization
-    ∷ NothingAllows ∷ rules_on_facts
+    ∷ NothingAllows ∷ (rules_on_facts ++ rules_of_words)
 
 abbrev pub number_of : StoreRule → ℕ
 number_of Operator = 0
@@ -109,6 +119,8 @@ number_of NothingToReuse = 12
 number_of TooLarge = 13
 number_of Overtaken = 14
 number_of Serials = 15
+number_of SetCookie = 16
+number_of ErrorStatus = 17
 
 -- the least rule that stands
 unfoldable pub storage_rule_of : Asked → Answered → Facts → Option StoreRule

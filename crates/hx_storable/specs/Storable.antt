@@ -2,6 +2,7 @@
 -- the rules and their numbers (RFC 9111, section 3).
 --
 -- IsStorable: the standard's list      IsForTheStore, IsOfUse, HasRoom: what this cache asks besides
+-- IsWithinTheWords: what the words of the operator's line ask
 -- MayBeStored: all of it               IsLeast: a rule that stands, and none before it
 -- Below them are the statements that the laws of `src/laws.rt` prove.
 use Rattle.std.specs.Prelude.{◌≡◌, ◌<◌, ◌≤◌, ◌⊎◌, true, false, codes, Some, None}
@@ -10,9 +11,11 @@ use Rattle.hx_directives.specs.declared.names.Directive.TheVariants as directive
 use Rattle.hx_hop.specs.declared.request_view.Asked.{Asked}
 use Rattle.hx_hop.specs.declared.response_view.Answered.{Answered}
 use Rattle.hx_hop.specs.Bypass.{has_content, asks_for_range, has_precondition}
+use Rattle.hx_policy.specs.declared.words.Policy.{Policy}
+use Rattle.hx_policy.specs.Words.{is_heuristic}
 use Rattle.hx_storable.specs.declared.known_facts.Facts.{Facts}
 use Rattle.hx_storable.specs.declared.rule.StoreRule.{StoreRule}
-use Rattle.hx_storable.specs.Rules.{asks, says, is_heuristic, is_understood, stands, number_of, storage_rule_of}
+use Rattle.hx_storable.specs.Rules.{asks, says, is_understood, stands, number_of, storage_rule_of}
 
 -- the status is final: the response isn't an interim one (RFC 9110, section 15)
 abbrev pub IsFinal : Answered → Type 0
@@ -74,13 +77,21 @@ pub record HasRoom (facts : Facts) : Type 0 where
   pub not_too_large : facts.too_large ≡ false
   pub has_serial : facts.no_serial ≡ false
 
+-- own: where the operator stores no cookies the response sets none, or has public (RFC 9111, section 7.3); where he stores
+-- no errors its status tells none, or is heuristically cacheable (RFC 9110, section 15.1)
+pub record IsWithinTheWords (answered : Answered) (policy : Policy) : Type 0 where
+  pub cookies : (policy.stores_cookies ≡ true)
+      ⊎ ((has_line answered.fields (codes "Set-Cookie") ≡ false) ⊎ (says answered directive.Public ≡ true))
+  pub errors : (policy.stores_errors ≡ true) ⊎ ((answered.status < 400) ⊎ (is_heuristic answered.status ≡ true))
+
 -- own: the operator lets it be stored
 pub record MayBeStored (asked : Asked) (answered : Answered) (facts : Facts) : Type 0 where
-  pub operator_allows : facts.operator ≡ false
+  pub operator_allows : facts.policy.caches ≡ true
   pub is_storable : IsStorable asked answered
   pub is_for_the_store : IsForTheStore asked
   pub is_of_use : IsOfUse facts
   pub has_room : HasRoom facts
+  pub is_within_the_words : IsWithinTheWords answered facts.policy
 
 -- the rule stands, and none of a smaller number does
 pub record IsLeast (asked : Asked) (answered : Answered) (facts : Facts) (least : StoreRule) : Type 0 where
@@ -149,4 +160,4 @@ OnlyGetIsStored = IsNeverStored (λ asked answered. (asked.method ≡ codes "GET
 
 -- the operator keeps it from the store
 abbrev pub OperatorForbids : Type 0
-OperatorForbids = (asked : Asked) (answered : Answered) (facts : Facts) → facts.operator ≡ true → IsStored asked answered facts → ⊥
+OperatorForbids = (asked : Asked) (answered : Answered) (facts : Facts) → facts.policy.caches ≡ false → IsStored asked answered facts → ⊥

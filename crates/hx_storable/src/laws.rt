@@ -2,9 +2,11 @@
 //! worked cases: each function's contract is a law, and its body is empty.
 ghost use Rattle.std.specs.Prelude.{◌≡◌, ◌∷◌, [], codes, Some, None, true, false};
 ghost use Rattle.hx_fields.specs.Examples.{line};
-ghost use Rattle.hx_storable.specs.Rules.{is_heuristic, storage_rule_of};
+ghost use Rattle.hx_storable.specs.Words.{WordsTellStoringRulesApart};
+ghost use Rattle.hx_storable.specs.Rules.{storage_rule_of};
 ghost use Rattle.hx_storable.specs.Storable.{StoresNothingElse, StoresWhatMayBeStored, NamesTheLeast, NamesOneThatStands, StoresWhereNoneStands, NoStoreForbids, NoStoreForbidsUnlessUnderstood, RequestsNoStoreForbids, PrivateForbids, AuthorizationForbids, PartsAreNeverStored, OnlyGetIsStored, OperatorForbids};
-ghost use Rattle.hx_storable.specs.Cases.{control, get, authorized, answer, lasting, starred, starred_and_listed, kept_out, not_kept_out};
+ghost use Rattle.hx_storable.specs.LineWords.{CookieForbids, ErrorForbids, WordsOnlyForbid, WordsForbidNoMore, PlainLineIsTheOperators, PlainLineStoresCookies, PlainLineStoresErrors, PlainLineAsksTheOthers};
+ghost use Rattle.hx_storable.specs.Cases.{control, get, authorized, answer, lasting, starred, starred_and_listed, kept_out, not_kept_out, login_page, minute, without_cookies, without_errors};
 
 use crate::{Facts, StoreRule};
 
@@ -46,6 +48,54 @@ pub fn nothing_is_stored_against_the_operator()
     ensures { OperatorForbids }
 {}
 
+/// Where the operator stores no cookies, none is stored for others than the one whom it was set for.
+#[tactic(auto, unfolding(crate::specs::Rules::storage_rule_of))]
+pub fn a_cookie_is_not_stored_for_others()
+    ensures every { CookieForbids }
+    ensures login_page { storage_rule_of (get []) (login_page (codes "max-age=60")) without_cookies ≡ Some StoreRule.SetCookie }
+    ensures public { storage_rule_of (get []) (login_page (codes "public, max-age=60")) without_cookies ≡ None }
+    ensures without_the_word { storage_rule_of (get []) (login_page (codes "max-age=60")) lasting ≡ None }
+    ensures public_without_the_word { storage_rule_of (get []) (login_page (codes "public, max-age=60")) lasting ≡ None }
+    ensures no_cookie { storage_rule_of (get []) (minute 200) without_cookies ≡ None }
+    ensures errors_alone { storage_rule_of (get []) (login_page (codes "max-age=60")) without_errors ≡ None }
+{}
+
+/// Where the operator stores no errors, none is stored whose status isn't heuristically cacheable, however long it lasts.
+#[tactic(auto, unfolding(crate::specs::Rules::storage_rule_of))]
+pub fn an_error_is_not_stored()
+    ensures every { ErrorForbids }
+    ensures bad_request { storage_rule_of (get []) (minute 400) without_errors ≡ Some StoreRule.ErrorStatus }
+    ensures unauthorized { storage_rule_of (get []) (minute 401) without_errors ≡ Some StoreRule.ErrorStatus }
+    ensures forbidden { storage_rule_of (get []) (minute 403) without_errors ≡ Some StoreRule.ErrorStatus }
+    ensures server_error { storage_rule_of (get []) (minute 500) without_errors ≡ Some StoreRule.ErrorStatus }
+    ensures unavailable { storage_rule_of (get []) (minute 503) without_errors ≡ Some StoreRule.ErrorStatus }
+    ensures not_found { storage_rule_of (get []) (minute 404) without_errors ≡ None }
+    ensures not_allowed { storage_rule_of (get []) (minute 405) without_errors ≡ None }
+    ensures gone { storage_rule_of (get []) (minute 410) without_errors ≡ None }
+    ensures too_long { storage_rule_of (get []) (minute 414) without_errors ≡ None }
+    ensures not_implemented { storage_rule_of (get []) (minute 501) without_errors ≡ None }
+    ensures found { storage_rule_of (get []) (minute 302) without_errors ≡ None }
+    ensures found_without_the_word { storage_rule_of (get []) (minute 302) lasting ≡ None }
+    ensures bad_request_without_the_word { storage_rule_of (get []) (minute 400) lasting ≡ None }
+    ensures cookies_alone { storage_rule_of (get []) (minute 400) without_cookies ≡ None }
+{}
+
+/// The words of a line keep a response from the store, or do nothing: what is stored with them is stored without them, and what they
+/// allow is stored as without them.
+pub fn words_only_forbid_storing()
+    ensures only { WordsOnlyForbid }
+    ensures no_more { WordsForbidNoMore }
+{}
+
+/// With a line that has no words the least rule is what it would be if there were none: the operator's stands where the line
+/// doesn't cache, and those of the words never.
+pub fn default_policy_changes_nothing()
+    ensures operator { PlainLineIsTheOperators }
+    ensures cookies { PlainLineStoresCookies }
+    ensures errors { PlainLineStoresErrors }
+    ensures others { PlainLineAsksTheOthers }
+{}
+
 /// The least number, where several rules stand, and the operator's doesn't.
 #[tactic(auto, unfolding(crate::specs::Rules::storage_rule_of))]
 pub fn least_storage_rule(facts: Facts)
@@ -81,61 +131,14 @@ pub fn line_without_cache()
     ensures with_cache { storage_rule_of (get []) (answer 200 (control (codes "max-age=60"))) lasting ≡ None }
 {}
 
-/// The statuses that RFC 9110, section 15.1 calls heuristically cacheable.
-pub fn statuses_are_heuristically_cacheable()
-    ensures status_200 { is_heuristic 200 ≡ true }
-    ensures status_203 { is_heuristic 203 ≡ true }
-    ensures status_204 { is_heuristic 204 ≡ true }
-    ensures status_206 { is_heuristic 206 ≡ true }
-    ensures status_300 { is_heuristic 300 ≡ true }
-    ensures status_301 { is_heuristic 301 ≡ true }
-    ensures status_308 { is_heuristic 308 ≡ true }
-    ensures status_404 { is_heuristic 404 ≡ true }
-    ensures status_405 { is_heuristic 405 ≡ true }
-    ensures status_410 { is_heuristic 410 ≡ true }
-    ensures status_414 { is_heuristic 414 ≡ true }
-    ensures status_501 { is_heuristic 501 ≡ true }
-{}
-
-/// The other statuses of that standard aren't (RFC 9110, sections 15.2 to 15.6).
-pub fn other_statuses_are_not()
-    ensures status_100 { is_heuristic 100 ≡ false }
-    ensures status_101 { is_heuristic 101 ≡ false }
-    ensures status_201 { is_heuristic 201 ≡ false }
-    ensures status_202 { is_heuristic 202 ≡ false }
-    ensures status_205 { is_heuristic 205 ≡ false }
-    ensures status_302 { is_heuristic 302 ≡ false }
-    ensures status_303 { is_heuristic 303 ≡ false }
-    ensures status_304 { is_heuristic 304 ≡ false }
-    ensures status_305 { is_heuristic 305 ≡ false }
-    ensures status_307 { is_heuristic 307 ≡ false }
-    ensures status_400 { is_heuristic 400 ≡ false }
-    ensures status_401 { is_heuristic 401 ≡ false }
-    ensures status_402 { is_heuristic 402 ≡ false }
-    ensures status_403 { is_heuristic 403 ≡ false }
-    ensures status_406 { is_heuristic 406 ≡ false }
-    ensures status_407 { is_heuristic 407 ≡ false }
-    ensures status_408 { is_heuristic 408 ≡ false }
-    ensures status_409 { is_heuristic 409 ≡ false }
-    ensures status_411 { is_heuristic 411 ≡ false }
-    ensures status_412 { is_heuristic 412 ≡ false }
-    ensures status_413 { is_heuristic 413 ≡ false }
-    ensures status_415 { is_heuristic 415 ≡ false }
-    ensures status_416 { is_heuristic 416 ≡ false }
-    ensures status_417 { is_heuristic 417 ≡ false }
-    ensures status_421 { is_heuristic 421 ≡ false }
-    ensures status_422 { is_heuristic 422 ≡ false }
-    ensures status_426 { is_heuristic 426 ≡ false }
-    ensures status_500 { is_heuristic 500 ≡ false }
-    ensures status_502 { is_heuristic 502 ≡ false }
-    ensures status_503 { is_heuristic 503 ≡ false }
-    ensures status_504 { is_heuristic 504 ≡ false }
-    ensures status_505 { is_heuristic 505 ≡ false }
-{}
-
 /// An answer that states nothing is stored where its status alone allows it, and isn't where it doesn't.
 #[tactic(auto, unfolding(crate::specs::Rules::storage_rule_of))]
 pub fn status_alone_allows_storing()
     ensures not_found { storage_rule_of (get []) (answer 404 []) lasting ≡ None }
     ensures found { storage_rule_of (get []) (answer 302 []) lasting ≡ Some StoreRule.NothingAllows }
+{}
+
+/// The word of a rule tells it from each other.
+pub fn words_tell_the_storing_rule()
+    ensures { WordsTellStoringRulesApart }
 {}

@@ -12,12 +12,12 @@ mod storing;
 
 pub use crate::known_facts::Facts;
 pub use crate::laws::{
-    authorization_and_private, least_storage_rule, line_without_cache,
+    a_cookie_is_not_stored_for_others, an_error_is_not_stored, authorization_and_private,
+    default_policy_changes_nothing, least_storage_rule, line_without_cache,
     must_understand_overrides_no_store, nothing_is_stored_against_the_operator,
-    nothing_private_is_stored, only_whole_answers_to_get_are_stored, other_statuses_are_not,
-    status_alone_allows_storing, statuses_are_heuristically_cacheable,
+    nothing_private_is_stored, only_whole_answers_to_get_are_stored, status_alone_allows_storing,
     stored_where_it_may_be_stored, the_least_storage_rule_is_named,
-    what_is_told_not_to_be_stored_never_is,
+    what_is_told_not_to_be_stored_never_is, words_only_forbid_storing, words_tell_the_storing_rule,
 };
 pub use crate::rule::StoreRule;
 pub use crate::storing::first_rule_against;

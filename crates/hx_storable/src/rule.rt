@@ -35,4 +35,8 @@ pub enum StoreRule {
     Overtaken,
     /// No serial is left.
     Serials,
+    /// The response has Set-Cookie without public, and the operator stores no cookies.
+    SetCookie,
+    /// The status is 400 or above and not heuristically cacheable, and the operator stores no errors.
+    ErrorStatus,
 }

@@ -1,5 +1,5 @@
 //! The least rule against storing a response.
-ghost use Rattle.std.specs.Prelude.{◌≡◌, ◌==◌, ◌||◌, ◌&&◌, not, codes, bytes_eq, find, ◌∷◌, []};
+ghost use Rattle.std.specs.Prelude.{◌≡◌, ◌==◌, ◌||◌, ◌&&◌, not, codes, bytes_eq, find, ◌++◌, ◌∷◌, []};
 ghost use Rattle.hx_fields.specs.Lines.{has as has_line};
 ghost use Rattle.hx_directives.specs.Occurrences.{occurrences_of};
 ghost use Rattle.hx_directives.specs.Answers.{has};
@@ -7,11 +7,14 @@ ghost use Rattle.hx_directives.specs.declared.names.Directive.TheVariants as dir
 ghost use Rattle.hx_hop.specs.declared.request_view.Asked.{Asked as AskedFor};
 ghost use Rattle.hx_hop.specs.declared.response_view.Answered.{Answered as AnsweredWith};
 ghost use Rattle.hx_hop.specs.Bypass.{has_content, asks_for_range, has_precondition};
-ghost use Rattle.hx_storable.specs.Rules.{is_heuristic, is_understood, allows_shared, allows_storing, stands, rules_on_facts, storage_rule_of};
+ghost use Rattle.hx_storable.specs.declared.known_facts.Facts.{Facts as Known};
+ghost use Rattle.hx_policy.specs.Words.{is_heuristic};
+ghost use Rattle.hx_storable.specs.Rules.{is_understood, allows_shared, allows_storing, has_cookie_for_one, is_uncached_error, stands, rules_on_facts, rules_of_words, storage_rule_of};
 
 use crate::{Facts, StoreRule};
 use hx_directives::{Directive, Directives};
 use hx_hop::{Answered, Asked};
+use hx_policy::{Policy, is_heuristic};
 
 fn is_get(asked: &Asked) -> bool
     ensures { result ≡ bytes_eq asked.now.method (codes "GET") }
@@ -30,16 +33,6 @@ fn is_not_whole(status: u16) -> bool
     ensures { result ≡ ((status == 206) || (status == 304)) }
 {
     status == 206 || status == 304
-}
-
-/// Whether a status is heuristically cacheable.
-fn is_heuristic(status: u16) -> bool
-    ensures { result ≡ is_heuristic status }
-{
-    matches!(
-        status,
-        200 | 203 | 204 | 206 | 300 | 301 | 308 | 404 | 405 | 410 | 414 | 501
-    )
 }
 
 fn is_understood(status: u16) -> bool
@@ -87,6 +80,21 @@ fn allows_storing(answered: &Answered, directives: &Directives) -> bool
         || is_heuristic(answered.status)
 }
 
+/// Whether a response sets a cookie, and doesn't say that it is for all.
+fn has_cookie_for_one(answered: &Answered, directives: &Directives) -> bool
+    requires { directives.now ≡ occurrences_of answered.now.fields }
+    ensures { result ≡ has_cookie_for_one answered.now }
+{
+    answered.fields.has(b"Set-Cookie") && !directives.has(Directive::Public)
+}
+
+/// Whether a status tells an error that isn't heuristically cacheable.
+fn is_uncached_error(status: u16) -> bool
+    ensures { result ≡ is_uncached_error status }
+{
+    status >= 400 && !is_heuristic(status)
+}
+
 fn is_of_no_use(facts: Facts) -> bool
     ensures { result ≡ (not facts.explicit && not facts.validator) }
 {
@@ -107,7 +115,7 @@ pub fn first_rule_against(
     requires response { directives.now ≡ occurrences_of answered.now.fields }
     ensures { result ≡ storage_rule_of asked.now answered.now facts }
 {
-    if facts.operator {
+    if !facts.policy.caches {
         Some(StoreRule::Operator)
     } else if !is_get(asked) {
         Some(StoreRule::Method)
@@ -128,7 +136,22 @@ pub fn first_rule_against(
     } else if !allows_storing(answered, directives) {
         Some(StoreRule::NothingAllows)
     } else {
-        rule_on_facts(facts)
+        rule_after_the_head(answered, directives, facts)
+    }
+}
+
+/// The least of the rules on what is known besides the head, and of those that the words of a line add.
+fn rule_after_the_head(
+    answered: &Answered,
+    directives: &Directives,
+    facts: Facts,
+) -> Option<StoreRule>
+    requires { directives.now ≡ occurrences_of answered.now.fields }
+    ensures { (asked : AskedFor) → result ≡ find (λ r. stands r asked answered.now facts) (rules_on_facts ++ rules_of_words) }
+{
+    match rule_on_facts(facts) {
+        Some(rule) => Some(rule),
+        None => rule_of_words(answered, directives, facts.policy),
     }
 }
 
@@ -148,6 +171,20 @@ fn rule_on_facts(facts: Facts) -> Option<StoreRule>
         Some(StoreRule::Overtaken)
     } else if facts.no_serial {
         Some(StoreRule::Serials)
+    } else {
+        None
+    }
+}
+
+/// The least of the rules that the words of a line add.
+fn rule_of_words(answered: &Answered, directives: &Directives, policy: Policy) -> Option<StoreRule>
+    requires { directives.now ≡ occurrences_of answered.now.fields }
+    ensures { (asked : AskedFor) (facts : Known) → facts.policy ≡ policy → result ≡ find (λ r. stands r asked answered.now facts) rules_of_words }
+{
+    if !policy.stores_cookies && has_cookie_for_one(answered, directives) {
+        Some(StoreRule::SetCookie)
+    } else if !policy.stores_errors && is_uncached_error(answered.status) {
+        Some(StoreRule::ErrorStatus)
     } else {
         None
     }

@@ -8,7 +8,7 @@ use Rattle.hx_target.specs.Keys.{same_key}
 use Rattle.hx_framing.specs.declared.messages.Response.{Response}
 use Rattle.hx_hop.specs.declared.request_view.Asked.{Asked}
 use Rattle.hx_allow.specs.Lines.{Table}
-use Rattle.hx_allow.specs.Matching.{verdict_of, caches_of}
+use Rattle.hx_allow.specs.Matching.{verdict_of, policy_of}
 use Rattle.hx_allow.specs.declared.verdicts.Verdict.{Verdict}
 use Rattle.hx_allow.specs.declared.verdicts.Verdict.TheVariants as verdict
 use Rattle.hx_store.specs.Stored.{Stored}
@@ -55,7 +55,7 @@ module _ (table : Table) (es : List Stored) (xs : List Exchange) (now : ℕ) (as
     pub line_allows : verdict_of table.lines asked.method asked.target ≡ verdict.Allowed line
     pub rule : ReuseRule
     pub against : Option ℕ
-    pub decided : decision_of (caches_of table.lines line) es asked now ≡ decision.Forward rule against
+    pub decided : decision_of (policy_of table.lines line) es asked now ≡ decision.Forward rule against
 
   pub record WentBy (line : ℕ) (bytes : List ℕ) : Type 0 where
     pub on : IsSentOn line
@@ -70,22 +70,22 @@ module _ (table : Table) (es : List Stored) (xs : List Exchange) (now : ℕ) (as
 
   goes_by : (v : Verdict) → verdict_of table.lines asked.method asked.target ≡ v → Goes (arrived table es xs now asked v)
   unfolding Goes
-  goes_by (verdict.Allowed n) v = by_decision (decision_of (caches_of table.lines n) es asked now) refl
+  goes_by (verdict.Allowed n) v = by_decision (decision_of (policy_of table.lines n) es asked now) refl
     where
-      on : (rule : ReuseRule) (against : Option ℕ) → decision_of (caches_of table.lines n) es asked now ≡ decision.Forward rule against → IsSentOn n
+      on : (rule : ReuseRule) (against : Option ℕ) → decision_of (policy_of table.lines n) es asked now ≡ decision.Forward rule against → IsSentOn n
       on rule against d = record { line_allows = v; rule = rule; against = against; decided = d }
 
-      led : (rule : ReuseRule) (against leader : Option ℕ) → decision_of (caches_of table.lines n) es asked now ≡ decision.Forward rule against →
+      led : (rule : ReuseRule) (against leader : Option ℕ) → decision_of (policy_of table.lines n) es asked now ≡ decision.Forward rule against →
           Goes (sent_on table n asked (condition_at es against) leader)
       led rule against None d = record { on = on rule against d; bytes_are = refl }
       led rule against (Some leader) d = subst IsSentOn (sym (ap line_of v)) (on rule against d)
 
-      unless : (rule : ReuseRule) (against : Option ℕ) (b : Bool) → decision_of (caches_of table.lines n) es asked now ≡ decision.Forward rule against →
+      unless : (rule : ReuseRule) (against : Option ℕ) (b : Bool) → decision_of (policy_of table.lines n) es asked now ≡ decision.Forward rule against →
           Goes (unanswered table xs n now asked rule (condition_at es against) b)
       unless rule against true d = tt
       unless rule against false d = led rule against (leader_for xs asked rule) d
 
-      by_decision : (d : Decision) → decision_of (caches_of table.lines n) es asked now ≡ d → Goes (allowed table es xs n now asked d)
+      by_decision : (d : Decision) → decision_of (policy_of table.lines n) es asked now ≡ d → Goes (allowed table es xs n now asked d)
       by_decision (decision.Hit t) k = tt
       by_decision (decision.Forward rule against) k = unless rule against (is_only_if_cached asked) k
   goes_by (verdict.DeniedBy n) v = tt
@@ -117,14 +117,14 @@ again_by table es now x r next d = by_304 (is_validation x r)
     by_error true (Refuses rule error) = tt
     by_error false fallback = tt
 
-    by_unasked : (b : Bool) → IsAgain table x (cond b (failed table es now x BadAnswer (Some r.status) (fallback_for es x.asked now d))
-        (passed_unless table es now x r next (is_error_status r.status) (fallback_for es x.asked now d)))
-    by_unasked true = by_fallback (fallback_for es x.asked now d)
-    by_unasked false = by_error (is_error_status r.status) (fallback_for es x.asked now d)
+    by_unasked : (b : Bool) → IsAgain table x (cond b (failed table es now x BadAnswer (Some r.status) (fallback_for (policy_of table.lines x.line) es x.asked now d))
+        (passed_unless table es now x r next (is_error_status r.status) (fallback_for (policy_of table.lines x.line) es x.asked now d)))
+    by_unasked true = by_fallback (fallback_for (policy_of table.lines x.line) es x.asked now d)
+    by_unasked false = by_error (is_error_status r.status) (fallback_for (policy_of table.lines x.line) es x.asked now d)
 
     by_304 : (b : Bool) → IsAgain table x (cond b (revalidated table es now x r (validated es x r now) d)
-        (cond (is_unasked x.asked r) (failed table es now x BadAnswer (Some r.status) (fallback_for es x.asked now d))
-        (passed_unless table es now x r next (is_error_status r.status) (fallback_for es x.asked now d))))
+        (cond (is_unasked x.asked r) (failed table es now x BadAnswer (Some r.status) (fallback_for (policy_of table.lines x.line) es x.asked now d))
+        (passed_unless table es now x r next (is_error_status r.status) (fallback_for (policy_of table.lines x.line) es x.asked now d))))
     by_304 true = by_validation (validated es x r now) d
     by_304 false = by_unasked (is_unasked x.asked r)
 
@@ -335,7 +335,7 @@ module _ (table : Table) (limit first : ℕ) where
       let y = queued table s.entries now id asked line leader in
       let here : y ≡ x = same_Some y x (sym (find-push id s.exchanges y free ∙ ap (λ b. cond b (Some y) (find_exchange id s.exchanges)) (eq-eqb id id refl)) ∙ found) in
       let held = entries_are_held table limit first past g in
-      let named = names_the_least (caches_of table.lines line) s.entries asked now on.rule on.against on.decided in
+      let named = names_the_least (policy_of table.lines line) s.entries asked now on.rule on.against on.decided in
       let rule : y.rule ≡ on.rule = ap rule_of on.decided in
       let condition : y.condition ≡ condition_at s.entries on.against = ap (λ (d : Decision). condition_at s.entries (named_by d)) on.decided in
       subst (Carried table limit id (record { event = Arrive now id asked; outcome = Waits leader } ∷ past)) here (
@@ -348,7 +348,7 @@ module _ (table : Table) (limit first : ℕ) where
           judged = inl refl;
           none_since = tt;
           line_allows = on.line_allows;
-          rule_is_least = subst (λ (es : List Stored). IsLeast (caches_of table.lines line) es asked now y.rule) held (subst (λ (q : ReuseRule). IsLeast (caches_of table.lines line) s.entries asked now q) (sym rule) named.0);
+          rule_is_least = subst (λ (es : List Stored). IsLeast (policy_of table.lines line) es asked now y.rule) held (subst (λ (q : ReuseRule). IsLeast (policy_of table.lines line) s.entries asked now q) (sym rule) named.0);
           went = inr (inr (record {
             leader = leader;
             outcome_is = refl;
@@ -367,7 +367,7 @@ module _ (table : Table) (limit first : ℕ) where
       let on = w.on in
       let here : y ≡ x = same_Some y x (sym (find-push id s.exchanges y free ∙ ap (λ b. cond b (Some y) (find_exchange id s.exchanges)) (eq-eqb id id refl)) ∙ found) in
       let held = entries_are_held table limit first past g in
-      let named = names_the_least (caches_of table.lines line) s.entries asked now on.rule on.against on.decided in
+      let named = names_the_least (policy_of table.lines line) s.entries asked now on.rule on.against on.decided in
       let rule : y.rule ≡ on.rule = ap rule_of on.decided in
       let condition : y.condition ≡ condition_at s.entries on.against = ap (λ (d : Decision). condition_at s.entries (named_by d)) on.decided in
       subst (Carried table limit id (record { event = Arrive now id asked; outcome = Forward line bytes } ∷ past)) here (
@@ -380,7 +380,7 @@ module _ (table : Table) (limit first : ℕ) where
           judged = inl refl;
           none_since = tt;
           line_allows = on.line_allows;
-          rule_is_least = subst (λ (es : List Stored). IsLeast (caches_of table.lines line) es asked now y.rule) held (subst (λ (q : ReuseRule). IsLeast (caches_of table.lines line) s.entries asked now q) (sym rule) named.0);
+          rule_is_least = subst (λ (es : List Stored). IsLeast (policy_of table.lines line) es asked now y.rule) held (subst (λ (q : ReuseRule). IsLeast (policy_of table.lines line) s.entries asked now q) (sym rule) named.0);
           went = inl (record {
             stage = refl;
             since_then = refl;
@@ -396,7 +396,7 @@ module _ (table : Table) (limit first : ℕ) where
 
   -- when it is woken
   carried_woken : (past : List Item) → IsGood (begun table limit first) past → (now id : ℕ) (z : Exchange) (o : Outcome) (x : Exchange) (d : Decision) → Carried table limit id past z →
-      exchange id past ≡ Some z → decision_of (caches_of table.lines z.line) (left (begun table limit first) past).entries z.asked now ≡ d → o ≡ woken table (left (begun table limit first) past).entries now z d →
+      exchange id past ≡ Some z → decision_of (policy_of table.lines z.line) (left (begun table limit first) past).entries z.asked now ≡ d → o ≡ woken table (left (begun table limit first) past).entries now z d →
       goes_forward o ≡ true →
       find_exchange id (open_after table (left (begun table limit first) past).entries (left (begun table limit first) past).exchanges (Wake now id) o) ≡ Some x →
       Carried table limit id (record { event = Wake now id; outcome = o } ∷ past) x
@@ -406,8 +406,8 @@ module _ (table : Table) (limit first : ℕ) where
       let es = s.entries in
       let xs = s.exchanges in
       let bytes = forward_text table z.asked (condition_at es against) in
-      let q = rule_of (decision_of (caches_of table.lines z.line) es z.asked now) in
-      let k = condition_at es (named_by (decision_of (caches_of table.lines z.line) es z.asked now)) in
+      let q = rule_of (decision_of (policy_of table.lines z.line) es z.asked now) in
+      let k = condition_at es (named_by (decision_of (policy_of table.lines z.line) es z.asked now)) in
       let y = woken_form table es now z in
       let at : find_exchange id (woken_out table es id now (find_exchange id xs) xs) ≡ Some y =
       ap (λ (w : Option Exchange). find_exchange id (woken_out table es id now w xs)) z_is
@@ -415,7 +415,7 @@ module _ (table : Table) (limit first : ℕ) where
       ∙ (ap (option_map (sent_out id now q k)) z_is ∙ ap (λ b. Some (cond b (goes_out now q k z) z)) (found-id id xs z z_is))) in
       let here : y ≡ x = same_Some y x (sym at ∙ (ap (λ (o : Outcome). find_exchange id (open_after table es xs (Wake now id) o)) (sym h) ∙ found)) in
       let held = entries_are_held table limit first past g in
-      let named = names_the_least (caches_of table.lines z.line) es z.asked now rule against d in
+      let named = names_the_least (policy_of table.lines z.line) es z.asked now rule against d in
       let rule_is : y.rule ≡ rule = ap rule_of d in
       let condition : y.condition ≡ condition_at es against = ap (λ (d : Decision). condition_at es (named_by d)) d in
       subst (Carried table limit id (record { event = Wake now id; outcome = o } ∷ past)) here (
@@ -428,7 +428,7 @@ module _ (table : Table) (limit first : ℕ) where
           judged = inr (ap (λ n. Wake now n) (sym c.1));
           none_since = tt;
           line_allows = c.0.line_allows;
-          rule_is_least = subst (λ (es : List Stored). IsLeast (caches_of table.lines z.line) es z.asked now y.rule) held (subst (λ (q : ReuseRule). IsLeast (caches_of table.lines z.line) es z.asked now q) (sym rule_is) named.0);
+          rule_is_least = subst (λ (es : List Stored). IsLeast (policy_of table.lines z.line) es z.asked now y.rule) held (subst (λ (q : ReuseRule). IsLeast (policy_of table.lines z.line) es z.asked now q) (sym rule_is) named.0);
           went = inl (record {
             stage = refl;
             since_then = refl;
@@ -500,14 +500,14 @@ module _ (table : Table) (limit first : ℕ) where
       next : Option ℕ
       next = (left (begun table limit first) past).next
 
-      by_answer : (now n : ℕ) (r : Response) (o : Outcome) → n ≡ id → goes_forward o ≡ true → o ≡ answered table es now z r next (decision_of (caches_of table.lines z.line) es z.asked now) →
+      by_answer : (now n : ℕ) (r : Response) (o : Outcome) → n ≡ id → goes_forward o ≡ true → o ≡ answered table es now z r next (decision_of (policy_of table.lines z.line) es z.asked now) →
           find_exchange id (open_after table es xs (Answer now n r) o) ≡ Some x → Carried table limit id (record { event = Answer now n r; outcome = o } ∷ past) x
       by_answer now n r (Reply reply) e out is found = absurd (false≢true out)
       by_answer now n r (Waits leader) e out is found = absurd (false≢true out)
       by_answer now n r Ended e out is found = absurd (false≢true out)
       by_answer now n r (Forward line bytes) e out is found =
           subst (λ m. Carried table limit id (record { event = Answer now m r; outcome = Forward line bytes } ∷ past) x) (sym e)
-          (carried_again past now id r z line bytes x c z_is (subst (IsAgain table z) (sym is) (again_by table es now z r next (decision_of (caches_of table.lines z.line) es z.asked now)))
+          (carried_again past now id r z line bytes x c z_is (subst (IsAgain table z) (sym is) (again_by table es now z r next (decision_of (policy_of table.lines z.line) es z.asked now)))
           (ap (λ m. find_exchange id (map (gone_out m now) xs)) (sym e) ∙ found))
 
       by_event : (event : Event) (o : Outcome) → eqb (id_of event) id ≡ true → judges event ≡ false → goes_forward o ≡ true →
@@ -521,7 +521,7 @@ module _ (table : Table) (limit first : ℕ) where
           let w : exchange n past ≡ Some z = ap (λ m. exchange m past) (eqb-true n id same) ∙ z_is in
           let back : goes_forward o ≡ false =
           ap goes_forward (is ∙ ap (λ (w : Option Exchange). outcome_of table es xs w next (Fail now n kind)) w)
-          ∙ failed_back table es now z kind None (fallback_for es z.asked now (decision_of (caches_of table.lines z.line) es z.asked now)) in
+          ∙ failed_back table es now z kind None (fallback_for (policy_of table.lines z.line) es z.asked now (decision_of (policy_of table.lines z.line) es z.asked now)) in
           absurd (false≢true (sym back ∙ out))
       by_event (Wake now n) o same late out is found = absurd (false≢true (sym late))
       by_event (Abandon n) o same late out is found = absurd (false≢true (sym (ap goes_forward is) ∙ out))
@@ -561,7 +561,7 @@ module _ (table : Table) (limit first : ℕ) where
       by_move was y (wakes at es z now e z_is r f q) h k =
           let item : record { event = Wake now id; outcome = i.outcome } ≡ i = ap (λ (v : Event). record { event = v; outcome = i.outcome }) (sym e) in
           subst (λ (j : Item). Carried table limit id (j ∷ past) x) item
-          (carried_woken past g.1 now id z i.outcome x (decision_of (caches_of table.lines z.line) s.entries z.asked now) (was z z_is) z_is refl
+          (carried_woken past g.1 now id z i.outcome x (decision_of (policy_of table.lines z.line) s.entries z.asked now) (was z z_is) z_is refl
           (g.0.outcome_is ∙ (ap (λ (v : Event). outcome_of table s.entries s.exchanges (find_exchange (id_of v) s.exchanges) s.next v) e ∙ ap (λ (w : Option Exchange). outcome_of table s.entries s.exchanges w s.next (Wake now id)) z_is)) f
           (ap (λ (v : Event). find_exchange id (open_after table s.entries s.exchanges v i.outcome)) (sym e) ∙ at_table ∙ k ∙ h))
       by_move was y (closes z t e x_is f q) h k = absurd (none_some y x q h)

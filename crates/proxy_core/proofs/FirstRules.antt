@@ -3,11 +3,12 @@ use Rattle.std.proofs.Common.{◌≡◌, inl, inr, ℕ, Bool, true, false, cond,
 use Rattle.std.specs.Option.{option_and_then}
 use Rattle.std.proofs.lemmas.Bool.{false≢true}
 use Rattle.std.proofs.lemmas.Option.{same_Some}
+use Rattle.hx_policy.specs.declared.words.Policy.{Policy}
 use Rattle.hx_directives.specs.Occurrences.{occurrences_of}
 use Rattle.hx_framing.specs.declared.messages.Response.{Response}
 use Rattle.hx_hop.specs.declared.request_view.Asked.{Asked}
 use Rattle.hx_allow.specs.Lines.{Table}
-use Rattle.hx_allow.specs.Matching.{verdict_of, caches_of}
+use Rattle.hx_allow.specs.Matching.{verdict_of, policy_of}
 use Rattle.hx_allow.specs.declared.verdicts.Verdict.{Verdict}
 use Rattle.hx_allow.specs.declared.verdicts.Verdict.TheVariants as verdict
 use Rattle.hx_store.specs.Stored.{Stored}
@@ -43,30 +44,30 @@ use Rattle.proxy_core.specs.Naming.{NamesErrorRule, NamesFirst, NamesFirstRules}
 use Rattle.proxy_core.proofs.Carries.{least_when_judged}
 use Rattle.proxy_core.proofs.HeldLaw.{good_plain, entries_are_held, stands_for}
 
-module _ (caches : Bool) (es : List Stored) (distinct : Distinct (serials es)) (now : ℕ) (asked : Asked) where
+module _ (policy : Policy) (es : List Stored) (distinct : Distinct (serials es)) (now : ℕ) (asked : Asked) where
   -- where nothing is sent after a failure: the rule, and the error rule beside it
   record IsRefused (rule : ReuseRule) (error : Option ErrorRule) : Type 0 where
-    least : IsLeast caches es asked now rule
-    named : NamesErrorRule es now asked rule error
+    least : IsLeast policy es asked now rule
+    named : NamesErrorRule policy es now asked rule error
 
   never_one : (s : ℕ) → ◌≡◌ {A = Option ℕ} None (Some s) → ⊥
   never_one s h = cc
 
-  refused_alone : (rule : ReuseRule) → decision_of caches es asked now ≡ decision.Forward rule None → IsRefused rule None
+  refused_alone : (rule : ReuseRule) → decision_of policy es asked now ≡ decision.Forward rule None → IsRefused rule None
   refused_alone rule h =
-      let r = names_the_least caches es asked now rule None h in
+      let r = names_the_least policy es asked now rule None h in
       record { least = r.0; named = by_number r.1 }
     where
-      by_number : NamesTheResponse es asked rule None → NamesErrorRule es now asked rule None
+      by_number : NamesTheResponse es asked rule None → NamesErrorRule policy es now asked rule None
       by_number (inl low) = inl (low.0, refl)
       by_number (inr high) = absurd (never_one high.1.0.serial high.1.2)
 
-  refused_by : (rule : ReuseRule) (s : ℕ) (e : ErrorRule) → decision_of caches es asked now ≡ decision.Forward rule (Some s) → error_rule_at es s asked now ≡ Some e → IsRefused rule (Some e)
+  refused_by : (rule : ReuseRule) (s : ℕ) (e : ErrorRule) → decision_of policy es asked now ≡ decision.Forward rule (Some s) → error_rule_at policy es s asked now ≡ Some e → IsRefused rule (Some e)
   refused_by rule s e h k =
-      let r = names_the_least caches es asked now rule (Some s) h in
+      let r = names_the_least policy es asked now rule (Some s) h in
       record { least = r.0; named = by_number r.1 }
     where
-      by_number : NamesTheResponse es asked rule (Some s) → NamesErrorRule es now asked rule (Some e)
+      by_number : NamesTheResponse es asked rule (Some s) → NamesErrorRule policy es now asked rule (Some e)
       by_number (inl low) = absurd (never_one s (sym low.1))
       by_number (inr high) =
           let response = high.1.0 in
@@ -74,20 +75,20 @@ module _ (caches : Bool) (es : List Stored) (distinct : Distinct (serials es)) (
           let found : find_entry s es ≡ Some response =
           ap (λ z. find_entry z es) (sym serial) ∙ found_by_serial es distinct response (chosen_is_held es asked response high.1.1)
           in
-          let rule_is : error_rule_on response (occurrences_of asked.fields) now ≡ Some e =
-          sym (ap (λ (o : Option Stored). option_and_then (λ (x : Stored). error_rule_on x (occurrences_of asked.fields) now) o) found) ∙ k
+          let rule_is : error_rule_on policy response (occurrences_of asked.fields) now ≡ Some e =
+          sym (ap (λ (o : Option Stored). option_and_then (λ (x : Stored). error_rule_on policy x (occurrences_of asked.fields) now) o) found) ∙ k
           in
-          inr (high.0, (response, e, high.1.1, least_on_error response (occurrences_of asked.fields) now e rule_is, refl))
+          inr (high.0, (response, e, high.1.1, least_on_error policy response (occurrences_of asked.fields) now e rule_is, refl))
 
-  refuses_is : (d : Decision) (rule : ReuseRule) (error : Option ErrorRule) → decision_of caches es asked now ≡ d → fallback_for es asked now d ≡ Refuses rule error → IsRefused rule error
+  refuses_is : (d : Decision) (rule : ReuseRule) (error : Option ErrorRule) → decision_of policy es asked now ≡ d → fallback_for policy es asked now d ≡ Refuses rule error → IsRefused rule error
   refuses_is (decision.Hit s) rule error d_is h = absurd (cc)
   refuses_is (decision.Forward q None) rule error d_is h =
       let same : q ≡ rule = cc in
       let none : None ≡ error = cc in
       subst (IsRefused rule) none (subst (λ (r : ReuseRule). IsRefused r None) same (refused_alone q d_is))
-  refuses_is (decision.Forward q (Some s)) rule error d_is h = by_rule (error_rule_at es s asked now) refl h
+  refuses_is (decision.Forward q (Some s)) rule error d_is h = by_rule (error_rule_at policy es s asked now) refl h
     where
-      by_rule : (o : Option ErrorRule) → error_rule_at es s asked now ≡ o → fallback_by q s o ≡ Refuses rule error → IsRefused rule error
+      by_rule : (o : Option ErrorRule) → error_rule_at policy es s asked now ≡ o → fallback_by q s o ≡ Refuses rule error → IsRefused rule error
       by_rule None k h = absurd (cc)
       by_rule (Some e) k h =
           let same : q ≡ rule = cc in
@@ -95,87 +96,87 @@ module _ (caches : Bool) (es : List Stored) (distinct : Distinct (serials es)) (
           subst (IsRefused rule) some (subst (λ (r : ReuseRule). IsRefused r (Some e)) same (refused_by q s e d_is k))
 
 -- what was held and open before an item, and that each open exchange keeps the least rule of its arrival
-module _ (table : Table) (limit : ℕ) (past : List Item) (distinct : Distinct (serials (held_entries table limit past))) where
+module _ (table : Table) (limit : ℕ) (past : List Item) (distinct : Distinct (serials (held_entries table limit past))) (next : Option ℕ) where
   abbrev es : List Stored
   es = held_entries table limit past
 
-  arrival_names : (xs : List Exchange) (x : Option Exchange) (now id : ℕ) (asked : Asked) → NamesFirst table limit past x (Arrive now id asked) (arrived table es xs now asked (verdict_of table.lines asked.method asked.target))
+  arrival_names : (xs : List Exchange) (x : Option Exchange) (now id : ℕ) (asked : Asked) → NamesFirst table limit past next x (Arrive now id asked) (arrived table es xs now asked (verdict_of table.lines asked.method asked.target))
   arrival_names xs x now id asked = by_verdict (verdict_of table.lines asked.method asked.target) refl
     where
-      on : (line : ℕ) (condition : Option Condition) (leader : Option ℕ) → NamesFirst table limit past x (Arrive now id asked) (sent_on table line asked condition leader)
+      on : (line : ℕ) (condition : Option Condition) (leader : Option ℕ) → NamesFirst table limit past next x (Arrive now id asked) (sent_on table line asked condition leader)
       on line condition None = tt
       on line condition (Some leader) = tt
 
       unless : (line : ℕ) (rule : ReuseRule) (against : Option ℕ) (b : Bool) → verdict_of table.lines asked.method asked.target ≡ verdict.Allowed line →
-          decision_of (caches_of table.lines line) es asked now ≡ decision.Forward rule against → is_only_if_cached asked ≡ b →
-          NamesFirst table limit past x (Arrive now id asked) (unanswered table xs line now asked rule (condition_at es against) b)
-      unless line rule against true v d k = λ h. inr (inr (line, rule, v, k, (names_the_least (caches_of table.lines line) es asked now rule against d).0, refl))
+          decision_of (policy_of table.lines line) es asked now ≡ decision.Forward rule against → is_only_if_cached asked ≡ b →
+          NamesFirst table limit past next x (Arrive now id asked) (unanswered table xs line now asked rule (condition_at es against) b)
+      unless line rule against true v d k = λ h. inr (inr (line, rule, v, k, (names_the_least (policy_of table.lines line) es asked now rule against d).0, refl))
       unless line rule against false v d k = on line (condition_at es against) (leader_for xs asked rule)
 
-      by_decision : (line : ℕ) (d : Decision) → verdict_of table.lines asked.method asked.target ≡ verdict.Allowed line → decision_of (caches_of table.lines line) es asked now ≡ d →
-          NamesFirst table limit past x (Arrive now id asked) (allowed table es xs line now asked d)
+      by_decision : (line : ℕ) (d : Decision) → verdict_of table.lines asked.method asked.target ≡ verdict.Allowed line → decision_of (policy_of table.lines line) es asked now ≡ d →
+          NamesFirst table limit past next x (Arrive now id asked) (allowed table es xs line now asked d)
       by_decision line (decision.Hit s) v k = λ h. absurd (false≢true h)
       by_decision line (decision.Forward rule against) v k = unless line rule against (is_only_if_cached asked) v k refl
 
-      by_verdict : (v : Verdict) → verdict_of table.lines asked.method asked.target ≡ v → NamesFirst table limit past x (Arrive now id asked) (arrived table es xs now asked v)
-      by_verdict (verdict.Allowed line) v = by_decision line (decision_of (caches_of table.lines line) es asked now) v refl
+      by_verdict : (v : Verdict) → verdict_of table.lines asked.method asked.target ≡ v → NamesFirst table limit past next x (Arrive now id asked) (arrived table es xs now asked v)
+      by_verdict (verdict.Allowed line) v = by_decision line (decision_of (policy_of table.lines line) es asked now) v refl
       by_verdict (verdict.DeniedBy line) v = λ h. inl (line, v, refl)
       by_verdict verdict.NoLine v = λ h. inr (inl (v, refl))
 
-  failure_names : (x : Exchange) (now id : ℕ) (kind : FailKind) (fallback : Fallback) → fallback_for es x.asked now (decision_of (caches_of table.lines x.line) es x.asked now) ≡ fallback →
-      NamesFirst table limit past (Some x) (Fail now id kind) (failed table es now x kind None fallback)
+  failure_names : (x : Exchange) (now id : ℕ) (kind : FailKind) (fallback : Fallback) → fallback_for (policy_of table.lines x.line) es x.asked now (decision_of (policy_of table.lines x.line) es x.asked now) ≡ fallback →
+      NamesFirst table limit past next (Some x) (Fail now id kind) (failed table es now x kind None fallback)
   failure_names x now id kind (Sends s detail) k = λ h. absurd (false≢true h)
   failure_names x now id kind (Refuses rule error) k = λ h.
-      let r = refuses_is (caches_of table.lines x.line) es distinct now x.asked (decision_of (caches_of table.lines x.line) es x.asked now) rule error refl k in
+      let r = refuses_is (policy_of table.lines x.line) es distinct now x.asked (decision_of (policy_of table.lines x.line) es x.asked now) rule error refl k in
       (rule, error, r.least, r.named, refl)
 
-  module _ (x : Exchange) (kept : LeastWhenJudged table limit x past) (now id : ℕ) (r : Response) (next : Option ℕ) where
-    unasked_names : (fallback : Fallback) → is_unasked x.asked r ≡ true → fallback_for es x.asked now (decision_of (caches_of table.lines x.line) es x.asked now) ≡ fallback →
-        NamesFirst table limit past (Some x) (Answer now id r) (failed table es now x BadAnswer (Some r.status) fallback)
+  module _ (x : Exchange) (kept : LeastWhenJudged table limit x past) (now id : ℕ) (r : Response) where
+    unasked_names : (fallback : Fallback) → is_unasked x.asked r ≡ true → fallback_for (policy_of table.lines x.line) es x.asked now (decision_of (policy_of table.lines x.line) es x.asked now) ≡ fallback →
+        NamesFirst table limit past next (Some x) (Answer now id r) (failed table es now x BadAnswer (Some r.status) fallback)
     unasked_names (Sends s detail) u k = λ h. absurd (false≢true h)
     unasked_names (Refuses rule error) u k = λ h.
-        let q = refuses_is (caches_of table.lines x.line) es distinct now x.asked (decision_of (caches_of table.lines x.line) es x.asked now) rule error refl k in
+        let q = refuses_is (policy_of table.lines x.line) es distinct now x.asked (decision_of (policy_of table.lines x.line) es x.asked now) rule error refl k in
         inr (u, (rule, error, q.least, q.named, refl))
 
-    passed_names : (b : Bool) (fallback : Fallback) → is_unasked x.asked r ≡ false → NamesFirst table limit past (Some x) (Answer now id r) (passed_unless table es now x r next b fallback)
+    passed_names : (b : Bool) (fallback : Fallback) → is_unasked x.asked r ≡ false → NamesFirst table limit past next (Some x) (Answer now id r) (passed_unless table es now x r next b fallback)
     passed_names true (Sends s detail) n = λ h. absurd (false≢true h)
     passed_names true (Refuses rule error) n = λ h. inl (n, (kept, refl))
     passed_names false fallback n = λ h. inl (n, (kept, refl))
 
-    validation_names : (o : Option Stored) (d : Decision) → NamesFirst table limit past (Some x) (Answer now id r) (revalidated table es now x r o d)
+    validation_names : (o : Option Stored) (d : Decision) → NamesFirst table limit past next (Some x) (Answer now id r) (revalidated table es now x r o d)
     validation_names (Some e) d = λ h. absurd (false≢true h)
     validation_names None (decision.Hit s) = λ h. absurd (false≢true h)
     validation_names None (decision.Forward rule against) = tt
 
-    answer_names : NamesFirst table limit past (Some x) (Answer now id r) (answered table es now x r next (decision_of (caches_of table.lines x.line) es x.asked now))
+    answer_names : NamesFirst table limit past next (Some x) (Answer now id r) (answered table es now x r next (decision_of (policy_of table.lines x.line) es x.asked now))
     answer_names = by_304 (is_validation x r)
       where
         by_unasked : (b : Bool) → is_unasked x.asked r ≡ b →
-            NamesFirst table limit past (Some x) (Answer now id r) (cond b (failed table es now x BadAnswer (Some r.status) (fallback_for es x.asked now (decision_of (caches_of table.lines x.line) es x.asked now)))
-            (passed_unless table es now x r next (is_error_status r.status) (fallback_for es x.asked now (decision_of (caches_of table.lines x.line) es x.asked now))))
-        by_unasked true k = unasked_names (fallback_for es x.asked now (decision_of (caches_of table.lines x.line) es x.asked now)) k refl
-        by_unasked false k = passed_names (is_error_status r.status) (fallback_for es x.asked now (decision_of (caches_of table.lines x.line) es x.asked now)) k
+            NamesFirst table limit past next (Some x) (Answer now id r) (cond b (failed table es now x BadAnswer (Some r.status) (fallback_for (policy_of table.lines x.line) es x.asked now (decision_of (policy_of table.lines x.line) es x.asked now)))
+            (passed_unless table es now x r next (is_error_status r.status) (fallback_for (policy_of table.lines x.line) es x.asked now (decision_of (policy_of table.lines x.line) es x.asked now))))
+        by_unasked true k = unasked_names (fallback_for (policy_of table.lines x.line) es x.asked now (decision_of (policy_of table.lines x.line) es x.asked now)) k refl
+        by_unasked false k = passed_names (is_error_status r.status) (fallback_for (policy_of table.lines x.line) es x.asked now (decision_of (policy_of table.lines x.line) es x.asked now)) k
 
-        by_304 : (b : Bool) → NamesFirst table limit past (Some x) (Answer now id r) (cond b (revalidated table es now x r (validated es x r now) (decision_of (caches_of table.lines x.line) es x.asked now))
-            (cond (is_unasked x.asked r) (failed table es now x BadAnswer (Some r.status) (fallback_for es x.asked now (decision_of (caches_of table.lines x.line) es x.asked now)))
-            (passed_unless table es now x r next (is_error_status r.status) (fallback_for es x.asked now (decision_of (caches_of table.lines x.line) es x.asked now)))))
-        by_304 true = validation_names (validated es x r now) (decision_of (caches_of table.lines x.line) es x.asked now)
+        by_304 : (b : Bool) → NamesFirst table limit past next (Some x) (Answer now id r) (cond b (revalidated table es now x r (validated es x r now) (decision_of (policy_of table.lines x.line) es x.asked now))
+            (cond (is_unasked x.asked r) (failed table es now x BadAnswer (Some r.status) (fallback_for (policy_of table.lines x.line) es x.asked now (decision_of (policy_of table.lines x.line) es x.asked now)))
+            (passed_unless table es now x r next (is_error_status r.status) (fallback_for (policy_of table.lines x.line) es x.asked now (decision_of (policy_of table.lines x.line) es x.asked now)))))
+        by_304 true = validation_names (validated es x r now) (decision_of (policy_of table.lines x.line) es x.asked now)
         by_304 false = by_unasked (is_unasked x.asked r) refl
 
-  woken_names : (x : Exchange) (now id : ℕ) (d : Decision) → NamesFirst table limit past (Some x) (Wake now id) (woken table es now x d)
+  woken_names : (x : Exchange) (now id : ℕ) (d : Decision) → NamesFirst table limit past next (Some x) (Wake now id) (woken table es now x d)
   woken_names x now id (decision.Hit s) = λ h. absurd (false≢true h)
   woken_names x now id (decision.Forward rule against) = tt
 
-  names_by_event : (xs : List Exchange) (x : Option Exchange) (next : Option ℕ) (event : Event) → ((z : Exchange) → x ≡ Some z → LeastWhenJudged table limit z past) →
-      NamesFirst table limit past x event (outcome_of table es xs x next event)
-  names_by_event xs x next (Arrive now id asked) kept = arrival_names xs x now id asked
-  names_by_event xs (Some x) next (Answer now id r) kept = answer_names x (kept x refl) now id r next
-  names_by_event xs None next (Answer now id r) kept = tt
-  names_by_event xs (Some x) next (Fail now id kind) kept = failure_names x now id kind (fallback_for es x.asked now (decision_of (caches_of table.lines x.line) es x.asked now)) refl
-  names_by_event xs None next (Fail now id kind) kept = tt
-  names_by_event xs (Some x) next (Wake now id) kept = woken_names x now id (decision_of (caches_of table.lines x.line) es x.asked now)
-  names_by_event xs None next (Wake now id) kept = tt
-  names_by_event xs x next (Abandon id) kept = tt
+  names_by_event : (xs : List Exchange) (x : Option Exchange) (event : Event) → ((z : Exchange) → x ≡ Some z → LeastWhenJudged table limit z past) →
+      NamesFirst table limit past next x event (outcome_of table es xs x next event)
+  names_by_event xs x (Arrive now id asked) kept = arrival_names xs x now id asked
+  names_by_event xs (Some x) (Answer now id r) kept = answer_names x (kept x refl) now id r
+  names_by_event xs None (Answer now id r) kept = tt
+  names_by_event xs (Some x) (Fail now id kind) kept = failure_names x now id kind (fallback_for (policy_of table.lines x.line) es x.asked now (decision_of (policy_of table.lines x.line) es x.asked now)) refl
+  names_by_event xs None (Fail now id kind) kept = tt
+  names_by_event xs (Some x) (Wake now id) kept = woken_names x now id (decision_of (policy_of table.lines x.line) es x.asked now)
+  names_by_event xs None (Wake now id) kept = tt
+  names_by_event xs x (Abandon id) kept = tt
 
 -- no serial is held twice
 pub held_distinct : (table : Table) (limit first : ℕ) (past : List Item) → IsGoodHistory table limit first past → Distinct (serials (held_entries table limit past))
@@ -188,6 +189,6 @@ pub names_first_rules : NamesFirstRules
 names_first_rules table limit first item past g =
     let xs = open_exchanges table limit past in
     let x = find_exchange (id_of item.event) xs in
-    subst (NamesFirst table limit past x item.event) (sym g.0.outcome_is)
-    (names_by_event table limit past (held_distinct table limit first past g.1) xs x (next_serial first past) item.event
+    subst (NamesFirst table limit past (next_serial first past) x item.event) (sym g.0.outcome_is)
+    (names_by_event table limit past (held_distinct table limit first past g.1) (next_serial first past) xs x item.event
     (λ z h. least_when_judged table limit first (id_of item.event) past z g.1 h))

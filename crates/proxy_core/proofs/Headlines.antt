@@ -6,7 +6,7 @@ use Rattle.hx_fields.specs.declared.limits.TheConstants.{END_OF_TIME}
 use Rattle.hx_framing.specs.declared.messages.Response.{Response}
 use Rattle.hx_hop.specs.declared.request_view.Asked.{Asked}
 use Rattle.hx_allow.specs.Lines.{Table}
-use Rattle.hx_allow.specs.Matching.{verdict_of, caches_of}
+use Rattle.hx_allow.specs.Matching.{verdict_of, policy_of}
 use Rattle.hx_allow.specs.declared.verdicts.Verdict.{Verdict}
 use Rattle.hx_allow.specs.declared.verdicts.Verdict.TheVariants as verdict
 use Rattle.hx_allow.specs.declared.verdicts.Verdict.TheVariants.{Allowed}
@@ -67,7 +67,7 @@ not_forward {P} o line bytes back h =
 abbrev Goes : Table → List Stored → List Item → ℕ → List ℕ → Event → Type 0
 Goes table es past line bytes event =
     (asked : Asked) × (condition : Option Condition) × (asked_at (id_of event) event (asked_by (id_of event) past) ≡ Some asked) × (verdict_of table.lines asked.method asked.target ≡ Allowed line)
-    × IsItsCondition (caches_of table.lines line) es asked event condition × (bytes ≡ forward_text table asked condition)
+    × IsItsCondition (policy_of table.lines line) es asked event condition × (bytes ≡ forward_text table asked condition)
 
 abbrev bytes_in : Outcome → List ℕ
 bytes_in (Forward line bytes) = bytes
@@ -139,11 +139,11 @@ module _ (table : Table) (es : List Stored) where
   some_or_not e h = cc
 
   answer_goes_on : Distinct (serials es) → (now id : ℕ) (x : Exchange) (r : Response) (next : Option ℕ) →
-      GoesOnBy table es (Some x) (Answer now id r) (answered table es now x r next (decision_of (caches_of table.lines x.line) es x.asked now))
+      GoesOnBy table es (Some x) (Answer now id r) (answered table es now x r next (decision_of (policy_of table.lines x.line) es x.asked now))
   answer_goes_on distinct now id x r next = by_304 (is_validation x r) refl
     where
       d : Decision
-      d = decision_of (caches_of table.lines x.line) es x.asked now
+      d = decision_of (policy_of table.lines x.line) es x.asked now
 
       Is : Outcome → Type 0
       Is o = (AsksAgain table es x now id r → o ≡ Forward x.line (forward_text table x.asked None)) × ((AsksAgain table es x now id r → ⊥) → IsReply o)
@@ -151,28 +151,28 @@ module _ (table : Table) (es : List Stored) where
       validates : is_validation x r ≡ true → (o : Option Stored) → validated es x r now ≡ o → (k : Decision) → d ≡ k → Is (revalidated table es now x r o k)
       validates y (Some e) v k dk = (λ asks. absurd (asks.1 e.serial (inl (y, (e, v, refl)))), λ no. (_, refl))
       validates y None v (decision.Hit s) dk =
-          (λ asks. absurd (asks.1 s (inr (inl (y, v, reused_is_allowed (caches_of table.lines x.line) es x.asked now s dk)))), λ no. (_, refl))
+          (λ asks. absurd (asks.1 s (inr (inl (y, v, reused_is_allowed (policy_of table.lines x.line) es x.asked now s dk)))), λ no. (_, refl))
       validates y None v (decision.Forward rule against) dk = (λ asks. refl, λ no. absurd (no (y, none_may)))
         where
           none_may : (s : ℕ) → MayBeSentAt table es (Some x) (Answer now id r) s → ⊥
           none_may s (inl may) = some_or_not may.1.0 (sym may.1.1 ∙ v)
-          none_may s (inr (inl may)) = hit_or_not s rule against (sym (reusable_hit (caches_of table.lines x.line) es distinct x.asked now s may.2) ∙ dk)
+          none_may s (inr (inl may)) = hit_or_not s rule against (sym (reusable_hit (policy_of table.lines x.line) es distinct x.asked now s may.2) ∙ dk)
           none_may s (inr (inr may)) = no_true (sym may.0 ∙ y)
 
       by_304 : (b : Bool) → is_validation x r ≡ b →
           Is (cond b (revalidated table es now x r (validated es x r now) d)
-          (cond (is_unasked x.asked r) (failed table es now x BadAnswer (Some r.status) (fallback_for es x.asked now d)) (passed_unless table es now x r next (is_error_status r.status) (fallback_for es x.asked now d))))
+          (cond (is_unasked x.asked r) (failed table es now x BadAnswer (Some r.status) (fallback_for (policy_of table.lines x.line) es x.asked now d)) (passed_unless table es now x r next (is_error_status r.status) (fallback_for (policy_of table.lines x.line) es x.asked now d))))
       by_304 true k = validates k (validated es x r now) refl d refl
       by_304 false k = (λ asks. no_true (sym k ∙ asks.0), λ no. by_unasked (is_unasked x.asked r))
         where
-          by_unasked : (b : Bool) → IsReply (cond b (failed table es now x BadAnswer (Some r.status) (fallback_for es x.asked now d)) (passed_unless table es now x r next (is_error_status r.status) (fallback_for es x.asked now d)))
-          by_unasked true = failed_replies now x BadAnswer (Some r.status) (fallback_for es x.asked now d)
-          by_unasked false = passed_replies now x r next (is_error_status r.status) (fallback_for es x.asked now d)
+          by_unasked : (b : Bool) → IsReply (cond b (failed table es now x BadAnswer (Some r.status) (fallback_for (policy_of table.lines x.line) es x.asked now d)) (passed_unless table es now x r next (is_error_status r.status) (fallback_for (policy_of table.lines x.line) es x.asked now d)))
+          by_unasked true = failed_replies now x BadAnswer (Some r.status) (fallback_for (policy_of table.lines x.line) es x.asked now d)
+          by_unasked false = passed_replies now x r next (is_error_status r.status) (fallback_for (policy_of table.lines x.line) es x.asked now d)
 
-  wake_goes_on : (now id : ℕ) (x : Exchange) (k : Decision) → decision_of (caches_of table.lines x.line) es x.asked now ≡ k → GoesOnBy table es (Some x) (Wake now id) (woken table es now x k)
+  wake_goes_on : (now id : ℕ) (x : Exchange) (k : Decision) → decision_of (policy_of table.lines x.line) es x.asked now ≡ k → GoesOnBy table es (Some x) (Wake now id) (woken table es now x k)
   wake_goes_on now id x (decision.Hit s) dk = inl (_, refl)
   wake_goes_on now id x (decision.Forward rule against) dk =
-      let named = names_the_least (caches_of table.lines x.line) es x.asked now rule against dk in
+      let named = names_the_least (policy_of table.lines x.line) es x.asked now rule against dk in
       inr (rule, record { is_least = named.0; against = against; names = named.1; outcome_is = refl })
 
   goes_on_by : Distinct (serials es) → (xs : List Exchange) (x : Option Exchange) (next : Option ℕ) (event : Event) → fault_of x event ≡ None → GoesOnBy table es x event (outcome_of table es xs x next event)
@@ -180,16 +180,16 @@ module _ (table : Table) (es : List Stored) where
   goes_on_by distinct xs (Some x) next (Answer now id r) h = answer_goes_on distinct now id x r next
   goes_on_by distinct xs None next (Answer now id r) h = absurd (cc)
   goes_on_by distinct xs (Some x) next (Fail now id kind) h =
-      failed_replies now x kind None (fallback_for es x.asked now (decision_of (caches_of table.lines x.line) es x.asked now))
+      failed_replies now x kind None (fallback_for (policy_of table.lines x.line) es x.asked now (decision_of (policy_of table.lines x.line) es x.asked now))
   goes_on_by distinct xs None next (Fail now id kind) h = absurd (cc)
-  goes_on_by distinct xs (Some x) next (Wake now id) h = wake_goes_on now id x (decision_of (caches_of table.lines x.line) es x.asked now) refl
+  goes_on_by distinct xs (Some x) next (Wake now id) h = wake_goes_on now id x (decision_of (policy_of table.lines x.line) es x.asked now) refl
   goes_on_by distinct xs None next (Wake now id) h = absurd (cc)
   goes_on_by distinct xs x next (Abandon id) h = refl
 
   -- ---- what closes
 
   arrival_closes : (xs : List Exchange) (now : ℕ) (asked : Asked) (v : Verdict) → close_in asked.close (arrived table es xs now asked v) ≡ asked.close
-  arrival_closes xs now asked (verdict.Allowed line) = by_decision (decision_of (caches_of table.lines line) es asked now)
+  arrival_closes xs now asked (verdict.Allowed line) = by_decision (decision_of (policy_of table.lines line) es asked now)
     where
       on : (condition : Option Condition) (leader : Option ℕ) → close_in asked.close (sent_on table line asked condition leader) ≡ asked.close
       on condition None = refl
@@ -222,12 +222,12 @@ module _ (table : Table) (es : List Stored) where
       passes true (Refuses rule error) = refl
       passes false fallback = refl
 
-      by_unasked : (b : Bool) → close_in x.asked.close (cond b (failed table es now x BadAnswer (Some r.status) (fallback_for es x.asked now d)) (passed_unless table es now x r next (is_error_status r.status) (fallback_for es x.asked now d))) ≡ x.asked.close
-      by_unasked true = failed_closes now x BadAnswer (Some r.status) (fallback_for es x.asked now d)
-      by_unasked false = passes (is_error_status r.status) (fallback_for es x.asked now d)
+      by_unasked : (b : Bool) → close_in x.asked.close (cond b (failed table es now x BadAnswer (Some r.status) (fallback_for (policy_of table.lines x.line) es x.asked now d)) (passed_unless table es now x r next (is_error_status r.status) (fallback_for (policy_of table.lines x.line) es x.asked now d))) ≡ x.asked.close
+      by_unasked true = failed_closes now x BadAnswer (Some r.status) (fallback_for (policy_of table.lines x.line) es x.asked now d)
+      by_unasked false = passes (is_error_status r.status) (fallback_for (policy_of table.lines x.line) es x.asked now d)
 
       by_304 : (b : Bool) → close_in x.asked.close (cond b (revalidated table es now x r (validated es x r now) d)
-          (cond (is_unasked x.asked r) (failed table es now x BadAnswer (Some r.status) (fallback_for es x.asked now d)) (passed_unless table es now x r next (is_error_status r.status) (fallback_for es x.asked now d)))) ≡ x.asked.close
+          (cond (is_unasked x.asked r) (failed table es now x BadAnswer (Some r.status) (fallback_for (policy_of table.lines x.line) es x.asked now d)) (passed_unless table es now x r next (is_error_status r.status) (fallback_for (policy_of table.lines x.line) es x.asked now d)))) ≡ x.asked.close
       by_304 true = validates (validated es x r now) d
       by_304 false = by_unasked (is_unasked x.asked r)
 
@@ -248,11 +248,11 @@ module _ (table : Table) (es : List Stored) where
 
   closes_by : (xs : List Exchange) (x : Option Exchange) (next : Option ℕ) (event : Event) → fault_of x event ≡ None → Closes x event (outcome_of table es xs x next event)
   closes_by xs x next (Arrive now id asked) h = arrival_closes xs now asked (verdict_of table.lines asked.method asked.target)
-  closes_by xs (Some x) next (Answer now id r) h = answer_closes now x r next (decision_of (caches_of table.lines x.line) es x.asked now)
+  closes_by xs (Some x) next (Answer now id r) h = answer_closes now x r next (decision_of (policy_of table.lines x.line) es x.asked now)
   closes_by xs None next (Answer now id r) h = absurd (cc)
-  closes_by xs (Some x) next (Fail now id kind) h = failed_closes now x kind None (fallback_for es x.asked now (decision_of (caches_of table.lines x.line) es x.asked now))
+  closes_by xs (Some x) next (Fail now id kind) h = failed_closes now x kind None (fallback_for (policy_of table.lines x.line) es x.asked now (decision_of (policy_of table.lines x.line) es x.asked now))
   closes_by xs None next (Fail now id kind) h = absurd (cc)
-  closes_by xs (Some x) next (Wake now id) h = wake_closes now x (decision_of (caches_of table.lines x.line) es x.asked now)
+  closes_by xs (Some x) next (Wake now id) h = wake_closes now x (decision_of (policy_of table.lines x.line) es x.asked now)
   closes_by xs None next (Wake now id) h = absurd (cc)
   closes_by xs x next (Abandon id) h = refl
 
@@ -292,31 +292,31 @@ module _ (table : Table) (limit first : ℕ) where
           Forward line bytes ≡ outcome_of table es xs w (next_serial first past) (Answer now id r) → Goes table es past line bytes (Answer now id r)
       by_answer now id r None w_is o = absurd (cc)
       by_answer now id r (Some x) w_is o =
-          let again = subst (IsAgain table x) (sym o) (again_by table es now x r (next_serial first past) (decision_of (caches_of table.lines x.line) es x.asked now)) in
+          let again = subst (IsAgain table x) (sym o) (again_by table es now x r (next_serial first past) (decision_of (policy_of table.lines x.line) es x.asked now)) in
           let carried = (carries_its_arrival table limit first id past x g.1 w_is).0 in
           (x.asked, None, has_its_request table limit first id past x g.1 w_is, carried.line_allows ∙ ap (λ n. Allowed n) (sym again.0), refl, again.1)
 
       by_failure : (now id : ℕ) (kind : FailKind) (w : Option Exchange) → Forward line bytes ≡ outcome_of table es xs w (next_serial first past) (Fail now id kind) → Goes table es past line bytes (Fail now id kind)
       by_failure now id kind None o = absurd (cc)
       by_failure now id kind (Some x) o =
-          not_forward _ line bytes (failed_back table es now x kind None (fallback_for es x.asked now (decision_of (caches_of table.lines x.line) es x.asked now))) (sym o)
+          not_forward _ line bytes (failed_back table es now x kind None (fallback_for (policy_of table.lines x.line) es x.asked now (decision_of (policy_of table.lines x.line) es x.asked now))) (sym o)
 
       by_wake : (now id : ℕ) (w : Option Exchange) → find_exchange id xs ≡ w →
           Forward line bytes ≡ outcome_of table es xs w (next_serial first past) (Wake now id) → Goes table es past line bytes (Wake now id)
       by_wake now id None w_is o = absurd (cc)
-      by_wake now id (Some x) w_is o = by_decision (decision_of (caches_of table.lines x.line) es x.asked now) refl o
+      by_wake now id (Some x) w_is o = by_decision (decision_of (policy_of table.lines x.line) es x.asked now) refl o
         where
-          by_decision : (d : Decision) → decision_of (caches_of table.lines x.line) es x.asked now ≡ d → Forward line bytes ≡ woken table es now x d → Goes table es past line bytes (Wake now id)
+          by_decision : (d : Decision) → decision_of (policy_of table.lines x.line) es x.asked now ≡ d → Forward line bytes ≡ woken table es now x d → Goes table es past line bytes (Wake now id)
           by_decision (decision.Hit s) k h = absurd (cc)
           by_decision (decision.Forward rule against) k h =
               let same : line ≡ x.line = cc in
               let carried = (carries_its_arrival table limit first id past x g.1 w_is).0 in
-              let named = names_the_least (caches_of table.lines x.line) es x.asked now rule against k in (
+              let named = names_the_least (policy_of table.lines x.line) es x.asked now rule against k in (
                 x.asked,
                 condition_at es against,
                 has_its_request table limit first id past x g.1 w_is,
                 carried.line_allows ∙ ap (λ n. Allowed n) (sym same),
-                (rule, against, subst (λ n. IsLeast (caches_of table.lines n) es x.asked now rule) (sym same) named.0, named.1, refl),
+                (rule, against, subst (λ n. IsLeast (policy_of table.lines n) es x.asked now rule) (sym same) named.0, named.1, refl),
                 ap bytes_in h,
               )
 
@@ -399,7 +399,7 @@ module _ (table : Table) (limit first : ℕ) where
         sends_where_one_may_be = each (SendsExactly table limit)
             (λ item past g s. (λ may. sends_what_may_be_sent table limit first s item past g may, λ h. sends_nothing_else table limit first s item past g h)) trace g;
         sends_that_response = each (SendsThatResponse table limit) (λ item past g s h. sends_what_is_held table limit first s item past g h) trace g;
-        names_the_first_rule = each (NamesTheFirst table limit) (λ item past g. names_first_rules table limit first item past g) trace g;
+        names_the_first_rule = each (NamesTheFirst table limit first) (λ item past g. names_first_rules table limit first item past g) trace g;
         stores_where_it_may = each (StoresExactly table limit first) stores trace g;
         removes_what_goes = each (RemovesExactly table limit) (λ item past g. removes_just_that table limit first item past g) trace g;
         closes_as_asked = each ClosesAsAsked closes trace g;

@@ -13,7 +13,7 @@ use Rattle.proxy_core.specs.declared.outcome.Outcome.TheVariants.{Reply, Forward
 use Rattle.proxy_core.specs.declared.event.Event.{Event}
 use Rattle.proxy_core.specs.declared.event.Event.TheVariants.{Arrive, Answer, Fail, Wake, Abandon}
 use Rattle.proxy_core.specs.Outcomes.{find_exchange, id_of, fault_of}
-use Rattle.hx_allow.specs.Matching.{verdict_of, caches_of}
+use Rattle.hx_allow.specs.Matching.{verdict_of, policy_of}
 use Rattle.hx_reuse.specs.Rules.{decision_of}
 use Rattle.proxy_core.specs.Validating.{condition_at}
 use Rattle.proxy_core.specs.State.{overtake, release, left_open, closed, opened, queued, line_of, rule_of, named_by, gone_out, woken_out, invalidated_by, open_after}
@@ -54,7 +54,7 @@ ids-left_open (Some key) id xs = ids-map (overtake key) (overtake-id key) (close
 ids-woken : (table : Table) (es : List Stored) (id now : ℕ) (w : Option Exchange) (xs : List Exchange) → ids_of (woken_out table es id now w xs) ≡ ids_of xs
 ids-woken table es id now None xs = refl
 ids-woken table es id now (Some x) xs =
-    ids-map _ (sent_out-id id now (rule_of (decision_of (caches_of table.lines x.line) es x.asked now)) (condition_at es (named_by (decision_of (caches_of table.lines x.line) es x.asked now)))) xs
+    ids-map _ (sent_out-id id now (rule_of (decision_of (policy_of table.lines x.line) es x.asked now)) (condition_at es (named_by (decision_of (policy_of table.lines x.line) es x.asked now)))) xs
 
 ids-push : (xs : List Exchange) (x : Exchange) → ids_of (xs ++ x ∷ []) ≡ ids_of xs ++ x.id ∷ []
 ids-push [] x = refl

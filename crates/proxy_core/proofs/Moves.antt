@@ -7,7 +7,7 @@ use Rattle.http.specs.Method.{safe_methods, is_among}
 use Rattle.hx_framing.specs.declared.messages.Response.{Response}
 use Rattle.hx_hop.specs.declared.request_view.Asked.{Asked}
 use Rattle.hx_allow.specs.Lines.{Table}
-use Rattle.hx_allow.specs.Matching.{verdict_of, caches_of}
+use Rattle.hx_allow.specs.Matching.{verdict_of, policy_of}
 use Rattle.hx_store.specs.Stored.{Stored}
 use Rattle.hx_reuse.specs.Rules.{decision_of}
 use Rattle.hx_reuse.specs.declared.rule.ReuseRule.{ReuseRule}
@@ -48,7 +48,7 @@ out_again now z = goes_out now z.rule None z
 -- the exchange that was woken and went forward
 abbrev pub woken_form : Table → List Stored → ℕ → Exchange → Exchange
 woken_form table es now z =
-    goes_out now (rule_of (decision_of (caches_of table.lines z.line) es z.asked now)) (condition_at es (named_by (decision_of (caches_of table.lines z.line) es z.asked now))) z
+    goes_out now (rule_of (decision_of (policy_of table.lines z.line) es z.asked now)) (condition_at es (named_by (decision_of (policy_of table.lines z.line) es z.asked now))) z
 
 -- the exchange that ends by a step
 abbrev pub ended_by : Event → Outcome → Option ℕ
@@ -112,15 +112,15 @@ again_asked : (table : Table) (es : List Stored) (now : ℕ) (x : Exchange) (r :
 again_asked table es now x r next d h = by_304 (is_validation x r) h
   where
     by_304 : (b : Bool) → goes_forward (cond b (revalidated table es now x r (validated es x r now) d)
-        (cond (is_unasked x.asked r) (failed table es now x BadAnswer (Some r.status) (fallback_for es x.asked now d))
-        (passed_unless table es now x r next (is_error_status r.status) (fallback_for es x.asked now d)))) ≡ true → b ≡ true
+        (cond (is_unasked x.asked r) (failed table es now x BadAnswer (Some r.status) (fallback_for (policy_of table.lines x.line) es x.asked now d))
+        (passed_unless table es now x r next (is_error_status r.status) (fallback_for (policy_of table.lines x.line) es x.asked now d)))) ≡ true → b ≡ true
     by_304 true h = refl
     by_304 false h = absurd (by_unasked (is_unasked x.asked r) h)
       where
-        by_unasked : (b : Bool) → goes_forward (cond b (failed table es now x BadAnswer (Some r.status) (fallback_for es x.asked now d))
-            (passed_unless table es now x r next (is_error_status r.status) (fallback_for es x.asked now d))) ≡ true → ⊥
-        by_unasked true h = false≢true (sym (failed_back table es now x BadAnswer (Some r.status) (fallback_for es x.asked now d)) ∙ h)
-        by_unasked false h = false≢true (sym (passed_back table es now x r next (is_error_status r.status) (fallback_for es x.asked now d)) ∙ h)
+        by_unasked : (b : Bool) → goes_forward (cond b (failed table es now x BadAnswer (Some r.status) (fallback_for (policy_of table.lines x.line) es x.asked now d))
+            (passed_unless table es now x r next (is_error_status r.status) (fallback_for (policy_of table.lines x.line) es x.asked now d))) ≡ true → ⊥
+        by_unasked true h = false≢true (sym (failed_back table es now x BadAnswer (Some r.status) (fallback_for (policy_of table.lines x.line) es x.asked now d)) ∙ h)
+        by_unasked false h = false≢true (sym (passed_back table es now x r next (is_error_status r.status) (fallback_for (policy_of table.lines x.line) es x.asked now d)) ∙ h)
 
 and_right : (a b : Bool) → (a && b) ≡ true → b ≡ true
 and_right true b h = h
@@ -144,7 +144,7 @@ same_tests true true false false s h k = sym (ap (λ b. b && true) (k refl refl 
 answer_sends : (table : Table) (es : List Stored) (now : ℕ) (x : Exchange) (r : Response) (next : Option ℕ) (d : Decision)
     → (v n e : Bool) → v ≡ false → n ≡ false → e ≡ false
     → sends_nothing_held (cond v (revalidated table es now x r (validated es x r now) d)
-    (cond n (failed table es now x BadAnswer (Some r.status) (fallback_for es x.asked now d)) (passed_unless table es now x r next e (fallback_for es x.asked now d)))) ≡ true
+    (cond n (failed table es now x BadAnswer (Some r.status) (fallback_for (policy_of table.lines x.line) es x.asked now d)) (passed_unless table es now x r next e (fallback_for (policy_of table.lines x.line) es x.asked now d)))) ≡ true
 answer_sends table es now x r next d true n e hv hn he = absurd (false≢true (sym hv))
 answer_sends table es now x r next d false true e hv hn he = absurd (false≢true (sym hn))
 answer_sends table es now x r next d false false true hv hn he = absurd (false≢true (sym he))
@@ -161,7 +161,7 @@ same_key_invalidated table es now x r next d =
     let c = nat_le 200 r.status && nat_le r.status 399 in
     let by_304 : v ≡ true → sends_nothing_held o ≡ false = λ h.
     ap (λ b. sends_nothing_held (cond b (revalidated table es now x r (validated es x r now) d)
-    (cond n (failed table es now x BadAnswer (Some r.status) (fallback_for es x.asked now d)) (passed_unless table es now x r next e (fallback_for es x.asked now d))))) h
+    (cond n (failed table es now x BadAnswer (Some r.status) (fallback_for (policy_of table.lines x.line) es x.asked now d)) (passed_unless table es now x r next e (fallback_for (policy_of table.lines x.line) es x.asked now d))))) h
     ∙ held_sent table es now x r (validated es x r now) d
     in
     let by_passing : v ≡ false → n ≡ false → c ≡ true → sends_nothing_held o ≡ true = λ hv hn hc.
@@ -231,14 +231,14 @@ answer_either table es now x r next d = by_304 (is_validation x r)
     by_error true (Refuses rule error) = refl
     by_error false fallback = refl
 
-    by_unasked : (b : Bool) → is_either (cond b (failed table es now x BadAnswer (Some r.status) (fallback_for es x.asked now d))
-        (passed_unless table es now x r next (is_error_status r.status) (fallback_for es x.asked now d))) ≡ true
-    by_unasked true = by_fallback (fallback_for es x.asked now d)
-    by_unasked false = by_error (is_error_status r.status) (fallback_for es x.asked now d)
+    by_unasked : (b : Bool) → is_either (cond b (failed table es now x BadAnswer (Some r.status) (fallback_for (policy_of table.lines x.line) es x.asked now d))
+        (passed_unless table es now x r next (is_error_status r.status) (fallback_for (policy_of table.lines x.line) es x.asked now d))) ≡ true
+    by_unasked true = by_fallback (fallback_for (policy_of table.lines x.line) es x.asked now d)
+    by_unasked false = by_error (is_error_status r.status) (fallback_for (policy_of table.lines x.line) es x.asked now d)
 
     by_304 : (b : Bool) → is_either (cond b (revalidated table es now x r (validated es x r now) d)
-        (cond (is_unasked x.asked r) (failed table es now x BadAnswer (Some r.status) (fallback_for es x.asked now d))
-        (passed_unless table es now x r next (is_error_status r.status) (fallback_for es x.asked now d)))) ≡ true
+        (cond (is_unasked x.asked r) (failed table es now x BadAnswer (Some r.status) (fallback_for (policy_of table.lines x.line) es x.asked now d))
+        (passed_unless table es now x r next (is_error_status r.status) (fallback_for (policy_of table.lines x.line) es x.asked now d)))) ≡ true
     by_304 true = again_or_sent (validated es x r now) d
     by_304 false = by_unasked (is_unasked x.asked r)
 
@@ -288,10 +288,10 @@ module _ (table : Table) (es : List Stored) (xs : List Exchange) (next : Option 
     | inr n ↦ apart n refl
   ]
 
-  answers : (now i : ℕ) (r : Response) (z : Exchange) (o : Outcome) → find_exchange i xs ≡ Some z → is_forwarded z.stage ≡ true → o ≡ answered table es now z r next (decision_of (caches_of table.lines z.line) es z.asked now) →
+  answers : (now i : ℕ) (r : Response) (z : Exchange) (o : Outcome) → find_exchange i xs ≡ Some z → is_forwarded z.stage ≡ true → o ≡ answered table es now z r next (decision_of (policy_of table.lines z.line) es z.asked now) →
       Move id (Some z) (Answer now i r) o (find_exchange id xs) (find_exchange id (open_after table es xs (Answer now i r) o))
   answers now i r z (Forward line bytes) f s h =
-      let d = decision_of (caches_of table.lines z.line) es z.asked now in
+      let d = decision_of (policy_of table.lines z.line) es z.asked now in
       let p = find-gone_out i now id xs in
       let v = again_asked table es now z r next d (ap goes_forward (sym h)) in
       elim (cases_Bool (eqb i id)) [
@@ -306,13 +306,13 @@ module _ (table : Table) (es : List Stored) (xs : List Exchange) (next : Option 
   answers now i r z (Reply p) f s h = gone z (Answer now i r) (Reply p) f refl refl _ (
       find-left_open (invalidated_by (find_exchange i xs) r) i id xs
       ∙ ap (λ k. cond (eqb i id) None (changed_by k (Some i) (find_exchange id xs)))
-      (ap (λ w. invalidated_by w r) f ∙ same_key_invalidated table es now z r next (decision_of (caches_of table.lines z.line) es z.asked now) ∙ ap (key_by_answer z.asked r) (sym h))
+      (ap (λ w. invalidated_by w r) f ∙ same_key_invalidated table es now z r next (decision_of (policy_of table.lines z.line) es z.asked now) ∙ ap (key_by_answer z.asked r) (sym h))
       )
-  answers now i r z (Waits leader) f s h = absurd (false≢true (ap is_either h ∙ answer_either table es now z r next (decision_of (caches_of table.lines z.line) es z.asked now)))
-  answers now i r z Ended f s h = absurd (false≢true (ap is_either h ∙ answer_either table es now z r next (decision_of (caches_of table.lines z.line) es z.asked now)))
+  answers now i r z (Waits leader) f s h = absurd (false≢true (ap is_either h ∙ answer_either table es now z r next (decision_of (policy_of table.lines z.line) es z.asked now)))
+  answers now i r z Ended f s h = absurd (false≢true (ap is_either h ∙ answer_either table es now z r next (decision_of (policy_of table.lines z.line) es z.asked now)))
 
   -- what waited and is woken
-  wakes_up : (now i : ℕ) (z : Exchange) (o : Outcome) (d : Decision) → decision_of (caches_of table.lines z.line) es z.asked now ≡ d → find_exchange i xs ≡ Some z → is_released z.stage ≡ true →
+  wakes_up : (now i : ℕ) (z : Exchange) (o : Outcome) (d : Decision) → decision_of (policy_of table.lines z.line) es z.asked now ≡ d → find_exchange i xs ≡ Some z → is_released z.stage ≡ true →
       o ≡ woken table es now z d → Move id (Some z) (Wake now i) o (find_exchange id xs) (find_exchange id (open_after table es xs (Wake now i) o))
   wakes_up now i z o (decision.Hit serial) d_is f s h =
       subst (λ (o : Outcome). Move id (Some z) (Wake now i) o (find_exchange id xs) (find_exchange id (open_after table es xs (Wake now i) o))) (sym h)
@@ -322,10 +322,10 @@ module _ (table : Table) (es : List Stored) (xs : List Exchange) (next : Option 
       (by_id (ap (λ (w : Option Exchange). find_exchange id (woken_out table es i now w xs)) f ∙ find-map out (sent_out-id i now q c) id xs))
     where
       q : ReuseRule
-      q = rule_of (decision_of (caches_of table.lines z.line) es z.asked now)
+      q = rule_of (decision_of (policy_of table.lines z.line) es z.asked now)
 
       c : Option Condition
-      c = condition_at es (named_by (decision_of (caches_of table.lines z.line) es z.asked now))
+      c = condition_at es (named_by (decision_of (policy_of table.lines z.line) es z.asked now))
 
       out : Exchange → Exchange
       out x = sent_out i now q c x
@@ -353,10 +353,10 @@ module _ (table : Table) (es : List Stored) (xs : List Exchange) (next : Option 
   step (Answer now i r) o (Some w) f a h = answers now i r w o f (forwarded_by (too_late now) w.stage a) h
   step (Fail now i kind) o None f a h = absurd (cc)
   step (Fail now i kind) o (Some w) f a h =
-      gone w (Fail now i kind) o f refl (ap ends h ∙ failed_ends table es now w kind None (fallback_for es w.asked now (decision_of (caches_of table.lines w.line) es w.asked now))) _ (find-closed i id xs)
+      gone w (Fail now i kind) o f refl (ap ends h ∙ failed_ends table es now w kind None (fallback_for (policy_of table.lines w.line) es w.asked now (decision_of (policy_of table.lines w.line) es w.asked now))) _ (find-closed i id xs)
   step (Wake now i) o None f a h = absurd (cc)
   step (Wake now i) o (Some w) f a h =
-      wakes_up now i w o (decision_of (caches_of table.lines w.line) es w.asked now) refl f (released_from (too_late now) w.stage a) h
+      wakes_up now i w o (decision_of (policy_of table.lines w.line) es w.asked now) refl f (released_from (too_late now) w.stage a) h
   step (Abandon i) o None f a h = absurd (cc)
   step (Abandon i) o (Some w) f a h = gone w (Abandon i) o f refl (ap ends h) _ (find-closed i id xs)
 

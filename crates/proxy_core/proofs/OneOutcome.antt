@@ -5,13 +5,14 @@ use Rattle.std.specs.Prelude.{is_none, is_some}
 use Rattle.std.proofs.lemmas.Bool.{eqb-true, eq-eqb, false≢true}
 use Rattle.std.proofs.lemmas.Bool.Decides.{nat_tests}
 use Rattle.std.proofs.lemmas.Option.{same_Some}
+use Rattle.hx_policy.specs.declared.words.Policy.{Policy}
 use Rattle.hx_fields.specs.declared.limits.TheConstants.{END_OF_TIME}
 use Rattle.hx_directives.specs.Occurrences.{occurrences_of}
 use Rattle.hx_framing.specs.declared.messages.Response.{Response}
 use Rattle.hx_hop.specs.declared.request_view.Asked.{Asked}
 use Rattle.hx_hop.specs.Moments.{date_text_of}
 use Rattle.hx_allow.specs.Lines.{Table}
-use Rattle.hx_allow.specs.Matching.{verdict_of, caches_of}
+use Rattle.hx_allow.specs.Matching.{verdict_of, policy_of}
 use Rattle.hx_allow.specs.declared.verdicts.Verdict.{Verdict}
 use Rattle.hx_allow.specs.declared.verdicts.Verdict.TheVariants as verdict
 use Rattle.hx_store.specs.Stored.{Stored}
@@ -42,10 +43,10 @@ use Rattle.proxy_core.specs.declared.event.Event.{Event}
 use Rattle.proxy_core.specs.declared.event.Event.TheVariants.{Arrive, Answer, Fail, Wake, Abandon}
 use Rattle.proxy_core.specs.Moments.{too_late}
 use Rattle.proxy_core.specs.Leading.{leader_for}
-use Rattle.proxy_core.specs.Storing.{is_unasked, replaced_by}
+use Rattle.proxy_core.specs.Storing.{rule_told, is_unasked, replaced_by}
 use Rattle.proxy_core.specs.Validating.{condition_at, is_validation, validated}
 use Rattle.proxy_core.specs.Replies.{stored_text, passed_text, refused_text, is_head}
-use Rattle.proxy_core.specs.Outcomes.{find_exchange, id_of, outcome_by, refused, forwarded_as, forward_text, or_fault, not_forwarded, not_ready, fault_of, fault_by}
+use Rattle.proxy_core.specs.Outcomes.{as_hit, find_exchange, id_of, outcome_by, refused, forwarded_as, forward_text, or_fault, not_forwarded, not_ready, fault_of, fault_by}
 use Rattle.proxy_core.specs.State.{stored_in, used_in, removed_in, used_form}
 use Rattle.proxy_core.specs.Traces.{Item}
 use Rattle.proxy_core.specs.Histories.{held_entries, open_exchanges, next_serial, IsGoodHistory}
@@ -75,11 +76,11 @@ rule_named : Decision → ReuseRule → ReuseRule
 rule_named (decision.Forward rule against) other = rule
 rule_named (decision.Hit s) other = other
 
-module _ (caches : Bool) (es : List Stored) (asked : Asked) (now : ℕ) where
-  pub one_rule : (a b : ReuseRule) → IsLeast caches es asked now a → IsLeast caches es asked now b → a ≡ b
+module _ (policy : Policy) (es : List Stored) (asked : Asked) (now : ℕ) where
+  pub one_rule : (a b : ReuseRule) → IsLeast policy es asked now a → IsLeast policy es asked now b → a ≡ b
   one_rule a b least more =
-      let one = forwards caches es asked now a least in
-      let other = forwards caches es asked now b more in
+      let one = forwards policy es asked now a least in
+      let other = forwards policy es asked now b more in
       let same : decision.Forward a one.0 ≡ decision.Forward b other.0 = sym one.1 ∙ other.1 in
       cc
 
@@ -90,37 +91,37 @@ module _ (caches : Bool) (es : List Stored) (asked : Asked) (now : ℕ) where
   one_named rule a b (inr m) (inr n) =
       m.1.2 ∙ ap (λ (e : Stored). Some e.serial) (same_Some m.1.0 n.1.0 (sym m.1.1 ∙ n.1.1)) ∙ sym n.1.2
 
-  one_error : (rule : ReuseRule) (a b : Option ErrorRule) → NamesErrorRule es now asked rule a → NamesErrorRule es now asked rule b → a ≡ b
+  one_error : (rule : ReuseRule) (a b : Option ErrorRule) → NamesErrorRule policy es now asked rule a → NamesErrorRule policy es now asked rule b → a ≡ b
   one_error rule a b (inl m) (inl n) = m.1 ∙ sym n.1
   one_error rule a b (inl m) (inr n) = no_true (sym m.0 ∙ n.0)
   one_error rule a b (inr m) (inl n) = no_true (sym n.0 ∙ m.0)
   one_error rule a b (inr (late, (e, least, chosen, stands, is))) (inr (late2, (f, most, chosen2, stands2, is2))) =
       let same : e ≡ f = same_Some e f (sym chosen ∙ chosen2) in
-      let one : error_rule_on e (occurrences_of asked.fields) now ≡ Some least = named_on_error e (occurrences_of asked.fields) now least stands in
-      let other : error_rule_on f (occurrences_of asked.fields) now ≡ Some most = named_on_error f (occurrences_of asked.fields) now most stands2 in
-      is ∙ sym one ∙ ap (λ (x : Stored). error_rule_on x (occurrences_of asked.fields) now) same ∙ other ∙ sym is2
+      let one : error_rule_on policy e (occurrences_of asked.fields) now ≡ Some least = named_on_error policy e (occurrences_of asked.fields) now least stands in
+      let other : error_rule_on policy f (occurrences_of asked.fields) now ≡ Some most = named_on_error policy f (occurrences_of asked.fields) now most stands2 in
+      is ∙ sym one ∙ ap (λ (x : Stored). error_rule_on policy x (occurrences_of asked.fields) now) same ∙ other ∙ sym is2
 
   -- a held response may be reused or not
-  reusable_or_not : Distinct (serials es) → (s : ℕ) → IsReusable caches es asked now s ⊎ (IsReusable caches es asked now s → ⊥)
-  reusable_or_not distinct s = by_decision (decision_of caches es asked now) refl
+  reusable_or_not : Distinct (serials es) → (s : ℕ) → IsReusable policy es asked now s ⊎ (IsReusable policy es asked now s → ⊥)
+  reusable_or_not distinct s = by_decision (decision_of policy es asked now) refl
     where
-      by_decision : (d : Decision) → decision_of caches es asked now ≡ d → IsReusable caches es asked now s ⊎ (IsReusable caches es asked now s → ⊥)
+      by_decision : (d : Decision) → decision_of policy es asked now ≡ d → IsReusable policy es asked now s ⊎ (IsReusable policy es asked now s → ⊥)
       by_decision (decision.Forward rule against) k = inr (λ may.
-          let hit : decision.Forward rule against ≡ decision.Hit s = sym k ∙ reusable_hit caches es distinct asked now s may in
+          let hit : decision.Forward rule against ≡ decision.Hit s = sym k ∙ reusable_hit policy es distinct asked now s may in
           absurd (cc))
       by_decision (decision.Hit t) k = by_test (eqb t s) refl
         where
-          by_test : (b : Bool) → eqb t s ≡ b → IsReusable caches es asked now s ⊎ (IsReusable caches es asked now s → ⊥)
-          by_test true same = inl (subst (λ n. IsReusable caches es asked now n) (eqb-true t s same) (reused_is_allowed caches es asked now t k))
+          by_test : (b : Bool) → eqb t s ≡ b → IsReusable policy es asked now s ⊎ (IsReusable policy es asked now s → ⊥)
+          by_test true same = inl (subst (λ n. IsReusable policy es asked now n) (eqb-true t s same) (reused_is_allowed policy es asked now t k))
           by_test false other = inr (λ may.
-              let hit : decision.Hit t ≡ decision.Hit s = sym k ∙ reusable_hit caches es distinct asked now s may in
+              let hit : decision.Hit t ≡ decision.Hit s = sym k ∙ reusable_hit policy es distinct asked now s may in
               let same : t ≡ s = cc in
               no_true (sym other ∙ ap (λ n. eqb n s) same ∙ eq-eqb s s refl))
 
-  one_word : Distinct (serials es) → (s : ℕ) (a b : Option Detail) → WordAfterError caches es asked now s a → WordAfterError caches es asked now s b → a ≡ b
+  one_word : Distinct (serials es) → (s : ℕ) (a b : Option Detail) → WordAfterError policy es asked now s a → WordAfterError policy es asked now s b → a ≡ b
   one_word distinct s a b v w = by_test (reusable_or_not distinct s)
     where
-      by_test : IsReusable caches es asked now s ⊎ (IsReusable caches es asked now s → ⊥) → a ≡ b
+      by_test : IsReusable policy es asked now s ⊎ (IsReusable policy es asked now s → ⊥) → a ≡ b
       by_test (inl may) = v.0 may ∙ sym (w.0 may)
       by_test (inr never) = v.1 never ∙ sym (w.1 never)
 
@@ -128,8 +129,8 @@ module _ (caches : Bool) (es : List Stored) (asked : Asked) (now : ℕ) where
 
 forward_same : (table : Table) (es : List Stored) (asked : Asked) (now line : ℕ) (a b : ReuseRule) (o p : Outcome) → GoesForward table es asked now line a o → GoesForward table es asked now line b p → o ≡ p
 forward_same table es asked now line a b o p m n =
-    let rule : a ≡ b = one_rule (caches_of table.lines line) es asked now a b m.is_least n.is_least in
-    let against : m.against ≡ n.against = one_named (caches_of table.lines line) es asked now b m.against n.against (subst (λ r. NamesTheResponse es asked r m.against) rule m.names) n.names in
+    let rule : a ≡ b = one_rule (policy_of table.lines line) es asked now a b m.is_least n.is_least in
+    let against : m.against ≡ n.against = one_named (policy_of table.lines line) es asked now b m.against n.against (subst (λ r. NamesTheResponse es asked r m.against) rule m.names) n.names in
     m.outcome_is ∙ ap (λ c. Forward line (forward_text table asked (condition_at es c))) against ∙ sym n.outcome_is
 
 module _ (table : Table) (es : List Stored) (xs : List Exchange) (now : ℕ) (asked : Asked) where
@@ -146,9 +147,9 @@ module _ (table : Table) (es : List Stored) (xs : List Exchange) (now : ℕ) (as
   turned_same o p (inr (v, m)) (inr (w, n)) = m ∙ sym n
 
   module _ (line : ℕ) (o p : Outcome) (unused : used_in o ≡ None) (other_unused : used_in p ≡ None) where
-    meets : (rule : ReuseRule) → IsLeast (caches_of table.lines line) es asked now rule → NobodyLeads xs asked rule → WaitsForTheFirst table es xs now asked line p → {P : Type 0} → P
+    meets : (rule : ReuseRule) → IsLeast (policy_of table.lines line) es asked now rule → NobodyLeads xs asked rule → WaitsForTheFirst table es xs now asked line p → {P : Type 0} → P
     meets rule least nobody w =
-        let miss : rule ≡ rules.UriMiss = one_rule (caches_of table.lines line) es asked now rule rules.UriMiss least w.nothing_held in
+        let miss : rule ≡ rules.UriMiss = one_rule (policy_of table.lines line) es asked now rule rules.UriMiss least w.nothing_held in
         one_leads w.leader (sym (ap (leader_for xs asked) miss) ∙ leads_for_none xs asked rule nobody) (leads_for xs asked w.leader w.gets w.first_leads)
 
   reached_same : (line : ℕ) (o p : Outcome) → used_in o ≡ None → used_in p ≡ None → IsReached table es xs now asked line o → IsReached table es xs now asked line p → o ≡ p
@@ -165,7 +166,7 @@ module _ (table : Table) (es : List Stored) (xs : List Exchange) (now : ℕ) (as
   reached_same line o p u v (inr (inr (inr (a, only, least, is)))) (inr (inl (b, n, others, nobody))) = no_true (sym others ∙ only)
   reached_same line o p u v (inr (inr (inr (a, only, least, is)))) (inr (inr (inl z))) = no_true (sym z.takes_others ∙ only)
   reached_same line o p u v (inr (inr (inr (a, only, least, is)))) (inr (inr (inr (b, only2, least2, is2)))) =
-      is ∙ ap (λ r. refused now (OnlyIfCached r) asked) (one_rule (caches_of table.lines line) es asked now a b least least2) ∙ sym is2
+      is ∙ ap (λ r. refused now (OnlyIfCached r) asked) (one_rule (policy_of table.lines line) es asked now a b least least2) ∙ sym is2
 
 -- ---- what is told of a stored response
 
@@ -179,26 +180,31 @@ about_same (Some x) (Wake t id) m n a b h k = (sym h.0 ∙ k.0, sym h.1 ∙ k.1)
 about_same None (Wake t id) m n a b h k = absurd h
 about_same x (Abandon id) m n a b h k = absurd h
 
+same_line : (a b : ℕ) → verdict.Allowed a ≡ verdict.Allowed b → a ≡ b
+same_line a b h = cc
+
 module _ (table : Table) (es : List Stored) (distinct : Distinct (serials es)) where
   at_answer : (x : Exchange) (now : ℕ) (r : Response) (s : ℕ) (a b : Option Detail) →
-      WordAtAnswer (caches_of table.lines x.line) es x now r s a → WordAtAnswer (caches_of table.lines x.line) es x now r s b → a ≡ b
+      WordAtAnswer (policy_of table.lines x.line) es x now r s a → WordAtAnswer (policy_of table.lines x.line) es x now r s b → a ≡ b
   at_answer x now r s a b v w = by_entry (validated es x r now) refl
     where
       by_validation : validated es x r now ≡ None → (t : Bool) → is_validation x r ≡ t → a ≡ b
       by_validation none true k = v.1 k none ∙ sym (w.1 k none)
-      by_validation none false k = one_word (caches_of table.lines x.line) es x.asked now distinct s a b (v.2 k) (w.2 k)
+      by_validation none false k = one_word (policy_of table.lines x.line) es x.asked now distinct s a b (v.2 k) (w.2 k)
 
       by_entry : (o : Option Stored) → validated es x r now ≡ o → a ≡ b
       by_entry (Some e) k = v.0 (ap is_some k) ∙ sym (w.0 (ap is_some k))
       by_entry None k = by_validation k (is_validation x r) refl
 
   how_same : (x : Option Exchange) (event : Event) (s : ℕ) (h k : CacheStatusInfo) → TellsHow table es x event s h → TellsHow table es x event s k → h ≡ k
-  how_same x (Arrive now id asked) s h k a b = a ∙ sym b
+  how_same x (Arrive now id asked) s h k (n, v, is) (m, w, is2) =
+      let same : n ≡ m = same_line n m (sym v ∙ w) in
+      is ∙ ap (λ l. as_hit (policy_of table.lines l)) same ∙ sym is2
   how_same (Some x) (Answer now id r) s h k (d, is, word) (e, is2, word2) =
-      is ∙ ap (forwarded_as x (Some r.status)) (at_answer x now r s d e word word2) ∙ sym is2
+      is ∙ ap (forwarded_as (policy_of table.lines x.line) x (Some r.status)) (at_answer x now r s d e word word2) ∙ sym is2
   how_same None (Answer now id r) s h k a b = absurd a
   how_same (Some x) (Fail now id kind) s h k (d, is, word) (e, is2, word2) =
-      is ∙ ap (forwarded_as x None) (one_word (caches_of table.lines x.line) es x.asked now distinct s d e word word2) ∙ sym is2
+      is ∙ ap (forwarded_as (policy_of table.lines x.line) x None) (one_word (policy_of table.lines x.line) es x.asked now distinct s d e word word2) ∙ sym is2
   how_same None (Fail now id kind) s h k a b = absurd a
   how_same (Some x) (Wake now id) s h k a b = a ∙ sym b
   how_same None (Wake now id) s h k a b = absurd a
@@ -242,7 +248,7 @@ record Fits (table : Table) (limit first : ℕ) (past : List Item) (x : Option E
   goes_on : GoesOnBy table (held_entries table limit past) x event o
   sends : (s : ℕ) → (MayBeSentAt table (held_entries table limit past) x event s → used_in o ≡ Some s) × (used_in o ≡ Some s → MayBeSentAt table (held_entries table limit past) x event s)
   that : (s : ℕ) → used_in o ≡ Some s → IsThatResponse table (held_entries table limit past) x event o s
-  names : NamesFirst table limit past x event o
+  names : NamesFirst table limit past (next_serial first past) x event o
   removes : removed_in o ≡ removed_at table (held_entries table limit past) x event o
   reaches : ReachesExactly table limit (record { event = event; outcome = o }) past
   stores : StoresExactly table limit first (record { event = event; outcome = o }) past
@@ -297,13 +303,13 @@ module _ (table : Table) (limit first : ℕ) (past : List Item) (distinct : Dist
         both_reply one.reply two.reply one.outcome_is two.outcome_is (bytes_same table es distinct x event o p s one two)
 
     -- a reply that sends nothing held names the same rule
-    named : (m : Reply) → o ≡ Replied m → used_in o ≡ None → NamesByEvent table limit past x event m.bytes m.stored
-    named m h unused = subst (NamesFirst table limit past x event) h a.names (ap is_none (sym (ap used_in h) ∙ unused))
+    named : (m : Reply) → o ≡ Replied m → used_in o ≡ None → NamesByEvent table limit past (next_serial first past) x event m.bytes m.stored
+    named m h unused = subst (NamesFirst table limit past (next_serial first past) x event) h a.names (ap is_none (sym (ap used_in h) ∙ unused))
 
   on_error_same : (x : Exchange) (now : ℕ) (kind : FailKind) (m n : List ℕ) → NamesOnError table es now x kind m → NamesOnError table es now x kind n → m ≡ n
   on_error_same x now kind m n (q, error, least, names, is) (r, error2, least2, names2, is2) =
-      let rule : q ≡ r = one_rule (caches_of table.lines x.line) es x.asked now q r least least2 in
-      let same : error ≡ error2 = one_error (caches_of table.lines x.line) es x.asked now r error error2 (subst (λ z. NamesErrorRule es now x.asked z error) rule names) names2 in
+      let rule : q ≡ r = one_rule (policy_of table.lines x.line) es x.asked now q r least least2 in
+      let same : error ≡ error2 = one_error (policy_of table.lines x.line) es x.asked now r error error2 (subst (λ z. NamesErrorRule (policy_of table.lines x.line) es now x.asked z error) rule names) names2 in
       is ∙ ap (λ z. refused_text (date_text_of now) (Origin kind z error) x.asked.close (is_head x.asked)) rule
       ∙ ap (λ z. refused_text (date_text_of now) (Origin kind r z) x.asked.close (is_head x.asked)) same ∙ sym is2
 
@@ -324,11 +330,11 @@ module _ (table : Table) (limit first : ℕ) (past : List Item) (distinct : Dist
         HasFinalAnswer (record { event = Answer now id r; outcome = o }) past → HasFinalAnswer (record { event = Answer now id r; outcome = p }) past → o ≡ p
     answer_same now id x r a b final final2 = by_304 (is_validation x r) refl
       where
-        by_unasked : (u : Bool) → is_unasked x.asked r ≡ u → (m n : Reply) → o ≡ Replied m → p ≡ Replied n → NamesByEvent table limit past (Some x) (Answer now id r) m.bytes m.stored →
-            NamesByEvent table limit past (Some x) (Answer now id r) n.bytes n.stored → m.bytes ≡ n.bytes
+        by_unasked : (u : Bool) → is_unasked x.asked r ≡ u → (m n : Reply) → o ≡ Replied m → p ≡ Replied n → NamesByEvent table limit past (next_serial first past) (Some x) (Answer now id r) m.bytes m.stored →
+            NamesByEvent table limit past (next_serial first past) (Some x) (Answer now id r) n.bytes n.stored → m.bytes ≡ n.bytes
         by_unasked u is m n h k (inl (i, (kept, one))) (inl (j, (kept2, two))) =
             one
-            ∙ ap (λ (s : Option ℕ). passed_text table.name x r now (is_some s)) (stored_same (Some x) (Answer now id r) o p a b final m.stored n.stored (ap stored_in h) (ap stored_in k))
+            ∙ ap (λ (s : Option ℕ). passed_text (policy_of table.lines x.line) table.name x r now (is_some s) (rule_told table x r now (next_serial first past))) (stored_same (Some x) (Answer now id r) o p a b final m.stored n.stored (ap stored_in h) (ap stored_in k))
             ∙ sym two
         by_unasked u is m n h k (inl (i, one)) (inr (j, two)) = no_true (sym i ∙ j)
         by_unasked u is m n h k (inr (i, one)) (inl (j, two)) = no_true (sym j ∙ i)
@@ -444,7 +450,7 @@ module _ (table : Table) (limit first : ℕ) where
   each_fits trace h =
       zip trace h.goes_on_to_its_answer h.sends_where_one_may_be h.sends_that_response h.names_the_first_rule h.removes_what_goes h.reaches_where_allowed h.stores_where_it_may h.closes_as_asked
     where
-      zip : (trace : List Item) → EachStep (GoesOn table limit) trace → EachStep (SendsExactly table limit) trace → EachStep (SendsThatResponse table limit) trace → EachStep (NamesTheFirst table limit) trace →
+      zip : (trace : List Item) → EachStep (GoesOn table limit) trace → EachStep (SendsExactly table limit) trace → EachStep (SendsThatResponse table limit) trace → EachStep (NamesTheFirst table limit first) trace →
           EachStep (RemovesExactly table limit) trace → EachStep (ReachesExactly table limit) trace → EachStep (StoresExactly table limit first) trace → EachStep ClosesAsAsked trace →
           EachStep (λ item past. Fits table limit first past (find_exchange (id_of item.event) (open_exchanges table limit past)) item.event item.outcome) trace
       zip [] a b c d e f g i = tt

@@ -5,7 +5,7 @@ use Rattle.hx_target.specs.declared.keys.Key.{Key}
 use Rattle.hx_target.specs.Keys.{same_key}
 use Rattle.hx_hop.specs.declared.request_view.Asked.{Asked}
 use Rattle.hx_allow.specs.Lines.{Table}
-use Rattle.hx_allow.specs.Matching.{verdict_of, caches_of}
+use Rattle.hx_allow.specs.Matching.{verdict_of, policy_of}
 use Rattle.hx_store.specs.Stored.{Stored}
 use Rattle.hx_reuse.specs.Rules.{decision_of}
 use Rattle.hx_reuse.specs.declared.rule.ReuseRule.{ReuseRule}
@@ -152,7 +152,7 @@ HasRule rule (Some x) = x.rule ≡ rule x.line
 
 -- by the word of a line
 abbrev rule_for : Table → List Stored → Asked → ℕ → ℕ → ReuseRule
-rule_for table es asked now line = rule_of (decision_of (caches_of table.lines line) es asked now)
+rule_for table es asked now line = rule_of (decision_of (policy_of table.lines line) es asked now)
 
 release_rule : (rule : ℕ → ReuseRule) (i : ℕ) (x : Exchange) → x.rule ≡ rule x.line → (release i x).rule ≡ rule (release i x).line
 release_rule rule i x h = elim (waits_for i x.stage) as (λ b. (cond b (record x { stage = Released }) x).rule ≡ rule (cond b (record x { stage = Released }) x).line) [
@@ -228,7 +228,7 @@ module _ (table : Table) (limit first now id : ℕ) (asked : Asked) (before : Li
       (move_of table (left start (items ++ arrival ∷ before)) i id (same_table start (items ++ arrival ∷ before)) g.0) n.0 (rule_plain items g.1 n.1)
 
   rule_held : (items : List Item) (x : Exchange) → IsGood start (items ++ arrival ∷ before) → NoneJudged id items →
-      find_exchange id (open_exchanges table limit (items ++ arrival ∷ before)) ≡ Some x → x.rule ≡ rule_of (decision_of (caches_of table.lines x.line) (held_entries table limit before) asked now)
+      find_exchange id (open_exchanges table limit (items ++ arrival ∷ before)) ≡ Some x → x.rule ≡ rule_of (decision_of (policy_of table.lines x.line) (held_entries table limit before) asked now)
   unfolding HasRule
   rule_held items x p n h =
       let here = ap (find_exchange id) (exchanges_are_open table limit first (items ++ arrival ∷ before) p) ∙ h in

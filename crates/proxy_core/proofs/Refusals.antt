@@ -5,7 +5,7 @@ use Rattle.std.proofs.lemmas.Bool.{eq-eqb, false≢true}
 use Rattle.std.proofs.lemmas.Bool.Decides.{nat_tests}
 use Rattle.std.proofs.lemmas.Option.{same_Some}
 use Rattle.hx_hop.specs.declared.request_view.Asked.{Asked}
-use Rattle.hx_allow.specs.Matching.{verdict_of, caches_of}
+use Rattle.hx_allow.specs.Matching.{verdict_of, policy_of}
 use Rattle.hx_allow.specs.declared.verdicts.Verdict.TheVariants.{Allowed}
 use Rattle.hx_store.specs.Recency.{is_the}
 use Rattle.hx_reuse.specs.Meaning.{NamesTheResponse}
@@ -117,25 +117,25 @@ closes Ended = false
 -- ---- what goes forward at an arrival
 
 module _ (past : List Item) (now id line : ℕ) (asked : Asked) (bytes : List ℕ) (rule : ReuseRule) (against : Option ℕ)
-    (decided : decision_of (caches_of edge.lines line) (held_entries edge 2 past) asked now ≡ decision.Forward rule against) where
-  condition_is : (condition : Option Condition) → IsItsCondition (caches_of edge.lines line) (held_entries edge 2 past) asked (Arrive now id asked) condition →
+    (decided : decision_of (policy_of edge.lines line) (held_entries edge 2 past) asked now ≡ decision.Forward rule against) where
+  condition_is : (condition : Option Condition) → IsItsCondition (policy_of edge.lines line) (held_entries edge 2 past) asked (Arrive now id asked) condition →
       condition ≡ condition_at (held_entries edge 2 past) against
   condition_is condition (r, named, least, names, is) =
-      let known = names_the_least (caches_of edge.lines line) (held_entries edge 2 past) asked now rule against decided in
-      let same : r ≡ rule = one_rule (caches_of edge.lines line) (held_entries edge 2 past) asked now r rule least known.0 in
+      let known = names_the_least (policy_of edge.lines line) (held_entries edge 2 past) asked now rule against decided in
+      let same : r ≡ rule = one_rule (policy_of edge.lines line) (held_entries edge 2 past) asked now r rule least known.0 in
       is
       ∙ ap (condition_at (held_entries edge 2 past))
-      (one_named (caches_of edge.lines line) (held_entries edge 2 past) asked now rule named against (subst (λ q. NamesTheResponse (held_entries edge 2 past) asked q named) same names) known.1)
+      (one_named (policy_of edge.lines line) (held_entries edge 2 past) asked now rule named against (subst (λ q. NamesTheResponse (held_entries edge 2 past) asked q named) same names) known.1)
 
   -- a test that these bytes pass, and those that have to go forward don't
   pub refuse_bytes : (test : List ℕ → Bool) → test bytes ≡ true → test (forward_text edge asked (condition_at (held_entries edge 2 past) against)) ≡ false → not_goes past (Arrive now id asked) (Forward line bytes)
   refuse_bytes test passes fails h = by_parts (h line bytes refl)
     where
       by_parts : (q : Asked) × (condition : Option Condition) × (asked_by id (item (Arrive now id asked) (Forward line bytes) ∷ past) ≡ Some q) × (verdict_of edge.lines q.method q.target ≡ Allowed line)
-          × IsItsCondition (caches_of edge.lines line) (held_entries edge 2 past) q (Arrive now id asked) condition × (bytes ≡ forward_text edge q condition) → ⊥
+          × IsItsCondition (policy_of edge.lines line) (held_entries edge 2 past) q (Arrive now id asked) condition × (bytes ≡ forward_text edge q condition) → ⊥
       by_parts (q, condition, is, allowed, carries, text) =
           let own : asked ≡ q = same_Some asked q (sym (ap (λ b. cond b (Some asked) (asked_by id past)) (eq-eqb id id refl)) ∙ is) in
-          let carried = condition_is condition (subst (λ z. IsItsCondition (caches_of edge.lines line) (held_entries edge 2 past) z (Arrive now id asked) condition) (sym own) carries) in
+          let carried = condition_is condition (subst (λ z. IsItsCondition (policy_of edge.lines line) (held_entries edge 2 past) z (Arrive now id asked) condition) (sym own) carries) in
           false≢true
           (sym fails ∙ ap (λ c. test (forward_text edge asked c)) (sym carried) ∙ ap (λ z. test (forward_text edge z condition)) own ∙ sym (ap test text) ∙ passes)
 

@@ -1,13 +1,14 @@
 -- A stored response is sent exactly where one is held that may be; a request goes forward exactly where the table allows it.
-use Rattle.std.proofs.Common.{◌≡◌, ◌≢◌, ◌⊎◌, inl, inr, ℕ, ◌<◌, ◌≤◌, Bool, true, false, cond, ◌||◌, Option, None, Some, List, ◌∷◌, refl, sym, ◌∙◌, ap, subst, arith}
+use Rattle.std.proofs.Common.{◌≡◌, ◌≢◌, ◌⊎◌, inl, inr, ℕ, ◌<◌, ◌≤◌, Bool, true, false, cond, ◌||◌, Option, None, Some, List, ◌∷◌, refl, sym, ◌∙◌, ap, subst, arith, not}
 use Rattle.std.specs.Option.{option_and_then}
 use Rattle.std.proofs.lemmas.Bool.{false≢true, or_right}
 use Rattle.std.proofs.lemmas.Option.{same_Some}
+use Rattle.hx_policy.specs.declared.words.Policy.{Policy}
 use Rattle.hx_directives.specs.Occurrences.{occurrences_of}
 use Rattle.hx_framing.specs.declared.messages.Response.{Response}
 use Rattle.hx_hop.specs.declared.request_view.Asked.{Asked}
 use Rattle.hx_allow.specs.Lines.{Table}
-use Rattle.hx_allow.specs.Matching.{verdict_of, caches_of}
+use Rattle.hx_allow.specs.Matching.{verdict_of, policy_of}
 use Rattle.hx_allow.specs.declared.verdicts.Verdict.{Verdict}
 use Rattle.hx_allow.specs.declared.verdicts.Verdict.TheVariants as verdict
 use Rattle.hx_store.specs.Stored.{Stored}
@@ -105,11 +106,14 @@ comes_before other rule low late = omega (arith, at_most_six other low, seven_or
     seven_or_more rules.StaleMinFresh h = omega arith
 
 -- where a rule on the chosen response is the least, the operator lets it be sent
-pub allowed_by : (caches : Bool) (es : List Stored) (asked : Asked) (now : ℕ) (rule : ReuseRule) → IsLeast caches es asked now rule → names_entry rule ≡ true → caches ≡ true
-allowed_by true es asked now r least late = refl
-allowed_by false es asked now r least late = absurd (false≢true (sym (least.none_before rules.Operator (comes_before rules.Operator r refl late))))
+pub allowed_by : (policy : Policy) (es : List Stored) (asked : Asked) (now : ℕ) (rule : ReuseRule) → IsLeast policy es asked now rule → names_entry rule ≡ true → policy.caches ≡ true
+allowed_by policy es asked now r least late = by_word policy.caches (least.none_before rules.Operator (comes_before rules.Operator r refl late))
+  where
+    by_word : (caches : Bool) → not caches ≡ false → caches ≡ true
+    by_word true h = refl
+    by_word false h = absurd (false≢true (sym h))
 
-module _ (caches : Bool) (es : List Stored) (distinct : Distinct (serials es)) (asked : Asked) (now : ℕ) where
+module _ (policy : Policy) (es : List Stored) (distinct : Distinct (serials es)) (asked : Asked) (now : ℕ) where
   -- ---- after a failure
 
   -- what a rule names is the chosen response
@@ -119,10 +123,10 @@ module _ (caches : Bool) (es : List Stored) (distinct : Distinct (serials es)) (
     pub chosen : chosen_of es asked ≡ Some response
     pub serial : response.serial ≡ s
     pub found : find_entry s es ≡ Some response
-    pub rule_at : error_rule_at es s asked now ≡ error_rule_on response (occurrences_of asked.fields) now
+    pub rule_at : error_rule_at policy es s asked now ≡ error_rule_on policy response (occurrences_of asked.fields) now
 
-  pub named_is : (rule : ReuseRule) (s : ℕ) → decision_of caches es asked now ≡ decision.Forward rule (Some s) → IsNamed rule s
-  named_is rule s h = by_number (names_the_least caches es asked now rule (Some s) h).1
+  pub named_is : (rule : ReuseRule) (s : ℕ) → decision_of policy es asked now ≡ decision.Forward rule (Some s) → IsNamed rule s
+  named_is rule s h = by_number (names_the_least policy es asked now rule (Some s) h).1
     where
       by_number : NamesTheResponse es asked rule (Some s) → IsNamed rule s
       by_number (inl low) = absurd (never_one s (sym low.1))
@@ -138,30 +142,30 @@ module _ (caches : Bool) (es : List Stored) (distinct : Distinct (serials es)) (
             chosen = high.1.1;
             serial = serial;
             found = found;
-            rule_at = ap (λ (o : Option Stored). option_and_then (λ (x : Stored). error_rule_on x (occurrences_of asked.fields) now) o) found;
+            rule_at = ap (λ (o : Option Stored). option_and_then (λ (x : Stored). error_rule_on policy x (occurrences_of asked.fields) now) o) found;
           }
 
   -- what is sent may be
-  fallback_may : (d : Decision) (s : ℕ) (detail : Detail) → decision_of caches es asked now ≡ d → fallback_for es asked now d ≡ Sends s detail → IsFallback caches es asked now s
+  fallback_may : (d : Decision) (s : ℕ) (detail : Detail) → decision_of policy es asked now ≡ d → fallback_for policy es asked now d ≡ Sends s detail → IsFallback policy es asked now s
   fallback_may (decision.Hit t) s detail d_is h =
       let same : t ≡ s = cc in
-      inl (subst (λ n. IsReusable caches es asked now n) same (reused_is_allowed caches es asked now t d_is))
+      inl (subst (λ n. IsReusable policy es asked now n) same (reused_is_allowed policy es asked now t d_is))
   fallback_may (decision.Forward rule None) s detail d_is h = absurd (cc)
-  fallback_may (decision.Forward rule (Some t)) s detail d_is h = by_rule (error_rule_at es t asked now) refl h
+  fallback_may (decision.Forward rule (Some t)) s detail d_is h = by_rule (error_rule_at policy es t asked now) refl h
     where
-      by_rule : (o : Option ErrorRule) → error_rule_at es t asked now ≡ o → fallback_by rule t o ≡ Sends s detail → IsFallback caches es asked now s
+      by_rule : (o : Option ErrorRule) → error_rule_at policy es t asked now ≡ o → fallback_by rule t o ≡ Sends s detail → IsFallback policy es asked now s
       by_rule None k h =
           let n = named_is rule t d_is in
-          let least = (names_the_least caches es asked now rule (Some t) d_is).0 in
+          let least = (names_the_least policy es asked now rule (Some t) d_is).0 in
           let same : t ≡ s = cc in
           let late = n.late in
           inr (
             n.response,
             record {
-              operator_allows = allowed_by caches es asked now rule least n.late;
+              operator_allows = allowed_by policy es asked now rule least n.late;
               is_chosen = chosen_is_latest es asked n.response n.chosen;
               is_for_the_cache = λ other low. least.none_before other (comes_before other rule low late);
-              may_be_sent = sent_may_be n.response (occurrences_of asked.fields) now (sym n.rule_at ∙ k);
+              may_be_sent = sent_may_be policy n.response (occurrences_of asked.fields) now (sym n.rule_at ∙ k);
             },
             n.serial ∙ same,
           )
@@ -170,57 +174,57 @@ module _ (caches : Bool) (es : List Stored) (distinct : Distinct (serials es)) (
   -- the other way round
   record IsSent (s : ℕ) : Type 0 where
     detail : Detail
-    fallback : fallback_for es asked now (decision_of caches es asked now) ≡ Sends s detail
+    fallback : fallback_for policy es asked now (decision_of policy es asked now) ≡ Sends s detail
 
-  pub reusable_hit : (s : ℕ) → IsReusable caches es asked now s → decision_of caches es asked now ≡ decision.Hit s
-  reusable_hit s may = allowed_is_reused caches es asked now may.0 distinct may.1 ∙ ap (λ n. decision.Hit n) may.2
+  pub reusable_hit : (s : ℕ) → IsReusable policy es asked now s → decision_of policy es asked now ≡ decision.Hit s
+  reusable_hit s may = allowed_is_reused policy es asked now may.0 distinct may.1 ∙ ap (λ n. decision.Hit n) may.2
 
-  instead_sent : (s : ℕ) (response : Stored) → MayBeSentInstead caches es asked now response → response.serial ≡ s → (d : Decision) → decision_of caches es asked now ≡ d → IsSent s
+  instead_sent : (s : ℕ) (response : Stored) → MayBeSentInstead policy es asked now response → response.serial ≡ s → (d : Decision) → decision_of policy es asked now ≡ d → IsSent s
   instead_sent s response may serial (decision.Hit t) d_is =
-      let hit = is_held caches es asked now t d_is in
+      let hit = is_held policy es asked now t d_is in
       let same : hit.0 ≡ response =
       same_Some hit.0 response (sym (latest_is_the_chosen es asked hit.0 distinct hit.1) ∙ latest_is_the_chosen es asked response distinct may.is_chosen)
       in
       let t_is : t ≡ s = sym hit.2 ∙ ap (λ (e : Stored). e.serial) same ∙ serial in
-      record { detail = ReuseAfterError; fallback = ap (fallback_for es asked now) d_is ∙ ap (λ n. Sends n ReuseAfterError) t_is }
+      record { detail = ReuseAfterError; fallback = ap (fallback_for policy es asked now) d_is ∙ ap (λ n. Sends n ReuseAfterError) t_is }
   instead_sent s response may serial (decision.Forward rule None) d_is =
-      let r = names_the_least caches es asked now rule None d_is in
+      let r = names_the_least policy es asked now rule None d_is in
       absurd (by_number r.0 r.1)
     where
-      by_number : IsLeast caches es asked now rule → NamesTheResponse es asked rule None → ⊥
+      by_number : IsLeast policy es asked now rule → NamesTheResponse es asked rule None → ⊥
       by_number least (inl low) = false≢true (sym (may.is_for_the_cache rule low.0) ∙ least.it_stands)
       by_number least (inr high) = never_one high.1.0.serial high.1.2
   instead_sent s response may serial (decision.Forward rule (Some t)) d_is =
       let n = named_is rule t d_is in
       let same : n.response ≡ response = same_Some n.response response (sym n.chosen ∙ latest_is_the_chosen es asked response distinct may.is_chosen) in
       let t_is : t ≡ s = sym n.serial ∙ ap (λ (e : Stored). e.serial) same ∙ serial in
-      let none : error_rule_at es t asked now ≡ None =
-      n.rule_at ∙ ap (λ (e : Stored). error_rule_on e (occurrences_of asked.fields) now) same ∙ may_be_sent_on_error response (occurrences_of asked.fields) now may.may_be_sent
+      let none : error_rule_at policy es t asked now ≡ None =
+      n.rule_at ∙ ap (λ (e : Stored). error_rule_on policy e (occurrences_of asked.fields) now) same ∙ may_be_sent_on_error policy response (occurrences_of asked.fields) now may.may_be_sent
       in
-      record { detail = StaleIfError; fallback = ap (fallback_for es asked now) d_is ∙ ap (fallback_by rule t) none ∙ ap (λ n. Sends n StaleIfError) t_is }
+      record { detail = StaleIfError; fallback = ap (fallback_for policy es asked now) d_is ∙ ap (fallback_by rule t) none ∙ ap (λ n. Sends n StaleIfError) t_is }
 
-  fallback_sent : (s : ℕ) → IsFallback caches es asked now s → IsSent s
-  fallback_sent s (inl may) = record { detail = ReuseAfterError; fallback = ap (fallback_for es asked now) (reusable_hit s may) }
-  fallback_sent s (inr may) = instead_sent s may.0 may.1 may.2 (decision_of caches es asked now) refl
+  fallback_sent : (s : ℕ) → IsFallback policy es asked now s → IsSent s
+  fallback_sent s (inl may) = record { detail = ReuseAfterError; fallback = ap (fallback_for policy es asked now) (reusable_hit s may) }
+  fallback_sent s (inr may) = instead_sent s may.0 may.1 may.2 (decision_of policy es asked now) refl
 
 -- ---- what each step uses
 
 module _ (table : Table) (es : List Stored) (distinct : Distinct (serials es)) (xs : List Exchange) where
-  failed_uses : (now : ℕ) (x : Exchange) (kind : FailKind) (came : Option ℕ) (s : ℕ) → IsFallback (caches_of table.lines x.line) es x.asked now s →
-      used_in (failed table es now x kind came (fallback_for es x.asked now (decision_of (caches_of table.lines x.line) es x.asked now))) ≡ Some s
+  failed_uses : (now : ℕ) (x : Exchange) (kind : FailKind) (came : Option ℕ) (s : ℕ) → IsFallback (policy_of table.lines x.line) es x.asked now s →
+      used_in (failed table es now x kind came (fallback_for (policy_of table.lines x.line) es x.asked now (decision_of (policy_of table.lines x.line) es x.asked now))) ≡ Some s
   failed_uses now x kind came s may =
-      let sent = fallback_sent (caches_of table.lines x.line) es distinct x.asked now s may in ap (λ (q : Fallback). used_in (failed table es now x kind came q)) sent.fallback
+      let sent = fallback_sent (policy_of table.lines x.line) es distinct x.asked now s may in ap (λ (q : Fallback). used_in (failed table es now x kind came q)) sent.fallback
 
-  used_failed : (now : ℕ) (x : Exchange) (kind : FailKind) (came : Option ℕ) (s : ℕ) (fallback : Fallback) → fallback_for es x.asked now (decision_of (caches_of table.lines x.line) es x.asked now) ≡ fallback →
-      used_in (failed table es now x kind came fallback) ≡ Some s → IsFallback (caches_of table.lines x.line) es x.asked now s
+  used_failed : (now : ℕ) (x : Exchange) (kind : FailKind) (came : Option ℕ) (s : ℕ) (fallback : Fallback) → fallback_for (policy_of table.lines x.line) es x.asked now (decision_of (policy_of table.lines x.line) es x.asked now) ≡ fallback →
+      used_in (failed table es now x kind came fallback) ≡ Some s → IsFallback (policy_of table.lines x.line) es x.asked now s
   used_failed now x kind came s (Sends t detail) k h =
-      subst (λ n. IsFallback (caches_of table.lines x.line) es x.asked now n) (same_Some t s h) (fallback_may (caches_of table.lines x.line) es distinct x.asked now (decision_of (caches_of table.lines x.line) es x.asked now) t detail refl k)
+      subst (λ n. IsFallback (policy_of table.lines x.line) es x.asked now n) (same_Some t s h) (fallback_may (policy_of table.lines x.line) es distinct x.asked now (decision_of (policy_of table.lines x.line) es x.asked now) t detail refl k)
   used_failed now x kind came s (Refuses rule error) k h = absurd (never_one s h)
 
   -- an arrival
   used_arrived : (now : ℕ) (asked : Asked) (s : ℕ) (v : Verdict) → verdict_of table.lines asked.method asked.target ≡ v → used_in (arrived table es xs now asked v) ≡ Some s →
-      (line : ℕ) × (verdict_of table.lines asked.method asked.target ≡ verdict.Allowed line) × IsReusable (caches_of table.lines line) es asked now s
-  used_arrived now asked s (verdict.Allowed line) v h = (line, v, by_decision (decision_of (caches_of table.lines line) es asked now) refl h)
+      (line : ℕ) × (verdict_of table.lines asked.method asked.target ≡ verdict.Allowed line) × IsReusable (policy_of table.lines line) es asked now s
+  used_arrived now asked s (verdict.Allowed line) v h = (line, v, by_decision (decision_of (policy_of table.lines line) es asked now) refl h)
     where
       on : (condition : Option Condition) (leader : Option ℕ) → used_in (sent_on table line asked condition leader) ≡ Some s → ⊥
       on condition None h = never_one s h
@@ -230,8 +234,8 @@ module _ (table : Table) (es : List Stored) (distinct : Distinct (serials es)) (
       unless rule condition true h = never_one s h
       unless rule condition false h = on condition (leader_for xs asked rule) h
 
-      by_decision : (d : Decision) → decision_of (caches_of table.lines line) es asked now ≡ d → used_in (allowed table es xs line now asked d) ≡ Some s → IsReusable (caches_of table.lines line) es asked now s
-      by_decision (decision.Hit t) k h = subst (λ n. IsReusable (caches_of table.lines line) es asked now n) (same_Some t s h) (reused_is_allowed (caches_of table.lines line) es asked now t k)
+      by_decision : (d : Decision) → decision_of (policy_of table.lines line) es asked now ≡ d → used_in (allowed table es xs line now asked d) ≡ Some s → IsReusable (policy_of table.lines line) es asked now s
+      by_decision (decision.Hit t) k h = subst (λ n. IsReusable (policy_of table.lines line) es asked now n) (same_Some t s h) (reused_is_allowed (policy_of table.lines line) es asked now t k)
       by_decision (decision.Forward rule against) k h = absurd (unless rule (condition_at es against) (is_only_if_cached asked) h)
   used_arrived now asked s (verdict.DeniedBy line) v h = absurd (never_one s h)
   used_arrived now asked s verdict.NoLine v h = absurd (never_one s h)
@@ -240,91 +244,91 @@ module _ (table : Table) (es : List Stored) (distinct : Distinct (serials es)) (
     abbrev IsUsed : Outcome → Type 0
     IsUsed o = used_in o ≡ Some s
 
-    used_revalidated : (o : Option Stored) (d : Decision) → validated es x r now ≡ o → decision_of (caches_of table.lines x.line) es x.asked now ≡ d → IsUsed (revalidated table es now x r o d) →
-        ((e : Stored) × (validated es x r now ≡ Some e) × (e.serial ≡ s)) ⊎ ((validated es x r now ≡ None) × IsReusable (caches_of table.lines x.line) es x.asked now s)
+    used_revalidated : (o : Option Stored) (d : Decision) → validated es x r now ≡ o → decision_of (policy_of table.lines x.line) es x.asked now ≡ d → IsUsed (revalidated table es now x r o d) →
+        ((e : Stored) × (validated es x r now ≡ Some e) × (e.serial ≡ s)) ⊎ ((validated es x r now ≡ None) × IsReusable (policy_of table.lines x.line) es x.asked now s)
     used_revalidated (Some e) d v k h = inl (e, v, sym (serial_stays x r now e) ∙ same_Some (refreshed x r now e).serial s h)
-    used_revalidated None (decision.Hit t) v k h = inr (v, subst (λ n. IsReusable (caches_of table.lines x.line) es x.asked now n) (same_Some t s h) (reused_is_allowed (caches_of table.lines x.line) es x.asked now t k))
+    used_revalidated None (decision.Hit t) v k h = inr (v, subst (λ n. IsReusable (policy_of table.lines x.line) es x.asked now n) (same_Some t s h) (reused_is_allowed (policy_of table.lines x.line) es x.asked now t k))
     used_revalidated None (decision.Forward rule against) v k h = absurd (never_one s h)
 
-    used_passed : (b : Bool) (fallback : Fallback) → fallback_for es x.asked now (decision_of (caches_of table.lines x.line) es x.asked now) ≡ fallback → IsUsed (passed_unless table es now x r next b fallback) →
-        (b ≡ true) × IsFallback (caches_of table.lines x.line) es x.asked now s
+    used_passed : (b : Bool) (fallback : Fallback) → fallback_for (policy_of table.lines x.line) es x.asked now (decision_of (policy_of table.lines x.line) es x.asked now) ≡ fallback → IsUsed (passed_unless table es now x r next b fallback) →
+        (b ≡ true) × IsFallback (policy_of table.lines x.line) es x.asked now s
     used_passed true (Sends t detail) k h =
-        (refl, subst (λ n. IsFallback (caches_of table.lines x.line) es x.asked now n) (same_Some t s h) (fallback_may (caches_of table.lines x.line) es distinct x.asked now (decision_of (caches_of table.lines x.line) es x.asked now) t detail refl k))
+        (refl, subst (λ n. IsFallback (policy_of table.lines x.line) es x.asked now n) (same_Some t s h) (fallback_may (policy_of table.lines x.line) es distinct x.asked now (decision_of (policy_of table.lines x.line) es x.asked now) t detail refl k))
     used_passed true (Refuses rule error) k h = absurd (never_one s h)
     used_passed false fallback k h = absurd (never_one s h)
 
-    used_answered : IsUsed (answered table es now x r next (decision_of (caches_of table.lines x.line) es x.asked now)) → MayBeSentAt table es (Some x) (Answer now id r) s
+    used_answered : IsUsed (answered table es now x r next (decision_of (policy_of table.lines x.line) es x.asked now)) → MayBeSentAt table es (Some x) (Answer now id r) s
     used_answered h = by_304 (is_validation x r) refl h
       where
         d : Decision
-        d = decision_of (caches_of table.lines x.line) es x.asked now
+        d = decision_of (policy_of table.lines x.line) es x.asked now
 
-        by_unasked : (b : Bool) → is_unasked x.asked r ≡ b → IsUsed (cond b (failed table es now x BadAnswer (Some r.status) (fallback_for es x.asked now (decision_of (caches_of table.lines x.line) es x.asked now)))
-            (passed_unless table es now x r next (is_error_status r.status) (fallback_for es x.asked now (decision_of (caches_of table.lines x.line) es x.asked now)))) →
-            ((is_unasked x.asked r || is_error_status r.status) ≡ true) × IsFallback (caches_of table.lines x.line) es x.asked now s
+        by_unasked : (b : Bool) → is_unasked x.asked r ≡ b → IsUsed (cond b (failed table es now x BadAnswer (Some r.status) (fallback_for (policy_of table.lines x.line) es x.asked now (decision_of (policy_of table.lines x.line) es x.asked now)))
+            (passed_unless table es now x r next (is_error_status r.status) (fallback_for (policy_of table.lines x.line) es x.asked now (decision_of (policy_of table.lines x.line) es x.asked now)))) →
+            ((is_unasked x.asked r || is_error_status r.status) ≡ true) × IsFallback (policy_of table.lines x.line) es x.asked now s
         by_unasked true k h =
-            (ap (λ b. b || is_error_status r.status) k, used_failed now x BadAnswer (Some r.status) s (fallback_for es x.asked now (decision_of (caches_of table.lines x.line) es x.asked now)) refl h)
+            (ap (λ b. b || is_error_status r.status) k, used_failed now x BadAnswer (Some r.status) s (fallback_for (policy_of table.lines x.line) es x.asked now (decision_of (policy_of table.lines x.line) es x.asked now)) refl h)
         by_unasked false k h =
-            let p = used_passed (is_error_status r.status) (fallback_for es x.asked now (decision_of (caches_of table.lines x.line) es x.asked now)) refl h in
+            let p = used_passed (is_error_status r.status) (fallback_for (policy_of table.lines x.line) es x.asked now (decision_of (policy_of table.lines x.line) es x.asked now)) refl h in
             (or_right (is_unasked x.asked r) (is_error_status r.status) p.0, p.1)
 
-        by_304 : (b : Bool) → is_validation x r ≡ b → IsUsed (cond b (revalidated table es now x r (validated es x r now) (decision_of (caches_of table.lines x.line) es x.asked now))
-            (cond (is_unasked x.asked r) (failed table es now x BadAnswer (Some r.status) (fallback_for es x.asked now (decision_of (caches_of table.lines x.line) es x.asked now)))
-            (passed_unless table es now x r next (is_error_status r.status) (fallback_for es x.asked now (decision_of (caches_of table.lines x.line) es x.asked now))))) →
+        by_304 : (b : Bool) → is_validation x r ≡ b → IsUsed (cond b (revalidated table es now x r (validated es x r now) (decision_of (policy_of table.lines x.line) es x.asked now))
+            (cond (is_unasked x.asked r) (failed table es now x BadAnswer (Some r.status) (fallback_for (policy_of table.lines x.line) es x.asked now (decision_of (policy_of table.lines x.line) es x.asked now)))
+            (passed_unless table es now x r next (is_error_status r.status) (fallback_for (policy_of table.lines x.line) es x.asked now (decision_of (policy_of table.lines x.line) es x.asked now))))) →
             MayBeSentAt table es (Some x) (Answer now id r) s
-        by_304 true k h = by_kind (used_revalidated (validated es x r now) (decision_of (caches_of table.lines x.line) es x.asked now) refl refl h)
+        by_304 true k h = by_kind (used_revalidated (validated es x r now) (decision_of (policy_of table.lines x.line) es x.asked now) refl refl h)
           where
-            by_kind : ((e : Stored) × (validated es x r now ≡ Some e) × (e.serial ≡ s)) ⊎ ((validated es x r now ≡ None) × IsReusable (caches_of table.lines x.line) es x.asked now s) →
+            by_kind : ((e : Stored) × (validated es x r now ≡ Some e) × (e.serial ≡ s)) ⊎ ((validated es x r now ≡ None) × IsReusable (policy_of table.lines x.line) es x.asked now s) →
                 MayBeSentAt table es (Some x) (Answer now id r) s
             by_kind (inl answered) = inl (k, answered)
             by_kind (inr anyway) = inr (inl (k, anyway.0, anyway.1))
         by_304 false k h = let p = by_unasked (is_unasked x.asked r) refl h in inr (inr (k, p.0, p.1))
 
     -- the other way round
-    fallback_uses : (b e : Bool) → (b || e) ≡ true → IsFallback (caches_of table.lines x.line) es x.asked now s →
-        IsUsed (cond b (failed table es now x BadAnswer (Some r.status) (fallback_for es x.asked now (decision_of (caches_of table.lines x.line) es x.asked now)))
-        (passed_unless table es now x r next e (fallback_for es x.asked now (decision_of (caches_of table.lines x.line) es x.asked now))))
+    fallback_uses : (b e : Bool) → (b || e) ≡ true → IsFallback (policy_of table.lines x.line) es x.asked now s →
+        IsUsed (cond b (failed table es now x BadAnswer (Some r.status) (fallback_for (policy_of table.lines x.line) es x.asked now (decision_of (policy_of table.lines x.line) es x.asked now)))
+        (passed_unless table es now x r next e (fallback_for (policy_of table.lines x.line) es x.asked now (decision_of (policy_of table.lines x.line) es x.asked now))))
     fallback_uses true e h may = failed_uses now x BadAnswer (Some r.status) s may
     fallback_uses false true h may =
-        let sent = fallback_sent (caches_of table.lines x.line) es distinct x.asked now s may in
+        let sent = fallback_sent (policy_of table.lines x.line) es distinct x.asked now s may in
         ap (λ (q : Fallback). used_in (passed_unless table es now x r next true q)) sent.fallback
     fallback_uses false false h may = absurd (false≢true h)
 
-    answered_uses : MayBeSentAt table es (Some x) (Answer now id r) s → IsUsed (answered table es now x r next (decision_of (caches_of table.lines x.line) es x.asked now))
+    answered_uses : MayBeSentAt table es (Some x) (Answer now id r) s → IsUsed (answered table es now x r next (decision_of (policy_of table.lines x.line) es x.asked now))
     answered_uses (inl may) =
-        let d = decision_of (caches_of table.lines x.line) es x.asked now in
+        let d = decision_of (policy_of table.lines x.line) es x.asked now in
         let e = may.1.0 in
-        ap (λ b. used_in (cond b (revalidated table es now x r (validated es x r now) d) (cond (is_unasked x.asked r) (failed table es now x BadAnswer (Some r.status) (fallback_for es x.asked now d))
-        (passed_unless table es now x r next (is_error_status r.status) (fallback_for es x.asked now d))))) may.0
+        ap (λ b. used_in (cond b (revalidated table es now x r (validated es x r now) d) (cond (is_unasked x.asked r) (failed table es now x BadAnswer (Some r.status) (fallback_for (policy_of table.lines x.line) es x.asked now d))
+        (passed_unless table es now x r next (is_error_status r.status) (fallback_for (policy_of table.lines x.line) es x.asked now d))))) may.0
         ∙ ap (λ (o : Option Stored). used_in (revalidated table es now x r o d)) may.1.1
         ∙ ap (λ n. Some n) (serial_stays x r now e ∙ may.1.2)
     answered_uses (inr (inl may)) =
-        let d = decision_of (caches_of table.lines x.line) es x.asked now in
-        ap (λ b. used_in (cond b (revalidated table es now x r (validated es x r now) d) (cond (is_unasked x.asked r) (failed table es now x BadAnswer (Some r.status) (fallback_for es x.asked now d))
-        (passed_unless table es now x r next (is_error_status r.status) (fallback_for es x.asked now d))))) may.0
+        let d = decision_of (policy_of table.lines x.line) es x.asked now in
+        ap (λ b. used_in (cond b (revalidated table es now x r (validated es x r now) d) (cond (is_unasked x.asked r) (failed table es now x BadAnswer (Some r.status) (fallback_for (policy_of table.lines x.line) es x.asked now d))
+        (passed_unless table es now x r next (is_error_status r.status) (fallback_for (policy_of table.lines x.line) es x.asked now d))))) may.0
         ∙ ap (λ (o : Option Stored). used_in (revalidated table es now x r o d)) may.1
-        ∙ ap (λ (k : Decision). used_in (revalidated table es now x r None k)) (reusable_hit (caches_of table.lines x.line) es distinct x.asked now s may.2)
+        ∙ ap (λ (k : Decision). used_in (revalidated table es now x r None k)) (reusable_hit (policy_of table.lines x.line) es distinct x.asked now s may.2)
     answered_uses (inr (inr may)) =
-        let d = decision_of (caches_of table.lines x.line) es x.asked now in
-        ap (λ b. used_in (cond b (revalidated table es now x r (validated es x r now) d) (cond (is_unasked x.asked r) (failed table es now x BadAnswer (Some r.status) (fallback_for es x.asked now d))
-        (passed_unless table es now x r next (is_error_status r.status) (fallback_for es x.asked now d))))) may.0
+        let d = decision_of (policy_of table.lines x.line) es x.asked now in
+        ap (λ b. used_in (cond b (revalidated table es now x r (validated es x r now) d) (cond (is_unasked x.asked r) (failed table es now x BadAnswer (Some r.status) (fallback_for (policy_of table.lines x.line) es x.asked now d))
+        (passed_unless table es now x r next (is_error_status r.status) (fallback_for (policy_of table.lines x.line) es x.asked now d))))) may.0
         ∙ fallback_uses (is_unasked x.asked r) (is_error_status r.status) may.1 may.2
 
   -- a request that waited
-  used_woken : (now : ℕ) (x : Exchange) (s : ℕ) (d : Decision) → decision_of (caches_of table.lines x.line) es x.asked now ≡ d → used_in (woken table es now x d) ≡ Some s →
-      IsReusable (caches_of table.lines x.line) es x.asked now s
-  used_woken now x s (decision.Hit t) k h = subst (λ n. IsReusable (caches_of table.lines x.line) es x.asked now n) (same_Some t s h) (reused_is_allowed (caches_of table.lines x.line) es x.asked now t k)
+  used_woken : (now : ℕ) (x : Exchange) (s : ℕ) (d : Decision) → decision_of (policy_of table.lines x.line) es x.asked now ≡ d → used_in (woken table es now x d) ≡ Some s →
+      IsReusable (policy_of table.lines x.line) es x.asked now s
+  used_woken now x s (decision.Hit t) k h = subst (λ n. IsReusable (policy_of table.lines x.line) es x.asked now n) (same_Some t s h) (reused_is_allowed (policy_of table.lines x.line) es x.asked now t k)
   used_woken now x s (decision.Forward rule against) k h = absurd (never_one s h)
 
   may_be_used : (x : Option Exchange) (next : Option ℕ) (event : Event) (s : ℕ) → MayBeSentAt table es x event s → used_in (outcome_of table es xs x next event) ≡ Some s
   may_be_used x next (Arrive now id asked) s may =
       ap (λ (v : Verdict). used_in (arrived table es xs now asked v)) may.1
-      ∙ ap (λ (d : Decision). used_in (allowed table es xs may.0 now asked d)) (reusable_hit (caches_of table.lines may.0) es distinct asked now s may.2)
+      ∙ ap (λ (d : Decision). used_in (allowed table es xs may.0 now asked d)) (reusable_hit (policy_of table.lines may.0) es distinct asked now s may.2)
   may_be_used (Some x) next (Answer now id r) s may = answered_uses x now id r next s may
   may_be_used None next (Answer now id r) s may = absurd may
   may_be_used (Some x) next (Fail now id kind) s may = failed_uses now x kind None s may
   may_be_used None next (Fail now id kind) s may = absurd may
-  may_be_used (Some x) next (Wake now id) s may = ap (λ (d : Decision). used_in (woken table es now x d)) (reusable_hit (caches_of table.lines x.line) es distinct x.asked now s may)
+  may_be_used (Some x) next (Wake now id) s may = ap (λ (d : Decision). used_in (woken table es now x d)) (reusable_hit (policy_of table.lines x.line) es distinct x.asked now s may)
   may_be_used None next (Wake now id) s may = absurd may
   may_be_used x next (Abandon id) s may = absurd may
 
@@ -332,9 +336,9 @@ module _ (table : Table) (es : List Stored) (distinct : Distinct (serials es)) (
   used_may_be x next (Arrive now id asked) s h = used_arrived now asked s (verdict_of table.lines asked.method asked.target) refl h
   used_may_be (Some x) next (Answer now id r) s h = used_answered x now id r next s h
   used_may_be None next (Answer now id r) s h = absurd (never_one s h)
-  used_may_be (Some x) next (Fail now id kind) s h = used_failed now x kind None s (fallback_for es x.asked now (decision_of (caches_of table.lines x.line) es x.asked now)) refl h
+  used_may_be (Some x) next (Fail now id kind) s h = used_failed now x kind None s (fallback_for (policy_of table.lines x.line) es x.asked now (decision_of (policy_of table.lines x.line) es x.asked now)) refl h
   used_may_be None next (Fail now id kind) s h = absurd (never_one s h)
-  used_may_be (Some x) next (Wake now id) s h = used_woken now x s (decision_of (caches_of table.lines x.line) es x.asked now) refl h
+  used_may_be (Some x) next (Wake now id) s h = used_woken now x s (decision_of (policy_of table.lines x.line) es x.asked now) refl h
   used_may_be None next (Wake now id) s h = absurd (never_one s h)
   used_may_be x next (Abandon id) s h = absurd (never_one s h)
 
@@ -361,7 +365,7 @@ pub forwards_where_allowed : ForwardsWhereAllowed
 forwards_where_allowed table limit first now id line asked rule item past g e v least other none =
     let es = held_entries table limit past in
     let xs = open_exchanges table limit past in
-    let d = forwards (caches_of table.lines line) es asked now rule least in (
+    let d = forwards (policy_of table.lines line) es asked now rule least in (
       forward_text table asked (condition_at es d.0),
       arrival_is table limit first now id asked item past g e
           ∙ ap (λ (v : Verdict). arrived table es xs now asked v) v
@@ -374,25 +378,25 @@ forwards_where_allowed table limit first now id line asked rule item past g e v 
 abbrev GoesOn : Table → List Stored → List Exchange → ℕ → ℕ → Asked → Type 0
 GoesOn table es xs now line asked =
     (verdict_of table.lines asked.method asked.target ≡ verdict.Allowed line)
-    × ((rule : ReuseRule) × IsLeast (caches_of table.lines line) es asked now rule × (leader_for xs asked rule ≡ None)) × (is_only_if_cached asked ≡ false)
+    × ((rule : ReuseRule) × IsLeast (policy_of table.lines line) es asked now rule × (leader_for xs asked rule ≡ None)) × (is_only_if_cached asked ≡ false)
 
 forward_parts : (table : Table) (es : List Stored) (xs : List Exchange) (now line : ℕ) (asked : Asked) (bytes : List ℕ) (v : Verdict) → verdict_of table.lines asked.method asked.target ≡ v →
     arrived table es xs now asked v ≡ Forward line bytes → GoesOn table es xs now line asked
-forward_parts table es xs now line asked bytes (verdict.Allowed n) v h = by_decision (decision_of (caches_of table.lines n) es asked now) refl h
+forward_parts table es xs now line asked bytes (verdict.Allowed n) v h = by_decision (decision_of (policy_of table.lines n) es asked now) refl h
   where
     on : (rule : ReuseRule) (against leader : Option ℕ) → leader_for xs asked rule ≡ leader → is_only_if_cached asked ≡ false →
-        decision_of (caches_of table.lines n) es asked now ≡ decision.Forward rule against → sent_on table n asked (condition_at es against) leader ≡ Forward line bytes → GoesOn table es xs now line asked
+        decision_of (policy_of table.lines n) es asked now ≡ decision.Forward rule against → sent_on table n asked (condition_at es against) leader ≡ Forward line bytes → GoesOn table es xs now line asked
     on rule against (Some leader) l k d h = absurd (cc)
     on rule against None l k d h =
         let same : n ≡ line = cc in
-        (v ∙ ap (λ m. verdict.Allowed m) same, (rule, subst (λ m. IsLeast (caches_of table.lines m) es asked now rule) same (names_the_least (caches_of table.lines n) es asked now rule against d).0, l), k)
+        (v ∙ ap (λ m. verdict.Allowed m) same, (rule, subst (λ m. IsLeast (policy_of table.lines m) es asked now rule) same (names_the_least (policy_of table.lines n) es asked now rule against d).0, l), k)
 
-    unless : (rule : ReuseRule) (against : Option ℕ) (b : Bool) → is_only_if_cached asked ≡ b → decision_of (caches_of table.lines n) es asked now ≡ decision.Forward rule against →
+    unless : (rule : ReuseRule) (against : Option ℕ) (b : Bool) → is_only_if_cached asked ≡ b → decision_of (policy_of table.lines n) es asked now ≡ decision.Forward rule against →
         unanswered table xs n now asked rule (condition_at es against) b ≡ Forward line bytes → GoesOn table es xs now line asked
     unless rule against true k d h = absurd (cc)
     unless rule against false k d h = on rule against (leader_for xs asked rule) refl k d h
 
-    by_decision : (d : Decision) → decision_of (caches_of table.lines n) es asked now ≡ d → allowed table es xs n now asked d ≡ Forward line bytes → GoesOn table es xs now line asked
+    by_decision : (d : Decision) → decision_of (policy_of table.lines n) es asked now ≡ d → allowed table es xs n now asked d ≡ Forward line bytes → GoesOn table es xs now line asked
     by_decision (decision.Hit t) k h = absurd (cc)
     by_decision (decision.Forward rule against) k h = unless rule against (is_only_if_cached asked) refl k h
 forward_parts table es xs now line asked bytes (verdict.DeniedBy n) v h = absurd (cc)
@@ -407,28 +411,28 @@ forwards_nothing_else table limit first now id line asked bytes item past g e h 
 
 module _ (table : Table) (es : List Stored) (xs : List Exchange) (now : ℕ) (asked : Asked) where
   reach_on : (line : ℕ) (rule : ReuseRule) (against leader : Option ℕ) → is_only_if_cached asked ≡ false → leader_for xs asked rule ≡ leader →
-      decision_of (caches_of table.lines line) es asked now ≡ decision.Forward rule against → IsReached table es xs now asked line (sent_on table line asked (condition_at es against) leader)
+      decision_of (policy_of table.lines line) es asked now ≡ decision.Forward rule against → IsReached table es xs now asked line (sent_on table line asked (condition_at es against) leader)
   reach_on line rule against None k l d =
-      let named = names_the_least (caches_of table.lines line) es asked now rule against d in
+      let named = names_the_least (policy_of table.lines line) es asked now rule against d in
       inr (inl (rule, record { is_least = named.0; against = against; names = named.1; outcome_is = refl }, k, nobody_leads xs asked rule l))
   reach_on line rule against (Some leader) k l d =
-      let named = names_the_least (caches_of table.lines line) es asked now rule against d in
+      let named = names_the_least (policy_of table.lines line) es asked now rule against d in
       let led = is_led xs asked rule leader l in
       inr (inr (inl (record {
         leader = leader;
         takes_others = k;
         gets = led.0;
-        nothing_held = subst (IsLeast (caches_of table.lines line) es asked now) led.1 named.0;
+        nothing_held = subst (IsLeast (policy_of table.lines line) es asked now) led.1 named.0;
         first_leads = led.2;
         outcome_is = refl;
       })))
 
-  reach_unless : (line : ℕ) (rule : ReuseRule) (against : Option ℕ) (b : Bool) → is_only_if_cached asked ≡ b → decision_of (caches_of table.lines line) es asked now ≡ decision.Forward rule against →
+  reach_unless : (line : ℕ) (rule : ReuseRule) (against : Option ℕ) (b : Bool) → is_only_if_cached asked ≡ b → decision_of (policy_of table.lines line) es asked now ≡ decision.Forward rule against →
       IsReached table es xs now asked line (unanswered table xs line now asked rule (condition_at es against) b)
-  reach_unless line rule against true k d = inr (inr (inr (rule, k, (names_the_least (caches_of table.lines line) es asked now rule against d).0, refl)))
+  reach_unless line rule against true k d = inr (inr (inr (rule, k, (names_the_least (policy_of table.lines line) es asked now rule against d).0, refl)))
   reach_unless line rule against false k d = reach_on line rule against (leader_for xs asked rule) k refl d
 
-  reach : (line : ℕ) (d : Decision) → decision_of (caches_of table.lines line) es asked now ≡ d → IsReached table es xs now asked line (allowed table es xs line now asked d)
+  reach : (line : ℕ) (d : Decision) → decision_of (policy_of table.lines line) es asked now ≡ d → IsReached table es xs now asked line (allowed table es xs line now asked d)
   reach line (decision.Hit s) d = inl (s, refl)
   reach line (decision.Forward rule against) d = reach_unless line rule against (is_only_if_cached asked) refl d
 
@@ -444,7 +448,7 @@ reaches_where_allowed table limit first now id line asked item past g e v =
     let xs = open_exchanges table limit past in
     subst (IsReached table es xs now asked line)
     (sym (arrival_is table limit first now id asked item past g e ∙ ap (λ (v : Verdict). arrived table es xs now asked v) v))
-    (reach table es xs now asked line (decision_of (caches_of table.lines line) es asked now) refl)
+    (reach table es xs now asked line (decision_of (policy_of table.lines line) es asked now) refl)
 
 pub refuses_where_not_allowed : RefusesWhereNotAllowed
 refuses_where_not_allowed table limit first now id asked item past g e n =

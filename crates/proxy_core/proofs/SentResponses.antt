@@ -3,10 +3,11 @@ use Rattle.std.proofs.Common.{◌≡◌, ℕ, Bool, true, false, cond, Option, N
 use Rattle.std.specs.Prelude.{is_some}
 use Rattle.std.proofs.lemmas.Bool.{false≢true}
 use Rattle.std.proofs.lemmas.Option.{same_Some}
+use Rattle.hx_policy.specs.declared.words.Policy.{Policy}
 use Rattle.hx_framing.specs.declared.messages.Response.{Response}
 use Rattle.hx_hop.specs.declared.request_view.Asked.{Asked}
 use Rattle.hx_allow.specs.Lines.{Table}
-use Rattle.hx_allow.specs.Matching.{verdict_of, caches_of}
+use Rattle.hx_allow.specs.Matching.{verdict_of, policy_of}
 use Rattle.hx_allow.specs.declared.verdicts.Verdict.{Verdict}
 use Rattle.hx_allow.specs.declared.verdicts.Verdict.TheVariants as verdict
 use Rattle.hx_store.specs.Stored.{Stored}
@@ -55,42 +56,42 @@ abbrev IsFound : List Stored → ℕ → Type 0
 IsFound es s = (e : Stored) × (find_entry s es ≡ Some e)
 
 module _ (table : Table) (es : List Stored) (distinct : Distinct (serials es)) where
-  found_hit : (caches : Bool) (asked : Asked) (now s : ℕ) → decision_of caches es asked now ≡ decision.Hit s → IsFound es s
-  found_hit caches asked now s h =
-      let hit = is_held caches es asked now s h in
+  found_hit : (policy : Policy) (asked : Asked) (now s : ℕ) → decision_of policy es asked now ≡ decision.Hit s → IsFound es s
+  found_hit policy asked now s h =
+      let hit = is_held policy es asked now s h in
       let chosen = latest_is_the_chosen es asked hit.0 distinct hit.1 in
       (hit.0, ap (λ z. find_entry z es) (sym hit.2) ∙ found_by_serial es distinct hit.0 (chosen_is_held es asked hit.0 chosen))
 
-  found_fallback : (caches : Bool) (asked : Asked) (now s : ℕ) (detail : Detail) (d : Decision) → decision_of caches es asked now ≡ d → fallback_for es asked now d ≡ Sends s detail → IsFound es s
-  found_fallback caches asked now s detail (decision.Hit t) d_is h =
+  found_fallback : (policy : Policy) (asked : Asked) (now s : ℕ) (detail : Detail) (d : Decision) → decision_of policy es asked now ≡ d → fallback_for policy es asked now d ≡ Sends s detail → IsFound es s
+  found_fallback policy asked now s detail (decision.Hit t) d_is h =
       let same : t ≡ s = cc in
-      subst (IsFound es) same (found_hit caches asked now t d_is)
-  found_fallback caches asked now s detail (decision.Forward rule None) d_is h = absurd (cc)
-  found_fallback caches asked now s detail (decision.Forward rule (Some t)) d_is h = by_rule (error_rule_at es t asked now) h
+      subst (IsFound es) same (found_hit policy asked now t d_is)
+  found_fallback policy asked now s detail (decision.Forward rule None) d_is h = absurd (cc)
+  found_fallback policy asked now s detail (decision.Forward rule (Some t)) d_is h = by_rule (error_rule_at policy es t asked now) h
     where
       by_rule : (o : Option ErrorRule) → fallback_by rule t o ≡ Sends s detail → IsFound es s
       by_rule None h =
-          let n = named_is caches es distinct asked now rule t d_is in
+          let n = named_is policy es distinct asked now rule t d_is in
           let same : t ≡ s = cc in
           subst (IsFound es) same (n.response, n.found)
       by_rule (Some e) h = absurd (cc)
 
   -- and the word that is told of it
-  word_after : (caches : Bool) (asked : Asked) (now s : ℕ) (detail : Detail) (d : Decision) → decision_of caches es asked now ≡ d → fallback_for es asked now d ≡ Sends s detail →
-      WordAfterError caches es asked now s (Some detail)
-  word_after caches asked now s detail (decision.Hit t) d_is h =
+  word_after : (policy : Policy) (asked : Asked) (now s : ℕ) (detail : Detail) (d : Decision) → decision_of policy es asked now ≡ d → fallback_for policy es asked now d ≡ Sends s detail →
+      WordAfterError policy es asked now s (Some detail)
+  word_after policy asked now s detail (decision.Hit t) d_is h =
       let same : t ≡ s = cc in
       let word : ReuseAfterError ≡ detail = cc in
-      (λ may. ap (λ w. Some w) (sym word), λ no. absurd (no (subst (λ n. IsReusable caches es asked now n) same (reused_is_allowed caches es asked now t d_is))))
-  word_after caches asked now s detail (decision.Forward rule None) d_is h = absurd (cc)
-  word_after caches asked now s detail (decision.Forward rule (Some t)) d_is h = by_rule (error_rule_at es t asked now) h
+      (λ may. ap (λ w. Some w) (sym word), λ no. absurd (no (subst (λ n. IsReusable policy es asked now n) same (reused_is_allowed policy es asked now t d_is))))
+  word_after policy asked now s detail (decision.Forward rule None) d_is h = absurd (cc)
+  word_after policy asked now s detail (decision.Forward rule (Some t)) d_is h = by_rule (error_rule_at policy es t asked now) h
     where
-      no_hit : IsReusable caches es asked now s → ⊥
+      no_hit : IsReusable policy es asked now s → ⊥
       no_hit may =
-          let hit : decision.Forward rule (Some t) ≡ decision.Hit s = sym d_is ∙ reusable_hit caches es distinct asked now s may in
+          let hit : decision.Forward rule (Some t) ≡ decision.Hit s = sym d_is ∙ reusable_hit policy es distinct asked now s may in
           absurd (cc)
 
-      by_rule : (o : Option ErrorRule) → fallback_by rule t o ≡ Sends s detail → WordAfterError caches es asked now s (Some detail)
+      by_rule : (o : Option ErrorRule) → fallback_by rule t o ≡ Sends s detail → WordAfterError policy es asked now s (Some detail)
       by_rule None h =
           let word : StaleIfError ≡ detail = cc in
           (λ may. absurd (no_hit may), λ no. ap (λ w. Some w) (sym word))
@@ -120,9 +121,9 @@ module _ (table : Table) (es : List Stored) (distinct : Distinct (serials es)) w
   as_arrived None now id asked e = refl
   as_arrived (Some x) now id asked e = refl
 
-  arrival_sends : (xs : List Exchange) (x : Option Exchange) (now id : ℕ) (asked : Asked) (s : ℕ) (v : Verdict) → used_in (arrived table es xs now asked v) ≡ Some s →
+  arrival_sends : (xs : List Exchange) (x : Option Exchange) (now id : ℕ) (asked : Asked) (s : ℕ) (v : Verdict) → verdict_of table.lines asked.method asked.target ≡ v → used_in (arrived table es xs now asked v) ≡ Some s →
       IsThatResponse table es x (Arrive now id asked) (arrived table es xs now asked v) s
-  arrival_sends xs x now id asked s (verdict.Allowed line) h = by_decision (decision_of (caches_of table.lines line) es asked now) refl h
+  arrival_sends xs x now id asked s (verdict.Allowed line) v h = by_decision (decision_of (policy_of table.lines line) es asked now) refl h
     where
       on : (condition : Option Condition) (leader : Option ℕ) → used_in (sent_on table line asked condition leader) ≡ Some s →
           IsThatResponse table es x (Arrive now id asked) (sent_on table line asked condition leader) s
@@ -134,26 +135,26 @@ module _ (table : Table) (es : List Stored) (distinct : Distinct (serials es)) w
       unless rule condition true h = absurd (never_one s h)
       unless rule condition false h = on condition (leader_for xs asked rule) h
 
-      by_decision : (d : Decision) → decision_of (caches_of table.lines line) es asked now ≡ d → used_in (allowed table es xs line now asked d) ≡ Some s →
+      by_decision : (d : Decision) → decision_of (policy_of table.lines line) es asked now ≡ d → used_in (allowed table es xs line now asked d) ≡ Some s →
           IsThatResponse table es x (Arrive now id asked) (allowed table es xs line now asked d) s
       by_decision (decision.Hit t) k h =
-          let f = found_hit (caches_of table.lines line) asked now t k in
-          at_serial x (Arrive now id asked) (sent table es t now as_hit asked) t s (same_Some t s h)
-          (as_held x (Arrive now id asked) t now as_hit asked f (as_arrived x now id asked f.0) (refl, refl) refl)
+          let f = found_hit (policy_of table.lines line) asked now t k in
+          at_serial x (Arrive now id asked) (sent table es t now (as_hit (policy_of table.lines line)) asked) t s (same_Some t s h)
+          (as_held x (Arrive now id asked) t now (as_hit (policy_of table.lines line)) asked f (as_arrived x now id asked f.0) (refl, refl) (line, v, refl))
       by_decision (decision.Forward rule against) k h = unless rule (condition_at es against) (is_only_if_cached asked) h
-  arrival_sends xs x now id asked s (verdict.DeniedBy line) h = absurd (never_one s h)
-  arrival_sends xs x now id asked s verdict.NoLine h = absurd (never_one s h)
+  arrival_sends xs x now id asked s (verdict.DeniedBy line) v h = absurd (never_one s h)
+  arrival_sends xs x now id asked s verdict.NoLine v h = absurd (never_one s h)
 
   -- after an error
   fallback_sends : (x : Exchange) (event : Event) (now : ℕ) (kind : FailKind) (came : Option ℕ) (s : ℕ) (fallback : Fallback) →
-      fallback_for es x.asked now (decision_of (caches_of table.lines x.line) es x.asked now) ≡ fallback → ((e : Stored) → used_form (Some x) event e ≡ e) → IsAbout (Some x) event now x.asked →
-      ((t : ℕ) (detail : Option Detail) → WordAfterError (caches_of table.lines x.line) es x.asked now t detail → TellsHow table es (Some x) event t (forwarded_as x came detail)) →
+      fallback_for (policy_of table.lines x.line) es x.asked now (decision_of (policy_of table.lines x.line) es x.asked now) ≡ fallback → ((e : Stored) → used_form (Some x) event e ≡ e) → IsAbout (Some x) event now x.asked →
+      ((t : ℕ) (detail : Option Detail) → WordAfterError (policy_of table.lines x.line) es x.asked now t detail → TellsHow table es (Some x) event t (forwarded_as (policy_of table.lines x.line) x came detail)) →
       used_in (failed table es now x kind came fallback) ≡ Some s → IsThatResponse table es (Some x) event (failed table es now x kind came fallback) s
   fallback_sends x event now kind came s (Sends t detail) k same about how h =
-      let f = found_fallback (caches_of table.lines x.line) x.asked now t detail (decision_of (caches_of table.lines x.line) es x.asked now) refl k in
-      at_serial (Some x) event (sent table es t now (forwarded_as x came (Some detail)) x.asked) t s (same_Some t s h)
-      (as_held (Some x) event t now (forwarded_as x came (Some detail)) x.asked f (same f.0) about
-      (how t (Some detail) (word_after (caches_of table.lines x.line) x.asked now t detail (decision_of (caches_of table.lines x.line) es x.asked now) refl k)))
+      let f = found_fallback (policy_of table.lines x.line) x.asked now t detail (decision_of (policy_of table.lines x.line) es x.asked now) refl k in
+      at_serial (Some x) event (sent table es t now (forwarded_as (policy_of table.lines x.line) x came (Some detail)) x.asked) t s (same_Some t s h)
+      (as_held (Some x) event t now (forwarded_as (policy_of table.lines x.line) x came (Some detail)) x.asked f (same f.0) about
+      (how t (Some detail) (word_after (policy_of table.lines x.line) x.asked now t detail (decision_of (policy_of table.lines x.line) es x.asked now) refl k)))
   fallback_sends x event now kind came s (Refuses rule error) k same about how h = absurd (never_one s h)
 
   module _ (x : Exchange) (now id : ℕ) (r : Response) (next : Option ℕ) (s : ℕ) where
@@ -168,21 +169,21 @@ module _ (table : Table) (es : List Stored) (distinct : Distinct (serials es)) w
         by_entry None = refl
         by_entry (Some e) = ap (λ b. cond b (Some e) None) (never_answered x r now e n)
 
-    word_of_error : is_validation x r ≡ false → (t : ℕ) (detail : Option Detail) → WordAfterError (caches_of table.lines x.line) es x.asked now t detail →
-        WordAtAnswer (caches_of table.lines x.line) es x now r t detail
+    word_of_error : is_validation x r ≡ false → (t : ℕ) (detail : Option Detail) → WordAfterError (policy_of table.lines x.line) es x.asked now t detail →
+        WordAtAnswer (policy_of table.lines x.line) es x now r t detail
     word_of_error n t detail word = (λ some. absurd (false≢true (ap is_some (sym (not_validated n)) ∙ some)), λ is none. absurd (false≢true (sym n ∙ is)), λ not. word)
 
-    passes : (b : Bool) (fallback : Fallback) → fallback_for es x.asked now (decision_of (caches_of table.lines x.line) es x.asked now) ≡ fallback → is_validation x r ≡ false → Is (passed_unless table es now x r next b fallback)
+    passes : (b : Bool) (fallback : Fallback) → fallback_for (policy_of table.lines x.line) es x.asked now (decision_of (policy_of table.lines x.line) es x.asked now) ≡ fallback → is_validation x r ≡ false → Is (passed_unless table es now x r next b fallback)
     passes true (Sends t detail) k n =
-        let f = found_fallback (caches_of table.lines x.line) x.asked now t detail (decision_of (caches_of table.lines x.line) es x.asked now) refl k in
-        λ h. at_serial (Some x) (Answer now id r) (sent table es t now (forwarded_as x (Some r.status) (Some detail)) x.asked) t s (same_Some t s h)
-        (as_held (Some x) (Answer now id r) t now (forwarded_as x (Some r.status) (Some detail)) x.asked f
+        let f = found_fallback (policy_of table.lines x.line) x.asked now t detail (decision_of (policy_of table.lines x.line) es x.asked now) refl k in
+        λ h. at_serial (Some x) (Answer now id r) (sent table es t now (forwarded_as (policy_of table.lines x.line) x (Some r.status) (Some detail)) x.asked) t s (same_Some t s h)
+        (as_held (Some x) (Answer now id r) t now (forwarded_as (policy_of table.lines x.line) x (Some r.status) (Some detail)) x.asked f
         (ap (λ b. cond b (refreshed x r now f.0) f.0) (never_answered x r now f.0 n)) (refl, refl)
-        (Some detail, refl, word_of_error n t (Some detail) (word_after (caches_of table.lines x.line) x.asked now t detail (decision_of (caches_of table.lines x.line) es x.asked now) refl k)))
+        (Some detail, refl, word_of_error n t (Some detail) (word_after (policy_of table.lines x.line) x.asked now t detail (decision_of (policy_of table.lines x.line) es x.asked now) refl k)))
     passes true (Refuses rule error) k n = λ h. absurd (never_one s h)
     passes false fallback k n = λ h. absurd (never_one s h)
 
-    validates : (o : Option Stored) (d : Decision) → is_validation x r ≡ true → validated es x r now ≡ o → decision_of (caches_of table.lines x.line) es x.asked now ≡ d → Is (revalidated table es now x r o d)
+    validates : (o : Option Stored) (d : Decision) → is_validation x r ≡ true → validated es x r now ≡ o → decision_of (policy_of table.lines x.line) es x.asked now ≡ d → Is (revalidated table es now x r o d)
     validates (Some e) d y v k =
         let valid = validated_is es x r now e v in
         let serial : e.serial ≡ (refreshed x r now e).serial = sym (serial_stays x r now e) in
@@ -192,59 +193,59 @@ module _ (table : Table) (es : List Stored) (distinct : Distinct (serials es)) w
           now = now;
           asked = x.asked;
           about = (refl, refl);
-          info = forwarded_as x (Some r.status) None;
+          info = forwarded_as (policy_of table.lines x.line) x (Some r.status) None;
           tells_how = (None, refl, (λ some. refl, λ is none. absurd (some_is_not e (sym v ∙ none)), λ n. absurd (false≢true (sym n ∙ y))));
           reply = record {
-            bytes = stored_text table.name (refreshed x r now e) now (forwarded_as x (Some r.status) None) x.asked;
+            bytes = stored_text table.name (refreshed x r now e) now (forwarded_as (policy_of table.lines x.line) x (Some r.status) None) x.asked;
             close = x.asked.close;
             stored = None;
             used = Some (refreshed x r now e).serial;
             removed = _;
           };
           outcome_is = refl;
-          bytes_are = ap (λ b. stored_text table.name (cond b (refreshed x r now e) e) now (forwarded_as x (Some r.status) None) x.asked) (sym valid.answered);
+          bytes_are = ap (λ b. stored_text table.name (cond b (refreshed x r now e) e) now (forwarded_as (policy_of table.lines x.line) x (Some r.status) None) x.asked) (sym valid.answered);
         }
     validates None (decision.Hit t) y v k =
-        let f = found_hit (caches_of table.lines x.line) x.asked now t k in
-        λ h. at_serial (Some x) (Answer now id r) (sent table es t now (forwarded_as x (Some r.status) (Some ReuseAfter304)) x.asked) t s (same_Some t s h)
-        (as_held (Some x) (Answer now id r) t now (forwarded_as x (Some r.status) (Some ReuseAfter304)) x.asked f (same_at 0 es x now id r v t f.0 f.1) (refl, refl)
+        let f = found_hit (policy_of table.lines x.line) x.asked now t k in
+        λ h. at_serial (Some x) (Answer now id r) (sent table es t now (forwarded_as (policy_of table.lines x.line) x (Some r.status) (Some ReuseAfter304)) x.asked) t s (same_Some t s h)
+        (as_held (Some x) (Answer now id r) t now (forwarded_as (policy_of table.lines x.line) x (Some r.status) (Some ReuseAfter304)) x.asked f (same_at 0 es x now id r v t f.0 f.1) (refl, refl)
         (Some ReuseAfter304, refl, (λ some. absurd (false≢true (ap is_some (sym v) ∙ some)), λ is none. refl, λ n. absurd (false≢true (sym n ∙ y)))))
     validates None (decision.Forward rule against) y v k = λ h. absurd (never_one s h)
 
-    answer_sends : Is (answered table es now x r next (decision_of (caches_of table.lines x.line) es x.asked now))
+    answer_sends : Is (answered table es now x r next (decision_of (policy_of table.lines x.line) es x.asked now))
     answer_sends = by_304 (is_validation x r) refl
       where
         by_unasked : (b : Bool) → is_validation x r ≡ false →
-            Is (cond b (failed table es now x BadAnswer (Some r.status) (fallback_for es x.asked now (decision_of (caches_of table.lines x.line) es x.asked now)))
-            (passed_unless table es now x r next (is_error_status r.status) (fallback_for es x.asked now (decision_of (caches_of table.lines x.line) es x.asked now))))
+            Is (cond b (failed table es now x BadAnswer (Some r.status) (fallback_for (policy_of table.lines x.line) es x.asked now (decision_of (policy_of table.lines x.line) es x.asked now)))
+            (passed_unless table es now x r next (is_error_status r.status) (fallback_for (policy_of table.lines x.line) es x.asked now (decision_of (policy_of table.lines x.line) es x.asked now))))
         by_unasked true n =
-            fallback_sends x (Answer now id r) now BadAnswer (Some r.status) s (fallback_for es x.asked now (decision_of (caches_of table.lines x.line) es x.asked now)) refl
+            fallback_sends x (Answer now id r) now BadAnswer (Some r.status) s (fallback_for (policy_of table.lines x.line) es x.asked now (decision_of (policy_of table.lines x.line) es x.asked now)) refl
             (λ e. ap (λ b. cond b (refreshed x r now e) e) (never_answered x r now e n)) (refl, refl) (λ t detail word. (detail, refl, word_of_error n t detail word))
-        by_unasked false n = passes (is_error_status r.status) (fallback_for es x.asked now (decision_of (caches_of table.lines x.line) es x.asked now)) refl n
+        by_unasked false n = passes (is_error_status r.status) (fallback_for (policy_of table.lines x.line) es x.asked now (decision_of (policy_of table.lines x.line) es x.asked now)) refl n
 
-        by_304 : (b : Bool) → is_validation x r ≡ b → Is (cond b (revalidated table es now x r (validated es x r now) (decision_of (caches_of table.lines x.line) es x.asked now))
-            (cond (is_unasked x.asked r) (failed table es now x BadAnswer (Some r.status) (fallback_for es x.asked now (decision_of (caches_of table.lines x.line) es x.asked now)))
-            (passed_unless table es now x r next (is_error_status r.status) (fallback_for es x.asked now (decision_of (caches_of table.lines x.line) es x.asked now)))))
-        by_304 true k = validates (validated es x r now) (decision_of (caches_of table.lines x.line) es x.asked now) k refl refl
+        by_304 : (b : Bool) → is_validation x r ≡ b → Is (cond b (revalidated table es now x r (validated es x r now) (decision_of (policy_of table.lines x.line) es x.asked now))
+            (cond (is_unasked x.asked r) (failed table es now x BadAnswer (Some r.status) (fallback_for (policy_of table.lines x.line) es x.asked now (decision_of (policy_of table.lines x.line) es x.asked now)))
+            (passed_unless table es now x r next (is_error_status r.status) (fallback_for (policy_of table.lines x.line) es x.asked now (decision_of (policy_of table.lines x.line) es x.asked now)))))
+        by_304 true k = validates (validated es x r now) (decision_of (policy_of table.lines x.line) es x.asked now) k refl refl
         by_304 false k = by_unasked (is_unasked x.asked r) k
 
-  woken_sends : (x : Exchange) (now id s : ℕ) (d : Decision) → decision_of (caches_of table.lines x.line) es x.asked now ≡ d → used_in (woken table es now x d) ≡ Some s →
+  woken_sends : (x : Exchange) (now id s : ℕ) (d : Decision) → decision_of (policy_of table.lines x.line) es x.asked now ≡ d → used_in (woken table es now x d) ≡ Some s →
       IsThatResponse table es (Some x) (Wake now id) (woken table es now x d) s
   woken_sends x now id s (decision.Hit t) k h =
-      let f = found_hit (caches_of table.lines x.line) x.asked now t k in
-      at_serial (Some x) (Wake now id) (sent table es t now (collapsed_as x) x.asked) t s (same_Some t s h)
-      (as_held (Some x) (Wake now id) t now (collapsed_as x) x.asked f refl (refl, refl) refl)
+      let f = found_hit (policy_of table.lines x.line) x.asked now t k in
+      at_serial (Some x) (Wake now id) (sent table es t now (collapsed_as (policy_of table.lines x.line) x) x.asked) t s (same_Some t s h)
+      (as_held (Some x) (Wake now id) t now (collapsed_as (policy_of table.lines x.line) x) x.asked f refl (refl, refl) refl)
   woken_sends x now id s (decision.Forward rule against) k h = absurd (never_one s h)
 
   sends_by_event : (xs : List Exchange) (x : Option Exchange) (next : Option ℕ) (event : Event) (s : ℕ) → used_in (outcome_of table es xs x next event) ≡ Some s →
       IsThatResponse table es x event (outcome_of table es xs x next event) s
-  sends_by_event xs x next (Arrive now id asked) s h = arrival_sends xs x now id asked s (verdict_of table.lines asked.method asked.target) h
+  sends_by_event xs x next (Arrive now id asked) s h = arrival_sends xs x now id asked s (verdict_of table.lines asked.method asked.target) refl h
   sends_by_event xs (Some x) next (Answer now id r) s h = answer_sends x now id r next s h
   sends_by_event xs None next (Answer now id r) s h = absurd (never_one s h)
   sends_by_event xs (Some x) next (Fail now id kind) s h =
-      fallback_sends x (Fail now id kind) now kind None s (fallback_for es x.asked now (decision_of (caches_of table.lines x.line) es x.asked now)) refl (λ e. refl) (refl, refl) (λ t detail word. (detail, refl, word)) h
+      fallback_sends x (Fail now id kind) now kind None s (fallback_for (policy_of table.lines x.line) es x.asked now (decision_of (policy_of table.lines x.line) es x.asked now)) refl (λ e. refl) (refl, refl) (λ t detail word. (detail, refl, word)) h
   sends_by_event xs None next (Fail now id kind) s h = absurd (never_one s h)
-  sends_by_event xs (Some x) next (Wake now id) s h = woken_sends x now id s (decision_of (caches_of table.lines x.line) es x.asked now) refl h
+  sends_by_event xs (Some x) next (Wake now id) s h = woken_sends x now id s (decision_of (policy_of table.lines x.line) es x.asked now) refl h
   sends_by_event xs None next (Wake now id) s h = absurd (never_one s h)
   sends_by_event xs x next (Abandon id) s h = absurd (never_one s h)
 

@@ -2,10 +2,11 @@
 use Rattle.std.proofs.Common.{◌≡◌, inl, inr, ℕ, Bool, true, false, cond, ◌&&◌, ◌||◌, eqb, Option, None, Some, List, [], ◌∷◌, refl, sym, ◌∙◌, ap, subst, arith}
 use Rattle.std.specs.List.{Contains}
 use Rattle.std.proofs.lemmas.Bool.{eq-eqb}
+use Rattle.hx_policy.specs.declared.words.Policy.{Policy}
 use Rattle.hx_framing.specs.declared.messages.Response.{Response}
 use Rattle.hx_hop.specs.declared.request_view.Asked.{Asked}
 use Rattle.hx_allow.specs.Lines.{Table}
-use Rattle.hx_allow.specs.Matching.{verdict_of, caches_of}
+use Rattle.hx_allow.specs.Matching.{verdict_of, policy_of}
 use Rattle.hx_allow.specs.declared.verdicts.Verdict.{Verdict}
 use Rattle.hx_allow.specs.declared.verdicts.Verdict.TheVariants as verdict
 use Rattle.hx_store.specs.Stored.{Stored}
@@ -25,6 +26,7 @@ use Rattle.hx_status.specs.declared.status.Detail.{Detail}
 use Rattle.hx_status.specs.declared.status.Detail.TheVariants.{StaleIfError, ReuseAfterError}
 use Rattle.hx_status.specs.declared.cause.FailKind.{FailKind}
 use Rattle.hx_status.specs.declared.cause.FailKind.TheVariants.{BadAnswer}
+use Rattle.hx_storable.specs.declared.rule.StoreRule.{StoreRule}
 use Rattle.proxy_core.specs.declared.condition.Condition.{Condition}
 use Rattle.proxy_core.specs.declared.stored_reply.CacheStatusInfo.{CacheStatusInfo}
 use Rattle.proxy_core.specs.declared.exchange.Exchange.{Exchange}
@@ -34,7 +36,7 @@ use Rattle.proxy_core.specs.declared.outcome.Outcome.{Outcome}
 use Rattle.proxy_core.specs.declared.event.Event.{Event}
 use Rattle.proxy_core.specs.declared.event.Event.TheVariants.{Arrive, Answer, Fail, Wake, Abandon}
 use Rattle.proxy_core.specs.Validating.{condition_at, is_validation, validated, refreshed}
-use Rattle.proxy_core.specs.Storing.{is_unasked, is_storable, replaced_by, made}
+use Rattle.proxy_core.specs.Storing.{rule_told, is_unasked, is_storable, replaced_by, made}
 use Rattle.proxy_core.specs.Leading.{leader_for}
 use Rattle.proxy_core.specs.Outcomes.{find_exchange, id_of, sent, allowed, arrived, sent_on, unanswered, woken, is_only_if_cached, error_rule_at, fallback_by, fallback_for, failed, is_error_status, passed, passed_unless, revalidated, answered, outcome_of}
 use Rattle.proxy_core.specs.State.{State, NoneFrom, stored_in, used_in, removed_in, stored_form}
@@ -69,12 +71,12 @@ member_holds (x ∷ es) e (inr m) = ap (λ b. eqb x.serial e.serial || b) (membe
 contained_found : (es : List Stored) (e : Stored) (s : ℕ) → Contains es e → e.serial ≡ s → IsFound es s
 contained_found es e s c k = held_found s es (ap (λ z. holds z es) (sym k) ∙ member_holds es e (member_contained es e c))
 
-hit_found : (caches : Bool) (es : List Stored) (asked : Asked) (now s : ℕ) → decision_of caches es asked now ≡ decision.Hit s → IsFound es s
-hit_found caches es asked now s h =
-    let r = is_held caches es asked now s h in contained_found es r.0 s r.1.is_candidate.is_held r.2
+hit_found : (policy : Policy) (es : List Stored) (asked : Asked) (now s : ℕ) → decision_of policy es asked now ≡ decision.Hit s → IsFound es s
+hit_found policy es asked now s h =
+    let r = is_held policy es asked now s h in contained_found es r.0 s r.1.is_candidate.is_held r.2
 
-named_found : (caches : Bool) (es : List Stored) (asked : Asked) (now s : ℕ) (rule : ReuseRule) → decision_of caches es asked now ≡ decision.Forward rule (Some s) → IsFound es s
-named_found caches es asked now s rule h = go ((names_the_least caches es asked now rule (Some s) h).1)
+named_found : (policy : Policy) (es : List Stored) (asked : Asked) (now s : ℕ) (rule : ReuseRule) → decision_of policy es asked now ≡ decision.Forward rule (Some s) → IsFound es s
+named_found policy es asked now s rule h = go ((names_the_least policy es asked now rule (Some s) h).1)
   where
     go : NamesTheResponse es asked rule (Some s) → IsFound es s
     go (inl low) = absurd (cc_of low.1)
@@ -115,7 +117,7 @@ module _ (table : Table) (es : List Stored) (x : Option Exchange) (event : Event
 
   kind_arrived : (xs : List Exchange) (now : ℕ) (asked : Asked) (v : Verdict) → KindOf es x event next (arrived table es xs now asked v)
   unfolding KindOf
-  kind_arrived xs now asked (verdict.Allowed line) = kind_allowed xs line now asked (decision_of (caches_of table.lines line) es asked now) (λ s h. hit_found (caches_of table.lines line) es asked now s h)
+  kind_arrived xs now asked (verdict.Allowed line) = kind_allowed xs line now asked (decision_of (policy_of table.lines line) es asked now) (λ s h. hit_found (policy_of table.lines line) es asked now s h)
   kind_arrived xs now asked (verdict.DeniedBy line) = idle refl refl
   kind_arrived xs now asked verdict.NoLine = idle refl refl
 
@@ -125,13 +127,13 @@ module _ (table : Table) (es : List Stored) (x : Option Exchange) (event : Event
   kind_woken now z (decision.Forward rule against) f = idle refl refl
 
   -- what is sent after a failure is held
-  fallback_found : (caches : Bool) (asked : Asked) (now s : ℕ) (detail : Detail) (d : Decision) → decision_of caches es asked now ≡ d → fallback_for es asked now d ≡ Sends s detail → IsFound es s
-  fallback_found caches asked now s detail (decision.Hit t) k h = subst (IsFound es) (same_sent t s ReuseAfterError detail h) (hit_found caches es asked now t k)
-  fallback_found caches asked now s detail (decision.Forward rule None) k h = absurd (cc)
-  fallback_found caches asked now s detail (decision.Forward rule (Some t)) k h = by_rule (error_rule_at es t asked now) h
+  fallback_found : (policy : Policy) (asked : Asked) (now s : ℕ) (detail : Detail) (d : Decision) → decision_of policy es asked now ≡ d → fallback_for policy es asked now d ≡ Sends s detail → IsFound es s
+  fallback_found policy asked now s detail (decision.Hit t) k h = subst (IsFound es) (same_sent t s ReuseAfterError detail h) (hit_found policy es asked now t k)
+  fallback_found policy asked now s detail (decision.Forward rule None) k h = absurd (cc)
+  fallback_found policy asked now s detail (decision.Forward rule (Some t)) k h = by_rule (error_rule_at policy es t asked now) h
     where
       by_rule : (o : Option ErrorRule) → fallback_by rule t o ≡ Sends s detail → IsFound es s
-      by_rule None h = subst (IsFound es) (same_sent t s StaleIfError detail h) (named_found caches es asked now t rule k)
+      by_rule None h = subst (IsFound es) (same_sent t s StaleIfError detail h) (named_found policy es asked now t rule k)
       by_rule (Some error) h = absurd (cc)
 
   kind_failed : (now : ℕ) (z : Exchange) (kind : FailKind) (came : Option ℕ) (fallback : Fallback) → ((s : ℕ) (detail : Detail) → fallback ≡ Sends s detail → IsFound es s) →
@@ -146,50 +148,50 @@ module _ (table : Table) (es : List Stored) (now id : ℕ) (x : Exchange) (r : R
   abbrev event : Event
   event = Answer now id r
 
-  kind_passed : (b : Bool) (n : Option ℕ) → next ≡ n → NoneFrom n es → KindOf es (Some x) (Answer now id r) next (passed table es now x r (cond b n None))
+  kind_passed : (rule : Option StoreRule) (b : Bool) (n : Option ℕ) → next ≡ n → NoneFrom n es → KindOf es (Some x) (Answer now id r) next (passed table es now x r rule (cond b n None))
   unfolding KindOf
-  kind_passed true (Some s) k g =
+  kind_passed rule true (Some s) k g =
       let none : is_in s (replaced_by es x.asked) ≡ false =
       is_in-filter s (λ serial. is_match x.asked.fields (find_entry serial es)) (serials_of x.asked.target.key es)
       ∙ ap (λ b. b && is_match x.asked.fields (find_entry s es)) (none_of_key x.asked.target.key s es (g s (omega arith)))
       in
       stores s (made s x r now) refl refl k refl refl none
-  kind_passed true None k g = idle refl refl
-  kind_passed false n k g = idle refl refl
+  kind_passed rule true None k g = idle refl refl
+  kind_passed rule false n k g = idle refl refl
 
   kind_unless : (b : Bool) (fallback : Fallback) → NoneFrom next es → ((s : ℕ) (detail : Detail) → fallback ≡ Sends s detail → IsFound es s) →
       KindOf es (Some x) (Answer now id r) next (passed_unless table es now x r next b fallback)
   unfolding KindOf
   kind_unless true (Sends s detail) g f = let r = f s detail refl in uses s r.0 refl refl r.1
-  kind_unless true (Refuses rule error) g f = kind_passed (is_storable table x r now next) next refl g
-  kind_unless false fallback g f = kind_passed (is_storable table x r now next) next refl g
+  kind_unless true (Refuses rule error) g f = kind_passed (rule_told table x r now next) (is_storable table x r now next) next refl g
+  kind_unless false fallback g f = kind_passed (rule_told table x r now next) (is_storable table x r now next) next refl g
 
-  kind_revalidated : (o : Option Stored) (d : Decision) → validated es x r now ≡ o → decision_of (caches_of table.lines x.line) es x.asked now ≡ d →
+  kind_revalidated : (o : Option Stored) (d : Decision) → validated es x r now ≡ o → decision_of (policy_of table.lines x.line) es x.asked now ≡ d →
       KindOf es (Some x) (Answer now id r) next (revalidated table es now x r o d)
   unfolding KindOf
   kind_revalidated (Some e) d v k =
       uses (refreshed x r now e).serial e refl refl (ap (λ s. find_entry s es) (serial_stays x r now e) ∙ (validated_is es x r now e v).found)
-  kind_revalidated None (decision.Hit s) v k = let f = hit_found (caches_of table.lines x.line) es x.asked now s k in uses s f.0 refl refl f.1
+  kind_revalidated None (decision.Hit s) v k = let f = hit_found (policy_of table.lines x.line) es x.asked now s k in uses s f.0 refl refl f.1
   kind_revalidated None (decision.Forward rule against) v k = idle refl refl
 
-  kind_answered : NoneFrom next es → KindOf es (Some x) (Answer now id r) next (answered table es now x r next (decision_of (caches_of table.lines x.line) es x.asked now))
+  kind_answered : NoneFrom next es → KindOf es (Some x) (Answer now id r) next (answered table es now x r next (decision_of (policy_of table.lines x.line) es x.asked now))
   kind_answered g = by_304 (is_validation x r)
     where
       d : Decision
-      d = decision_of (caches_of table.lines x.line) es x.asked now
+      d = decision_of (policy_of table.lines x.line) es x.asked now
 
-      found : (s : ℕ) (detail : Detail) → fallback_for es x.asked now (decision_of (caches_of table.lines x.line) es x.asked now) ≡ Sends s detail → IsFound es s
-      found s detail h = fallback_found table es (Some x) (Answer now id r) next (caches_of table.lines x.line) x.asked now s detail (decision_of (caches_of table.lines x.line) es x.asked now) refl h
+      found : (s : ℕ) (detail : Detail) → fallback_for (policy_of table.lines x.line) es x.asked now (decision_of (policy_of table.lines x.line) es x.asked now) ≡ Sends s detail → IsFound es s
+      found s detail h = fallback_found table es (Some x) (Answer now id r) next (policy_of table.lines x.line) x.asked now s detail (decision_of (policy_of table.lines x.line) es x.asked now) refl h
 
-      by_unasked : (b : Bool) → KindOf es (Some x) (Answer now id r) next (cond b (failed table es now x BadAnswer (Some r.status) (fallback_for es x.asked now (decision_of (caches_of table.lines x.line) es x.asked now)))
-          (passed_unless table es now x r next (is_error_status r.status) (fallback_for es x.asked now (decision_of (caches_of table.lines x.line) es x.asked now))))
-      by_unasked true = kind_failed table es (Some x) (Answer now id r) next now x BadAnswer (Some r.status) (fallback_for es x.asked now (decision_of (caches_of table.lines x.line) es x.asked now)) found
-      by_unasked false = kind_unless (is_error_status r.status) (fallback_for es x.asked now (decision_of (caches_of table.lines x.line) es x.asked now)) g found
+      by_unasked : (b : Bool) → KindOf es (Some x) (Answer now id r) next (cond b (failed table es now x BadAnswer (Some r.status) (fallback_for (policy_of table.lines x.line) es x.asked now (decision_of (policy_of table.lines x.line) es x.asked now)))
+          (passed_unless table es now x r next (is_error_status r.status) (fallback_for (policy_of table.lines x.line) es x.asked now (decision_of (policy_of table.lines x.line) es x.asked now))))
+      by_unasked true = kind_failed table es (Some x) (Answer now id r) next now x BadAnswer (Some r.status) (fallback_for (policy_of table.lines x.line) es x.asked now (decision_of (policy_of table.lines x.line) es x.asked now)) found
+      by_unasked false = kind_unless (is_error_status r.status) (fallback_for (policy_of table.lines x.line) es x.asked now (decision_of (policy_of table.lines x.line) es x.asked now)) g found
 
-      by_304 : (b : Bool) → KindOf es (Some x) (Answer now id r) next (cond b (revalidated table es now x r (validated es x r now) (decision_of (caches_of table.lines x.line) es x.asked now))
-          (cond (is_unasked x.asked r) (failed table es now x BadAnswer (Some r.status) (fallback_for es x.asked now (decision_of (caches_of table.lines x.line) es x.asked now)))
-          (passed_unless table es now x r next (is_error_status r.status) (fallback_for es x.asked now (decision_of (caches_of table.lines x.line) es x.asked now)))))
-      by_304 true = kind_revalidated (validated es x r now) (decision_of (caches_of table.lines x.line) es x.asked now) refl refl
+      by_304 : (b : Bool) → KindOf es (Some x) (Answer now id r) next (cond b (revalidated table es now x r (validated es x r now) (decision_of (policy_of table.lines x.line) es x.asked now))
+          (cond (is_unasked x.asked r) (failed table es now x BadAnswer (Some r.status) (fallback_for (policy_of table.lines x.line) es x.asked now (decision_of (policy_of table.lines x.line) es x.asked now)))
+          (passed_unless table es now x r next (is_error_status r.status) (fallback_for (policy_of table.lines x.line) es x.asked now (decision_of (policy_of table.lines x.line) es x.asked now)))))
+      by_304 true = kind_revalidated (validated es x r now) (decision_of (policy_of table.lines x.line) es x.asked now) refl refl
       by_304 false = by_unasked (is_unasked x.asked r)
 
 kind_of : (table : Table) (es : List Stored) (xs : List Exchange) (x : Option Exchange) (event : Event) (next : Option ℕ) → NoneFrom next es →
@@ -199,10 +201,10 @@ kind_of table es xs x (Arrive now id asked) next h = kind_arrived table es x (Ar
 kind_of table es xs (Some x) (Answer now id r) next h = kind_answered table es now id x r next h
 kind_of table es xs None (Answer now id r) next h = idle refl refl
 kind_of table es xs (Some x) (Fail now id kind) next h =
-    kind_failed table es (Some x) (Fail now id kind) next now x kind None (fallback_for es x.asked now (decision_of (caches_of table.lines x.line) es x.asked now))
-    (λ s detail k. fallback_found table es (Some x) (Fail now id kind) next (caches_of table.lines x.line) x.asked now s detail (decision_of (caches_of table.lines x.line) es x.asked now) refl k)
+    kind_failed table es (Some x) (Fail now id kind) next now x kind None (fallback_for (policy_of table.lines x.line) es x.asked now (decision_of (policy_of table.lines x.line) es x.asked now))
+    (λ s detail k. fallback_found table es (Some x) (Fail now id kind) next (policy_of table.lines x.line) x.asked now s detail (decision_of (policy_of table.lines x.line) es x.asked now) refl k)
 kind_of table es xs None (Fail now id kind) next h = idle refl refl
-kind_of table es xs (Some x) (Wake now id) next h = kind_woken table es (Some x) (Wake now id) next now x (decision_of (caches_of table.lines x.line) es x.asked now) (λ s k. hit_found (caches_of table.lines x.line) es x.asked now s k)
+kind_of table es xs (Some x) (Wake now id) next h = kind_woken table es (Some x) (Wake now id) next now x (decision_of (policy_of table.lines x.line) es x.asked now) (λ s k. hit_found (policy_of table.lines x.line) es x.asked now s k)
 kind_of table es xs None (Wake now id) next h = idle refl refl
 kind_of table es xs x (Abandon id) next h = idle refl refl
 

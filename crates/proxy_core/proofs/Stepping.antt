@@ -7,7 +7,7 @@ use Rattle.hx_framing.specs.declared.messages.Response.{Response}
 use Rattle.hx_target.specs.declared.keys.Key.{Key}
 use Rattle.hx_hop.specs.declared.request_view.Asked.{Asked}
 use Rattle.hx_allow.specs.Lines.{Table}
-use Rattle.hx_allow.specs.Matching.{verdict_of, caches_of}
+use Rattle.hx_allow.specs.Matching.{verdict_of, policy_of}
 use Rattle.hx_allow.specs.declared.verdicts.Verdict.{Verdict}
 use Rattle.hx_store.specs.Stored.{Stored}
 use Rattle.hx_store.specs.Serials.{is_in}
@@ -72,7 +72,7 @@ module _ (s : State) (now id : ℕ) (early : too_late now ≡ None) where
 
   -- an exchange that an answer ends
   pub answer_done : (x : Exchange) (r : Response) (pending : PendingReply) (gone : Option Key) (o : Outcome) (t : State) → find_exchange id s.exchanges ≡ Some x → not_forwarded x.stage ≡ None
-      → reply_of pending ≡ answered s.table s.entries now x r s.next (decision_of (caches_of s.table.lines x.line) s.entries x.asked now) → Leaves s.limit s.entries x (Answer now x.id r) pending
+      → reply_of pending ≡ answered s.table s.entries now x r s.next (decision_of (policy_of s.table.lines x.line) s.entries x.asked now) → Leaves s.limit s.entries x (Answer now x.id r) pending
       → gone ≡ key_invalidated x r → o ≡ reply_of pending → t ≡ finished s id pending gone → Steps s (Answer now id r) o t
   answer_done x r pending gone o t here stage reply leaves gone_is is t_is =
       let next = next_after s.next (stored_by pending.change) in
@@ -91,7 +91,7 @@ module _ (s : State) (now id : ℕ) (early : too_late now ≡ None) where
 
   -- one whose request goes forward once more
   pub answer_again : (x : Exchange) (r : Response) (bytes : List ℕ) (o : Outcome) (t : State) → find_exchange id s.exchanges ≡ Some x → not_forwarded x.stage ≡ None
-      → Forward x.line bytes ≡ answered s.table s.entries now x r s.next (decision_of (caches_of s.table.lines x.line) s.entries x.asked now)
+      → Forward x.line bytes ≡ answered s.table s.entries now x r s.next (decision_of (policy_of s.table.lines x.line) s.entries x.asked now)
       → o ≡ Forward x.line bytes → t ≡ st s.table s.limit s.entries (map (gone_out id now) s.exchanges) s.next → Steps s (Answer now id r) o t
   answer_again x r bytes o t here stage forward is t_is =
       let event : Event = Answer now id r in
@@ -103,7 +103,7 @@ module _ (s : State) (now id : ℕ) (early : too_late now ≡ None) where
 
   -- and one that failed
   pub fail_done : (x : Exchange) (kind : FailKind) (pending : PendingReply) (o : Outcome) (t : State) → find_exchange id s.exchanges ≡ Some x → not_forwarded x.stage ≡ None
-      → reply_of pending ≡ failed s.table s.entries now x kind None (fallback_for s.entries x.asked now (decision_of (caches_of s.table.lines x.line) s.entries x.asked now)) → IsPlain pending.change
+      → reply_of pending ≡ failed s.table s.entries now x kind None (fallback_for (policy_of s.table.lines x.line) s.entries x.asked now (decision_of (policy_of s.table.lines x.line) s.entries x.asked now)) → IsPlain pending.change
       → o ≡ reply_of pending → t ≡ finished s id pending None → Steps s (Fail now id kind) o t
   fail_done x kind pending o t here stage reply plain is t_is =
       let event : Event = Fail now id kind in
@@ -118,7 +118,7 @@ module _ (s : State) (now id : ℕ) (early : too_late now ≡ None) where
 
   -- a request that waited is answered from the store
   pub wake_done : (x : Exchange) (pending : PendingReply) (o : Outcome) (t : State) → find_exchange id s.exchanges ≡ Some x → not_ready x.stage ≡ None
-      → reply_of pending ≡ woken s.table s.entries now x (decision_of (caches_of s.table.lines x.line) s.entries x.asked now) → IsPlain pending.change
+      → reply_of pending ≡ woken s.table s.entries now x (decision_of (policy_of s.table.lines x.line) s.entries x.asked now) → IsPlain pending.change
       → o ≡ reply_of pending → t ≡ finished s id pending None → Steps s (Wake now id) o t
   wake_done x pending o t here stage reply plain is t_is =
       let event : Event = Wake now id in
@@ -133,17 +133,17 @@ module _ (s : State) (now id : ℕ) (early : too_late now ≡ None) where
 
   -- by what was made ready for it
   pub wake_ends : (x : Exchange) (pending : PendingReply) (o : Outcome) (t : State) → find_exchange id s.exchanges ≡ Some x → not_ready x.stage ≡ None
-      → IsWoken s.table s.entries now x (decision_of (caches_of s.table.lines x.line) s.entries x.asked now) (Ends pending)
+      → IsWoken s.table s.entries now x (decision_of (policy_of s.table.lines x.line) s.entries x.asked now) (Ends pending)
       → o ≡ reply_of pending → t ≡ finished s id pending None → Steps s (Wake now id) o t
-  wake_ends x pending o t here stage woken_is is t_is = by_decision (decision_of (caches_of s.table.lines x.line) s.entries x.asked now) refl woken_is
+  wake_ends x pending o t here stage woken_is is t_is = by_decision (decision_of (policy_of s.table.lines x.line) s.entries x.asked now) refl woken_is
     where
-      by_decision : (d : Decision) → decision_of (caches_of s.table.lines x.line) s.entries x.asked now ≡ d → IsWoken s.table s.entries now x d (Ends pending) → Steps s (Wake now id) o t
+      by_decision : (d : Decision) → decision_of (policy_of s.table.lines x.line) s.entries x.asked now ≡ d → IsWoken s.table s.entries now x d (Ends pending) → Steps s (Wake now id) o t
       by_decision (decision.Hit serial) d w = wake_done x pending o t here stage (w.0 ∙ ap (λ (d : Decision). woken s.table s.entries now x d) (sym d)) w.1 is t_is
       by_decision (decision.Forward rule against) d w = absurd w
 
   -- or goes forward
   pub wake_out : (x : Exchange) (rule : ReuseRule) (against : Option ℕ) (o : Outcome) (t : State) → find_exchange id s.exchanges ≡ Some x → not_ready x.stage ≡ None
-      → decision_of (caches_of s.table.lines x.line) s.entries x.asked now ≡ decision.Forward rule against
+      → decision_of (policy_of s.table.lines x.line) s.entries x.asked now ≡ decision.Forward rule against
       → o ≡ Forward x.line (forward_text s.table x.asked (condition_at s.entries against))
       → t ≡ st s.table s.limit s.entries (map (sent_out id now rule (condition_at s.entries against)) s.exchanges) s.next → Steps s (Wake now id) o t
   wake_out x rule against o t here stage d is t_is =

@@ -7,7 +7,7 @@ use Rattle.hx_target.specs.declared.keys.Key.{Key}
 use Rattle.hx_framing.specs.declared.messages.Response.{Response}
 use Rattle.hx_hop.specs.Answering.{answered_of}
 use Rattle.hx_allow.specs.Lines.{Table}
-use Rattle.hx_allow.specs.Matching.{caches_of, verdict_of}
+use Rattle.hx_allow.specs.Matching.{policy_of, verdict_of}
 use Rattle.hx_allow.specs.declared.verdicts.Verdict.{Verdict}
 use Rattle.hx_allow.specs.declared.verdicts.Verdict.TheVariants as verdict
 use Rattle.hx_store.specs.Stored.{Stored}
@@ -23,6 +23,7 @@ use Rattle.hx_storable.specs.Rules.{is_understood, storage_rule_of}
 use Rattle.hx_storable.specs.Storable.{IsFinal, MayBeStored}
 use Rattle.hx_storable.specs.declared.known_facts.Facts.{Facts}
 use Rattle.hx_storable.proofs.StorableLemmas.{is_stored, stored_may_be}
+use Rattle.hx_storable.specs.declared.rule.StoreRule.{StoreRule}
 use Rattle.proxy_core.specs.declared.condition.Condition.{Condition}
 use Rattle.proxy_core.specs.declared.exchange.Exchange.{Exchange}
 use Rattle.proxy_core.specs.declared.outcome.Outcome.{Outcome}
@@ -34,7 +35,7 @@ use Rattle.proxy_core.specs.declared.fallback.Fallback.TheVariants.{Sends, Refus
 use Rattle.proxy_core.specs.Leading.{leader_for}
 use Rattle.proxy_core.specs.Outcomes.{allowed, answered, arrived, failed, fallback_for, find_exchange, forward_text, forwarded_as, id_of, is_error_status, is_only_if_cached, outcome_of, passed, passed_unless, refused, removed_by, revalidated, sent, sent_on, sent_refreshed, stored_serial, unanswered, woken}
 use Rattle.proxy_core.specs.State.{stored_in, used_in, removed_in}
-use Rattle.proxy_core.specs.Storing.{facts_of, is_storable, is_unasked}
+use Rattle.proxy_core.specs.Storing.{rule_told, facts_of, is_storable, is_unasked}
 use Rattle.proxy_core.specs.Validating.{asked_about, condition_at, if_answered, is_kept, is_validation, refreshed, validated}
 use Rattle.proxy_core.specs.Traces.{Item}
 use Rattle.proxy_core.specs.Histories.{held_entries, IsGoodHistory, next_serial, open_exchanges}
@@ -42,7 +43,7 @@ use Rattle.proxy_core.specs.Promises.{is_passed_on, key_by_answer}
 use Rattle.proxy_core.proofs.Leaving.{serial_stays, unanswered as never_answered}
 use Rattle.proxy_core.proofs.Unsent.{storing_of}
 use Rattle.proxy_core.specs.StoredAnswers.{MayBeStoredAt, IsStoredAnswer, not_kept, held_for, removed_by_answer, removed_at, StoresNowhereElse, StoresWhereItMay, RemovesJustThat}
-use Rattle.proxy_core.proofs.StoringWords.{can_be_reused, fields_named, fits_in, is_within, keeps_all, lasts_or_validates, lists_none, none_is_not, not_false, some_left, star_absent}
+use Rattle.proxy_core.proofs.StoringWords.{can_be_reused, fields_named, fits_in, is_within, keeps_all, lasts_or_validates, lists_none, none_is_not, some_left, star_absent}
 
 none_of : {A : Type 0} (o : Option A) → is_none o ≡ true → o ≡ None
 none_of None h = refl
@@ -56,13 +57,14 @@ module _ (table : Table) (x : Exchange) (r : Response) (now : ℕ) (next : Optio
 
   may_by_rules : MayBeStoredAt table next x r now → MayBeStored x.asked (answered_of r now) (facts_of table x r now next)
   may_by_rules may = record {
-    operator_allows = ap not may.operator_allows;
+    operator_allows = may.operator_allows;
     is_storable = may.is_storable;
     is_for_the_store = may.is_for_the_store;
+    is_within_the_words = may.is_within_the_words;
     is_of_use = record {
       names_its_fields = star_absent (answered_of r now).fields may.names_fields;
       keeps_its_fields = lists_none r.fields may.keeps_its_fields;
-      lasts_or_is_validated = lasts_or_validates (answered_of r now).fields may.can_be_reused;
+      lasts_or_is_validated = lasts_or_validates (answered_of r now).fields (policy_of table.lines x.line) r.status may.can_be_reused;
       not_overtaken = may.not_overtaken;
     };
     has_room = record {
@@ -73,12 +75,13 @@ module _ (table : Table) (x : Exchange) (r : Response) (now : ℕ) (next : Optio
 
   may_by_words : MayBeStored x.asked (answered_of r now) (facts_of table x r now next) → MayBeStoredAt table next x r now
   may_by_words may = record {
-    operator_allows = not_false (caches_of table.lines x.line) may.operator_allows;
+    operator_allows = may.operator_allows;
     is_storable = may.is_storable;
     is_for_the_store = may.is_for_the_store;
+    is_within_the_words = may.is_within_the_words;
     names_fields = fields_named (answered_of r now).fields may.is_of_use.names_its_fields;
     keeps_its_fields = keeps_all r.fields may.is_of_use.keeps_its_fields;
-    can_be_reused = can_be_reused (answered_of r now).fields may.is_of_use.lasts_or_is_validated;
+    can_be_reused = can_be_reused (answered_of r now).fields (policy_of table.lines x.line) r.status may.is_of_use.lasts_or_is_validated;
     not_overtaken = may.is_of_use.not_overtaken;
     fits = is_within table.max_stored (length r.content) may.has_room.not_too_large;
     serial_is_left = some_left next may.has_room.has_serial;
@@ -110,8 +113,8 @@ module _ (table : Table) (x : Exchange) (r : Response) (now : ℕ) (next : Optio
     stored_answer : MayBeStoredAt table next x r now → used_in (answered table es now x r next d) ≡ None → stored_in (answered table es now x r next d) ≡ next
     stored_answer may unused =
         let other = no_304 may in
-        let is : answered table es now x r next d ≡ passed_unless table es now x r next (is_error_status r.status) (fallback_for es x.asked now d) = rw other refl in
-        ap stored_in is ∙ passed_on (is_error_status r.status) (fallback_for es x.asked now d) (storable may) (sym (ap used_in is) ∙ unused)
+        let is : answered table es now x r next d ≡ passed_unless table es now x r next (is_error_status r.status) (fallback_for (policy_of table.lines x.line) es x.asked now d) = rw other refl in
+        ap stored_in is ∙ passed_on (is_error_status r.status) (fallback_for (policy_of table.lines x.line) es x.asked now d) (storable may) (sym (ap used_in is) ∙ unused)
 
     -- ---- and nowhere else
 
@@ -142,15 +145,15 @@ module _ (table : Table) (x : Exchange) (r : Response) (now : ℕ) (next : Optio
       stored_only : stored_in (answered table es now x r next d) ≡ Some s → (is_storable table x r now next ≡ true) × (used_in (answered table es now x r next d) ≡ None) × (next ≡ Some s)
       stored_only h = by_304 (is_validation x r) h
         where
-          by_unasked : (b : Bool) → stored_in (cond b (failed table es now x BadAnswer (Some r.status) (fallback_for es x.asked now d)) (passed_unless table es now x r next (is_error_status r.status) (fallback_for es x.asked now d))) ≡ Some s
-              → (is_storable table x r now next ≡ true) × (used_in (cond b (failed table es now x BadAnswer (Some r.status) (fallback_for es x.asked now d)) (passed_unless table es now x r next (is_error_status r.status) (fallback_for es x.asked now d))) ≡ None) × (next ≡ Some s)
-          by_unasked true k = absurd (failed_never (fallback_for es x.asked now d) k)
-          by_unasked false k = passed_only (is_error_status r.status) (fallback_for es x.asked now d) k
+          by_unasked : (b : Bool) → stored_in (cond b (failed table es now x BadAnswer (Some r.status) (fallback_for (policy_of table.lines x.line) es x.asked now d)) (passed_unless table es now x r next (is_error_status r.status) (fallback_for (policy_of table.lines x.line) es x.asked now d))) ≡ Some s
+              → (is_storable table x r now next ≡ true) × (used_in (cond b (failed table es now x BadAnswer (Some r.status) (fallback_for (policy_of table.lines x.line) es x.asked now d)) (passed_unless table es now x r next (is_error_status r.status) (fallback_for (policy_of table.lines x.line) es x.asked now d))) ≡ None) × (next ≡ Some s)
+          by_unasked true k = absurd (failed_never (fallback_for (policy_of table.lines x.line) es x.asked now d) k)
+          by_unasked false k = passed_only (is_error_status r.status) (fallback_for (policy_of table.lines x.line) es x.asked now d) k
 
           by_304 : (b : Bool)
-              → stored_in (cond b (revalidated table es now x r (validated es x r now) d) (cond (is_unasked x.asked r) (failed table es now x BadAnswer (Some r.status) (fallback_for es x.asked now d)) (passed_unless table es now x r next (is_error_status r.status) (fallback_for es x.asked now d)))) ≡ Some s
+              → stored_in (cond b (revalidated table es now x r (validated es x r now) d) (cond (is_unasked x.asked r) (failed table es now x BadAnswer (Some r.status) (fallback_for (policy_of table.lines x.line) es x.asked now d)) (passed_unless table es now x r next (is_error_status r.status) (fallback_for (policy_of table.lines x.line) es x.asked now d)))) ≡ Some s
               → (is_storable table x r now next ≡ true)
-              × (used_in (cond b (revalidated table es now x r (validated es x r now) d) (cond (is_unasked x.asked r) (failed table es now x BadAnswer (Some r.status) (fallback_for es x.asked now d)) (passed_unless table es now x r next (is_error_status r.status) (fallback_for es x.asked now d)))) ≡ None) × (next ≡ Some s)
+              × (used_in (cond b (revalidated table es now x r (validated es x r now) d) (cond (is_unasked x.asked r) (failed table es now x BadAnswer (Some r.status) (fallback_for (policy_of table.lines x.line) es x.asked now d)) (passed_unless table es now x r next (is_error_status r.status) (fallback_for (policy_of table.lines x.line) es x.asked now d)))) ≡ None) × (next ≡ Some s)
           by_304 true k = absurd (validated_never (validated es x r now) d k)
           by_304 false k = by_unasked (is_unasked x.asked r) k
 
@@ -161,7 +164,7 @@ stores_where_it_may table limit first now id x r item past good event is_open un
     let es = held_entries table limit past in
     let xs = open_exchanges table limit past in
     let next = next_serial first past in
-    let d = decision_of (caches_of table.lines x.line) es x.asked now in
+    let d = decision_of (policy_of table.lines x.line) es x.asked now in
     let here : item.outcome ≡ outcome_of table es xs (find_exchange id xs) next (Answer now id r) =
     good.0.outcome_is ∙ ap (λ (e : Event). outcome_of table es xs (find_exchange (id_of e) xs) next e) event in
     let is : item.outcome ≡ answered table es now x r next d = here ∙ ap (λ (o : Option Exchange). outcome_of table es xs o next (Answer now id r)) is_open in
@@ -179,7 +182,7 @@ stored_at table limit first s item past good stored =
     let xs = open_exchanges table limit past in
     let next = next_serial first past in
     let t = storing_of table es xs (find_exchange (id_of item.event) xs) next item.event s (sym (ap stored_in good.0.outcome_is) ∙ stored) in
-    let d = decision_of (caches_of table.lines t.z.line) es t.z.asked t.now in
+    let d = decision_of (policy_of table.lines t.z.line) es t.z.asked t.now in
     let found : find_exchange t.i xs ≡ Some t.z = sym (ap (λ (e : Event). find_exchange (id_of e) xs) t.event_is) ∙ t.w_is in
     let is : item.outcome ≡ answered table es t.now t.z t.r next d =
     good.0.outcome_is ∙ ap (λ (o : Option Exchange). outcome_of table es xs o next item.event) t.w_is ∙ ap (λ (e : Event). outcome_of table es xs (Some t.z) next e) t.event_is in
@@ -237,12 +240,12 @@ module _ (table : Table) (es : List Stored) (now : ℕ) (x : Exchange) (r : Resp
       by_entry (Some e) = ap (λ b. cond b (Some e) None) (never_answered x r now e n)
 
   failed_goes : is_validation x r ≡ false → is_unasked x.asked r ≡ true → (fallback : Fallback) → Goes (failed table es now x BadAnswer (Some r.status) fallback)
-  failed_goes n u (Sends serial detail) = sym (nothing_held_for (sent table es serial now (forwarded_as x (Some r.status) (Some detail)) x.asked) refl ∙ no_304_goes n)
+  failed_goes n u (Sends serial detail) = sym (nothing_held_for (sent table es serial now (forwarded_as (policy_of table.lines x.line) x (Some r.status) (Some detail)) x.asked) refl ∙ no_304_goes n)
   failed_goes n u (Refuses rule error) = sym (nothing_held_for (refused now (Origin BadAnswer rule error) x.asked) (ap not u) ∙ no_304_goes n)
 
-  passed_goes : (stored : Option ℕ) → is_validation x r ≡ false → is_unasked x.asked r ≡ false → Goes (passed table es now x r stored)
-  passed_goes (Some s) n u = refl
-  passed_goes None n u =
+  passed_goes : (rule : Option StoreRule) (stored : Option ℕ) → is_validation x r ≡ false → is_unasked x.asked r ≡ false → Goes (passed table es now x r rule stored)
+  passed_goes rule (Some s) n u = refl
+  passed_goes rule None n u =
       let unsafe = not (is_among safe_methods x.asked.method) in
       let plain = nat_le 200 r.status && nat_le r.status 399 in
       let same : removed_by es x r None ≡ cond (unsafe && (plain && true)) (serials_of x.asked.target.key es) [] =
@@ -250,7 +253,7 @@ module _ (table : Table) (es : List Stored) (now : ℕ) (x : Exchange) (r : Resp
       ∙ ap (λ b. cond (unsafe && plain && not b) (serials_of x.asked.target.key es) []) u
       ∙ ap (λ b. cond b (serials_of x.asked.target.key es) []) (and_together unsafe plain true)
       in
-      let theirs : held_for es (key_by_answer x.asked r (passed table es now x r None)) (not_kept table x now r (validated es x r now)) ≡ cond (unsafe && (plain && true)) (serials_of x.asked.target.key es) [] =
+      let theirs : held_for es (key_by_answer x.asked r (passed table es now x r rule None)) (not_kept table x now r (validated es x r now)) ≡ cond (unsafe && (plain && true)) (serials_of x.asked.target.key es) [] =
       ap (λ b. held_for es (cond (unsafe && (plain && not b)) (Some x.asked.target.key) None) (not_kept table x now r (validated es x r now))) u
       ∙ ap (held_for es (cond (unsafe && (plain && true)) (Some x.asked.target.key) None)) (no_304_goes n)
       ∙ by_test (unsafe && (plain && true))
@@ -262,28 +265,28 @@ module _ (table : Table) (es : List Stored) (now : ℕ) (x : Exchange) (r : Resp
       by_test false = refl
 
   unless_goes : is_validation x r ≡ false → is_unasked x.asked r ≡ false → (b : Bool) → is_error_status r.status ≡ b → (fallback : Fallback) → Goes (passed_unless table es now x r next b fallback)
-  unless_goes n u true e (Sends serial detail) = sym (nothing_held_for (sent table es serial now (forwarded_as x (Some r.status) (Some detail)) x.asked) refl ∙ no_304_goes n)
-  unless_goes n u true e (Refuses rule error) = passed_goes (stored_serial table x r now next) n u
-  unless_goes n u false e fallback = passed_goes (stored_serial table x r now next) n u
+  unless_goes n u true e (Sends serial detail) = sym (nothing_held_for (sent table es serial now (forwarded_as (policy_of table.lines x.line) x (Some r.status) (Some detail)) x.asked) refl ∙ no_304_goes n)
+  unless_goes n u true e (Refuses rule error) = passed_goes (rule_told table x r now next) (stored_serial table x r now next) n u
+  unless_goes n u false e fallback = passed_goes (rule_told table x r now next) (stored_serial table x r now next) n u
 
   revalidated_goes : (o : Option Stored) (d : Decision) → validated es x r now ≡ o → Goes (revalidated table es now x r o d)
   revalidated_goes (Some e) d v =
       ap (λ n. cond (is_kept table x r (refreshed x r now e)) [] (n ∷ [])) (serial_stays x r now e)
       ∙ sym (nothing_held_for (sent_refreshed table x r now (refreshed x r now e)) refl ∙ ap (not_kept table x now r) v)
-  revalidated_goes None (decision.Hit s) v = sym (nothing_held_for (sent table es s now (forwarded_as x (Some r.status) (Some ReuseAfter304)) x.asked) refl ∙ ap (not_kept table x now r) v)
+  revalidated_goes None (decision.Hit s) v = sym (nothing_held_for (sent table es s now (forwarded_as (policy_of table.lines x.line) x (Some r.status) (Some ReuseAfter304)) x.asked) refl ∙ ap (not_kept table x now r) v)
   revalidated_goes None (decision.Forward rule against) v = sym (nothing_held_for (Forward x.line (forward_text table x.asked None)) refl ∙ ap (not_kept table x now r) v)
 
   answer_goes : (d : Decision) → Goes (answered table es now x r next d)
   answer_goes d = by_304 (is_validation x r) refl
     where
       by_unasked : is_validation x r ≡ false → (b : Bool) → is_unasked x.asked r ≡ b →
-          Goes (cond b (failed table es now x BadAnswer (Some r.status) (fallback_for es x.asked now d)) (passed_unless table es now x r next (is_error_status r.status) (fallback_for es x.asked now d)))
-      by_unasked n true u = failed_goes n u (fallback_for es x.asked now d)
-      by_unasked n false u = unless_goes n u (is_error_status r.status) refl (fallback_for es x.asked now d)
+          Goes (cond b (failed table es now x BadAnswer (Some r.status) (fallback_for (policy_of table.lines x.line) es x.asked now d)) (passed_unless table es now x r next (is_error_status r.status) (fallback_for (policy_of table.lines x.line) es x.asked now d)))
+      by_unasked n true u = failed_goes n u (fallback_for (policy_of table.lines x.line) es x.asked now d)
+      by_unasked n false u = unless_goes n u (is_error_status r.status) refl (fallback_for (policy_of table.lines x.line) es x.asked now d)
 
       by_304 : (b : Bool) → is_validation x r ≡ b →
           Goes (cond b (revalidated table es now x r (validated es x r now) d)
-          (cond (is_unasked x.asked r) (failed table es now x BadAnswer (Some r.status) (fallback_for es x.asked now d)) (passed_unless table es now x r next (is_error_status r.status) (fallback_for es x.asked now d))))
+          (cond (is_unasked x.asked r) (failed table es now x BadAnswer (Some r.status) (fallback_for (policy_of table.lines x.line) es x.asked now d)) (passed_unless table es now x r next (is_error_status r.status) (fallback_for (policy_of table.lines x.line) es x.asked now d))))
       by_304 true k = revalidated_goes (validated es x r now) d refl
       by_304 false k = by_unasked k (is_unasked x.asked r) refl
 
@@ -304,18 +307,18 @@ module _ (table : Table) (es : List Stored) (xs : List Exchange) (next : Option 
       by_decision line (decision.Forward rule against) = unless line rule (condition_at es against) (is_only_if_cached asked)
 
       by_verdict : (v : Verdict) → removed_in (arrived table es xs now asked v) ≡ []
-      by_verdict (verdict.Allowed line) = by_decision line (decision_of (caches_of table.lines line) es asked now)
+      by_verdict (verdict.Allowed line) = by_decision line (decision_of (policy_of table.lines line) es asked now)
       by_verdict (verdict.DeniedBy line) = refl
       by_verdict verdict.NoLine = refl
-  goes_by_event (Some x) (Answer now id r) = answer_goes table es now x r next (decision_of (caches_of table.lines x.line) es x.asked now)
+  goes_by_event (Some x) (Answer now id r) = answer_goes table es now x r next (decision_of (policy_of table.lines x.line) es x.asked now)
   goes_by_event None (Answer now id r) = refl
-  goes_by_event (Some x) (Fail now id kind) = by_fallback (fallback_for es x.asked now (decision_of (caches_of table.lines x.line) es x.asked now))
+  goes_by_event (Some x) (Fail now id kind) = by_fallback (fallback_for (policy_of table.lines x.line) es x.asked now (decision_of (policy_of table.lines x.line) es x.asked now))
     where
       by_fallback : (fallback : Fallback) → removed_in (failed table es now x kind None fallback) ≡ []
       by_fallback (Sends serial detail) = refl
       by_fallback (Refuses rule error) = refl
   goes_by_event None (Fail now id kind) = refl
-  goes_by_event (Some x) (Wake now id) = by_decision (decision_of (caches_of table.lines x.line) es x.asked now)
+  goes_by_event (Some x) (Wake now id) = by_decision (decision_of (policy_of table.lines x.line) es x.asked now)
     where
       by_decision : (d : Decision) → removed_in (woken table es now x d) ≡ []
       by_decision (decision.Hit s) = refl

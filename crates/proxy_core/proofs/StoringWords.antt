@@ -14,6 +14,9 @@ use Rattle.hx_age.specs.declared.lifetimes.Lifetime.{Lifetime}
 use Rattle.hx_age.specs.Lifetime.{explicit_of, lifetime_of, stated_seconds, until_expires}
 use Rattle.hx_vary.specs.Vary.{is_star, is_star_member, vary_names}
 use Rattle.hx_hop.specs.Stripping.{cache_names, connection_names, lists_cache_field}
+use Rattle.hx_policy.specs.Words.{given_lifetime}
+use Rattle.hx_policy.specs.declared.words.Policy.{Policy}
+use Rattle.hx_reuse.specs.Lifetimes.{given, lifetime_under}
 use Rattle.hx_validate.specs.Validators.{has_validator, modified_value, tag_value}
 use Rattle.proxy_core.specs.StoredAnswers.{CanBeReused, KeepsItsFields, NamesFields}
 
@@ -89,6 +92,18 @@ said_by false true e a b c h = inr (inl refl)
 said_by false false true a b c h = inr (inr refl)
 said_by false false false a b c h = absurd cc
 
+-- a lifetime stands where the response states one or is given one
+explicit_under : (l : Lifetime) (e : Bool) → l.explicit ≡ e → (g : Option ℕ) → (cond e l (given g l)).explicit ≡ true → (l.explicit ≡ true) ⊎ (is_some g ≡ true)
+explicit_under l true k g h = inl k
+explicit_under l false k None h = inl h
+explicit_under l false k (Some n) h = inr refl
+
+under_explicit : (l : Lifetime) (e : Bool) → l.explicit ≡ e → (g : Option ℕ) → (l.explicit ≡ true) ⊎ (is_some g ≡ true) → (cond e l (given g l)).explicit ≡ true
+under_explicit l true k g h = k
+under_explicit l false k None (inl h) = h
+under_explicit l false k None (inr h) = absurd cc
+under_explicit l false k (Some n) h = refl
+
 module _ (fields : List Field) where
   lasting : (has (occurrences_of fields) SMaxage ≡ true) ⊎ ((has (occurrences_of fields) MaxAge ≡ true) ⊎ (has_line fields (codes "Expires") ≡ true)) → (lifetime_of fields).explicit ≡ true
   lasting h =
@@ -100,29 +115,39 @@ module _ (fields : List Field) where
       said_by (has (occurrences_of fields) SMaxage) (has (occurrences_of fields) MaxAge) (has_line fields (codes "Expires"))
       (stated_seconds (seconds (occurrences_of fields) SMaxage)) (stated_seconds (seconds (occurrences_of fields) MaxAge)) (until_expires fields) h
 
-  pub can_be_reused : ((lifetime_of fields).explicit ≡ true) ⊎ (has_validator fields ≡ true) → CanBeReused fields
-  can_be_reused (inl h) = of_lifetime (lasts h)
-    where
-      of_lifetime : (has (occurrences_of fields) SMaxage ≡ true) ⊎ ((has (occurrences_of fields) MaxAge ≡ true) ⊎ (has_line fields (codes "Expires") ≡ true)) → CanBeReused fields
-      of_lifetime (inl s) = inl s
-      of_lifetime (inr (inl m)) = inr (inl m)
-      of_lifetime (inr (inr e)) = inr (inr (inl e))
-  can_be_reused (inr h) = of_validator (one_of (is_some (tag_value fields)) (is_some (modified_value fields)) h)
-    where
-      of_validator : (is_some (tag_value fields) ≡ true) ⊎ (is_some (modified_value fields) ≡ true) → CanBeReused fields
-      of_validator (inl t) = inr (inr (inr (inl t)))
-      of_validator (inr m) = inr (inr (inr (inr m)))
+  module _ (policy : Policy) (status : ℕ) where
+    pub can_be_reused : ((lifetime_under policy status fields).explicit ≡ true) ⊎ (has_validator fields ≡ true) → CanBeReused policy status fields
+    can_be_reused (inl h) = of_either (explicit_under (lifetime_of fields) (lifetime_of fields).explicit refl (given_lifetime policy status) h)
+      where
+        of_lifetime : (has (occurrences_of fields) SMaxage ≡ true) ⊎ ((has (occurrences_of fields) MaxAge ≡ true) ⊎ (has_line fields (codes "Expires") ≡ true)) → CanBeReused policy status fields
+        of_lifetime (inl s) = inl s
+        of_lifetime (inr (inl m)) = inr (inl m)
+        of_lifetime (inr (inr e)) = inr (inr (inl e))
 
-  pub lasts_or_validates : CanBeReused fields → ((lifetime_of fields).explicit ≡ true) ⊎ (has_validator fields ≡ true)
-  lasts_or_validates (inl s) = inl (lasting (inl s))
-  lasts_or_validates (inr (inl m)) = inl (lasting (inr (inl m)))
-  lasts_or_validates (inr (inr (inl e))) = inl (lasting (inr (inr e)))
-  lasts_or_validates (inr (inr (inr (inl t)))) = inr (rw t refl)
-  lasts_or_validates (inr (inr (inr (inr m)))) = inr (last (is_some (tag_value fields)) m)
-    where
-      last : (a : Bool) → is_some (modified_value fields) ≡ true → a || is_some (modified_value fields) ≡ true
-      last true h = refl
-      last false h = h
+        of_either : ((lifetime_of fields).explicit ≡ true) ⊎ (is_some (given_lifetime policy status) ≡ true) → CanBeReused policy status fields
+        of_either (inl stated) = of_lifetime (lasts stated)
+        of_either (inr given) = inr (inr (inr (inr (inr given))))
+    can_be_reused (inr h) = of_validator (one_of (is_some (tag_value fields)) (is_some (modified_value fields)) h)
+      where
+        of_validator : (is_some (tag_value fields) ≡ true) ⊎ (is_some (modified_value fields) ≡ true) → CanBeReused policy status fields
+        of_validator (inl t) = inr (inr (inr (inl t)))
+        of_validator (inr m) = inr (inr (inr (inr (inl m))))
+
+    stated_lasts : (lifetime_of fields).explicit ≡ true → (lifetime_under policy status fields).explicit ≡ true
+    stated_lasts h = under_explicit (lifetime_of fields) (lifetime_of fields).explicit refl (given_lifetime policy status) (inl h)
+
+    pub lasts_or_validates : CanBeReused policy status fields → ((lifetime_under policy status fields).explicit ≡ true) ⊎ (has_validator fields ≡ true)
+    lasts_or_validates (inl s) = inl (stated_lasts (lasting (inl s)))
+    lasts_or_validates (inr (inl m)) = inl (stated_lasts (lasting (inr (inl m))))
+    lasts_or_validates (inr (inr (inl e))) = inl (stated_lasts (lasting (inr (inr e))))
+    lasts_or_validates (inr (inr (inr (inl t)))) = inr (rw t refl)
+    lasts_or_validates (inr (inr (inr (inr (inl m))))) = inr (last (is_some (tag_value fields)) m)
+      where
+        last : (a : Bool) → is_some (modified_value fields) ≡ true → a || is_some (modified_value fields) ≡ true
+        last true h = refl
+        last false h = h
+    lasts_or_validates (inr (inr (inr (inr (inr g))))) =
+        inl (under_explicit (lifetime_of fields) (lifetime_of fields).explicit refl (given_lifetime policy status) (inr g))
 
 -- ---- limits
 

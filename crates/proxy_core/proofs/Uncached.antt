@@ -5,7 +5,7 @@ use Rattle.std.proofs.lemmas.Bool.{false≢true}
 use Rattle.hx_framing.specs.declared.messages.Response.{Response}
 use Rattle.hx_hop.specs.declared.request_view.Asked.{Asked}
 use Rattle.hx_allow.specs.Lines.{Table}
-use Rattle.hx_allow.specs.Matching.{caches_of}
+use Rattle.hx_allow.specs.Matching.{policy_of}
 use Rattle.hx_allow.specs.declared.verdicts.Verdict.{Verdict}
 use Rattle.hx_allow.specs.declared.verdicts.Verdict.TheVariants as verdict
 use Rattle.hx_store.specs.Stored.{Stored}
@@ -41,14 +41,14 @@ none_there : (o : Option ℕ) → ((s : ℕ) → o ≡ Some s → ⊥) → o ≡
 none_there None h = refl
 none_there (Some s) h = absurd (h s refl)
 
-module _ (table : Table) (line : ℕ) (off : caches_of table.lines line ≡ false) where
-  no_word : (n : ℕ) → n ≡ line → caches_of table.lines n ≡ true → ⊥
-  no_word n same h = false≢true (sym off ∙ ap (λ m. caches_of table.lines m) (sym same) ∙ h)
+module _ (table : Table) (line : ℕ) (off : (policy_of table.lines line).caches ≡ false) where
+  no_word : (n : ℕ) → n ≡ line → (policy_of table.lines n).caches ≡ true → ⊥
+  no_word n same h = false≢true (sym off ∙ ap (λ m. (policy_of table.lines m).caches) (sym same) ∙ h)
 
-  not_reusable : (held : List Stored) (asked : Asked) (now s n : ℕ) → n ≡ line → IsReusable (caches_of table.lines n) held asked now s → ⊥
+  not_reusable : (held : List Stored) (asked : Asked) (now s n : ℕ) → n ≡ line → IsReusable (policy_of table.lines n) held asked now s → ⊥
   not_reusable held asked now s n same r = no_word n same r.1.operator_allows
 
-  no_fallback : (held : List Stored) (asked : Asked) (now s n : ℕ) → n ≡ line → IsFallback (caches_of table.lines n) held asked now s → ⊥
+  no_fallback : (held : List Stored) (asked : Asked) (now s n : ℕ) → n ≡ line → IsFallback (policy_of table.lines n) held asked now s → ⊥
   no_fallback held asked now s n same (inl r) = not_reusable held asked now s n same r
   no_fallback held asked now s n same (inr may) = no_word n same may.1.operator_allows
 
@@ -57,7 +57,7 @@ module _ (table : Table) (line : ℕ) (off : caches_of table.lines line ≡ fals
   no_condition limit x past same a = by_going a.went
     where
       late : names_entry x.rule ≡ true → ⊥
-      late h = no_word x.line same (allowed_by (caches_of table.lines x.line) (held_entries table limit a.before) x.asked a.now x.rule a.rule_is_least h)
+      late h = no_word x.line same (allowed_by (policy_of table.lines x.line) (held_entries table limit a.before) x.asked a.now x.rule a.rule_is_least h)
 
       by_name : (against : Option ℕ) → NamesTheResponse (held_entries table limit a.before) x.asked x.rule against → against ≡ None
       by_name against (inl low) = low.1
@@ -108,7 +108,7 @@ pub goes_forward_over_it : GoesForwardOverIt
 goes_forward_over_it table limit first now id line asked item past g e v off =
     let es = held_entries table limit past in
     let xs = open_exchanges table limit past in
-    let d : decision_of (caches_of table.lines line) es asked now ≡ decision.Forward Operator None = sym (by_operator (caches_of table.lines line) es asked now off) in
+    let d : decision_of (policy_of table.lines line) es asked now ≡ decision.Forward Operator None = sym (by_operator (policy_of table.lines line) es asked now off) in
     let is : item.outcome ≡ unanswered table xs line now asked Operator None (is_only_if_cached asked) =
     arrival_is table limit first now id asked item past g e
     ∙ ap (λ (w : Verdict). arrived table es xs now asked w) v

@@ -11,7 +11,7 @@ use Rattle.hx_framing.specs.declared.messages.Response.{Response}
 use Rattle.hx_hop.specs.Answering.{answered_of}
 use Rattle.hx_hop.specs.declared.request_view.Asked.{Asked}
 use Rattle.hx_allow.specs.Lines.{Table}
-use Rattle.hx_allow.specs.Matching.{verdict_of, caches_of}
+use Rattle.hx_allow.specs.Matching.{verdict_of, policy_of}
 use Rattle.hx_allow.specs.declared.verdicts.Verdict.{Verdict}
 use Rattle.hx_allow.specs.declared.verdicts.Verdict.TheVariants as verdict
 use Rattle.hx_store.specs.Stored.{Stored}
@@ -37,7 +37,7 @@ use Rattle.proxy_core.specs.declared.outcome.Outcome.{Outcome}
 use Rattle.proxy_core.specs.declared.event.Event.{Event}
 use Rattle.proxy_core.specs.declared.event.Event.TheVariants.{Arrive, Answer, Fail, Wake, Abandon}
 use Rattle.proxy_core.specs.Validating.{condition_at, is_validation, is_answered, validated, refreshed}
-use Rattle.proxy_core.specs.Storing.{facts_of, is_storable, is_unasked, invalidates, key_invalidated}
+use Rattle.proxy_core.specs.Storing.{rule_told, facts_of, is_storable, is_unasked, invalidates, key_invalidated}
 use Rattle.proxy_core.specs.Leading.{leader_for, is_forwarded}
 use Rattle.proxy_core.specs.Outcomes.{find_exchange, id_of, arrived, allowed, sent_on, unanswered, woken, fault_of, is_only_if_cached, fallback_for, failed, is_error_status, passed, passed_unless, removed_by, stored_serial, revalidated, answered, outcome_of}
 use Rattle.proxy_core.specs.State.{stored_in, used_in, removed_in, next_after, next_of, stored_form, used_form}
@@ -78,7 +78,7 @@ not_false false h = absurd (false≢true (sym h))
 pub record IsPlainGet (table : Table) (x : Exchange) : Type 0 where
   pub safe : is_among safe_methods x.asked.method ≡ true
   pub in_time : x.overtaken ≡ false
-  pub cached : caches_of table.lines x.line ≡ true
+  pub cached : (policy_of table.lines x.line).caches ≡ true
 
 storable_is : (table : Table) (x : Exchange) (r : Response) (now : ℕ) (next : Option ℕ) → is_storable table x r now next ≡ true → IsPlainGet table x
 storable_is table x r now next h =
@@ -88,7 +88,7 @@ storable_is table x r now next h =
     record {
       safe = or_left (bytes_eq x.asked.method (codes "GET")) _ (not_false (bytes_eq x.asked.method (codes "GET")) (no_rule_stands x.asked a facts Method none));
       in_time = no_rule_stands x.asked a facts Overtaken none;
-      cached = not_false (caches_of table.lines x.line) (no_rule_stands x.asked a facts Operator none);
+      cached = not_false (policy_of table.lines x.line).caches (no_rule_stands x.asked a facts Operator none);
     }
 
 pub record Storing (table : Table) (w : Option Exchange) (event : Event) (next : Option ℕ) (s : ℕ) : Type 0 where
@@ -105,7 +105,7 @@ none_stored : (s : ℕ) → ◌≡◌ {A = Option ℕ} None (Some s) → ⊥
 none_stored s h = cc
 
 stored_arrival : (table : Table) (es : List Stored) (xs : List Exchange) (now : ℕ) (asked : Asked) (v : Verdict) (s : ℕ) → stored_in (arrived table es xs now asked v) ≡ Some s → ⊥
-stored_arrival table es xs now asked (verdict.Allowed line) s h = by_decision (decision_of (caches_of table.lines line) es asked now) h
+stored_arrival table es xs now asked (verdict.Allowed line) s h = by_decision (decision_of (policy_of table.lines line) es asked now) h
   where
     on : (condition : Option Condition) (leader : Option ℕ) → stored_in (sent_on table line asked condition leader) ≡ Some s → ⊥
     on condition None h = none_stored s h
@@ -143,14 +143,14 @@ module _ (table : Table) (es : List Stored) (now i : ℕ) (x : Exchange) (r : Re
   stored_answer : (d : Decision) → stored_in (answered table es now x r next d) ≡ Some s → Storing table (Some x) (Answer now i r) next s
   stored_answer d h = by_304 (is_validation x r) h
     where
-      by_unasked : (b : Bool) → stored_in (cond b (failed table es now x BadAnswer (Some r.status) (fallback_for es x.asked now d))
-          (passed_unless table es now x r next (is_error_status r.status) (fallback_for es x.asked now d))) ≡ Some s → Storing table (Some x) (Answer now i r) next s
-      by_unasked true h = absurd (stored_failure table es now x BadAnswer (Some r.status) (fallback_for es x.asked now d) s h)
-      by_unasked false h = stored_unless (is_error_status r.status) (fallback_for es x.asked now d) h
+      by_unasked : (b : Bool) → stored_in (cond b (failed table es now x BadAnswer (Some r.status) (fallback_for (policy_of table.lines x.line) es x.asked now d))
+          (passed_unless table es now x r next (is_error_status r.status) (fallback_for (policy_of table.lines x.line) es x.asked now d))) ≡ Some s → Storing table (Some x) (Answer now i r) next s
+      by_unasked true h = absurd (stored_failure table es now x BadAnswer (Some r.status) (fallback_for (policy_of table.lines x.line) es x.asked now d) s h)
+      by_unasked false h = stored_unless (is_error_status r.status) (fallback_for (policy_of table.lines x.line) es x.asked now d) h
 
       by_304 : (b : Bool) → stored_in (cond b (revalidated table es now x r (validated es x r now) d)
-          (cond (is_unasked x.asked r) (failed table es now x BadAnswer (Some r.status) (fallback_for es x.asked now d))
-          (passed_unless table es now x r next (is_error_status r.status) (fallback_for es x.asked now d)))) ≡ Some s → Storing table (Some x) (Answer now i r) next s
+          (cond (is_unasked x.asked r) (failed table es now x BadAnswer (Some r.status) (fallback_for (policy_of table.lines x.line) es x.asked now d))
+          (passed_unless table es now x r next (is_error_status r.status) (fallback_for (policy_of table.lines x.line) es x.asked now d)))) ≡ Some s → Storing table (Some x) (Answer now i r) next s
       by_304 true h = absurd (stored_304 table es now x r (validated es x r now) d s h)
       by_304 false h = by_unasked (is_unasked x.asked r) h
 
@@ -158,11 +158,11 @@ pub storing_of : (table : Table) (es : List Stored) (xs : List Exchange) (w : Op
     stored_in (outcome_of table es xs w next event) ≡ Some s → Storing table w event next s
 storing_of table es xs w next (Arrive now i asked) s h = absurd (stored_arrival table es xs now asked (verdict_of table.lines asked.method asked.target) s h)
 storing_of table es xs None next (Answer now i r) s h = absurd (none_stored s h)
-storing_of table es xs (Some z) next (Answer now i r) s h = stored_answer table es now i z r next s (decision_of (caches_of table.lines z.line) es z.asked now) h
+storing_of table es xs (Some z) next (Answer now i r) s h = stored_answer table es now i z r next s (decision_of (policy_of table.lines z.line) es z.asked now) h
 storing_of table es xs None next (Fail now i kind) s h = absurd (none_stored s h)
-storing_of table es xs (Some z) next (Fail now i kind) s h = absurd (stored_failure table es now z kind None (fallback_for es z.asked now (decision_of (caches_of table.lines z.line) es z.asked now)) s h)
+storing_of table es xs (Some z) next (Fail now i kind) s h = absurd (stored_failure table es now z kind None (fallback_for (policy_of table.lines z.line) es z.asked now (decision_of (policy_of table.lines z.line) es z.asked now)) s h)
 storing_of table es xs None next (Wake now i) s h = absurd (none_stored s h)
-storing_of table es xs (Some z) next (Wake now i) s h = absurd (stored_wake (decision_of (caches_of table.lines z.line) es z.asked now) h)
+storing_of table es xs (Some z) next (Wake now i) s h = absurd (stored_wake (decision_of (policy_of table.lines z.line) es z.asked now) h)
   where
     stored_wake : (d : Decision) → stored_in (woken table es now z d) ≡ Some s → ⊥
     stored_wake (decision.Hit t) h = none_stored s h
@@ -195,8 +195,8 @@ key_parts x r k h = by_test (invalidates x r) h
 -- where the rest is as it should be, the answer is passed on
 passed_at : (table : Table) (es : List Stored) (now : ℕ) (x : Exchange) (r : Response) (next : Option ℕ) (d : Decision) (v n e : Bool) → v ≡ false → n ≡ false → e ≡ false →
     cond v (revalidated table es now x r (validated es x r now) d)
-    (cond n (failed table es now x BadAnswer (Some r.status) (fallback_for es x.asked now d)) (passed_unless table es now x r next e (fallback_for es x.asked now d)))
-    ≡ passed table es now x r (stored_serial table x r now next)
+    (cond n (failed table es now x BadAnswer (Some r.status) (fallback_for (policy_of table.lines x.line) es x.asked now d)) (passed_unless table es now x r next e (fallback_for (policy_of table.lines x.line) es x.asked now d)))
+    ≡ passed table es now x r (rule_told table x r now next) (stored_serial table x r now next)
 passed_at table es now x r next d true n e hv hn he = absurd (false≢true (sym hv))
 passed_at table es now x r next d false true e hv hn he = absurd (false≢true (sym hn))
 passed_at table es now x r next d false false true hv hn he = absurd (false≢true (sym he))
@@ -221,7 +221,7 @@ removes_key : (table : Table) (es : List Stored) (xs : List Exchange) (w : Optio
 removes_key table es xs None next event o k e h = absurd (cc)
 removes_key table es xs (Some z) next (Arrive now i asked) o k e h = absurd (cc)
 removes_key table es xs (Some z) next (Answer now i r) o k e h =
-    let d = decision_of (caches_of table.lines z.line) es z.asked now in
+    let d = decision_of (policy_of table.lines z.line) es z.asked now in
     ap removed_in e
     ∙ answer_removes table es now z r next d k (same_key_invalidated table es now z r next d ∙ ap (key_by_answer z.asked r) (sym e) ∙ h)
 removes_key table es xs (Some z) next (Fail now i kind) o k e h = absurd (cc)

@@ -8,7 +8,7 @@ use Rattle.hx_target.specs.declared.keys.Key.{Key}
 use Rattle.hx_target.specs.Keys.{same_key}
 use Rattle.hx_hop.specs.declared.request_view.Asked.{Asked}
 use Rattle.hx_allow.specs.Lines.{Table}
-use Rattle.hx_allow.specs.Matching.{verdict_of, caches_of}
+use Rattle.hx_allow.specs.Matching.{verdict_of, policy_of}
 use Rattle.hx_allow.specs.declared.verdicts.Verdict.{Verdict}
 use Rattle.hx_allow.specs.declared.verdicts.Verdict.TheVariants as verdict
 use Rattle.hx_store.specs.Stored.{Stored}
@@ -75,7 +75,7 @@ waits_for_it : (table : Table) (limit first now id line l : ℕ) (asked : Asked)
 waits_for_it table limit first now id line l asked item past g e could led =
     let es = held_entries table limit past in
     let xs = open_exchanges table limit past in
-    let d = forwards (caches_of table.lines line) es asked now rules.UriMiss could.nothing_held in
+    let d = forwards (policy_of table.lines line) es asked now rules.UriMiss could.nothing_held in
     arrival_is table limit first now id asked item past g e
     ∙ (ap (λ (v : Verdict). arrived table es xs now asked v) could.line_allows
     ∙ (ap (λ (d : Decision). allowed table es xs line now asked d) d.1
@@ -92,32 +92,32 @@ waits_where_one_leads table limit first now id line l asked item past g e could 
 abbrev WaitsBy : Table → List Stored → List Exchange → ℕ → ℕ → Asked → Type 0
 WaitsBy table es xs now l asked =
     (line : ℕ) × (verdict_of table.lines asked.method asked.target ≡ verdict.Allowed line) × (is_only_if_cached asked ≡ false) × (is_get asked ≡ true)
-    × IsLeast (caches_of table.lines line) es asked now rules.UriMiss × (leader asked.target.key xs ≡ Some l)
+    × IsLeast (policy_of table.lines line) es asked now rules.UriMiss × (leader asked.target.key xs ≡ Some l)
 
 wait_parts : (table : Table) (es : List Stored) (xs : List Exchange) (now l : ℕ) (asked : Asked) (v : Verdict) → verdict_of table.lines asked.method asked.target ≡ v →
     arrived table es xs now asked v ≡ Waits l → WaitsBy table es xs now l asked
-wait_parts table es xs now l asked (verdict.Allowed line) v h = by_decision (decision_of (caches_of table.lines line) es asked now) refl h
+wait_parts table es xs now l asked (verdict.Allowed line) v h = by_decision (decision_of (policy_of table.lines line) es asked now) refl h
   where
     by_tests : (rule : ReuseRule) (against : Option ℕ) (a b : Bool) → is_get asked ≡ a → is_uri_miss rule ≡ b → is_only_if_cached asked ≡ false →
-        decision_of (caches_of table.lines line) es asked now ≡ decision.Forward rule against → cond (a && b) (leader asked.target.key xs) None ≡ Some l → WaitsBy table es xs now l asked
+        decision_of (policy_of table.lines line) es asked now ≡ decision.Forward rule against → cond (a && b) (leader asked.target.key xs) None ≡ Some l → WaitsBy table es xs now l asked
     by_tests rule against false b k m c d h = absurd (cc)
     by_tests rule against true false k m c d h = absurd (cc)
     by_tests rule against true true k m c d h =
-        (line, v, c, k, subst (λ (q : ReuseRule). IsLeast (caches_of table.lines line) es asked now q) (is_the_miss rule m) (names_the_least (caches_of table.lines line) es asked now rule against d).0, h)
+        (line, v, c, k, subst (λ (q : ReuseRule). IsLeast (policy_of table.lines line) es asked now q) (is_the_miss rule m) (names_the_least (policy_of table.lines line) es asked now rule against d).0, h)
 
     by_leader : (rule : ReuseRule) (against o : Option ℕ) → leader_for xs asked rule ≡ o → is_only_if_cached asked ≡ false →
-        decision_of (caches_of table.lines line) es asked now ≡ decision.Forward rule against → sent_on table line asked (condition_at es against) o ≡ Waits l → WaitsBy table es xs now l asked
+        decision_of (policy_of table.lines line) es asked now ≡ decision.Forward rule against → sent_on table line asked (condition_at es against) o ≡ Waits l → WaitsBy table es xs now l asked
     by_leader rule against None k c d h = absurd (cc)
     by_leader rule against (Some m) k c d h =
         let same : m ≡ l = cc in
         by_tests rule against (is_get asked) (is_uri_miss rule) refl refl c d (k ∙ ap (λ n. Some n) same)
 
-    unless : (rule : ReuseRule) (against : Option ℕ) (b : Bool) → is_only_if_cached asked ≡ b → decision_of (caches_of table.lines line) es asked now ≡ decision.Forward rule against →
+    unless : (rule : ReuseRule) (against : Option ℕ) (b : Bool) → is_only_if_cached asked ≡ b → decision_of (policy_of table.lines line) es asked now ≡ decision.Forward rule against →
         unanswered table xs line now asked rule (condition_at es against) b ≡ Waits l → WaitsBy table es xs now l asked
     unless rule against true k d h = absurd (cc)
     unless rule against false k d h = by_leader rule against (leader_for xs asked rule) refl k d h
 
-    by_decision : (d : Decision) → decision_of (caches_of table.lines line) es asked now ≡ d → allowed table es xs line now asked d ≡ Waits l → WaitsBy table es xs now l asked
+    by_decision : (d : Decision) → decision_of (policy_of table.lines line) es asked now ≡ d → allowed table es xs line now asked d ≡ Waits l → WaitsBy table es xs now l asked
     by_decision (decision.Hit t) k h = absurd (cc)
     by_decision (decision.Forward rule against) k h = unless rule against (is_only_if_cached asked) refl k h
 wait_parts table es xs now l asked (verdict.DeniedBy line) v h = absurd (cc)
@@ -140,15 +140,15 @@ pub late_no_wait : (table : Table) (es : List Stored) (xs : List Exchange) (w : 
 late_no_wait table es xs w next (Arrive now id asked) h = absurd (false≢true (sym h))
 late_no_wait table es xs None next (Answer now id r) h = refl
 late_no_wait table es xs (Some x) next (Answer now id r) h =
-    either_no_wait _ (answer_either table es now x r next (decision_of (caches_of table.lines x.line) es x.asked now))
+    either_no_wait _ (answer_either table es now x r next (decision_of (policy_of table.lines x.line) es x.asked now))
 late_no_wait table es xs None next (Fail now id kind) h = refl
-late_no_wait table es xs (Some x) next (Fail now id kind) h = by_fallback (fallback_for es x.asked now (decision_of (caches_of table.lines x.line) es x.asked now))
+late_no_wait table es xs (Some x) next (Fail now id kind) h = by_fallback (fallback_for (policy_of table.lines x.line) es x.asked now (decision_of (policy_of table.lines x.line) es x.asked now))
   where
     by_fallback : (fallback : Fallback) → is_wait (failed table es now x kind None fallback) ≡ false
     by_fallback (Sends s detail) = refl
     by_fallback (Refuses rule error) = refl
 late_no_wait table es xs None next (Wake now id) h = refl
-late_no_wait table es xs (Some x) next (Wake now id) h = by_decision (decision_of (caches_of table.lines x.line) es x.asked now)
+late_no_wait table es xs (Some x) next (Wake now id) h = by_decision (decision_of (policy_of table.lines x.line) es x.asked now)
   where
     by_decision : (d : Decision) → is_wait (woken table es now x d) ≡ false
     by_decision (decision.Hit s) = refl
@@ -483,9 +483,9 @@ woken_exactly_where_ready table limit first now id trace g = (
 pub woken_is_judged_anew : WokenIsJudgedAnew
 woken_is_judged_anew table limit first now id item past g e =
     let r = ready_by xs now id (ap (fault_by xs) (sym e) ∙ g.0.allowed) in
-    let is : item.outcome ≡ woken table es now r.x (decision_of (caches_of table.lines r.x.line) es r.x.asked now) =
+    let is : item.outcome ≡ woken table es now r.x (decision_of (policy_of table.lines r.x.line) es r.x.asked now) =
     g.0.outcome_is ∙ (ap (λ (v : Event). outcome_by table es xs (next_serial first past) v) e ∙ ap (λ (w : Option Exchange). outcome_of table es xs w (next_serial first past) (Wake now id)) r.is_open) in
-    record { x = r.x; is_open = r.is_open; gets = by_decision r.x (decision_of (caches_of table.lines r.x.line) es r.x.asked now) refl is }
+    record { x = r.x; is_open = r.is_open; gets = by_decision r.x (decision_of (policy_of table.lines r.x.line) es r.x.asked now) refl is }
   where
     es : List Stored
     es = held_entries table limit past
@@ -493,11 +493,11 @@ woken_is_judged_anew table limit first now id item past g e =
     xs : List Exchange
     xs = open_exchanges table limit past
 
-    by_decision : (x : Exchange) (d : Decision) → decision_of (caches_of table.lines x.line) es x.asked now ≡ d → item.outcome ≡ woken table es now x d →
-        ((s : ℕ) × IsReusable (caches_of table.lines x.line) es x.asked now s × (used_in item.outcome ≡ Some s))
-        ⊎ ((rule : ReuseRule) × (bytes : List ℕ) × IsLeast (caches_of table.lines x.line) es x.asked now rule × (item.outcome ≡ Forward x.line bytes))
-    by_decision x (decision.Hit s) d is = inl (s, reused_is_allowed (caches_of table.lines x.line) es x.asked now s d, ap used_in is)
-    by_decision x (decision.Forward rule against) d is = inr (rule, forward_text table x.asked (condition_at es against), (names_the_least (caches_of table.lines x.line) es x.asked now rule against d).0, is)
+    by_decision : (x : Exchange) (d : Decision) → decision_of (policy_of table.lines x.line) es x.asked now ≡ d → item.outcome ≡ woken table es now x d →
+        ((s : ℕ) × IsReusable (policy_of table.lines x.line) es x.asked now s × (used_in item.outcome ≡ Some s))
+        ⊎ ((rule : ReuseRule) × (bytes : List ℕ) × IsLeast (policy_of table.lines x.line) es x.asked now rule × (item.outcome ≡ Forward x.line bytes))
+    by_decision x (decision.Hit s) d is = inl (s, reused_is_allowed (policy_of table.lines x.line) es x.asked now s d, ap used_in is)
+    by_decision x (decision.Forward rule against) d is = inr (rule, forward_text table x.asked (condition_at es against), (names_the_least (policy_of table.lines x.line) es x.asked now rule against d).0, is)
 
 -- ---- one goes forward
 
@@ -580,15 +580,15 @@ module _ (table : Table) (limit first now id : ℕ) (asked : Asked) (before : Li
 -- it is, right behind the arrival at which it goes there
 at_the_arrival : (table : Table) (limit first now id line : ℕ) (asked : Asked) (bytes : List ℕ) (before : List Item) (o : Outcome) → o ≡ Forward line bytes →
     IsGood (begun table limit first) (record { event = Arrive now id asked; outcome = o } ∷ before) →
-    IsLeast (caches_of table.lines line) (held_entries table limit before) asked now rules.UriMiss →
+    IsLeast (policy_of table.lines line) (held_entries table limit before) asked now rules.UriMiss →
     AtTheOrigin asked (find_exchange id (left (begun table limit first) (record { event = Arrive now id asked; outcome = o } ∷ before)).exchanges)
 at_the_arrival table limit first now id line asked bytes before o went g least =
     let s = left (begun table limit first) before in
     let y = opened s.table s.entries now id asked line in
-    let d = forwards (caches_of table.lines line) (held_entries table limit before) asked now rules.UriMiss least in
-    let decided : decision_of (caches_of s.table.lines line) s.entries asked now ≡ decision.Forward rules.UriMiss d.0 =
-    ap (λ (t : Table). decision_of (caches_of t.lines line) s.entries asked now) (same_table (begun table limit first) before)
-    ∙ (ap (λ (es : List Stored). decision_of (caches_of table.lines line) es asked now) (entries_are_held table limit first before g.1) ∙ d.1) in
+    let d = forwards (policy_of table.lines line) (held_entries table limit before) asked now rules.UriMiss least in
+    let decided : decision_of (policy_of s.table.lines line) s.entries asked now ≡ decision.Forward rules.UriMiss d.0 =
+    ap (λ (t : Table). decision_of (policy_of t.lines line) s.entries asked now) (same_table (begun table limit first) before)
+    ∙ (ap (λ (es : List Stored). decision_of (policy_of table.lines line) es asked now) (entries_are_held table limit first before g.1) ∙ d.1) in
     let free : find_exchange id s.exchanges ≡ None = id_was_free (find_exchange id s.exchanges) now id asked g.0.allowed in
     record {
       x = y;

@@ -8,7 +8,7 @@ use Rattle.std.specs.Prelude.{◌≡◌, ◌⊎◌, ℕ, ◌==◌, ◌&&◌, Boo
 use Rattle.std.specs.List.{AllByRecursion}
 use Rattle.hx_framing.specs.declared.messages.Response.{Response}
 use Rattle.hx_allow.specs.Lines.{Table}
-use Rattle.hx_allow.specs.Matching.{verdict_of, caches_of}
+use Rattle.hx_allow.specs.Matching.{verdict_of, policy_of}
 use Rattle.hx_allow.specs.declared.verdicts.Verdict.TheVariants.{Allowed}
 use Rattle.hx_reuse.specs.Meaning.{IsLeast, NamesTheResponse}
 use Rattle.proxy_core.specs.declared.stage.Stage.TheVariants.{Forwarded, Waiting, Released}
@@ -88,7 +88,7 @@ pub record Judged (table : Table) (limit : ℕ) (x : Exchange) (past : List Item
   pub judged : IsJudgedBy item.event now x
   pub none_since : NoneJudged x.id since
   pub line_allows : verdict_of table.lines x.asked.method x.asked.target ≡ Allowed x.line
-  pub rule_is_least : IsLeast (caches_of table.lines x.line) (held_entries table limit before) x.asked now x.rule
+  pub rule_is_least : IsLeast (policy_of table.lines x.line) (held_entries table limit before) x.asked now x.rule
   pub went : WentOnce table limit x since before now item.outcome ⊎ (WentAgain table x since ⊎ StillWaits table limit x since before item.outcome)
 
 -- the rule of an open exchange is the least that stood when its request was judged
@@ -100,7 +100,7 @@ pub record LeastWhenJudged (table : Table) (limit : ℕ) (x : Exchange) (past : 
   pub past_is : past ≡ since ++ item ∷ before
   pub judged : IsJudgedBy item.event now x
   pub none_since : NoneJudged x.id since
-  pub least : IsLeast (caches_of table.lines x.line) (held_entries table limit before) x.asked now x.rule
+  pub least : IsLeast (policy_of table.lines x.line) (held_entries table limit before) x.asked now x.rule
 
 -- of two ids the latest arrival of the one comes before that of the other
 pub record ArrivesBefore (id other : ℕ) (past : List Item) : Type 0 where

@@ -1,5 +1,6 @@
 -- The messages, stored responses and exchanges that the laws of worked cases speak of.
 use Rattle.std.specs.Prelude.{ℕ, true, false, List, [], ◌∷◌, codes, Some, None}
+use Rattle.hx_policy.specs.Words.{plain}
 use Rattle.hx_fields.specs.declared.field_line.Field.{Field}
 use Rattle.hx_fields.specs.Examples.{line}
 use Rattle.hx_framing.specs.declared.messages.Response.{Response}
@@ -36,10 +37,10 @@ head = asks_for (codes "HEAD") (codes "/a") []
 
 -- the second line of the table has no cache, and what is stored has two bytes at most
 abbrev pub line_that : Line
-line_that = record { host = None; methods = codes "*" ∷ []; path = codes "/"; origin = Some (codes "127.0.0.1:8081"); caches = true }
+line_that = record { host = None; methods = codes "*" ∷ []; path = codes "/"; origin = Some (codes "127.0.0.1:8081"); policy = plain true }
 
 abbrev pub table : Table
-table = record { name = codes "edge"; capacity = 2; max_body = 1000; max_stored = 2; lines = line_that ∷ record line_that { caches = false } ∷ [] }
+table = record { name = codes "edge"; capacity = 2; max_body = 1000; max_stored = 2; lines = line_that ∷ record line_that { policy = plain false } ∷ [] }
 
 -- a request that went forward at 100, since nothing was held for it
 abbrev pub went : Asked → Exchange

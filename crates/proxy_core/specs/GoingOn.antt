@@ -3,7 +3,8 @@
 --
 -- MayCome: the exchange is open, and in the stage of the event     AsksAgain, GoesOnBy: what follows an event
 -- IsItsCondition: what a request carries to the origin              closes_by: whether the client's connection closes
-use Rattle.std.specs.Prelude.{◌≡◌, ◌⊎◌, ℕ, ◌<◌, Bool, true, List, Option, Some, None}
+use Rattle.std.specs.Prelude.{◌≡◌, ◌⊎◌, ℕ, ◌<◌, true, List, Option, Some, None}
+use Rattle.hx_policy.specs.declared.words.Policy.{Policy}
 use Rattle.hx_fields.specs.declared.limits.TheConstants.{END_OF_TIME}
 use Rattle.hx_framing.specs.declared.messages.Response.{Response}
 use Rattle.hx_hop.specs.declared.request_view.Asked.{Asked}
@@ -61,11 +62,11 @@ GoesOnBy table held x (Abandon id) outcome = outcome ≡ Ended
 
 -- What a request carries beside its client's own fields: where it is judged, which is at its arrival or its wake, the conditions
 -- about the response that the least rule is on; behind a 304 that answered none, nothing.
-abbrev pub IsItsCondition : Bool → List Stored → Asked → Event → Option Condition → Type 0
-IsItsCondition caches held asked (Arrive now id other) condition =
-    (rule : ReuseRule) × (against : Option ℕ) × IsLeast caches held asked now rule × NamesTheResponse held asked rule against × (condition ≡ condition_at held against)
-IsItsCondition caches held asked (Wake now id) condition =
-    (rule : ReuseRule) × (against : Option ℕ) × IsLeast caches held asked now rule × NamesTheResponse held asked rule against × (condition ≡ condition_at held against)
-IsItsCondition caches held asked (Answer now id r) condition = condition ≡ None
-IsItsCondition caches held asked (Fail now id kind) condition = ⊥
-IsItsCondition caches held asked (Abandon id) condition = ⊥
+abbrev pub IsItsCondition : Policy → List Stored → Asked → Event → Option Condition → Type 0
+IsItsCondition policy held asked (Arrive now id other) condition =
+    (rule : ReuseRule) × (against : Option ℕ) × IsLeast policy held asked now rule × NamesTheResponse held asked rule against × (condition ≡ condition_at held against)
+IsItsCondition policy held asked (Wake now id) condition =
+    (rule : ReuseRule) × (against : Option ℕ) × IsLeast policy held asked now rule × NamesTheResponse held asked rule against × (condition ≡ condition_at held against)
+IsItsCondition policy held asked (Answer now id r) condition = condition ≡ None
+IsItsCondition policy held asked (Fail now id kind) condition = ⊥
+IsItsCondition policy held asked (Abandon id) condition = ⊥

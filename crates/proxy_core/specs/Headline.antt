@@ -11,7 +11,7 @@ use Rattle.hx_framing.specs.declared.messages.Response.{Response}
 use Rattle.hx_hop.specs.Answering.{answered_of}
 use Rattle.hx_hop.specs.declared.request_view.Asked.{Asked}
 use Rattle.hx_allow.specs.Lines.{Table}
-use Rattle.hx_allow.specs.Matching.{verdict_of, caches_of}
+use Rattle.hx_allow.specs.Matching.{verdict_of, policy_of}
 use Rattle.hx_allow.specs.declared.verdicts.Verdict.TheVariants.{Allowed}
 use Rattle.hx_storable.specs.Storable.{IsFinal}
 use Rattle.proxy_core.specs.declared.condition.Condition.{Condition}
@@ -50,7 +50,7 @@ ReachesExactly table limit item past = (now id : ℕ) (asked : Asked) → item.e
 abbrev pub GoesWhereAllowed : Table → ℕ → Item → List Item → Type 0
 GoesWhereAllowed table limit item past = (line : ℕ) (bytes : List ℕ) → item.outcome ≡ Forward line bytes →
     (asked : Asked) × (condition : Option Condition) × (asked_by (id_of item.event) (item ∷ past) ≡ Some asked) × (verdict_of table.lines asked.method asked.target ≡ Allowed line)
-    × IsItsCondition (caches_of table.lines line) (held_entries table limit past) asked item.event condition × (bytes ≡ forward_text table asked condition)
+    × IsItsCondition (policy_of table.lines line) (held_entries table limit past) asked item.event condition × (bytes ≡ forward_text table asked condition)
 
 -- and behind it the client gets its answer at the next step, but for the one second forward, unless it goes away
 abbrev pub GoesOn : Table → ℕ → Item → List Item → Type 0
@@ -69,8 +69,9 @@ SendsThatResponse table limit item past = (s : ℕ) → used_in item.outcome ≡
 
 -- every other answer names the first rule against it: the line of the table, the least reuse rule with the least error rule, or
 -- where an answer of the origin is passed on the least rule that stood when its request was judged, at its arrival or its wake
-abbrev pub NamesTheFirst : Table → ℕ → Item → List Item → Type 0
-NamesTheFirst table limit item past = NamesFirst table limit past (find_exchange (id_of item.event) (open_exchanges table limit past)) item.event item.outcome
+abbrev pub NamesTheFirst : Table → ℕ → ℕ → Item → List Item → Type 0
+NamesTheFirst table limit first item past =
+    NamesFirst table limit past (next_serial first past) (find_exchange (id_of item.event) (open_exchanges table limit past)) item.event item.outcome
 
 -- An answer is stored exactly where RFC 9111, section 3 lets it be and none that is held is sent in its place: under the next serial.
 abbrev pub StoresExactly : Table → ℕ → ℕ → Item → List Item → Type 0
@@ -96,7 +97,7 @@ pub record Headline (table : Table) (limit first : ℕ) (trace : List Item) : Ty
   pub goes_on_to_its_answer : EachStep (GoesOn table limit) trace
   pub sends_where_one_may_be : EachStep (SendsExactly table limit) trace
   pub sends_that_response : EachStep (SendsThatResponse table limit) trace
-  pub names_the_first_rule : EachStep (NamesTheFirst table limit) trace
+  pub names_the_first_rule : EachStep (NamesTheFirst table limit first) trace
   pub stores_where_it_may : EachStep (StoresExactly table limit first) trace
   pub removes_what_goes : EachStep (RemovesExactly table limit) trace
   pub closes_as_asked : EachStep ClosesAsAsked trace

@@ -5,7 +5,7 @@
 use Rattle.std.specs.Prelude.{◌≡◌, ℕ, ◌+◌, ◌^◌, ◌==◌, nat_lt, ◌&&◌, ◌||◌, not, Bool, true, false, List, [], ◌∷◌, ◌++◌, map, Some, None, is_some, cond}
 use Rattle.hx_hop.specs.declared.request_view.Asked.{Asked}
 use Rattle.hx_allow.specs.Lines.{Table}
-use Rattle.hx_allow.specs.Matching.{caches_of}
+use Rattle.hx_allow.specs.Matching.{policy_of}
 use Rattle.hx_reuse.specs.Rules.{decision_of}
 use Rattle.proxy_core.specs.declared.exchange.Exchange.{Exchange}
 use Rattle.proxy_core.specs.declared.event.Event.{Event}
@@ -66,7 +66,7 @@ KeepsItsRule = (table : Table) (limit first now id : ℕ) (asked : Asked) (items
     arrival.event ≡ Arrive now id asked →
     NoneJudged id items →
     find_exchange id (open_exchanges table limit (items ++ arrival ∷ before)) ≡ Some x →
-    x.rule ≡ rule_of (decision_of (caches_of table.lines x.line) (held_entries table limit before) asked now)
+    x.rule ≡ rule_of (decision_of (policy_of table.lines x.line) (held_entries table limit before) asked now)
 
 -- An open exchange whose request is at the origin is overtaken exactly where an item after its latest going forward invalidates
 -- its key.

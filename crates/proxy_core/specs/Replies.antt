@@ -6,12 +6,14 @@ use Rattle.std.specs.Fmt.{decimal}
 use Rattle.hx_fields.specs.declared.field_line.Field.{Field}
 use Rattle.hx_framing.specs.Text.{response_text}
 use Rattle.hx_framing.specs.declared.messages.Response.{Response}
-use Rattle.hx_age.specs.Lifetime.{lifetime_of}
 use Rattle.hx_age.specs.Age.{times_of, age_of, ttl_of}
 use Rattle.hx_hop.specs.Answering.{answered_of}
 use Rattle.hx_hop.specs.declared.request_view.Asked.{Asked}
+use Rattle.hx_policy.specs.declared.words.Policy.{Policy}
 use Rattle.hx_store.specs.Stored.{Stored}
+use Rattle.hx_reuse.specs.Lifetimes.{lifetime_under}
 use Rattle.hx_validate.specs.NotModified.{wants_304, not_modified_of}
+use Rattle.hx_storable.specs.declared.rule.StoreRule.{StoreRule}
 use Rattle.hx_status.specs.Member.{member_text}
 use Rattle.hx_status.specs.Refusals.{status_of, text_of}
 use Rattle.hx_status.specs.declared.status.Status.{Status}
@@ -30,9 +32,9 @@ is_head asked = bytes_eq asked.method (codes "HEAD")
 abbrev pub content_sent : Bool → List ℕ → List ℕ
 content_sent head content = cond head [] content
 
--- the seconds of freshness that are left of a stored response
-abbrev pub ttl_at : Stored → ℕ → ℤ
-ttl_at e now = ttl_of (lifetime_of e.fields) (age_of e.times now)
+-- the seconds of freshness that are left of a stored response, by the line of the request that it is sent to
+abbrev pub ttl_at : Policy → Stored → ℕ → ℤ
+ttl_at policy e now = ttl_of (lifetime_under policy e.status e.fields) (age_of e.times now)
 
 -- the status of the origin's answer, where another one is sent (RFC 9211, section 2.3)
 abbrev pub fwd_status_of : Option ℕ → ℕ → Option ℕ
@@ -43,10 +45,11 @@ abbrev pub status_sent : ℕ → Stored → ℕ → CacheStatusInfo → Status
 status_sent status e now info = record {
   how = info.how;
   fwd_status = fwd_status_of info.came status;
-  ttl = Some (ttl_at e now);
+  ttl = Some (ttl_at info.policy e now);
   stored = false;
   collapsed = info.collapsed;
   detail = info.detail;
+  not_stored = None;
 }
 
 -- with this status: these of the stored lines, then Age (RFC 9111, section 5.1) and Cache-Status
@@ -79,22 +82,31 @@ stored_text name e now info asked =
 abbrev pub length_passed : Bool → Response → Option ℕ
 length_passed head r = length_told r.status (cond head r.announced (Some (length r.content)))
 
-abbrev pub ttl_passed : Exchange → List Field → ℕ → Bool → Option ℤ
-ttl_passed x fields now false = None
-ttl_passed x fields now true = Some (ttl_of (lifetime_of fields) (age_of (times_of fields x.request_time now) now))
+abbrev pub ttl_passed : Policy → Exchange → ℕ → List Field → ℕ → Bool → Option ℤ
+ttl_passed policy x status fields now false = None
+ttl_passed policy x status fields now true = Some (ttl_of (lifetime_under policy status fields) (age_of (times_of fields x.request_time now) now))
 
-abbrev pub status_passed : Exchange → List Field → ℕ → Bool → Status
-status_passed x fields now stored =
-    record { how = Fwd x.rule; fwd_status = None; ttl = ttl_passed x fields now stored; stored = stored; collapsed = false; detail = None }
+-- and where the line tells it the first storing rule against the answer
+abbrev pub status_passed : Policy → Exchange → ℕ → List Field → ℕ → Bool → Option StoreRule → Status
+status_passed policy x status fields now stored rule = record {
+  how = Fwd x.rule;
+  fwd_status = None;
+  ttl = ttl_passed policy x status fields now stored;
+  stored = stored;
+  collapsed = false;
+  detail = None;
+  not_stored = rule;
+}
 
 -- the answer's lines as rules see them, then Cache-Status
-abbrev pub lines_passed : List ℕ → Exchange → List Field → ℕ → Bool → List Field
-lines_passed name x fields now stored = fields ++ line (codes "Cache-Status") (member_text name (status_passed x fields now stored)) ∷ []
+abbrev pub lines_passed : Policy → List ℕ → Exchange → ℕ → List Field → ℕ → Bool → Option StoreRule → List Field
+lines_passed policy name x status fields now stored rule =
+    fields ++ line (codes "Cache-Status") (member_text name (status_passed policy x status fields now stored rule)) ∷ []
 
--- an answer of the origin is passed on, and says whether it was stored
-abbrev pub passed_text : List ℕ → Exchange → Response → ℕ → Bool → List ℕ
-passed_text name x r now stored =
-    response_text r.status (lines_passed name x (answered_of r now).fields now stored) (length_passed (is_head x.asked) r) x.asked.close (content_sent (is_head x.asked) r.content)
+-- an answer of the origin is passed on, and says whether it was stored, and perhaps why not; the policy is that of its exchange's line
+abbrev pub passed_text : Policy → List ℕ → Exchange → Response → ℕ → Bool → Option StoreRule → List ℕ
+passed_text policy name x r now stored rule =
+    response_text r.status (lines_passed policy name x r.status (answered_of r now).fields now stored rule) (length_passed (is_head x.asked) r) x.asked.close (content_sent (is_head x.asked) r.content)
 
 abbrev pub lines_refused : List ℕ → List ℕ → List Field
 lines_refused date text = line (codes "Date") date ∷ line (codes "Content-Type") (codes "text/plain") ∷ line (codes "Refusal") text ∷ []

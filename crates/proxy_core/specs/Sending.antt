@@ -6,12 +6,13 @@
 -- GoesForward, WaitsForTheFirst: the two ways to an origin's answer
 -- IsReached, IsTurnedAway: what becomes of a request that is allowed, and of one that isn't
 -- Below them are the statements that the laws of `src/laws.rt` prove.
-use Rattle.std.specs.Prelude.{◌≡◌, ◌≢◌, ◌⊎◌, ℕ, ◌||◌, Bool, true, false, List, ◌∷◌, Option, Some, None, is_some}
+use Rattle.std.specs.Prelude.{◌≡◌, ◌≢◌, ◌⊎◌, ℕ, ◌||◌, true, false, List, ◌∷◌, Option, Some, None, is_some}
+use Rattle.hx_policy.specs.declared.words.Policy.{Policy}
 use Rattle.hx_directives.specs.Occurrences.{occurrences_of}
 use Rattle.hx_framing.specs.declared.messages.Response.{Response}
 use Rattle.hx_hop.specs.declared.request_view.Asked.{Asked}
 use Rattle.hx_allow.specs.Lines.{Table}
-use Rattle.hx_allow.specs.Matching.{verdict_of, caches_of}
+use Rattle.hx_allow.specs.Matching.{verdict_of, policy_of}
 use Rattle.hx_allow.specs.declared.verdicts.Verdict.TheVariants.{Allowed, DeniedBy, NoLine as Unmatched}
 use Rattle.hx_store.specs.Stored.{Stored}
 use Rattle.hx_store.specs.Shelf.{find_entry}
@@ -41,34 +42,34 @@ use Rattle.proxy_core.specs.Traces.{Item}
 use Rattle.proxy_core.specs.Histories.{held_entries, open_exchanges, IsGoodHistory}
 
 -- the serial is that of the held response that may be sent without asking the origin (RFC 9111, section 4)
-abbrev pub IsReusable : Bool → List Stored → Asked → ℕ → ℕ → Type 0
-IsReusable caches held asked now s = (response : Stored) × MayBeReused caches held asked now response × (response.serial ≡ s)
+abbrev pub IsReusable : Policy → List Stored → Asked → ℕ → ℕ → Type 0
+IsReusable policy held asked now s = (response : Stored) × MayBeReused policy held asked now response × (response.serial ≡ s)
 
 -- In place of an error: the operator lets the request be answered from the store, the response is the chosen one, no rule
 -- stands by which the operator, the request or what is held has no response to send, and RFC 5861, section 4 lets it be sent.
-pub record MayBeSentInstead (caches : Bool) (held : List Stored) (asked : Asked) (now : ℕ) (response : Stored) : Type 0 where
-  pub operator_allows : caches ≡ true
+pub record MayBeSentInstead (policy : Policy) (held : List Stored) (asked : Asked) (now : ℕ) (response : Stored) : Type 0 where
+  pub operator_allows : policy.caches ≡ true
   pub is_chosen : IsChosen held asked response
-  pub is_for_the_cache : (rule : ReuseRule) → names_entry rule ≡ false → stands rule caches held asked now ≡ false
-  pub may_be_sent : MayBeSentOnError response (occurrences_of asked.fields) now
+  pub is_for_the_cache : (rule : ReuseRule) → names_entry rule ≡ false → stands rule policy held asked now ≡ false
+  pub may_be_sent : MayBeSentOnError policy response (occurrences_of asked.fields) now
 
 -- after a failure or an error: one that may be sent anyway, or in place of the error
-abbrev pub IsFallback : Bool → List Stored → Asked → ℕ → ℕ → Type 0
-IsFallback caches held asked now s =
-    IsReusable caches held asked now s ⊎ ((response : Stored) × MayBeSentInstead caches held asked now response × (response.serial ≡ s))
+abbrev pub IsFallback : Policy → List Stored → Asked → ℕ → ℕ → Type 0
+IsFallback policy held asked now s =
+    IsReusable policy held asked now s ⊎ ((response : Stored) × MayBeSentInstead policy held asked now response × (response.serial ≡ s))
 
 -- At an event, of an exchange that is open, the response of this serial may be sent: at an arrival that the table allows;
 -- at a 304 to the proxy's conditions, the one that it answers, or where it answers none one that may be sent anyway; at a
 -- 304 that nobody asked for, a 500, 502, 503 or 504, and at a failure; and to a request that waited, when it is woken.
 abbrev pub MayBeSentAt : Table → List Stored → Option Exchange → Event → ℕ → Type 0
 MayBeSentAt table held x (Arrive now id asked) s =
-    (line : ℕ) × (verdict_of table.lines asked.method asked.target ≡ Allowed line) × IsReusable (caches_of table.lines line) held asked now s
+    (line : ℕ) × (verdict_of table.lines asked.method asked.target ≡ Allowed line) × IsReusable (policy_of table.lines line) held asked now s
 MayBeSentAt table held (Some x) (Answer now id r) s =
     ((is_validation x r ≡ true) × ((e : Stored) × (validated held x r now ≡ Some e) × (e.serial ≡ s)))
-    ⊎ (((is_validation x r ≡ true) × (validated held x r now ≡ None) × IsReusable (caches_of table.lines x.line) held x.asked now s)
-    ⊎ ((is_validation x r ≡ false) × ((is_unasked x.asked r || is_error_status r.status) ≡ true) × IsFallback (caches_of table.lines x.line) held x.asked now s))
-MayBeSentAt table held (Some x) (Fail now id kind) s = IsFallback (caches_of table.lines x.line) held x.asked now s
-MayBeSentAt table held (Some x) (Wake now id) s = IsReusable (caches_of table.lines x.line) held x.asked now s
+    ⊎ (((is_validation x r ≡ true) × (validated held x r now ≡ None) × IsReusable (policy_of table.lines x.line) held x.asked now s)
+    ⊎ ((is_validation x r ≡ false) × ((is_unasked x.asked r || is_error_status r.status) ≡ true) × IsFallback (policy_of table.lines x.line) held x.asked now s))
+MayBeSentAt table held (Some x) (Fail now id kind) s = IsFallback (policy_of table.lines x.line) held x.asked now s
+MayBeSentAt table held (Some x) (Wake now id) s = IsReusable (policy_of table.lines x.line) held x.asked now s
 MayBeSentAt table held None (Answer now id r) s = ⊥
 MayBeSentAt table held None (Fail now id kind) s = ⊥
 MayBeSentAt table held None (Wake now id) s = ⊥
@@ -79,7 +80,7 @@ MayBeSentAt table held x (Abandon id) s = ⊥
 -- By the least rule against a stored response a request goes to the origin of a line: its own text, with conditions where the rule
 -- is on a response that has a validator, about that one (RFC 9111, section 4.3.1).
 pub record GoesForward (table : Table) (held : List Stored) (asked : Asked) (now line : ℕ) (rule : ReuseRule) (outcome : Outcome) : Type 0 where
-  pub is_least : IsLeast (caches_of table.lines line) held asked now rule
+  pub is_least : IsLeast (policy_of table.lines line) held asked now rule
   pub against : Option ℕ
   pub names : NamesTheResponse held asked rule against
   pub outcome_is : outcome ≡ Forward line (forward_text table asked (condition_at held against))
@@ -94,7 +95,7 @@ pub record WaitsForTheFirst (table : Table) (held : List Stored) (xs : List Exch
   pub leader : ℕ
   pub takes_others : is_only_if_cached asked ≡ false
   pub gets : is_get asked ≡ true
-  pub nothing_held : IsLeast (caches_of table.lines line) held asked now UriMiss
+  pub nothing_held : IsLeast (policy_of table.lines line) held asked now UriMiss
   pub first_leads : IsFirstToLead asked.target.key xs leader
   pub outcome_is : outcome ≡ Waits leader
 
@@ -105,7 +106,7 @@ IsReached table held xs now asked line outcome =
     ((s : ℕ) × (used_in outcome ≡ Some s))
     ⊎ (((rule : ReuseRule) × GoesForward table held asked now line rule outcome × (is_only_if_cached asked ≡ false) × NobodyLeads xs asked rule)
     ⊎ (WaitsForTheFirst table held xs now asked line outcome
-    ⊎ ((rule : ReuseRule) × (is_only_if_cached asked ≡ true) × IsLeast (caches_of table.lines line) held asked now rule × (outcome ≡ refused now (OnlyIfCached rule) asked))))
+    ⊎ ((rule : ReuseRule) × (is_only_if_cached asked ≡ true) × IsLeast (policy_of table.lines line) held asked now rule × (outcome ≡ refused now (OnlyIfCached rule) asked))))
 
 -- any other is turned away, by the line that denies it or because none matches
 abbrev pub IsTurnedAway : Table → ℕ → Asked → Outcome → Type 0
@@ -114,24 +115,24 @@ IsTurnedAway table now asked outcome =
     ⊎ ((verdict_of table.lines asked.method asked.target ≡ Unmatched) × (outcome ≡ refused now NoLine asked))
 
 -- The word of one that is sent in place of an error: it may be sent anyway, or in that place alone.
-abbrev pub WordAfterError : Bool → List Stored → Asked → ℕ → ℕ → Option Detail → Type 0
-WordAfterError caches held asked now s detail =
-    (IsReusable caches held asked now s → detail ≡ Some ReuseAfterError) × ((IsReusable caches held asked now s → ⊥) → detail ≡ Some StaleIfError)
+abbrev pub WordAfterError : Policy → List Stored → Asked → ℕ → ℕ → Option Detail → Type 0
+WordAfterError policy held asked now s detail =
+    (IsReusable policy held asked now s → detail ≡ Some ReuseAfterError) × ((IsReusable policy held asked now s → ⊥) → detail ≡ Some StaleIfError)
 
 -- The word of one that is sent at an answer: none where the 304 answers it; else that the 304 answered none, or that of an error.
-abbrev pub WordAtAnswer : Bool → List Stored → Exchange → ℕ → Response → ℕ → Option Detail → Type 0
-WordAtAnswer caches held x now r s detail =
+abbrev pub WordAtAnswer : Policy → List Stored → Exchange → ℕ → Response → ℕ → Option Detail → Type 0
+WordAtAnswer policy held x now r s detail =
     (is_some (validated held x r now) ≡ true → detail ≡ None)
     × (is_validation x r ≡ true → validated held x r now ≡ None → detail ≡ Some ReuseAfter304)
-    × (is_validation x r ≡ false → WordAfterError caches held x.asked now s detail)
+    × (is_validation x r ≡ false → WordAfterError policy held x.asked now s detail)
 
 -- what Cache-Status tells of a stored response (RFC 9211): a hit, or why the request had gone forward, what came, and the word of
 -- the step
 abbrev pub TellsHow : Table → List Stored → Option Exchange → Event → ℕ → CacheStatusInfo → Type 0
-TellsHow table held x (Arrive now id asked) s h = h ≡ as_hit
-TellsHow table held (Some x) (Answer now id r) s h = (detail : Option Detail) × (h ≡ forwarded_as x (Some r.status) detail) × WordAtAnswer (caches_of table.lines x.line) held x now r s detail
-TellsHow table held (Some x) (Fail now id kind) s h = (detail : Option Detail) × (h ≡ forwarded_as x None detail) × WordAfterError (caches_of table.lines x.line) held x.asked now s detail
-TellsHow table held (Some x) (Wake now id) s h = h ≡ collapsed_as x
+TellsHow table held x (Arrive now id asked) s h = (line : ℕ) × (verdict_of table.lines asked.method asked.target ≡ Allowed line) × (h ≡ as_hit (policy_of table.lines line))
+TellsHow table held (Some x) (Answer now id r) s h = (detail : Option Detail) × (h ≡ forwarded_as (policy_of table.lines x.line) x (Some r.status) detail) × WordAtAnswer (policy_of table.lines x.line) held x now r s detail
+TellsHow table held (Some x) (Fail now id kind) s h = (detail : Option Detail) × (h ≡ forwarded_as (policy_of table.lines x.line) x None detail) × WordAfterError (policy_of table.lines x.line) held x.asked now s detail
+TellsHow table held (Some x) (Wake now id) s h = h ≡ collapsed_as (policy_of table.lines x.line) x
 TellsHow table held None (Answer now id r) s h = ⊥
 TellsHow table held None (Fail now id kind) s h = ⊥
 TellsHow table held None (Wake now id) s h = ⊥
@@ -178,7 +179,7 @@ SendsStoredNowhereElse = (table : Table) (limit first s : ℕ) (item : Item) (pa
 abbrev pub ForwardsWhereAllowed : Type 0
 ForwardsWhereAllowed = (table : Table) (limit first now id line : ℕ) (asked : Asked) (rule : ReuseRule) (item : Item) (past : List Item) →
     IsGoodHistory table limit first (item ∷ past) → item.event ≡ Arrive now id asked →
-    verdict_of table.lines asked.method asked.target ≡ Allowed line → IsLeast (caches_of table.lines line) (held_entries table limit past) asked now rule → is_only_if_cached asked ≡ false →
+    verdict_of table.lines asked.method asked.target ≡ Allowed line → IsLeast (policy_of table.lines line) (held_entries table limit past) asked now rule → is_only_if_cached asked ≡ false →
     leader_for (open_exchanges table limit past) asked rule ≡ None →
     (bytes : List ℕ) × (item.outcome ≡ Forward line bytes)
 
@@ -186,7 +187,7 @@ abbrev pub ForwardsNowhereElse : Type 0
 ForwardsNowhereElse = (table : Table) (limit first now id line : ℕ) (asked : Asked) (bytes : List ℕ) (item : Item) (past : List Item) →
     IsGoodHistory table limit first (item ∷ past) → item.event ≡ Arrive now id asked → item.outcome ≡ Forward line bytes →
     (verdict_of table.lines asked.method asked.target ≡ Allowed line)
-    × ((rule : ReuseRule) × IsLeast (caches_of table.lines line) (held_entries table limit past) asked now rule × (leader_for (open_exchanges table limit past) asked rule ≡ None)) × (is_only_if_cached asked ≡ false)
+    × ((rule : ReuseRule) × IsLeast (policy_of table.lines line) (held_entries table limit past) asked now rule × (leader_for (open_exchanges table limit past) asked rule ≡ None)) × (is_only_if_cached asked ≡ false)
 
 -- A request that the table allows reaches the cache, which sends a stored response, or the origin of that line; or it waits for
 -- the answer to another; or it takes no response but a stored one, and is told the rule against that.

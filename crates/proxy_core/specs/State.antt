@@ -8,7 +8,7 @@ use Rattle.hx_target.specs.Keys.{same_key}
 use Rattle.hx_framing.specs.declared.messages.Response.{Response}
 use Rattle.hx_hop.specs.declared.request_view.Asked.{Asked}
 use Rattle.hx_allow.specs.Lines.{Table}
-use Rattle.hx_allow.specs.Matching.{verdict_of, caches_of}
+use Rattle.hx_allow.specs.Matching.{verdict_of, policy_of}
 use Rattle.hx_allow.specs.declared.verdicts.Verdict.{Verdict}
 use Rattle.hx_allow.specs.declared.verdicts.Verdict.TheVariants as verdict
 use Rattle.hx_store.specs.Stored.{Stored}
@@ -131,9 +131,9 @@ opened table es now id asked line = record {
   id = id;
   asked = asked;
   line = line;
-  rule = rule_of (decision_of (caches_of table.lines line) es asked now);
+  rule = rule_of (decision_of (policy_of table.lines line) es asked now);
   request_time = now;
-  condition = condition_at es (named_by (decision_of (caches_of table.lines line) es asked now));
+  condition = condition_at es (named_by (decision_of (policy_of table.lines line) es asked now));
   overtaken = false;
   stage = Forwarded;
 }
@@ -150,9 +150,9 @@ queued table es now id asked line leader = record {
   id = id;
   asked = asked;
   line = line;
-  rule = rule_of (decision_of (caches_of table.lines line) es asked now);
+  rule = rule_of (decision_of (policy_of table.lines line) es asked now);
   request_time = now;
-  condition = condition_at es (named_by (decision_of (caches_of table.lines line) es asked now));
+  condition = condition_at es (named_by (decision_of (policy_of table.lines line) es asked now));
   overtaken = false;
   stage = Waiting leader;
 }
@@ -178,7 +178,7 @@ gone_out id now x = cond (x.id == id) (goes_out now x.rule None x) x
 abbrev pub woken_out : Table → List Stored → ℕ → ℕ → Option Exchange → List Exchange → List Exchange
 woken_out table es id now None xs = xs
 woken_out table es id now (Some x) xs =
-    map (sent_out id now (rule_of (decision_of (caches_of table.lines x.line) es x.asked now)) (condition_at es (named_by (decision_of (caches_of table.lines x.line) es x.asked now)))) xs
+    map (sent_out id now (rule_of (decision_of (policy_of table.lines x.line) es x.asked now)) (condition_at es (named_by (decision_of (policy_of table.lines x.line) es x.asked now)))) xs
 
 -- the open exchanges after an event, in the order of arrival
 abbrev pub open_after : Table → List Stored → List Exchange → Event → Outcome → List Exchange

@@ -15,11 +15,13 @@ use Rattle.hx_target.specs.declared.keys.Key.{Key}
 use Rattle.hx_vary.specs.Vary.{vary_names}
 use Rattle.hx_hop.specs.Answering.{answered_of}
 use Rattle.hx_hop.specs.Stripping.{cache_names, connection_names}
+use Rattle.hx_policy.specs.Words.{given_lifetime}
+use Rattle.hx_policy.specs.declared.words.Policy.{Policy}
 use Rattle.hx_allow.specs.Lines.{Table}
-use Rattle.hx_allow.specs.Matching.{caches_of}
+use Rattle.hx_allow.specs.Matching.{policy_of}
 use Rattle.hx_store.specs.Stored.{Stored}
 use Rattle.hx_store.specs.Shelf.{serials_of}
-use Rattle.hx_storable.specs.Storable.{IsFinal, IsForTheStore, IsStorable}
+use Rattle.hx_storable.specs.Storable.{IsFinal, IsForTheStore, IsWithinTheWords, IsStorable}
 use Rattle.hx_validate.specs.Validators.{modified_value, tag_value}
 use Rattle.proxy_core.specs.declared.exchange.Exchange.{Exchange}
 use Rattle.proxy_core.specs.declared.outcome.Outcome.{Outcome}
@@ -41,25 +43,28 @@ NamesFields fields = All (λ name. (bytes_eq name (codes "*") ≡ false) × (is_
 abbrev pub KeepsItsFields : List Field → Type 0
 KeepsItsFields received = All (λ name. connection_names received name ≡ false) cache_names
 
--- it says how long it is fresh (RFC 9111, section 4.2.1), or has a validator, by which it can be asked about (section 4.3.1)
-abbrev pub CanBeReused : List Field → Type 0
-CanBeReused fields =
+-- it says how long it is fresh (RFC 9111, section 4.2.1), or has a validator, by which it can be asked about (section 4.3.1), or
+-- the operator gives it a lifetime (section 4.2.2)
+abbrev pub CanBeReused : Policy → ℕ → List Field → Type 0
+CanBeReused policy status fields =
     (has (occurrences_of fields) SMaxage ≡ true)
     ⊎ ((has (occurrences_of fields) MaxAge ≡ true)
     ⊎ ((has_line fields (codes "Expires") ≡ true)
     ⊎ ((is_some (tag_value fields) ≡ true)
-    ⊎ (is_some (modified_value fields) ≡ true))))
+    ⊎ ((is_some (modified_value fields) ≡ true)
+    ⊎ (is_some (given_lifetime policy status) ≡ true)))))
 
--- The answer to an exchange may be stored: by the standard's list, and by what this cache asks besides (own): the operator lets
+-- The answer to an exchange may be stored: by the standard's list, and by what this cache asks besides (own): the operator's line lets
 -- it, a GET of the whole asked for it, it could be reused, nothing of its key was invalidated meanwhile, it isn't longer than the
 -- operator's limit, and a serial is left.
 pub record MayBeStoredAt (table : Table) (next : Option ℕ) (x : Exchange) (r : Response) (now : ℕ) : Type 0 where
-  pub operator_allows : caches_of table.lines x.line ≡ true
+  pub operator_allows : (policy_of table.lines x.line).caches ≡ true
   pub is_storable : IsStorable x.asked (answered_of r now)
   pub is_for_the_store : IsForTheStore x.asked
+  pub is_within_the_words : IsWithinTheWords (answered_of r now) (policy_of table.lines x.line)
   pub names_fields : NamesFields (answered_of r now).fields
   pub keeps_its_fields : KeepsItsFields r.fields
-  pub can_be_reused : CanBeReused (answered_of r now).fields
+  pub can_be_reused : CanBeReused (policy_of table.lines x.line) r.status (answered_of r now).fields
   pub not_overtaken : x.overtaken ≡ false
   pub fits : length r.content ≤ table.max_stored
   pub serial_is_left : is_some next ≡ true

@@ -9,7 +9,6 @@ use Rattle.hx_fields.specs.Lines.{has, without_named}
 use Rattle.hx_framing.specs.declared.messages.Response.{Response}
 use Rattle.hx_target.specs.declared.keys.Key.{Key}
 use Rattle.hx_age.specs.Age.{times_of}
-use Rattle.hx_age.specs.Lifetime.{lifetime_of}
 use Rattle.hx_vary.specs.Vary.{kept_values, is_star}
 use Rattle.hx_vary.specs.declared.nominations.Nomination.{Nomination}
 use Rattle.hx_vary.specs.declared.nominations.Nomination.TheVariants.{Star, Names}
@@ -17,11 +16,13 @@ use Rattle.hx_hop.specs.Answering.{answered_of}
 use Rattle.hx_hop.specs.Stripping.{lists_cache_field}
 use Rattle.hx_hop.specs.declared.request_view.Asked.{Asked}
 use Rattle.hx_allow.specs.Lines.{Table}
-use Rattle.hx_allow.specs.Matching.{caches_of}
+use Rattle.hx_allow.specs.Matching.{policy_of}
 use Rattle.hx_store.specs.Stored.{Stored}
 use Rattle.hx_store.specs.Shelf.{matching_serials}
+use Rattle.hx_reuse.specs.Lifetimes.{lifetime_under}
 use Rattle.hx_storable.specs.Rules.{storage_rule_of}
 use Rattle.hx_storable.specs.declared.known_facts.Facts.{Facts}
+use Rattle.hx_storable.specs.declared.rule.StoreRule.{StoreRule}
 use Rattle.hx_validate.specs.Validators.{has_validator}
 use Rattle.proxy_core.specs.declared.exchange.Exchange.{Exchange}
 use Rattle.proxy_core.specs.Validating.{is_validation}
@@ -34,10 +35,10 @@ names_nothing (Names values) = false
 -- what the storing rules ask of an answer beside the heads of request and answer
 abbrev pub facts_of : Table → Exchange → Response → ℕ → Option ℕ → Facts
 facts_of table x r now next = record {
-  operator = not (caches_of table.lines x.line);
+  policy = policy_of table.lines x.line;
   vary_star = is_star (answered_of r now).fields;
   listed = lists_cache_field r.fields;
-  explicit = (lifetime_of (answered_of r now).fields).explicit;
+  explicit = (lifetime_under (policy_of table.lines x.line) r.status (answered_of r now).fields).explicit;
   validator = has_validator (answered_of r now).fields;
   too_large = nat_lt table.max_stored (length r.content);
   overtaken = x.overtaken;
@@ -47,6 +48,11 @@ facts_of table x r now next = record {
 -- no storing rule stands
 abbrev pub is_storable : Table → Exchange → Response → ℕ → Option ℕ → Bool
 is_storable table x r now next = is_none (storage_rule_of x.asked (answered_of r now) (facts_of table x r now next))
+
+-- the first storing rule against an answer, where the line of its exchange tells it (RFC 9211, section 2.8)
+abbrev pub rule_told : Table → Exchange → Response → ℕ → Option ℕ → Option StoreRule
+rule_told table x r now next =
+    cond (policy_of table.lines x.line).explains_storing (storage_rule_of x.asked (answered_of r now) (facts_of table x r now next)) None
 
 -- the stored response that an answer to an exchange makes (RFC 9111, sections 3, 3.1 and 4.2.3); its age is told anew
 -- each time that it is sent

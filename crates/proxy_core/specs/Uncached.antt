@@ -5,7 +5,7 @@
 use Rattle.std.specs.Prelude.{◌≡◌, ◌⊎◌, ℕ, true, false, List, ◌∷◌, Option, Some, None}
 use Rattle.hx_hop.specs.declared.request_view.Asked.{Asked}
 use Rattle.hx_allow.specs.Lines.{Table}
-use Rattle.hx_allow.specs.Matching.{verdict_of, caches_of}
+use Rattle.hx_allow.specs.Matching.{verdict_of, policy_of}
 use Rattle.hx_allow.specs.declared.verdicts.Verdict.TheVariants.{Allowed}
 use Rattle.hx_reuse.specs.declared.rule.ReuseRule.TheVariants.{Operator}
 use Rattle.hx_status.specs.declared.cause.Cause.TheVariants.{OnlyIfCached}
@@ -42,17 +42,17 @@ IsToldByTheOperator table now asked line outcome =
 -- an item over a line without cache stores nothing
 abbrev pub StoresNothingOverIt : Type 0
 StoresNothingOverIt = (table : Table) (limit first line : ℕ) (item : Item) (past : List Item) → IsGoodHistory table limit first (item ∷ past) →
-    IsOver table (find_exchange (id_of item.event) (open_exchanges table limit past)) item.event line → caches_of table.lines line ≡ false →
+    IsOver table (find_exchange (id_of item.event) (open_exchanges table limit past)) item.event line → (policy_of table.lines line).caches ≡ false →
     stored_in item.outcome ≡ None
 
 -- and sends nothing that is held
 abbrev pub SendsNothingOverIt : Type 0
 SendsNothingOverIt = (table : Table) (limit first line : ℕ) (item : Item) (past : List Item) → IsGoodHistory table limit first (item ∷ past) →
-    IsOver table (find_exchange (id_of item.event) (open_exchanges table limit past)) item.event line → caches_of table.lines line ≡ false →
+    IsOver table (find_exchange (id_of item.event) (open_exchanges table limit past)) item.event line → (policy_of table.lines line).caches ≡ false →
     used_in item.outcome ≡ None
 
 -- each request that arrives over it goes forward, whatever is held
 abbrev pub GoesForwardOverIt : Type 0
 GoesForwardOverIt = (table : Table) (limit first now id line : ℕ) (asked : Asked) (item : Item) (past : List Item) → IsGoodHistory table limit first (item ∷ past) →
-    item.event ≡ Arrive now id asked → verdict_of table.lines asked.method asked.target ≡ Allowed line → caches_of table.lines line ≡ false →
+    item.event ≡ Arrive now id asked → verdict_of table.lines asked.method asked.target ≡ Allowed line → (policy_of table.lines line).caches ≡ false →
     IsToldByTheOperator table now asked line item.outcome

@@ -2,11 +2,10 @@
 --
 -- condition_on, condition_at: what a request carries of a held response     is_validation: a 304 to what it carried
 -- is_answered: the 304 answers a held response     refreshed: what that becomes     is_kept: and whether it is kept
-use Rattle.std.specs.Prelude.{ℕ, ◌==◌, nat_lt, ◌&&◌, not, Bool, false, List, length, codes, Option, Some, None, option_map, is_some, is_none, cond}
+use Rattle.std.specs.Prelude.{ℕ, ◌==◌, nat_lt, ◌&&◌, Bool, false, List, length, codes, Option, Some, None, option_map, is_some, is_none, cond}
 use Rattle.std.specs.Option.{option_and_then}
 use Rattle.hx_framing.specs.declared.messages.Response.{Response}
 use Rattle.hx_age.specs.Age.{times_of}
-use Rattle.hx_age.specs.Lifetime.{lifetime_of}
 use Rattle.hx_vary.specs.Vary.{is_star}
 use Rattle.hx_hop.specs.Answering.{answered_of}
 use Rattle.hx_hop.specs.Stripping.{lists_cache_field}
@@ -14,9 +13,10 @@ use Rattle.hx_hop.specs.declared.response_view.Answered.{Answered}
 use Rattle.hx_hop.specs.declared.request_view.Asked.{Asked}
 use Rattle.hx_hop.specs.declared.validators.Conditions.{Conditions}
 use Rattle.hx_allow.specs.Lines.{Table}
-use Rattle.hx_allow.specs.Matching.{caches_of}
+use Rattle.hx_allow.specs.Matching.{policy_of}
 use Rattle.hx_store.specs.Stored.{Stored}
 use Rattle.hx_store.specs.Shelf.{find_entry}
+use Rattle.hx_reuse.specs.Lifetimes.{lifetime_under}
 use Rattle.hx_storable.specs.Rules.{storage_rule_of}
 use Rattle.hx_storable.specs.declared.known_facts.Facts.{Facts}
 use Rattle.hx_validate.specs.Validators.{has_validator, conditions_of}
@@ -81,10 +81,10 @@ head_of e = record { status = e.status; fields = e.fields }
 -- what the storing rules ask of a freshened response: it is held already, under its serial
 abbrev pub kept_facts : Table → Exchange → Response → Stored → Facts
 kept_facts table x r e = record {
-  operator = not (caches_of table.lines x.line);
+  policy = policy_of table.lines x.line;
   vary_star = is_star e.fields;
   listed = lists_cache_field r.fields;
-  explicit = (lifetime_of e.fields).explicit;
+  explicit = (lifetime_under (policy_of table.lines x.line) e.status e.fields).explicit;
   validator = has_validator e.fields;
   too_large = nat_lt table.max_stored (length e.content);
   overtaken = false;

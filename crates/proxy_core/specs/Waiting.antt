@@ -11,7 +11,7 @@ use Rattle.hx_target.specs.declared.keys.Key.{Key}
 use Rattle.hx_target.specs.Keys.{same_key}
 use Rattle.hx_hop.specs.declared.request_view.Asked.{Asked}
 use Rattle.hx_allow.specs.Lines.{Table}
-use Rattle.hx_allow.specs.Matching.{verdict_of, caches_of}
+use Rattle.hx_allow.specs.Matching.{verdict_of, policy_of}
 use Rattle.hx_allow.specs.declared.verdicts.Verdict.TheVariants.{Allowed}
 use Rattle.hx_store.specs.Serials.{is_in}
 use Rattle.hx_reuse.specs.Meaning.{IsLeast}
@@ -41,7 +41,7 @@ pub record CouldWait (table : Table) (limit : ℕ) (past : List Item) (now line 
   pub line_allows : verdict_of table.lines asked.method asked.target ≡ Allowed line
   pub takes_others : is_only_if_cached asked ≡ false
   pub gets : is_get asked ≡ true
-  pub nothing_held : IsLeast (caches_of table.lines line) (held_entries table limit past) asked now UriMiss
+  pub nothing_held : IsLeast (policy_of table.lines line) (held_entries table limit past) asked now UriMiss
 
 -- whoever could wait does, where one leads
 abbrev pub WaitsWhereOneLeads : Type 0
@@ -79,7 +79,7 @@ pub record GoesForTheKey (table : Table) (limit : ℕ) (key : Key) (item : Item)
   pub forward : item.outcome ≡ Forward line bytes
   pub gets : is_get asked ≡ true
   pub of_the_key : asked.target.key ≡ key
-  pub nothing_held : IsLeast (caches_of table.lines line) (held_entries table limit past) asked now UriMiss
+  pub nothing_held : IsLeast (policy_of table.lines line) (held_entries table limit past) asked now UriMiss
 
 -- Of the GETs that arrive for a key while one of them is at the origin none goes there too: before a later one does the earlier
 -- has ended.
@@ -145,8 +145,8 @@ WokenExactlyWhereReady = (table : Table) (limit first now id : ℕ) (trace : Lis
 pub record IsJudgedAnew (table : Table) (limit now id : ℕ) (item : Item) (past : List Item) : Type 0 where
   pub x : Exchange
   pub is_open : find_exchange id (open_exchanges table limit past) ≡ Some x
-  pub gets : ((s : ℕ) × IsReusable (caches_of table.lines x.line) (held_entries table limit past) x.asked now s × (used_in item.outcome ≡ Some s))
-      ⊎ ((rule : ReuseRule) × (bytes : List ℕ) × IsLeast (caches_of table.lines x.line) (held_entries table limit past) x.asked now rule × (item.outcome ≡ Forward x.line bytes))
+  pub gets : ((s : ℕ) × IsReusable (policy_of table.lines x.line) (held_entries table limit past) x.asked now s × (used_in item.outcome ≡ Some s))
+      ⊎ ((rule : ReuseRule) × (bytes : List ℕ) × IsLeast (policy_of table.lines x.line) (held_entries table limit past) x.asked now rule × (item.outcome ≡ Forward x.line bytes))
 
 abbrev pub WokenIsJudgedAnew : Type 0
 WokenIsJudgedAnew = (table : Table) (limit first now id : ℕ) (item : Item) (past : List Item) → IsGoodHistory table limit first (item ∷ past) →

@@ -4,6 +4,7 @@
 -- edge: an operator's table     goes_well: these events, latest first, each with the outcome of its case
 -- wrong: another outcome of the last event     Refuses: no headline
 use Rattle.std.specs.Prelude.{ℕ, false, List, [], ◌∷◌, codes, Option, Some, None}
+use Rattle.hx_policy.specs.Words.{plain}
 use Rattle.hx_fields.specs.declared.field_line.Field.{Field}
 use Rattle.hx_framing.specs.declared.messages.Response.{Response}
 use Rattle.hx_hop.specs.declared.request_view.Asked.{Asked}
@@ -26,7 +27,7 @@ edge = record {
   capacity = 2;
   max_body = 1000;
   max_stored = 10;
-  lines = record line_that { path = codes "/admin"; origin = None } ∷ record line_that { path = codes "/raw"; caches = false } ∷ line_that ∷ [];
+  lines = record line_that { path = codes "/admin"; origin = None } ∷ record line_that { path = codes "/raw"; policy = plain false } ∷ line_that ∷ [];
 }
 
 abbrev pub goes_well : List Event → List Item

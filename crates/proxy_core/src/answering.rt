@@ -1,9 +1,11 @@
 //! The origin of an exchange answers.
 ghost use Rattle.std.specs.Prelude.{◌≡◌, ◌<◌, Some, None, IfOk, IfErr, OnErr};
 ghost use Rattle.hx_hop.specs.Answering.{answered_of};
-ghost use Rattle.hx_allow.specs.Matching.{caches_of};
+ghost use Rattle.hx_allow.specs.Matching.{policy_of};
 ghost use Rattle.hx_reuse.specs.Rules.{decision_of};
 ghost use Rattle.hx_vary.specs.Vary.{kept_values};
+ghost use Rattle.proxy_core.specs.Replies.{passed_text};
+ghost use Rattle.proxy_core.specs.Storing.{rule_told};
 ghost use Rattle.proxy_core.specs.Outcomes.{is_error_status, passed, passed_unless, fallback_for, answered, stored_serial};
 ghost use Rattle.proxy_core.specs.declared.event.Event.TheVariants.{Answer};
 ghost use Rattle.proxy_core.specs.State.{Steps, Refuses};
@@ -16,12 +18,14 @@ use crate::origin_answer::OriginAnswer;
 use crate::outcome::Outcome;
 use crate::pending::{AfterAnswer, Change, PendingReply};
 use crate::proxy::{Core, not_forwarded};
-use crate::reply_text::passed_text;
+use crate::reply_text::{PassedOn, passed_text};
 use crate::stored_reply::CacheStatusInfo;
-use crate::storing::{NewEntry, removed_unstored, replaced_by};
+use crate::storing::{Admission, NewEntry, removed_unstored, replaced_by};
+use hx_fields::Bytes;
 use hx_framing::Response;
 use hx_hop::Answered;
 use hx_status::FailKind;
+use hx_storable::StoreRule;
 use hx_store::Shelf;
 use std::alloc::{AllocError, Global};
 
@@ -32,19 +36,41 @@ fn is_error_status(status: u16) -> bool
 }
 
 impl<S: Shelf> Core<S> {
-    /// Passes on an answer that isn't stored.
+    /// The bytes of an answer that is passed on: its head is handed in as rules see it.
+    fn passed_text(
+        &self,
+        alloc: Global,
+        answer: &OriginAnswer<'_>,
+        head: &Answered,
+        rule: Option<StoreRule>,
+        stored: bool,
+    ) -> Result<Bytes, AllocError>
+        requires { head.now ≡ answered_of answer.now.response.now answer.now.response_time }
+        ensures { IfOk result (λ text. text ≡ passed_text (policy_of self.now.table.lines answer.now.exchange.now.line) self.now.table.name answer.now.exchange.now answer.now.response.now answer.now.response_time stored rule) }
+    {
+        let policy = self.config.policy(answer.exchange.line);
+        let told = PassedOn {
+            policy,
+            stored,
+            rule,
+        };
+        passed_text(alloc, self.config.name(), answer, head, told)
+    }
+
+    /// Passes on an answer that isn't stored, and tells the rule against that.
     fn pass_by(
         &self,
         alloc: Global,
         answer: &OriginAnswer<'_>,
         head: &Answered,
+        rule: Option<StoreRule>,
     ) -> Result<PendingReply, AllocError>
         requires { head.now ≡ answered_of answer.now.response.now answer.now.response_time }
-        ensures outcome { IfOk result (λ pending. reply_of pending ≡ passed self.now.table self.now.entries answer.now.response_time answer.now.exchange.now answer.now.response.now None) }
+        ensures outcome { IfOk result (λ pending. reply_of pending ≡ passed self.now.table self.now.entries answer.now.response_time answer.now.exchange.now answer.now.response.now rule None) }
         ensures change { IfOk result (λ pending. pending.change ≡ Change.Keep) }
     {
         Ok(PendingReply {
-            bytes: passed_text(alloc, self.config.name(), answer, head, false)?,
+            bytes: self.passed_text(alloc, answer, head, rule, false)?,
             close: answer.exchange.asked.close,
             change: Change::Keep,
             removed: removed_unstored(alloc, &self.shelf, answer)?,
@@ -57,16 +83,17 @@ impl<S: Shelf> Core<S> {
         alloc: Global,
         answer: &OriginAnswer<'_>,
         head: Answered,
+        rule: Option<StoreRule>,
         new_entry: NewEntry,
     ) -> Result<PendingReply, AllocError>
         requires head { head ≡ answered_of answer.now.response.now answer.now.response_time }
         requires nominated { new_entry.nominated ≡ kept_values head.fields answer.now.exchange.now.asked.fields }
-        ensures outcome { IfOk result (λ pending. reply_of pending ≡ passed self.now.table self.now.entries answer.now.response_time answer.now.exchange.now answer.now.response.now (Some new_entry.serial)) }
+        ensures outcome { IfOk result (λ pending. reply_of pending ≡ passed self.now.table self.now.entries answer.now.response_time answer.now.exchange.now answer.now.response.now rule (Some new_entry.serial)) }
         ensures next { IfOk result (λ pending. IsNext (Some new_entry.serial) pending.change) }
         ensures makes { IfOk result (λ pending. Makes answer.now.exchange.now answer.now.response.now answer.now.response_time pending.change) }
     {
         let asked = &answer.exchange.asked;
-        let bytes = passed_text(alloc, self.config.name(), answer, &head, true)?;
+        let bytes = self.passed_text(alloc, answer, &head, rule, true)?;
         let removed = replaced_by(alloc, &self.shelf, asked)?;
         let entry = new_entry.into_entry(alloc, answer, head)?;
         Ok(PendingReply {
@@ -80,14 +107,15 @@ impl<S: Shelf> Core<S> {
     /// Passes on an answer, and stores it where it may be.
     fn pass_on(&self, alloc: Global, answer: &OriginAnswer<'_>) -> Result<PendingReply, AllocError>
         requires { answer.now.response_time < 253_402_300_800 }
-        ensures outcome { IfOk result (λ pending. reply_of pending ≡ passed self.now.table self.now.entries answer.now.response_time answer.now.exchange.now answer.now.response.now (stored_serial self.now.table answer.now.exchange.now answer.now.response.now answer.now.response_time self.now.next)) }
+        ensures outcome { IfOk result (λ pending. reply_of pending ≡ passed self.now.table self.now.entries answer.now.response_time answer.now.exchange.now answer.now.response.now (rule_told self.now.table answer.now.exchange.now answer.now.response.now answer.now.response_time self.now.next) (stored_serial self.now.table answer.now.exchange.now answer.now.response.now answer.now.response_time self.now.next)) }
         ensures next { IfOk result (λ pending. IsNext self.now.next pending.change) }
         ensures makes { IfOk result (λ pending. Makes answer.now.exchange.now answer.now.response.now answer.now.response_time pending.change) }
     {
         let head = answer.head(alloc)?;
-        match self.admit(alloc, answer, &head)? {
-            None => self.pass_by(alloc, answer, &head),
-            Some(new_entry) => self.pass_and_store(alloc, answer, head, new_entry),
+        let Admission { rule, new_entry } = self.admit(alloc, answer, &head)?;
+        match new_entry {
+            None => self.pass_by(alloc, answer, &head, rule),
+            Some(new_entry) => self.pass_and_store(alloc, answer, head, rule, new_entry),
         }
     }
 
@@ -98,7 +126,7 @@ impl<S: Shelf> Core<S> {
         answer: &OriginAnswer<'_>,
     ) -> Result<PendingReply, AllocError>
         requires { answer.now.response_time < 253_402_300_800 }
-        ensures outcome { IfOk result (λ pending. reply_of pending ≡ passed_unless self.now.table self.now.entries answer.now.response_time answer.now.exchange.now answer.now.response.now self.now.next (is_error_status answer.now.response.now.status) (fallback_for self.now.entries answer.now.exchange.now.asked answer.now.response_time (decision_of (caches_of self.now.table.lines answer.now.exchange.now.line) self.now.entries answer.now.exchange.now.asked answer.now.response_time))) }
+        ensures outcome { IfOk result (λ pending. reply_of pending ≡ passed_unless self.now.table self.now.entries answer.now.response_time answer.now.exchange.now answer.now.response.now self.now.next (is_error_status answer.now.response.now.status) (fallback_for (policy_of self.now.table.lines answer.now.exchange.now.line) self.now.entries answer.now.exchange.now.asked answer.now.response_time (decision_of (policy_of self.now.table.lines answer.now.exchange.now.line) self.now.entries answer.now.exchange.now.asked answer.now.response_time))) }
         ensures next { IfOk result (λ pending. IsNext self.now.next pending.change) }
         ensures makes { IfOk result (λ pending. Makes answer.now.exchange.now answer.now.response.now answer.now.response_time pending.change) }
     {
@@ -109,10 +137,10 @@ impl<S: Shelf> Core<S> {
         let exchange = answer.exchange;
         let asked = &exchange.asked;
         let now = answer.response_time;
-        let caches = self.config.caches(exchange.line);
-        match fallback_for(alloc, &self.shelf, asked, now, caches)? {
+        let policy = self.config.policy(exchange.line);
+        match fallback_for(alloc, &self.shelf, asked, now, policy)? {
             Fallback::Sends(serial, detail) => {
-                let info = CacheStatusInfo::forwarded(exchange, Some(status), Some(detail));
+                let info = CacheStatusInfo::forwarded(policy, exchange, Some(status), Some(detail));
                 self.send(alloc, serial, now, info, asked)
             }
             Fallback::Refuses(_, _) => self.pass_on(alloc, answer),
@@ -126,7 +154,7 @@ impl<S: Shelf> Core<S> {
         answer: &OriginAnswer<'_>,
     ) -> Result<AfterAnswer, AllocError>
         requires { answer.now.response_time < 253_402_300_800 }
-        ensures outcome { IfOk result (λ after. outcome_after answer.now.exchange.now after ≡ answered self.now.table self.now.entries answer.now.response_time answer.now.exchange.now answer.now.response.now self.now.next (decision_of (caches_of self.now.table.lines answer.now.exchange.now.line) self.now.entries answer.now.exchange.now.asked answer.now.response_time)) }
+        ensures outcome { IfOk result (λ after. outcome_after answer.now.exchange.now after ≡ answered self.now.table self.now.entries answer.now.response_time answer.now.exchange.now answer.now.response.now self.now.next (decision_of (policy_of self.now.table.lines answer.now.exchange.now.line) self.now.entries answer.now.exchange.now.asked answer.now.response_time)) }
         ensures leaves { IfOk result (λ after. AfterLeaves self.now.limit self.now.entries answer.now.exchange.now (Answer answer.now.response_time answer.now.exchange.now.id answer.now.response.now) after) }
         ensures fits { IfOk result (λ after. AfterFits self.now.next self.now.entries after) }
     {

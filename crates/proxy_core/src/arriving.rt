@@ -1,11 +1,11 @@
 //! A request arrives.
 ghost use Rattle.std.specs.Prelude.{◌≡◌, ◌<◌, ◌++◌, ◌∷◌, [], None, IfOk, IfErr, OnOk, OnErr};
 ghost use Rattle.hx_directives.specs.Occurrences.{occurrences_of};
-ghost use Rattle.hx_allow.specs.Matching.{caches_of, verdict_of};
+ghost use Rattle.hx_allow.specs.Matching.{policy_of, verdict_of};
 ghost use Rattle.hx_allow.specs.declared.verdicts.Verdict.TheVariants.{Allowed};
 ghost use Rattle.hx_reuse.specs.Rules.{decision_of};
 ghost use Rattle.proxy_core.specs.Leading.{leader_for};
-ghost use Rattle.proxy_core.specs.Outcomes.{find_exchange, refused, allowed, sent_on, forward_text, is_only_if_cached};
+ghost use Rattle.proxy_core.specs.Outcomes.{as_hit, find_exchange, refused, allowed, sent_on, forward_text, is_only_if_cached};
 ghost use Rattle.proxy_core.specs.declared.event.Event.TheVariants.{Arrive};
 ghost use Rattle.proxy_core.specs.declared.stage.Stage.TheVariants.{Forwarded};
 ghost use Rattle.proxy_core.specs.State.{Steps, Refuses, after, placed};
@@ -24,18 +24,24 @@ use crate::stored_reply::CacheStatusInfo;
 use hx_allow::Verdict;
 use hx_directives::{Directive, Directives};
 use hx_hop::Asked;
+use hx_policy::Policy;
 use hx_reuse::{Decision, ReuseRule};
 use hx_status::{Cause, How};
 use hx_store::Shelf;
 use std::alloc::{AllocError, Global};
 
 /// A stored response that no rule keeps back.
-const AS_HIT: CacheStatusInfo = CacheStatusInfo {
-    how: How::Hit,
-    came: None,
-    detail: None,
-    collapsed: false,
-};
+fn as_hit(policy: Policy) -> CacheStatusInfo
+    ensures { result ≡ as_hit policy }
+{
+    CacheStatusInfo {
+        policy,
+        how: How::Hit,
+        came: None,
+        detail: None,
+        collapsed: false,
+    }
+}
 
 fn is_only_if_cached(asked_directives: &Directives, asked: &Asked) -> bool
     requires { asked_directives.now ≡ occurrences_of asked.now.fields }
@@ -100,15 +106,15 @@ impl<S: Shelf> Core<S> {
         requires early { now < 253_402_300_800 }
         requires free { find_exchange id self.old.exchanges ≡ None }
         requires line { verdict_of self.old.table.lines asked.now.method asked.now.target ≡ Allowed line }
-        ensures outcome { IfOk result (λ outcome. outcome ≡ allowed self.old.table self.old.entries self.old.exchanges line now asked.now (decision_of (caches_of self.old.table.lines line) self.old.entries asked.now now)) }
+        ensures outcome { IfOk result (λ outcome. outcome ≡ allowed self.old.table self.old.entries self.old.exchanges line now asked.now (decision_of (policy_of self.old.table.lines line) self.old.entries asked.now now)) }
         ensures after { IfOk result (λ outcome. self.new ≡ after self.old (Arrive now id asked.now) outcome) }
         ensures unchanged { OnErr result (self.new ≡ self.old) }
     {
         let directives = Directives::of(alloc, &asked.fields)?;
-        let caches = self.config.caches(line);
-        match judge_by(alloc, &self.shelf, asked, &directives, now, caches)? {
+        let policy = self.config.policy(line);
+        match judge_by(alloc, &self.shelf, asked, &directives, now, policy)? {
             Decision::Hit(serial) => {
-                let pending = self.send(alloc, serial, now, AS_HIT, asked)?;
+                let pending = self.send(alloc, serial, now, as_hit(policy), asked)?;
                 self.shelf.promote(serial);
                 Ok(pending.into_outcome())
             }

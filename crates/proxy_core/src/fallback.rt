@@ -1,7 +1,7 @@
 //! What is sent in place of an answer that failed (RFC 5861, section 4).
 ghost use Rattle.std.specs.Prelude.{◌≡◌, ◌<◌, Some, None, IfOk};
 ghost use Rattle.hx_directives.specs.Occurrences.{occurrences_of};
-ghost use Rattle.hx_allow.specs.Matching.{caches_of};
+ghost use Rattle.hx_allow.specs.Matching.{policy_of};
 ghost use Rattle.hx_reuse.specs.Rules.{decision_of};
 ghost use Rattle.proxy_core.specs.Outcomes.{error_rule_at, fallback_by, fallback_for, failed};
 ghost use Rattle.proxy_core.specs.Pending.{reply_of, IsPlain};
@@ -14,6 +14,7 @@ use crate::sending::refuse;
 use crate::stored_reply::CacheStatusInfo;
 use hx_directives::Directives;
 use hx_hop::Asked;
+use hx_policy::Policy;
 use hx_reuse::{Decision, ErrorRule, ReuseRule, may_serve_on_error};
 use hx_status::{Cause, Detail, FailKind};
 use hx_store::Shelf;
@@ -35,12 +36,13 @@ fn error_rule_at<S: Shelf>(
     asked: &Asked,
     asked_directives: &Directives,
     now: u64,
+    policy: Policy,
 ) -> Option<ErrorRule>
     requires { asked_directives.now ≡ occurrences_of asked.now.fields }
-    ensures { result ≡ error_rule_at (S.entries shelf.now) serial asked.now now }
+    ensures { result ≡ error_rule_at policy (S.entries shelf.now) serial asked.now now }
 {
     match shelf.peek(serial) {
-        Some(entry) => may_serve_on_error(asked_directives, entry, now).err(),
+        Some(entry) => may_serve_on_error(asked_directives, entry, now, policy).err(),
         None => None,
     }
 }
@@ -60,16 +62,16 @@ pub(crate) fn fallback_for<S: Shelf>(
     shelf: &S,
     asked: &Asked,
     now: u64,
-    caches: bool,
+    policy: Policy,
 ) -> Result<Fallback, AllocError>
-    ensures { IfOk result (λ fallback. fallback ≡ fallback_for (S.entries shelf.now) asked.now now (decision_of caches (S.entries shelf.now) asked.now now)) }
+    ensures { IfOk result (λ fallback. fallback ≡ fallback_for policy (S.entries shelf.now) asked.now now (decision_of policy (S.entries shelf.now) asked.now now)) }
 {
     let directives = Directives::of(alloc, &asked.fields)?;
-    match judge_by(alloc, shelf, asked, &directives, now, caches)? {
+    match judge_by(alloc, shelf, asked, &directives, now, policy)? {
         Decision::Hit(serial) => Ok(Fallback::Sends(serial, Detail::ReuseAfterError)),
         Decision::Forward(rule, None) => Ok(Fallback::Refuses(rule, None)),
         Decision::Forward(rule, Some(serial)) => {
-            let error = error_rule_at(shelf, serial, asked, &directives, now);
+            let error = error_rule_at(shelf, serial, asked, &directives, now, policy);
             Ok(fallback_by(rule, serial, error))
         }
     }
@@ -86,14 +88,14 @@ impl<S: Shelf> Core<S> {
         now: u64,
     ) -> Result<PendingReply, AllocError>
         requires { now < 253_402_300_800 }
-        ensures outcome { IfOk result (λ pending. reply_of pending ≡ failed self.now.table self.now.entries now exchange.now kind came (fallback_for self.now.entries exchange.now.asked now (decision_of (caches_of self.now.table.lines exchange.now.line) self.now.entries exchange.now.asked now))) }
+        ensures outcome { IfOk result (λ pending. reply_of pending ≡ failed self.now.table self.now.entries now exchange.now kind came (fallback_for (policy_of self.now.table.lines exchange.now.line) self.now.entries exchange.now.asked now (decision_of (policy_of self.now.table.lines exchange.now.line) self.now.entries exchange.now.asked now))) }
         ensures plain { IfOk result (λ pending. IsPlain pending.change) }
     {
         let asked = &exchange.asked;
-        let caches = self.config.caches(exchange.line);
-        match fallback_for(alloc, &self.shelf, asked, now, caches)? {
+        let policy = self.config.policy(exchange.line);
+        match fallback_for(alloc, &self.shelf, asked, now, policy)? {
             Fallback::Sends(serial, detail) => {
-                let info = CacheStatusInfo::forwarded(exchange, came, Some(detail));
+                let info = CacheStatusInfo::forwarded(policy, exchange, came, Some(detail));
                 self.send(alloc, serial, now, info, asked)
             }
             Fallback::Refuses(rule, error) => {

@@ -2,6 +2,7 @@
 //! clause a trace, and its body is empty. All but the last item of each go well.
 
 ghost use Rattle.std.specs.Prelude.{◌∷◌, [], Some, None, true, false, codes};
+ghost use Rattle.hx_policy.specs.Words.{plain};
 ghost use Rattle.hx_fields.specs.Examples.{line};
 ghost use Rattle.hx_reuse.specs.declared.rule.ReuseRule.TheVariants as rules;
 ghost use Rattle.hx_status.specs.declared.cause.FailKind.TheVariants as kinds;
@@ -76,7 +77,7 @@ pub fn the_headline_refuses_what_may_not_be_sent()
     ensures though_the_request_forbids { Refuses (wrong held_a (Arrive 110 2 (asks (codes "GET") (codes "/a") (control (codes "no-cache") ∷ []))) (sends 1 (codes "x"))) }
     ensures in_place_of_an_error { Refuses (wrong asks_again (Answer 201 2 (answer 503 [])) (sends 1 (codes "x"))) }
     ensures fresh_is_asked_about { Refuses (wrong held_a (Arrive 110 2 get_a) (Forward 3 (forward_text edge get_a None))) }
-    ensures error_is_passed_on { Refuses (wrong (Arrive 200 2 get_a ∷ Answer 101 1 fresh_or_on_error ∷ Arrive 100 1 get_a ∷ []) (Answer 201 2 (answer 503 [])) (says (passed_text (codes "edge") (went get_a) (answer 503 []) 201 false))) }
+    ensures error_is_passed_on { Refuses (wrong (Arrive 200 2 get_a ∷ Answer 101 1 fresh_or_on_error ∷ Arrive 100 1 get_a ∷ []) (Answer 201 2 (answer 503 [])) (says (passed_text (plain true) (codes "edge") (went get_a) (answer 503 []) 201 false None))) }
     ensures other_bytes { Refuses (wrong held_a (Arrive 110 2 get_a) (sends 1 (codes "x"))) }
     ensures closing_its_connection { Refuses (wrong held_a (Arrive 110 2 get_a) (Reply (record { bytes = []; close = true; stored = None; used = Some 1; removed = [] }))) }
     ensures to_a_woken_one_that_it_may_not_answer { Refuses (wrong may_wake (Wake 102 2) (sends 1 (codes "x"))) }
@@ -88,8 +89,8 @@ pub fn the_headline_refuses_other_names()
     ensures the_second_rule { Refuses (wrong (Arrive 100 1 get_a ∷ []) (Fail 101 1 kinds.Refused) (refused 101 (Origin kinds.Refused rules.VaryMiss None) get_a)) }
     ensures another_failure { Refuses (wrong (Arrive 100 1 get_a ∷ []) (Fail 101 1 kinds.Refused) (refused 101 (Origin kinds.TimedOut rules.UriMiss None) get_a)) }
     ensures another_rule_to_one_that_takes_no_answer { Refuses (wrong [] (Arrive 100 1 only_cached) (refused 100 (OnlyIfCached rules.VaryMiss) only_cached)) }
-    ensures not_the_rule_of_its_arrival { Refuses (wrong (Arrive 100 1 get_a ∷ []) (Answer 101 1 fresh) (replies (passed_text (codes "edge") (record (went get_a) { rule = rules.VaryMiss }) fresh 101 true) (Some 1) [])) }
-    ensures said_to_be_stored { Refuses (wrong (Arrive 100 1 get_a ∷ []) (Answer 101 1 (answer 200 [])) (says (passed_text (codes "edge") (went get_a) (answer 200 []) 101 true))) }
+    ensures not_the_rule_of_its_arrival { Refuses (wrong (Arrive 100 1 get_a ∷ []) (Answer 101 1 fresh) (replies (passed_text (plain true) (codes "edge") (record (went get_a) { rule = rules.VaryMiss }) fresh 101 true None) (Some 1) [])) }
+    ensures said_to_be_stored { Refuses (wrong (Arrive 100 1 get_a ∷ []) (Answer 101 1 (answer 200 [])) (says (passed_text (plain true) (codes "edge") (went get_a) (answer 200 []) 101 true None))) }
 {}
 
 /// What is stored may be, under the next serial; what may be is; and what has to go goes.

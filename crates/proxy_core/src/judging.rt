@@ -5,11 +5,12 @@ ghost use Rattle.hx_reuse.specs.Rules.{decision_of};
 
 use hx_directives::Directives;
 use hx_hop::Asked;
+use hx_policy::Policy;
 use hx_reuse::{Decision, decide};
 use hx_store::Shelf;
 use std::alloc::{AllocError, Global};
 
-/// Whether a held response may be sent, and which, or the first rule against it. The request's directives and the word
+/// Whether a held response may be sent, and which, or the first rule against it. The request's directives and the policy
 /// of its line are handed in.
 pub(crate) fn judge_by<S: Shelf>(
     alloc: Global,
@@ -17,12 +18,12 @@ pub(crate) fn judge_by<S: Shelf>(
     asked: &Asked,
     asked_directives: &Directives,
     now: u64,
-    caches: bool,
+    policy: Policy,
 ) -> Result<Decision, AllocError>
     requires { asked_directives.now ≡ occurrences_of asked.now.fields }
-    ensures { IfOk result (λ decision. decision ≡ decision_of caches (S.entries shelf.now) asked.now now) }
+    ensures { IfOk result (λ decision. decision ≡ decision_of policy (S.entries shelf.now) asked.now now) }
 {
-    decide(alloc, asked, asked_directives, shelf, now, caches)
+    decide(alloc, asked, asked_directives, shelf, now, policy)
 }
 
 /// The same, where the directives aren't read yet.
@@ -31,10 +32,10 @@ pub(crate) fn judge<S: Shelf>(
     shelf: &S,
     asked: &Asked,
     now: u64,
-    caches: bool,
+    policy: Policy,
 ) -> Result<Decision, AllocError>
-    ensures { IfOk result (λ decision. decision ≡ decision_of caches (S.entries shelf.now) asked.now now) }
+    ensures { IfOk result (λ decision. decision ≡ decision_of policy (S.entries shelf.now) asked.now now) }
 {
     let directives = Directives::of(alloc, &asked.fields)?;
-    judge_by(alloc, shelf, asked, &directives, now, caches)
+    judge_by(alloc, shelf, asked, &directives, now, policy)
 }

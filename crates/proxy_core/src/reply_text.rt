@@ -6,12 +6,15 @@ ghost use Rattle.hx_hop.specs.Moments.{date_text_of};
 ghost use Rattle.proxy_core.specs.Replies.{passed_text, lines_passed, length_passed, ttl_passed, refused_text, lines_refused, content_sent, is_head, length_told};
 
 use crate::origin_answer::OriginAnswer;
-use hx_age::{Lifetime, Times, current_age, ttl};
+use hx_age::{Times, current_age, ttl};
 use hx_directives::Directives;
 use hx_fields::{Bytes, Fields};
 use hx_framing::{Response, write_response};
 use hx_hop::{Answered, Asked, date_text};
+use hx_policy::Policy;
+use hx_reuse::lifetime_under;
 use hx_status::{Cause, How, Status, member, refusal};
+use hx_storable::StoreRule;
 use std::alloc::{AllocError, Global};
 
 pub(crate) fn is_head(asked: &Asked) -> bool
@@ -38,23 +41,34 @@ pub(crate) fn length_told(status: u16, length: Option<u64>) -> Option<u64>
     }
 }
 
+/// What is told of an answer that is passed on.
+#[derive(Clone, Copy)]
+pub(crate) struct PassedOn {
+    /// What the line of its exchange says of caching.
+    pub(crate) policy: Policy,
+    pub(crate) stored: bool,
+    /// The first storing rule against it, where its line tells that.
+    pub(crate) rule: Option<StoreRule>,
+}
+
 /// The seconds of freshness that an answer has left, where it was stored.
 fn ttl_passed(
     alloc: Global,
     answer: &OriginAnswer<'_>,
     head: &Answered,
-    stored: bool,
+    told: PassedOn,
 ) -> Result<Option<i64>, AllocError>
-    ensures { IfOk result (λ left. left ≡ ttl_passed answer.now.exchange.now head.now.fields answer.now.response_time stored) }
+    ensures { IfOk result (λ left. left ≡ ttl_passed told.policy answer.now.exchange.now head.now.status head.now.fields answer.now.response_time told.stored) }
 {
-    if !stored {
+    if !told.stored {
         return Ok(None);
     }
     let now = answer.response_time;
     let directives = Directives::of(alloc, &head.fields)?;
     let times = Times::of(&head.fields, answer.exchange.request_time, now);
     let age = current_age(&times, now);
-    Ok(Some(ttl(Lifetime::of(&head.fields, &directives), age)))
+    let lifetime = lifetime_under(told.policy, head.status, &head.fields, &directives);
+    Ok(Some(ttl(lifetime, age)))
 }
 
 /// The lines of an answer that is passed on.
@@ -63,17 +77,18 @@ fn lines_passed(
     name: &str,
     answer: &OriginAnswer<'_>,
     head: &Answered,
-    stored: bool,
+    told: PassedOn,
 ) -> Result<Fields, AllocError>
-    ensures { IfOk result (λ lines. lines ≡ lines_passed name.now answer.now.exchange.now head.now.fields answer.now.response_time stored) }
+    ensures { IfOk result (λ lines. lines ≡ lines_passed told.policy name.now answer.now.exchange.now head.now.status head.now.fields answer.now.response_time told.stored told.rule) }
 {
     let status = Status {
         how: How::Fwd(answer.exchange.rule),
         fwd_status: None,
-        ttl: ttl_passed(alloc, answer, head, stored)?,
-        stored,
+        ttl: ttl_passed(alloc, answer, head, told)?,
+        stored: told.stored,
         collapsed: false,
         detail: None,
+        not_stored: told.rule,
     };
     let member = member(alloc, name, &status)?;
     let mut lines = head.fields.copy(alloc)?;
@@ -98,15 +113,15 @@ pub(crate) fn passed_text(
     name: &str,
     answer: &OriginAnswer<'_>,
     head: &Answered,
-    stored: bool,
+    told: PassedOn,
 ) -> Result<Bytes, AllocError>
     requires { head.now ≡ answered_of answer.now.response.now answer.now.response_time }
-    ensures { IfOk result (λ text. text ≡ passed_text name.now answer.now.exchange.now answer.now.response.now answer.now.response_time stored) }
+    ensures { IfOk result (λ text. text ≡ passed_text told.policy name.now answer.now.exchange.now answer.now.response.now answer.now.response_time told.stored told.rule) }
 {
     let asked = &answer.exchange.asked;
     let response = answer.response;
     let to_head = is_head(asked);
-    let lines = lines_passed(alloc, name, answer, head, stored)?;
+    let lines = lines_passed(alloc, name, answer, head, told)?;
     let length = length_passed(to_head, response);
     let content = content_sent(to_head, response.content.as_slice());
     write_response(alloc, response.status, &lines, length, asked.close, content)

@@ -8,10 +8,12 @@ ghost use Rattle.proxy_core.specs.Replies.{status_sent, stored_text, whole_text,
 
 use crate::exchange::Exchange;
 use crate::reply_text::{content_sent, is_head, length_told};
-use hx_age::{Lifetime, current_age, ttl};
+use hx_age::{current_age, ttl};
 use hx_fields::{Bytes, Fields};
 use hx_framing::{AddedLine, ResponseLines, write_response_with};
 use hx_hop::Asked;
+use hx_policy::Policy;
+use hx_reuse::lifetime_under;
 use hx_status::{Detail, How, Status, member};
 use hx_store::Entry;
 use hx_validate::{client_wants_304, not_modified};
@@ -21,6 +23,8 @@ use std::alloc::{AllocError, Global};
 /// What Cache-Status tells of a stored response that is sent, beside the response itself (RFC 9211, section 2).
 #[derive(Clone, Copy)]
 pub(crate) struct CacheStatusInfo {
+    /// That of the line by which its request is allowed.
+    pub(crate) policy: Policy,
     pub(crate) how: How,
     /// The status of the origin's answer, where one came in this step.
     pub(crate) came: Option<u16>,
@@ -31,10 +35,16 @@ pub(crate) struct CacheStatusInfo {
 
 impl CacheStatusInfo {
     /// It is sent after its request went forward.
-    pub(crate) fn forwarded(exchange: &Exchange, came: Option<u16>, detail: Option<Detail>) -> Self
-        ensures { result ≡ forwarded_as exchange.now came detail }
+    pub(crate) fn forwarded(
+        policy: Policy,
+        exchange: &Exchange,
+        came: Option<u16>,
+        detail: Option<Detail>,
+    ) -> Self
+        ensures { result ≡ forwarded_as policy exchange.now came detail }
     {
         CacheStatusInfo {
+            policy,
             how: How::Fwd(exchange.rule),
             came,
             detail,
@@ -43,10 +53,11 @@ impl CacheStatusInfo {
     }
 
     /// It is sent after its request waited for the answer to another (RFC 9211, section 2.6).
-    pub(crate) fn collapsed(exchange: &Exchange) -> Self
-        ensures { result ≡ collapsed_as exchange.now }
+    pub(crate) fn collapsed(policy: Policy, exchange: &Exchange) -> Self
+        ensures { result ≡ collapsed_as policy exchange.now }
     {
         CacheStatusInfo {
+            policy,
             how: How::Fwd(exchange.rule),
             came: None,
             detail: None,
@@ -101,13 +112,16 @@ impl StoredReply<'_> {
         ensures { IfOk result (λ text. text ≡ member_text self.now.name.now (status_sent status self.now.entry.now self.now.sent_at self.now.info)) }
     {
         let entry = self.entry;
+        let policy = self.info.policy;
+        let lifetime = lifetime_under(policy, entry.status, &entry.fields, &entry.directives);
         let told = Status {
             how: self.info.how,
             fwd_status: fwd_status_of(self.info.came, status),
-            ttl: Some(ttl(Lifetime::of(&entry.fields, &entry.directives), age)),
+            ttl: Some(ttl(lifetime, age)),
             stored: false,
             collapsed: self.info.collapsed,
             detail: self.info.detail,
+            not_stored: None,
         };
         member(alloc, self.name, &told)
     }

@@ -3,15 +3,17 @@ ghost use Rattle.std.specs.Prelude.{◌≡◌, ◌<◌, Some, None, IfOk, IfSome
 ghost use Rattle.hx_directives.specs.Occurrences.{occurrences_of};
 ghost use Rattle.hx_hop.specs.Answering.{answered_of};
 ghost use Rattle.hx_vary.specs.Vary.{kept_values, nominated_of};
-ghost use Rattle.proxy_core.specs.Storing.{names_nothing, facts_of, is_storable, made, replaced_by};
+ghost use Rattle.hx_storable.specs.Rules.{storage_rule_of};
+ghost use Rattle.proxy_core.specs.Storing.{names_nothing, facts_of, rule_told, made, replaced_by};
 ghost use Rattle.proxy_core.specs.Outcomes.{stored_serial, removed_by};
 
 use crate::origin_answer::OriginAnswer;
 use crate::proxy::Core;
-use hx_age::{Lifetime, Times};
+use hx_age::Times;
 use hx_directives::Directives;
 use hx_hop::{Answered, Asked, lists_cache_field};
-use hx_storable::{Facts, first_rule_against, the_least_storage_rule_is_named};
+use hx_reuse::lifetime_under;
+use hx_storable::{Facts, StoreRule, first_rule_against, the_least_storage_rule_is_named};
 use hx_store::{Entry, Serials, Shelf};
 use hx_validate::has_validator;
 use hx_vary::{Nominated, Nomination};
@@ -22,6 +24,27 @@ use std::alloc::{AllocError, Global};
 pub(crate) struct NewEntry {
     pub(crate) serial: u64,
     pub(crate) nominated: Nominated,
+}
+
+/// Whether an answer is stored.
+#[derive(Drop)]
+pub(crate) struct Admission {
+    /// What is told of the first storing rule against it.
+    pub(crate) rule: Option<StoreRule>,
+    /// What it has as a stored response, where it is stored.
+    pub(crate) new_entry: Option<NewEntry>,
+}
+
+impl Admission {
+    fn none(rule: Option<StoreRule>) -> Admission
+        ensures rule { result.rule ≡ rule }
+        ensures new_entry { result.new_entry ≡ None }
+    {
+        Admission {
+            rule,
+            new_entry: None,
+        }
+    }
 }
 
 impl NewEntry {
@@ -84,11 +107,13 @@ impl<S: Shelf> Core<S> {
         ensures { result ≡ facts_of self.now.table answer.now.exchange.now answer.now.response.now answer.now.response_time self.now.next }
     {
         let response = answer.response;
+        let policy = self.config.policy(answer.exchange.line);
+        let lifetime = lifetime_under(policy, head.status, &head.fields, directives);
         Facts {
-            operator: !self.config.caches(answer.exchange.line),
+            policy,
             vary_star: is_star(nomination),
             listed: lists_cache_field(&response.fields),
-            explicit: Lifetime::of(&head.fields, directives).explicit,
+            explicit: lifetime.explicit,
             validator: has_validator(&head.fields),
             too_large: response.content.len() as u64 > self.config.max_stored(),
             overtaken: answer.exchange.overtaken,
@@ -96,49 +121,68 @@ impl<S: Shelf> Core<S> {
         }
     }
 
-    /// Whether no storing rule stands.
-    fn is_storable(
+    /// The least storing rule that stands.
+    fn rule_against(
         &self,
         alloc: Global,
         answer: &OriginAnswer<'_>,
         head: &Answered,
         nomination: &Nomination,
-    ) -> Result<bool, AllocError>
+    ) -> Result<Option<StoreRule>, AllocError>
         requires head { head.now ≡ answered_of answer.now.response.now answer.now.response_time }
         requires nomination { nomination.now ≡ nominated_of head.now.fields answer.now.exchange.now.asked.fields }
-        ensures { IfOk result (λ is. is ≡ is_storable self.now.table answer.now.exchange.now answer.now.response.now answer.now.response_time self.now.next) }
+        ensures { IfOk result (λ rule. rule ≡ storage_rule_of answer.now.exchange.now.asked head.now (facts_of self.now.table answer.now.exchange.now answer.now.response.now answer.now.response_time self.now.next)) }
     {
         let asked = &answer.exchange.asked;
         let directives = Directives::of(alloc, &head.fields)?;
         let asked_directives = Directives::of(alloc, &asked.fields)?;
         let facts = self.facts(answer, head, &directives, nomination);
         let rule = first_rule_against(asked, &asked_directives, head, &directives, facts);
-        Ok(rule.is_none())
+        Ok(rule)
     }
 
-    /// The serial and the nominated values of the stored response that an answer makes, if it is stored.
+    /// What is told of the storing rule that stands against an answer.
+    fn rule_told(&self, answer: &OriginAnswer<'_>, rule: Option<StoreRule>) -> Option<StoreRule>
+        requires { rule ≡ storage_rule_of answer.now.exchange.now.asked (answered_of answer.now.response.now answer.now.response_time) (facts_of self.now.table answer.now.exchange.now answer.now.response.now answer.now.response_time self.now.next) }
+        ensures { result ≡ rule_told self.now.table answer.now.exchange.now answer.now.response.now answer.now.response_time self.now.next }
+    {
+        if self.config.policy(answer.exchange.line).explains_storing {
+            rule
+        } else {
+            None
+        }
+    }
+
+    /// Whether an answer is stored: the serial and the nominated values of the stored response that it makes, or what is told
+    /// of why it isn't.
     pub(crate) fn admit(
         &self,
         alloc: Global,
         answer: &OriginAnswer<'_>,
         head: &Answered,
-    ) -> Result<Option<NewEntry>, AllocError>
+    ) -> Result<Admission, AllocError>
         requires { head.now ≡ answered_of answer.now.response.now answer.now.response_time }
-        ensures serial { IfOk result (λ admitted. option_map (λ n. n.serial) admitted ≡ stored_serial self.now.table answer.now.exchange.now answer.now.response.now answer.now.response_time self.now.next) }
-        ensures nominated { IfOk result (λ admitted. IfSome admitted (λ n. n.nominated ≡ kept_values head.now.fields answer.now.exchange.now.asked.fields)) }
+        ensures rule { IfOk result (λ admission. admission.rule ≡ rule_told self.now.table answer.now.exchange.now answer.now.response.now answer.now.response_time self.now.next) }
+        ensures serial { IfOk result (λ admission. option_map (λ n. n.serial) admission.new_entry ≡ stored_serial self.now.table answer.now.exchange.now answer.now.response.now answer.now.response_time self.now.next) }
+        ensures nominated { IfOk result (λ admission. IfSome admission.new_entry (λ n. n.nominated ≡ kept_values head.now.fields answer.now.exchange.now.asked.fields)) }
     {
         let nomination = Nominated::of(alloc, &head.fields, &answer.exchange.asked.fields)?;
-        if !self.is_storable(alloc, answer, head, &nomination)? {
-            return Ok(None);
+        let rule = self.rule_against(alloc, answer, head, &nomination)?;
+        let told = self.rule_told(answer, rule);
+        if rule.is_some() {
+            return Ok(Admission::none(told));
         }
         the_least_storage_rule_is_named();
         let serial = match self.next {
             Some(serial) => serial,
-            None => return Ok(None),
+            None => return Ok(Admission::none(told)),
         };
         match nomination {
-            Nomination::Names(nominated) => Ok(Some(NewEntry { serial, nominated })),
-            Nomination::Star => Ok(None),
+            Nomination::Names(nominated) => Ok(Admission {
+                rule: told,
+                new_entry: Some(NewEntry { serial, nominated }),
+            }),
+            Nomination::Star => Ok(Admission::none(told)),
         }
     }
 }

@@ -2,7 +2,7 @@
 ghost use Rattle.std.specs.Prelude.{◌≡◌, ◌<◌, ◌∷◌, [], None, IfOk, option_copied, cond};
 ghost use Rattle.hx_hop.specs.Answering.{answered_of};
 ghost use Rattle.hx_vary.specs.Vary.{is_star};
-ghost use Rattle.hx_allow.specs.Matching.{caches_of};
+ghost use Rattle.hx_allow.specs.Matching.{policy_of};
 ghost use Rattle.hx_reuse.specs.Rules.{decision_of};
 ghost use Rattle.proxy_core.specs.declared.event.Event.TheVariants.{Answer};
 ghost use Rattle.proxy_core.specs.Outcomes.{sent_refreshed, revalidated};
@@ -17,12 +17,12 @@ use crate::proxy::Core;
 use crate::sending::forward_text;
 use crate::stored_reply::{CacheStatusInfo, StoredReply};
 use http::Method;
-use hx_age::{Lifetime, Times};
+use hx_age::Times;
 use hx_allow::Config;
 use hx_directives::Directives;
 use hx_framing::Response;
 use hx_hop::{Answered, Asked, lists_cache_field};
-use hx_reuse::Decision;
+use hx_reuse::{Decision, lifetime_under};
 use hx_status::Detail;
 use hx_storable::{Facts, first_rule_against};
 use hx_store::{Entry, Serials, Shelf};
@@ -113,11 +113,13 @@ fn kept_facts(
 ) -> Result<Facts, AllocError>
     ensures { IfOk result (λ facts. facts ≡ kept_facts config.now exchange.now response.now entry.now) }
 {
+    let policy = config.policy(exchange.line);
+    let lifetime = lifetime_under(policy, entry.status, &entry.fields, &entry.directives);
     Ok(Facts {
-        operator: !config.caches(exchange.line),
+        policy,
         vary_star: is_star(alloc, &exchange.asked, entry)?,
         listed: lists_cache_field(&response.fields),
-        explicit: Lifetime::of(&entry.fields, &entry.directives).explicit,
+        explicit: lifetime.explicit,
         validator: has_validator(&entry.fields),
         too_large: entry.content.len() as u64 > config.max_stored(),
         overtaken: false,
@@ -193,11 +195,12 @@ impl<S: Shelf> Core<S> {
         let response = answer.response;
         let kept = is_kept(alloc, &self.config, exchange, response, &entry)?;
         let removed = removed_after(alloc, entry.serial, kept)?;
+        let policy = self.config.policy(exchange.line);
         let reply = StoredReply {
             name: self.config.name(),
             entry: &entry,
             asked: &exchange.asked,
-            info: CacheStatusInfo::forwarded(exchange, Some(response.status), None),
+            info: CacheStatusInfo::forwarded(policy, exchange, Some(response.status), None),
             sent_at: answer.response_time,
         };
         let bytes = reply.text(alloc)?;
@@ -216,7 +219,7 @@ impl<S: Shelf> Core<S> {
         answer: &OriginAnswer<'_>,
     ) -> Result<AfterAnswer, AllocError>
         requires { answer.now.response_time < 253_402_300_800 }
-        ensures outcome { IfOk result (λ after. outcome_after answer.now.exchange.now after ≡ revalidated self.now.table self.now.entries answer.now.response_time answer.now.exchange.now answer.now.response.now (validated self.now.entries answer.now.exchange.now answer.now.response.now answer.now.response_time) (decision_of (caches_of self.now.table.lines answer.now.exchange.now.line) self.now.entries answer.now.exchange.now.asked answer.now.response_time)) }
+        ensures outcome { IfOk result (λ after. outcome_after answer.now.exchange.now after ≡ revalidated self.now.table self.now.entries answer.now.response_time answer.now.exchange.now answer.now.response.now (validated self.now.entries answer.now.exchange.now answer.now.response.now answer.now.response_time) (decision_of (policy_of self.now.table.lines answer.now.exchange.now.line) self.now.entries answer.now.exchange.now.asked answer.now.response_time)) }
         ensures leaves { IfOk result (λ after. AfterLeaves self.now.limit self.now.entries answer.now.exchange.now (Answer answer.now.response_time answer.now.exchange.now.id answer.now.response.now) after) }
         ensures fits { IfOk result (λ after. AfterFits self.now.next self.now.entries after) }
     {
@@ -238,18 +241,18 @@ impl<S: Shelf> Core<S> {
         alloc: Global,
         answer: &OriginAnswer<'_>,
     ) -> Result<AfterAnswer, AllocError>
-        ensures outcome { IfOk result (λ after. outcome_after answer.now.exchange.now after ≡ revalidated self.now.table self.now.entries answer.now.response_time answer.now.exchange.now answer.now.response.now None (decision_of (caches_of self.now.table.lines answer.now.exchange.now.line) self.now.entries answer.now.exchange.now.asked answer.now.response_time)) }
+        ensures outcome { IfOk result (λ after. outcome_after answer.now.exchange.now after ≡ revalidated self.now.table self.now.entries answer.now.response_time answer.now.exchange.now answer.now.response.now None (decision_of (policy_of self.now.table.lines answer.now.exchange.now.line) self.now.entries answer.now.exchange.now.asked answer.now.response_time)) }
         ensures plain { IfOk result IsPlainAfter }
     {
         let exchange = answer.exchange;
         let asked = &exchange.asked;
         let now = answer.response_time;
-        let caches = self.config.caches(exchange.line);
-        match judge(alloc, &self.shelf, asked, now, caches)? {
+        let policy = self.config.policy(exchange.line);
+        match judge(alloc, &self.shelf, asked, now, policy)? {
             Decision::Hit(serial) => {
                 let came = Some(answer.response.status);
                 let detail = Some(Detail::ReuseAfter304);
-                let info = CacheStatusInfo::forwarded(exchange, came, detail);
+                let info = CacheStatusInfo::forwarded(policy, exchange, came, detail);
                 let pending = self.send(alloc, serial, now, info, asked)?;
                 Ok(AfterAnswer::Ends(pending))
             }

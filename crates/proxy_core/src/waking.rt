@@ -1,6 +1,6 @@
 //! A request that waited for the answer to another is judged anew.
 ghost use Rattle.std.specs.Prelude.{◌≡◌, ◌<◌, map, IfOk, IfErr, OnErr};
-ghost use Rattle.hx_allow.specs.Matching.{caches_of};
+ghost use Rattle.hx_allow.specs.Matching.{policy_of};
 ghost use Rattle.hx_reuse.specs.Rules.{decision_of};
 ghost use Rattle.hx_reuse.specs.declared.decision.Decision.TheVariants as decision;
 ghost use Rattle.proxy_core.specs.Outcomes.{woken};
@@ -41,13 +41,13 @@ impl<S: Shelf> Core<S> {
         exchange: &Exchange,
         now: u64,
     ) -> Result<AfterWake, AllocError>
-        ensures { IfOk result (λ after. IsWoken self.now.table self.now.entries now exchange.now (decision_of (caches_of self.now.table.lines exchange.now.line) self.now.entries exchange.now.asked now) after) }
+        ensures { IfOk result (λ after. IsWoken self.now.table self.now.entries now exchange.now (decision_of (policy_of self.now.table.lines exchange.now.line) self.now.entries exchange.now.asked now) after) }
     {
         let asked = &exchange.asked;
-        let caches = self.config.caches(exchange.line);
-        match judge(alloc, &self.shelf, asked, now, caches)? {
+        let policy = self.config.policy(exchange.line);
+        match judge(alloc, &self.shelf, asked, now, policy)? {
             Decision::Hit(serial) => {
-                let info = CacheStatusInfo::collapsed(exchange);
+                let info = CacheStatusInfo::collapsed(policy, exchange);
                 let pending = self.send(alloc, serial, now, info, asked)?;
                 Ok(AfterWake::Ends(pending))
             }

@@ -1,6 +1,7 @@
 //! What the definitions give on worked cases, computed from them: each function's contract is the cases, and its body is empty.
 
 ghost use Rattle.std.specs.Prelude.{◌≡◌, ◌∷◌, [], Some, None, true, false, codes, ℕ, ◌+◌, List, length, nat_le};
+ghost use Rattle.hx_policy.specs.Words.{plain};
 ghost use Rattle.hx_fields.specs.Examples.{line};
 ghost use Rattle.hx_allow.specs.declared.verdicts.Verdict.TheVariants as verdict;
 ghost use Rattle.hx_store.specs.Shelf.{serials};
@@ -27,20 +28,20 @@ ghost use Rattle.proxy_core.specs.Cases.{answer, asked_about_e, asks_for, bytes_
 /// The stored response of the first run at 130: whole, to HEAD, and to a client that has it (RFC 9110, section 15.4.5); one that
 /// a 304 validated (RFC 9211, section 2.3); one of status 204 (RFC 9110, section 8.6).
 pub fn stored_responses_are_sent_so()
-    ensures whole { stored_text (codes "edge") first_stored 130 as_hit (get []) ≡ codes "HTTP/1.1 200 \r\nDate: Thu, 01 Jan 1970 00:01:41 GMT\r\nCache-Control: max-age=60\r\nETag: \"v1\"\r\nAge: 30\r\nCache-Status: edge;hit;ttl=30\r\nContent-Length: 2\r\n\r\nhi" }
-    ensures to_head { stored_text (codes "edge") first_stored 130 as_hit head ≡ codes "HTTP/1.1 200 \r\nDate: Thu, 01 Jan 1970 00:01:41 GMT\r\nCache-Control: max-age=60\r\nETag: \"v1\"\r\nAge: 30\r\nCache-Status: edge;hit;ttl=30\r\nContent-Length: 2\r\n\r\n" }
-    ensures has_it { stored_text (codes "edge") first_stored 130 as_hit (get (line (codes "If-None-Match") (codes "W/\"v1\"") ∷ [])) ≡ codes "HTTP/1.1 304 \r\nDate: Thu, 01 Jan 1970 00:01:41 GMT\r\nCache-Control: max-age=60\r\nETag: \"v1\"\r\nAge: 30\r\nCache-Status: edge;hit;ttl=30\r\n\r\n" }
-    ensures validated { stored_text (codes "edge") first_stored 130 (forwarded_as (asked_about_e (get [])) (Some 304) None) (get []) ≡ codes "HTTP/1.1 200 \r\nDate: Thu, 01 Jan 1970 00:01:41 GMT\r\nCache-Control: max-age=60\r\nETag: \"v1\"\r\nAge: 30\r\nCache-Status: edge;fwd=stale;fwd-status=304;ttl=30;detail=no-lifetime\r\nContent-Length: 2\r\n\r\nhi" }
-    ensures no_content { stored_text (codes "edge") (record (stored_with 1 (control (codes "max-age=60") ∷ [])) { status = 204; content = [] }) 102 as_hit (get []) ≡ codes "HTTP/1.1 204 \r\nCache-Control: max-age=60\r\nAge: 2\r\nCache-Status: edge;hit;ttl=58\r\n\r\n" }
+    ensures whole { stored_text (codes "edge") first_stored 130 (as_hit (plain true)) (get []) ≡ codes "HTTP/1.1 200 \r\nDate: Thu, 01 Jan 1970 00:01:41 GMT\r\nCache-Control: max-age=60\r\nETag: \"v1\"\r\nAge: 30\r\nCache-Status: edge;hit;ttl=30\r\nContent-Length: 2\r\n\r\nhi" }
+    ensures to_head { stored_text (codes "edge") first_stored 130 (as_hit (plain true)) head ≡ codes "HTTP/1.1 200 \r\nDate: Thu, 01 Jan 1970 00:01:41 GMT\r\nCache-Control: max-age=60\r\nETag: \"v1\"\r\nAge: 30\r\nCache-Status: edge;hit;ttl=30\r\nContent-Length: 2\r\n\r\n" }
+    ensures has_it { stored_text (codes "edge") first_stored 130 (as_hit (plain true)) (get (line (codes "If-None-Match") (codes "W/\"v1\"") ∷ [])) ≡ codes "HTTP/1.1 304 \r\nDate: Thu, 01 Jan 1970 00:01:41 GMT\r\nCache-Control: max-age=60\r\nETag: \"v1\"\r\nAge: 30\r\nCache-Status: edge;hit;ttl=30\r\n\r\n" }
+    ensures validated { stored_text (codes "edge") first_stored 130 (forwarded_as (plain true) (asked_about_e (get [])) (Some 304) None) (get []) ≡ codes "HTTP/1.1 200 \r\nDate: Thu, 01 Jan 1970 00:01:41 GMT\r\nCache-Control: max-age=60\r\nETag: \"v1\"\r\nAge: 30\r\nCache-Status: edge;fwd=stale;fwd-status=304;ttl=30;detail=no-lifetime\r\nContent-Length: 2\r\n\r\nhi" }
+    ensures no_content { stored_text (codes "edge") (record (stored_with 1 (control (codes "max-age=60") ∷ [])) { status = 204; content = [] }) 102 (as_hit (plain true)) (get []) ≡ codes "HTTP/1.1 204 \r\nCache-Control: max-age=60\r\nAge: 2\r\nCache-Status: edge;hit;ttl=58\r\n\r\n" }
 {}
 
 /// The answer of the first run at 101, stored and not; to HEAD with the length that the origin announced (RFC 9110, section 8.6).
 /// And the proxy's own, with its content but to HEAD.
 pub fn answers_are_passed_on_so()
-    ensures stored { passed_text (codes "edge") (went (get [])) (answer 200 first_lines) 101 true ≡ codes "HTTP/1.1 200 \r\nDate: Thu, 01 Jan 1970 00:01:41 GMT\r\nCache-Control: max-age=60\r\nETag: \"v1\"\r\nCache-Status: edge;fwd=uri-miss;ttl=59;stored\r\nContent-Length: 2\r\n\r\nhi" }
-    ensures not_stored { passed_text (codes "edge") (went (get [])) (answer 200 (date_101 ∷ [])) 101 false ≡ codes "HTTP/1.1 200 \r\nDate: Thu, 01 Jan 1970 00:01:41 GMT\r\nCache-Status: edge;fwd=uri-miss\r\nContent-Length: 2\r\n\r\nhi" }
-    ensures to_head { passed_text (codes "edge") (went head) (record (answer 200 (date_101 ∷ [])) { content = []; announced = Some 6 }) 101 false ≡ codes "HTTP/1.1 200 \r\nDate: Thu, 01 Jan 1970 00:01:41 GMT\r\nCache-Status: edge;fwd=uri-miss\r\nContent-Length: 6\r\n\r\n" }
-    ensures to_head_of_unknown_length { passed_text (codes "edge") (went head) (record (answer 200 (date_101 ∷ [])) { content = [] }) 101 false ≡ codes "HTTP/1.1 200 \r\nDate: Thu, 01 Jan 1970 00:01:41 GMT\r\nCache-Status: edge;fwd=uri-miss\r\n\r\n" }
+    ensures stored { passed_text (plain true) (codes "edge") (went (get [])) (answer 200 first_lines) 101 true None ≡ codes "HTTP/1.1 200 \r\nDate: Thu, 01 Jan 1970 00:01:41 GMT\r\nCache-Control: max-age=60\r\nETag: \"v1\"\r\nCache-Status: edge;fwd=uri-miss;ttl=59;stored\r\nContent-Length: 2\r\n\r\nhi" }
+    ensures not_stored { passed_text (plain true) (codes "edge") (went (get [])) (answer 200 (date_101 ∷ [])) 101 false None ≡ codes "HTTP/1.1 200 \r\nDate: Thu, 01 Jan 1970 00:01:41 GMT\r\nCache-Status: edge;fwd=uri-miss\r\nContent-Length: 2\r\n\r\nhi" }
+    ensures to_head { passed_text (plain true) (codes "edge") (went head) (record (answer 200 (date_101 ∷ [])) { content = []; announced = Some 6 }) 101 false None ≡ codes "HTTP/1.1 200 \r\nDate: Thu, 01 Jan 1970 00:01:41 GMT\r\nCache-Status: edge;fwd=uri-miss\r\nContent-Length: 6\r\n\r\n" }
+    ensures to_head_of_unknown_length { passed_text (plain true) (codes "edge") (went head) (record (answer 200 (date_101 ∷ [])) { content = [] }) 101 false None ≡ codes "HTTP/1.1 200 \r\nDate: Thu, 01 Jan 1970 00:01:41 GMT\r\nCache-Status: edge;fwd=uri-miss\r\n\r\n" }
     ensures own { refused_text (codes "Thu, 01 Jan 1970 00:01:10 GMT") (Origin Refused MustRevalidate (Some on_error.MustRevalidate)) true false ≡ codes "HTTP/1.1 502 \r\nDate: Thu, 01 Jan 1970 00:01:10 GMT\r\nContent-Type: text/plain\r\nRefusal: origin refused;fwd=stale;detail=must-revalidate;stale-if-error=must-revalidate\r\nContent-Length: 78\r\nConnection: close\r\n\r\norigin refused;fwd=stale;detail=must-revalidate;stale-if-error=must-revalidate" }
     ensures own_to_head { refused_text (codes "Thu, 01 Jan 1970 00:01:10 GMT") NoLine false true ≡ codes "HTTP/1.1 403 \r\nDate: Thu, 01 Jan 1970 00:01:10 GMT\r\nContent-Type: text/plain\r\nRefusal: no line allows it\r\nContent-Length: 17\r\n\r\n" }
 {}
@@ -83,7 +84,7 @@ pub fn what_invalidates()
 {}
 
 /// An answer to a GET of /a at 101, with something against it in each of the cases but `whole`, `tag_alone` and `lasts`.
-#[tactic(auto, unfolding(httpdate::proofs::OnLiterals::httpdate_on_literals, hx_storable::specs::Rules::storage_rule_of, hx_allow::specs::Matching::caches_of))]
+#[tactic(auto, unfolding(httpdate::proofs::OnLiterals::httpdate_on_literals, hx_storable::specs::Rules::storage_rule_of, hx_allow::specs::Matching::policy_of))]
 pub fn which_answers_are_stored()
     ensures whole { is_storable table (went (get [])) (answer 200 first_lines) 101 (Some 4) ≡ true }
     ensures lasts { is_storable table (went (get [])) (answer 200 (control (codes "max-age=60") ∷ [])) 101 (Some 4) ≡ true }
@@ -99,7 +100,7 @@ pub fn which_answers_are_stored()
 
 /// What is stored of a 404 with Age and with a field of its connection, for a request in German (RFC 9111, sections 3, 3.1, 4.1 and
 /// 4.2.3); and of the stored responses of the path the one in German whose place it takes.
-#[tactic(auto, unfolding(httpdate::proofs::OnLiterals::httpdate_on_literals, hx_storable::specs::Rules::storage_rule_of, hx_allow::specs::Matching::caches_of))]
+#[tactic(auto, unfolding(httpdate::proofs::OnLiterals::httpdate_on_literals, hx_storable::specs::Rules::storage_rule_of, hx_allow::specs::Matching::policy_of))]
 pub fn what_is_made_of_an_answer()
     ensures whole { made 4 (went (get (speaks (codes "de") ∷ []))) (answer 404 (connection (codes "X-A") ∷ line (codes "X-A") (codes "1") ∷ vary (codes "Accept-Language") ∷ line (codes "Age") (codes "5") ∷ first_lines)) 102
         ≡ record {
@@ -120,7 +121,7 @@ pub fn what_is_made_of_an_answer()
 
 /// What is asked about a stored response (RFC 9111, section 4.3.1), when that is kept behind a 304 (section 4.3.4), and from when on
 /// it is as old as the 304.
-#[tactic(auto, unfolding(httpdate::proofs::OnLiterals::httpdate_on_literals, hx_storable::specs::Rules::storage_rule_of, hx_allow::specs::Matching::caches_of, hx_validate::specs::Answering::freshened_of))]
+#[tactic(auto, unfolding(httpdate::proofs::OnLiterals::httpdate_on_literals, hx_storable::specs::Rules::storage_rule_of, hx_allow::specs::Matching::policy_of, hx_validate::specs::Answering::freshened_of))]
 pub fn what_a_304_leaves()
     ensures asked_about { condition_on (stored_with 3 (tag (codes "\"e\"") ∷ [])) ≡ Some (record { serial = 3; sent = record { etag = Some (codes "\"e\""); modified = None } }) }
     ensures not_asked_about { condition_on (stored_with 3 (control (codes "max-age=60") ∷ [])) ≡ None }
@@ -145,10 +146,10 @@ pub fn what_a_304_leaves()
 /// nothing, by the rules against it.
 #[tactic(auto, unfolding(hx_reuse::specs::ErrorRules::error_rule_on))]
 pub fn what_is_sent_after_a_failure()
-    ensures reusable { fallback_for [] (get []) 130 (decision.Hit 1) ≡ Sends 1 ReuseAfterError }
-    ensures allowed { fallback_for (stored_with 1 (control (codes "max-age=10, stale-if-error=60") ∷ []) ∷ []) (get []) 130 (decision.Forward NoMaxStale (Some 1)) ≡ Sends 1 StaleIfError }
-    ensures not_allowed { fallback_for (stored_with 1 (control (codes "max-age=10") ∷ []) ∷ []) (get []) 130 (decision.Forward NoMaxStale (Some 1)) ≡ Refuses NoMaxStale (Some on_error.NoDirective) }
-    ensures nothing_held { fallback_for [] (get []) 130 (decision.Forward UriMiss None) ≡ Refuses UriMiss None }
+    ensures reusable { fallback_for (plain true) [] (get []) 130 (decision.Hit 1) ≡ Sends 1 ReuseAfterError }
+    ensures allowed { fallback_for (plain true) (stored_with 1 (control (codes "max-age=10, stale-if-error=60") ∷ []) ∷ []) (get []) 130 (decision.Forward NoMaxStale (Some 1)) ≡ Sends 1 StaleIfError }
+    ensures not_allowed { fallback_for (plain true) (stored_with 1 (control (codes "max-age=10") ∷ []) ∷ []) (get []) 130 (decision.Forward NoMaxStale (Some 1)) ≡ Refuses NoMaxStale (Some on_error.NoDirective) }
+    ensures nothing_held { fallback_for (plain true) [] (get []) 130 (decision.Forward UriMiss None) ≡ Refuses UriMiss None }
 {}
 
 /// For whom a request waits: for the first GET of its key that went forward since nothing was held, where it is one as well.
@@ -182,7 +183,7 @@ pub fn faults_and_serials_in_order()
 
 /// What a request gets that arrives: the line that denies it, the stored response, its origin, the answer to another, or the rule
 /// where it takes no response but a stored one; and a request that waited, when it is woken.
-#[tactic(auto, unfolding(hx_reuse::specs::Rules::decision_of, hx_reuse::specs::Rules::reuse_rule_of, hx_allow::specs::Matching::caches_of, hx_hop::specs::Forwarding::forwarded_of, httpdate::proofs::OnLiterals::httpdate_on_literals))]
+#[tactic(auto, unfolding(hx_reuse::specs::Rules::decision_of, hx_reuse::specs::Rules::reuse_rule_of, hx_allow::specs::Matching::policy_of, hx_hop::specs::Forwarding::forwarded_of, httpdate::proofs::OnLiterals::httpdate_on_literals))]
 pub fn what_an_arrival_gives()
     ensures denied { arrived table (first_stored ∷ []) [] 130 (get []) (verdict.DeniedBy 3) ≡ refused 130 (Denied 3) (get []) }
     ensures unmatched { arrived table (first_stored ∷ []) [] 130 (get []) verdict.NoLine ≡ refused 130 NoLine (get []) }
@@ -212,7 +213,7 @@ pub fn what_an_answer_gives()
 
 /// What a step leaves of the open exchanges: an end releases those that waited for it, an invalidation overtakes those of its key
 /// (RFC 9111, section 4.4), what arrives stands behind the others, and what goes forward has the moment and the rule of that.
-#[tactic(auto, unfolding(hx_reuse::specs::Rules::decision_of, hx_reuse::specs::Rules::reuse_rule_of, hx_allow::specs::Matching::caches_of, hx_allow::specs::Matching::verdict_of, hx_allow::specs::Matching::matches_line, httpdate::proofs::OnLiterals::httpdate_on_literals))]
+#[tactic(auto, unfolding(hx_reuse::specs::Rules::decision_of, hx_reuse::specs::Rules::reuse_rule_of, hx_allow::specs::Matching::policy_of, hx_allow::specs::Matching::verdict_of, hx_allow::specs::Matching::matches_line, httpdate::proofs::OnLiterals::httpdate_on_literals))]
 pub fn what_a_step_leaves_open()
     ensures gone { open_after table [] (went (get []) ∷ waiting ∷ record waiting { id = 3; stage = Waiting 9 } ∷ []) (Abandon 1) Ended ≡ record waiting { stage = Released } ∷ record waiting { id = 3; stage = Waiting 9 } ∷ [] }
     ensures failed { open_after table [] (went (get []) ∷ waiting ∷ []) (Fail 130 1 Refused) Ended ≡ record waiting { stage = Released } ∷ [] }

@@ -3,7 +3,7 @@ use Rattle.std.proofs.Common.{◌≡◌, ◌∙◌, ℕ, ◌≤◌, ◌==◌, Bo
 use Rattle.hx_framing.specs.declared.messages.Response.{Response}
 use Rattle.hx_framing.specs.declared.messages.Next.TheVariants as next
 use Rattle.hx_allow.specs.Lines.{Table}
-use Rattle.hx_allow.specs.Matching.{caches_of}
+use Rattle.hx_allow.specs.Matching.{policy_of}
 use Rattle.hx_reuse.specs.Rules.{decision_of}
 use Rattle.hx_status.specs.declared.cause.FailKind.{FailKind}
 use Rattle.hx_store.specs.Stored.{Stored}
@@ -41,7 +41,7 @@ failed_replies table es now x kind came (Refuses rule error) = refl
 
 -- a failure ends its exchange by a reply
 pub failure_replies : (table : Table) (es : List Stored) (xs : List Exchange) (x : Option Exchange) (o : Option ℕ) (now id : ℕ) (kind : FailKind) → is_some x ≡ true → is_reply (outcome_of table es xs x o (events.Fail now id kind)) ≡ true
-failure_replies table es xs (Some x) o now id kind e = failed_replies table es now x kind None (fallback_for es x.asked now (decision_of (caches_of table.lines x.line) es x.asked now))
+failure_replies table es xs (Some x) o now id kind e = failed_replies table es now x kind None (fallback_for (policy_of table.lines x.line) es x.asked now (decision_of (policy_of table.lines x.line) es x.asked now))
 failure_replies table es xs None o now id kind e = absurd (cc)
 
 goes_by : (o : Outcome) → is_reply o ≡ true → goes_forward o ≡ false
@@ -85,7 +85,7 @@ wake_remains : (table : Table) (es : List Stored) (xs : List Exchange) (now id :
 wake_remains table es xs now id (outcomes.Reply reply) w there n f = (None, refl)
 wake_remains table es xs now id (outcomes.Forward line bytes) None there n f = absurd (cc)
 wake_remains table es xs now id (outcomes.Forward line bytes) (Some x) there n f =
-    let d = decision_of (caches_of table.lines x.line) es x.asked now in
+    let d = decision_of (policy_of table.lines x.line) es x.asked now in
     ((λ (y : Exchange). goes_out now (rule_of d) (condition_at es (named_by d)) y), record { id = λ y. refl; stage = λ y. refl }, ap (λ (w : Option Exchange). woken_out table es id now w xs) f)
 wake_remains table es xs now id (outcomes.Waits leader) w there n f = absurd (cc)
 wake_remains table es xs now id outcomes.Ended w there n f = (None, refl)

@@ -7,7 +7,7 @@ use Rattle.std.proofs.lemmas.Bool.{and_parts, eqb-true, eq-eqb, false≢true, le
 use Rattle.hx_framing.specs.declared.messages.Response.{Response}
 use Rattle.hx_framing.specs.Text.{field_lines}
 use Rattle.hx_allow.specs.Lines.{Table}
-use Rattle.hx_allow.specs.Matching.{caches_of}
+use Rattle.hx_allow.specs.Matching.{policy_of}
 use Rattle.hx_hop.specs.Answering.{answered_of}
 use Rattle.hx_reuse.specs.Rules.{decision_of}
 use Rattle.hx_reuse.specs.declared.decision.Decision.{Decision}
@@ -120,8 +120,8 @@ module _ (table : Table) (es : List Stored) (xs : List Exchange) (next : Option 
       → is_in s (removed_in (outcome_of table es xs (Some x) next (Answer now id r))) ≡ false → is_kept table x r (refreshed x r now e) ≡ true
   kept_so x now id r s e h found out =
       let serial = find-serial s es e found in
-      let d : Decision = decision_of (caches_of table.lines x.line) es x.asked now in
-      let other : Outcome = cond (is_unasked x.asked r) (failed table es now x BadAnswer (Some r.status) (fallback_for es x.asked now d)) (passed_unless table es now x r next (is_error_status r.status) (fallback_for es x.asked now d)) in
+      let d : Decision = decision_of (policy_of table.lines x.line) es x.asked now in
+      let other : Outcome = cond (is_unasked x.asked r) (failed table es now x BadAnswer (Some r.status) (fallback_for (policy_of table.lines x.line) es x.asked now d)) (passed_unless table es now x r next (is_error_status r.status) (fallback_for (policy_of table.lines x.line) es x.asked now d)) in
       let outcome : outcome_of table es xs (Some x) next (Answer now id r) ≡ revalidated table es now x r (Some e) d =
       ap (λ b. cond b (revalidated table es now x r (validated es x r now) d) other) (validation_so x r now e h)
       ∙ ap (λ o. revalidated table es now x r o d) (validated_so x r now e h (ap (λ n. find_entry n es) serial ∙ found))

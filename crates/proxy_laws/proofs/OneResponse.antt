@@ -100,9 +100,9 @@ module _ (h g ended close : Bool) (max_body most now : ℕ) (bytes rest : List �
           by_tests false false false h = refl
 
 pub passes_one_response : PassesOneResponse
-passes_one_response max_body most now to_head ended stored bytes rest name x r reads early token small limits over behind =
-    let told : List ℕ = member_text name (status_passed x (answered_of r now).fields now stored) in
-    let value : IsFieldValue told = member_value name (status_passed x (answered_of r now).fields now stored) token in
+passes_one_response max_body most now to_head ended stored bytes rest name policy rule x r reads early token small limits over behind =
+    let told : List ℕ = member_text name (status_passed policy x r.status (answered_of r now).fields now stored rule) in
+    let value : IsFieldValue told = member_value name (status_passed policy x r.status (answered_of r now).fields now stored rule) token in
     goes_on to_head (is_head x.asked) ended x.asked.close max_body most now bytes rest r (line (codes "Cache-Status") told ∷ []) (record {
       fields = All-cons IsWritableField (line (codes "Cache-Status") told) [] (line_of (codes "Cache-Status") told told_name (omega arith) value) (All-nil IsWritableField);
       lengths = refl;

@@ -25,7 +25,9 @@ use Rattle.hx_status.specs.declared.status.Detail.TheVariants.{StaleIfError}
 use Rattle.hx_status.specs.declared.status.How.{How}
 use Rattle.hx_status.specs.declared.status.How.TheVariants.{Hit, Fwd}
 use Rattle.hx_status.specs.declared.status.Status.{Status}
-use Rattle.hx_status.specs.Member.{detail_or, flag_text, fwd_status_text, how_text, member_text, ttl_text, word_of, word_text}
+use Rattle.hx_storable.specs.declared.rule.StoreRule.{StoreRule}
+use Rattle.hx_storable.specs.declared.rule.StoreRule.TheVariants.{Operator}
+use Rattle.hx_status.specs.Member.{detail_or, flag_text, fwd_status_text, how_text, member_text, not_stored_word, ttl_text, word_of, word_or, word_text}
 use Rattle.hx_status.specs.Refusals.{error_text, frame_word, kind_word, origin_text, rule_text, target_word, text_of}
 use Rattle.hx_one_message.specs.OneMessage.{IsFieldValue}
 use Rattle.hx_one_message.proofs.ReadTargets.{IsVisible, pass_visible}
@@ -141,6 +143,15 @@ named_visible (Some detail) how = word (word_text (Some (word_of detail))) (step
 named_visible None Hit = word [] refl
 named_visible None (Fwd rule) = word (word_text (detail_of rule)) (detail_visible rule)
 
+not_stored_visible : (rule : StoreRule) → list_all seen (word_text (Some (not_stored_word rule))) ≡ true
+not_stored_visible Operator = refl
+not_stored_visible _ = refl
+
+visible_or : (o : Option (List ℕ)) (rule : Option StoreRule) → AreVisible (word_text o) → AreVisible (word_text (word_or o rule))
+visible_or (Some text) rule are = are
+visible_or None None are = are
+visible_or None (Some rule) are = word (word_text (Some (not_stored_word rule))) (not_stored_visible rule)
+
 visible_field_value : (text : List ℕ) → AreVisible text → IsFieldValue text
 visible_field_value text are = (visible_value text are.all, trim_word text (visible_seen text are.all))
 
@@ -151,7 +162,8 @@ member_value name status token =
     let ttl = joined _ (ttl_text status.ttl) came (ttl_visible status.ttl) in
     let stored = joined _ (flag_text status.stored (codes ";stored")) ttl (flag_visible status.stored (codes ";stored") (word (codes ";stored") refl)) in
     let collapsed = joined _ (flag_text status.collapsed (codes ";collapsed")) stored (flag_visible status.collapsed (codes ";collapsed") (word (codes ";collapsed") refl)) in
-    visible_field_value (member_text name status) (joined _ (word_text (detail_or status.detail status.how)) collapsed (named_visible status.detail status.how))
+    visible_field_value (member_text name status) (joined _ (word_text (word_or (detail_or status.detail status.how) status.not_stored)) collapsed
+    (visible_or (detail_or status.detail status.how) status.not_stored (named_visible status.detail status.how)))
 
 -- ---- the proxy's own texts
 

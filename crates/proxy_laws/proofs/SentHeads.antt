@@ -19,7 +19,8 @@ use Rattle.hx_status.specs.declared.status.Detail.TheVariants.{StaleIfError}
 use Rattle.hx_status.specs.declared.status.How.{How}
 use Rattle.hx_status.specs.declared.status.How.TheVariants.{Hit, Fwd}
 use Rattle.hx_status.specs.declared.status.Status.{Status}
-use Rattle.hx_status.specs.Member.{detail_or, detail_text, flag_text, fwd_status_text, how_text, member_text, ttl_text, word_of, word_text}
+use Rattle.hx_storable.specs.declared.rule.StoreRule.{StoreRule}
+use Rattle.hx_status.specs.Member.{detail_or, detail_text, flag_text, fwd_status_text, how_text, member_text, ttl_text, word_of, word_or, word_text}
 use Rattle.hx_store.specs.Stored.{Stored}
 use Rattle.hx_validate.specs.NotModified.{is_carried, not_modified_of}
 use Rattle.hx_validate.specs.Room.{leaves_room}
@@ -82,6 +83,12 @@ named_short (Some detail) how = leb-true _ 25 (step_short detail)
 named_short None Hit = omega arith
 named_short None (Fwd rule) = leb-true _ 25 (detail_short rule)
 
+-- so where no storing rule is told
+short_or : (o : Option (List ℕ)) (rule : Option StoreRule) → rule ≡ None → length (word_text o) ≤ 25 → length (word_text (word_or o rule)) ≤ 25
+short_or (Some text) rule none h = h
+short_or None None none h = h
+short_or None (Some rule) none h = absurd cc
+
 seven : (a b c d e f g : List ℕ) (n : ℕ) → length (a ++ b ++ c ++ d ++ e ++ f ++ g) ≡ n → n ≡ length a + length b + length c + length d + length e + length f + length g
 seven a b c d e f g n whole = let parts = simp length-append at whole in omega (arith, parts)
 
@@ -92,7 +99,7 @@ member_short name told named is =
     let left = ttl_short told.ttl is.left in
     let stored = flag_short told.stored (codes ";stored") 7 (omega arith) in
     let collapsed = flag_short told.collapsed (codes ";collapsed") 10 (omega arith) in
-    let word = named_short told.detail told.how in
+    let word = short_or (detail_or told.detail told.how) told.not_stored is.is_held (named_short told.detail told.how) in
     let all = seven name (how_text told.how) (fwd_status_text told.fwd_status) (ttl_text told.ttl) (flag_text told.stored (codes ";stored")) (flag_text told.collapsed (codes ";collapsed")) (detail_text told)
     (length (member_text name told)) refl in
     omega (arith, named, how, came, left, stored, collapsed, word, all)

@@ -4,6 +4,7 @@ use Rattle.std.specs.Prelude.{IfSome, Option, None, Some, is_some}
 use Rattle.std.specs.List.{AllByRecursion}
 use Rattle.std.specs.Option.{option_and_then}
 use Rattle.httparse.specs.Grammar.{IsToken}
+use Rattle.hx_policy.specs.declared.words.Policy.{Policy}
 use Rattle.hx_fields.specs.declared.limits.TheConstants.{END_OF_TIME}
 use Rattle.hx_framing.specs.declared.messages.Response.{Response}
 use Rattle.hx_framing.specs.Reading.{Spelled}
@@ -14,7 +15,7 @@ use Rattle.hx_framing.specs.WrittenResponse.{response_back, sent_head_text}
 use Rattle.hx_framing.proofs.RequestOnce.{read_once_lem as request_read_once}
 use Rattle.hx_framing.proofs.ResponseOnce.{read_once_lem as response_read_once}
 use Rattle.hx_allow.specs.Lines.{Table}
-use Rattle.hx_allow.specs.Matching.{caches_of, verdict_of}
+use Rattle.hx_allow.specs.Matching.{policy_of, verdict_of}
 use Rattle.hx_allow.specs.declared.verdicts.Verdict.{Verdict}
 use Rattle.hx_allow.specs.declared.verdicts.Verdict.TheVariants as verdict
 use Rattle.hx_hop.specs.declared.request_view.Asked.{Asked}
@@ -36,6 +37,8 @@ use Rattle.hx_validate.specs.NotModified.{wants_304}
 use Rattle.hx_validate.specs.Validators.{conditions_of, has_validator}
 use Rattle.hx_one_message.specs.OneMessage.{AreFieldValues, IsWithinLimits}
 use Rattle.hx_one_message.proofs.SentRequests.{forwards_one_request}
+use Rattle.hx_storable.specs.declared.rule.StoreRule.{StoreRule}
+use Rattle.proxy_core.specs.Storing.{rule_told}
 use Rattle.proxy_core.specs.declared.condition.Condition.{Condition}
 use Rattle.proxy_core.specs.declared.exchange.Exchange.{Exchange}
 use Rattle.proxy_core.specs.declared.fallback.Fallback.{Fallback}
@@ -94,11 +97,11 @@ one_refusal now cause close head early = record {
   alone = λ most small limits over behind. refuses_as_one_response most now cause close head early small (short_text now cause close head limits.short) limits over behind;
 }
 
-one_passed : (name : List ℕ) (x : Exchange) (r : Response) (now : ℕ) (stored : Bool) → now < END_OF_TIME → IsToken name → IsRead r → IsOneResponse (is_head x.asked) (passed_text name x r now stored)
-one_passed name x r now stored early token is = record {
-  sent = passed_on name x r now stored;
+one_passed : (policy : Policy) (rule : Option StoreRule) (name : List ℕ) (x : Exchange) (r : Response) (now : ℕ) (stored : Bool) → now < END_OF_TIME → IsToken name → IsRead r → IsOneResponse (is_head x.asked) (passed_text policy name x r now stored rule)
+one_passed policy rule name x r now stored early token is = record {
+  sent = passed_on policy name x r now stored rule;
   text_is = refl;
-  alone = λ most small limits over behind. passes_one_response is.max_body most now is.to_head is.ended stored is.bytes is.rest name x r is.reads early token small limits over behind;
+  alone = λ most small limits over behind. passes_one_response is.max_body most now is.to_head is.ended stored is.bytes is.rest name policy rule x r is.reads early token small limits over behind;
 }
 
 -- ---- what isn't a stored response, by the cases of a step
@@ -127,7 +130,7 @@ module _ (table : Table) (es : List Stored) (token : IsToken table.name) (fit : 
     allowed_one xs line (decision.Forward rule against) unused = unanswered_one xs line rule against (is_only_if_cached asked)
 
     arrived_one : (xs : List Exchange) (v : Verdict) → used_in (arrived table es xs now asked v) ≡ None → IsOneMessage table.name (is_head asked) (arrived table es xs now asked v)
-    arrived_one xs (verdict.Allowed line) unused = allowed_one xs line (decision_of (caches_of table.lines line) es asked now) unused
+    arrived_one xs (verdict.Allowed line) unused = allowed_one xs line (decision_of (policy_of table.lines line) es asked now) unused
     arrived_one xs (verdict.DeniedBy line) unused = refused_one (Denied line)
     arrived_one xs verdict.NoLine unused = refused_one NoLine
 
@@ -141,13 +144,13 @@ module _ (table : Table) (es : List Stored) (token : IsToken table.name) (fit : 
     failed_one kind came (Refuses rule error) unused = refused_one now early x.asked is (Origin kind rule error)
 
     module _ (r : Response) (read : IsRead r) where
-      passed_one : (stored : Option ℕ) → IsOneMessage table.name (is_head x.asked) (passed table es now x r stored)
-      passed_one stored = one_passed table.name x r now (is_some stored) early token read
+      passed_one : (rule : Option StoreRule) (stored : Option ℕ) → IsOneMessage table.name (is_head x.asked) (passed table es now x r rule stored)
+      passed_one rule stored = one_passed (policy_of table.lines x.line) rule table.name x r now (is_some stored) early token read
 
       passed_unless_one : (next : Option ℕ) (b : Bool) (f : Fallback) → used_in (passed_unless table es now x r next b f) ≡ None → IsOneMessage table.name (is_head x.asked) (passed_unless table es now x r next b f)
       passed_unless_one next true (Sends serial detail) unused = never serial unused
-      passed_unless_one next true (Refuses rule error) unused = passed_one (stored_serial table x r now next)
-      passed_unless_one next false f unused = passed_one (stored_serial table x r now next)
+      passed_unless_one next true (Refuses rule error) unused = passed_one (rule_told table x r now next) (stored_serial table x r now next)
+      passed_unless_one next false f unused = passed_one (rule_told table x r now next) (stored_serial table x r now next)
 
       revalidated_one : (o : Option Stored) (d : Decision) → used_in (revalidated table es now x r o d) ≡ None → IsOneMessage table.name (is_head x.asked) (revalidated table es now x r o d)
       revalidated_one (Some e) d unused = never (refreshed x r now e).serial unused
@@ -161,14 +164,14 @@ module _ (table : Table) (es : List Stored) (token : IsToken table.name) (fit : 
           again = revalidated table es now x r (validated es x r now) d
 
           failing : Outcome
-          failing = failed table es now x BadAnswer (Some r.status) (fallback_for es x.asked now d)
+          failing = failed table es now x BadAnswer (Some r.status) (fallback_for (policy_of table.lines x.line) es x.asked now d)
 
           passing : Outcome
-          passing = passed_unless table es now x r next (is_error_status r.status) (fallback_for es x.asked now d)
+          passing = passed_unless table es now x r next (is_error_status r.status) (fallback_for (policy_of table.lines x.line) es x.asked now d)
 
           by_unasked : (b : Bool) → used_in (cond b failing passing) ≡ None → IsOneMessage table.name (is_head x.asked) (cond b failing passing)
-          by_unasked true none = failed_one BadAnswer (Some r.status) (fallback_for es x.asked now d) none
-          by_unasked false none = passed_unless_one next (is_error_status r.status) (fallback_for es x.asked now d) none
+          by_unasked true none = failed_one BadAnswer (Some r.status) (fallback_for (policy_of table.lines x.line) es x.asked now d) none
+          by_unasked false none = passed_unless_one next (is_error_status r.status) (fallback_for (policy_of table.lines x.line) es x.asked now d) none
 
           by_304 : (b : Bool) → used_in (cond b again (cond (is_unasked x.asked r) failing passing)) ≡ None
               → IsOneMessage table.name (is_head x.asked) (cond b again (cond (is_unasked x.asked r) failing passing))
@@ -180,14 +183,14 @@ module _ (table : Table) (es : List Stored) (token : IsToken table.name) (fit : 
   unsent_one xs (Some x) next (Arrive now id asked) free is open_read unused = absurd cc
   unsent_one xs None next (Arrive now id asked) free is open_read unused = arrived_one now (in_time now free) asked is xs (verdict_of table.lines asked.method asked.target) unused
   unsent_one xs (Some x) next (Answer now id r) free is open_read unused =
-      answered_one now (in_time now (first_none (too_late now) (not_forwarded x.stage) free)) x (open_read x refl) r is next (decision_of (caches_of table.lines x.line) es x.asked now) unused
+      answered_one now (in_time now (first_none (too_late now) (not_forwarded x.stage) free)) x (open_read x refl) r is next (decision_of (policy_of table.lines x.line) es x.asked now) unused
   unsent_one xs None next (Answer now id r) free is open_read unused = tt
   unsent_one xs (Some x) next (Fail now id kind) free is open_read unused =
       failed_one now (in_time now (first_none (too_late now) (not_forwarded x.stage) free)) x (open_read x refl) kind None
-      (fallback_for es x.asked now (decision_of (caches_of table.lines x.line) es x.asked now)) unused
+      (fallback_for (policy_of table.lines x.line) es x.asked now (decision_of (policy_of table.lines x.line) es x.asked now)) unused
   unsent_one xs None next (Fail now id kind) free is open_read unused = tt
   unsent_one xs (Some x) next (Wake now id) free is open_read unused =
-      woken_one now (in_time now (first_none (too_late now) (not_ready x.stage) free)) x (open_read x refl) (decision_of (caches_of table.lines x.line) es x.asked now) unused
+      woken_one now (in_time now (first_none (too_late now) (not_ready x.stage) free)) x (open_read x refl) (decision_of (policy_of table.lines x.line) es x.asked now) unused
   unsent_one xs None next (Wake now id) free is open_read unused = tt
   unsent_one xs x next (Abandon id) free is open_read unused = tt
 

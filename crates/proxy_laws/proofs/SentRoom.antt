@@ -9,6 +9,10 @@ use Rattle.hx_fields.specs.Lines.{has as has_line}
 use Rattle.hx_directives.specs.Occurrences.{occurrences_of}
 use Rattle.hx_directives.specs.Answers.{has, seconds}
 use Rattle.hx_directives.specs.declared.names.Directive.TheVariants.{MaxAge, SMaxage}
+use Rattle.hx_policy.specs.Words.{given_lifetime}
+use Rattle.hx_policy.specs.declared.words.Policy.{Policy}
+use Rattle.hx_allow.specs.Matching.{policy_of}
+use Rattle.hx_reuse.specs.Lifetimes.{given, lifetime_under}
 use Rattle.hx_age.specs.Age.{age_of}
 use Rattle.hx_age.specs.declared.lifetimes.Lifetime.{Lifetime}
 use Rattle.hx_age.specs.Lifetime.{explicit_of, lifetime_of, stated_seconds, until_expires}
@@ -82,19 +86,29 @@ came_low (Some n) status is = by_test (n == status)
 read_low : (r : Response) → IsRead r → r.status ≤ 999
 read_low r is = let final = final_status is.max_body is.to_head is.ended is.bytes r is.rest is.reads in let high = final.1 in omega (arith, high)
 
-left_counted : (e : Stored) (now : ℕ) → IsCounted (ttl_at e now)
-left_counted e now = counted (lifetime_of e.fields).seconds (age_of e.times now) (lifetime_low e.fields) (age_low e now)
+-- so is what the operator gives
+lifetime_under_low : (policy : Policy) (status : ℕ) (fields : List Field) → (lifetime_under policy status fields).seconds ≤ 2147483648
+lifetime_under_low policy status fields = by_given (lifetime_of fields).explicit (given_lifetime policy status)
+  where
+    by_given : (stated : Bool) (o : Option ℕ) → (cond stated (lifetime_of fields) (given o (lifetime_of fields))).seconds ≤ 2147483648
+    by_given true o = lifetime_low fields
+    by_given false None = lifetime_low fields
+    by_given false (Some n) = min-le_right n 2147483648
+
+left_counted : (policy : Policy) (e : Stored) (now : ℕ) → IsCounted (ttl_at policy e now)
+left_counted policy e now =
+    counted (lifetime_under policy e.status e.fields).seconds (age_of e.times now) (lifetime_under_low policy e.status e.fields) (age_low e now)
 
 told_of : (table : Table) (held : List Stored) (x : Option Exchange) (event : Event) (outcome : Outcome) (s : ℕ) (is : IsThatResponse table held x event outcome s) → IsHandedWhatWasRead event
     → (status : ℕ) (e : Stored) → IsTold (status_sent status e is.now is.info)
 told_of table held x (Arrive now id asked) outcome s is read status e =
-    subst IsTold (sym (ap (status_sent status e is.now) is.tells_how)) (record { came = tt; left = left_counted e is.now })
+    subst IsTold (sym (ap (status_sent status e is.now) is.tells_how.2)) (record { came = tt; left = left_counted (policy_of table.lines is.tells_how.0) e is.now; is_held = refl })
 told_of table held (Some x) (Answer now id r) outcome s is read status e =
-    subst IsTold (sym (ap (status_sent status e is.now) is.tells_how.1)) (record { came = came_low (Some r.status) status (read_low r read); left = left_counted e is.now })
+    subst IsTold (sym (ap (status_sent status e is.now) is.tells_how.1)) (record { came = came_low (Some r.status) status (read_low r read); left = left_counted (policy_of table.lines x.line) e is.now; is_held = refl })
 told_of table held (Some x) (Fail now id kind) outcome s is read status e =
-    subst IsTold (sym (ap (status_sent status e is.now) is.tells_how.1)) (record { came = tt; left = left_counted e is.now })
+    subst IsTold (sym (ap (status_sent status e is.now) is.tells_how.1)) (record { came = tt; left = left_counted (policy_of table.lines x.line) e is.now; is_held = refl })
 told_of table held (Some x) (Wake now id) outcome s is read status e =
-    subst IsTold (sym (ap (status_sent status e is.now) is.tells_how)) (record { came = tt; left = left_counted e is.now })
+    subst IsTold (sym (ap (status_sent status e is.now) is.tells_how)) (record { came = tt; left = left_counted (policy_of table.lines x.line) e is.now; is_held = refl })
 told_of table held None (Answer now id r) outcome s is read status e = absurd is.tells_how
 told_of table held None (Fail now id kind) outcome s is read status e = absurd is.tells_how
 told_of table held None (Wake now id) outcome s is read status e = absurd is.tells_how

@@ -4,7 +4,7 @@
 -- FitsWhereRoomIsLeft, FitsAs304WhereRoomIsLeft: what leaves room is within the limits of a reader, as it is sent
 -- IsOneAnyway: a reply is one response, with no premise on its head     FreshensWithRoom, HoldsWithRoom, SendsWhatLeavesRoom: so is what was freshened
 use Rattle.std.specs.List.{AllByRecursion}
-use Rattle.std.specs.Prelude.{◌≡◌, ◌⊎◌, ℕ, suc, ◌+◌, ◌*◌, ◌≤◌, ◌<◌, ◌^◌, ◌++◌, ℤ, pos, negsuc, Bool, true, List, ◌∷◌, length, IfSome, Some}
+use Rattle.std.specs.Prelude.{◌≡◌, ◌⊎◌, ℕ, suc, ◌+◌, ◌*◌, ◌≤◌, ◌<◌, ◌^◌, ◌++◌, ℤ, pos, negsuc, Bool, true, List, ◌∷◌, length, IfSome, Some, None}
 use Rattle.hx_fields.specs.declared.limits.TheConstants.{END_OF_TIME}
 use Rattle.hx_allow.specs.Lines.{Table}
 use Rattle.hx_framing.specs.declared.messages.Response.{Response}
@@ -48,6 +48,7 @@ IsCounted (negsuc n) = suc n ≤ 2147483648
 pub record IsTold (told : Status) : Type 0 where
   pub came : IfSome told.fwd_status (λ status. status ≤ 999)
   pub left : IfSome told.ttl IsCounted
+  pub is_held : told.not_stored ≡ None
 
 -- ---- the statements
 

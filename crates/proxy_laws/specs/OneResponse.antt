@@ -1,14 +1,16 @@
 -- What a client gets is one response (RFC 9112, sections 6.3 and 11.1): an answer of the origin that is passed on, and an answer of the
 -- proxy's own.
-use Rattle.std.specs.Prelude.{ℕ, ◌<◌, ◌^◌, ◌++◌, Bool, List, [], ◌∷◌, length, codes, Some}
+use Rattle.std.specs.Prelude.{ℕ, ◌<◌, ◌^◌, ◌++◌, Bool, List, [], ◌∷◌, length, codes, Option, Some}
 use Rattle.httparse.specs.Grammar.{IsToken}
 use Rattle.hx_fields.specs.declared.limits.TheConstants.{END_OF_TIME}
 use Rattle.hx_framing.specs.declared.messages.Response.{Response}
 use Rattle.hx_framing.specs.Reading.{Spelled}
 use Rattle.hx_framing.specs.ResponseReading.{Reads}
 use Rattle.hx_framing.specs.WrittenResponse.{SentResponse, response_back}
+use Rattle.hx_policy.specs.declared.words.Policy.{Policy}
 use Rattle.hx_hop.specs.Answering.{answered_of}
 use Rattle.hx_hop.specs.Moments.{date_text_of}
+use Rattle.hx_storable.specs.declared.rule.StoreRule.{StoreRule}
 use Rattle.hx_status.specs.declared.cause.Cause.{Cause}
 use Rattle.hx_status.specs.Member.{member_text}
 use Rattle.hx_status.specs.Refusals.{status_of, text_of}
@@ -17,9 +19,9 @@ use Rattle.proxy_core.specs.declared.exchange.Exchange.{Exchange}
 use Rattle.proxy_core.specs.Replies.{content_sent, is_head, line, lines_refused, passed_text, refused_text, status_passed}
 
 -- an answer with the line of Cache-Status behind its own
-abbrev pub passed_on : List ℕ → Exchange → Response → ℕ → Bool → SentResponse
-passed_on name x r now stored =
-    sent_on (is_head x.asked) r now (line (codes "Cache-Status") (member_text name (status_passed x (answered_of r now).fields now stored)) ∷ []) x.asked.close
+abbrev pub passed_on : Policy → List ℕ → Exchange → Response → ℕ → Bool → Option StoreRule → SentResponse
+passed_on policy name x r now stored rule =
+    sent_on (is_head x.asked) r now (line (codes "Cache-Status") (member_text name (status_passed policy x r.status (answered_of r now).fields now stored rule)) ∷ []) x.asked.close
 
 -- the proxy's own answer
 abbrev pub told_by_the_proxy : ℕ → Cause → Bool → Bool → SentResponse
@@ -37,11 +39,11 @@ told_by_the_proxy now cause close head = record {
 -- behind it, within the limits of a reader. The name is the table's, which is a token.
 abbrev pub PassesOneResponse : Type 0
 PassesOneResponse =
-    (max_body most now : ℕ) (to_head ended stored : Bool) (bytes rest name : List ℕ) (x : Exchange) (r : Response)
+    (max_body most now : ℕ) (to_head ended stored : Bool) (bytes rest name : List ℕ) (policy : Policy) (rule : Option StoreRule) (x : Exchange) (r : Response)
     → Reads max_body to_head ended bytes (Spelled r rest) → now < END_OF_TIME → IsToken name → most < 2 ^ 64
-    → FitsAReader most (passed_on name x r now stored)
+    → FitsAReader most (passed_on policy name x r now stored rule)
     → (over : Bool) (behind : List ℕ)
-    → Reads most (is_head x.asked) over (passed_text name x r now stored ++ behind) (Spelled (response_back (is_head x.asked) (passed_on name x r now stored)) behind)
+    → Reads most (is_head x.asked) over (passed_text policy name x r now stored rule ++ behind) (Spelled (response_back (is_head x.asked) (passed_on policy name x r now stored rule)) behind)
 
 -- so is what the proxy answers by itself
 abbrev pub RefusesAsOneResponse : Type 0

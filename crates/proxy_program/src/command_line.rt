@@ -1,5 +1,6 @@
 //! The three forms of the command line.
 
+use crate::checking::{Question, question_of};
 use crate::fault::Fault;
 use clap::builder::ValueParser;
 use clap::{Arg, ArgAction, ArgMatches, Command, Error};
@@ -45,8 +46,8 @@ pub(crate) struct Service<'a> {
 pub(crate) enum Form<'a> {
     /// A script is replayed.
     Replay,
-    /// The table in this file is checked.
-    Check(&'a str),
+    /// The table in this file is checked, and perhaps asked what a request meets.
+    Check(&'a str, Option<Question<'a>>),
     /// Clients are served.
     Serve(Service<'a>),
 }
@@ -82,8 +83,17 @@ fn seconds<'a>(alloc: Global, name: &'a str, default: &'a str, help: &'a str) ->
 
 fn check<'a>(alloc: Global) -> Result<Command<'a>, Error> {
     let command = command(alloc, "check")
-        .about("Checks an operator's table, and tells how many lines it has")
-        .arg(word(alloc, "table", "the table"))?;
+        .about(
+            "Checks an operator's table: how many lines it has, which are never reached, what a request meets",
+        )
+        .arg(word(alloc, "table", "the table"))?
+        .arg(option(
+            alloc,
+            "ask",
+            "REQUEST",
+            "a method, a blank and a URL: tells which line decides, and its words",
+        ))?
+        .after_help(CHECK_HELP);
     Ok(command)
 }
 
@@ -95,6 +105,15 @@ const STATUSES: &str = "Exit statuses:
   64  the command line is at fault
 
 A line on standard error names a fault; what it was about, and what to do, stands on standard output.";
+
+const CHECK_HELP: &str = "Example:
+  revcache check /etc/revcache/table.toml --ask 'GET http://shop.example/cart'
+
+Exit statuses:
+  0   the table is good
+  1   the file or memory is at fault
+  2   the table is at fault
+  64  the command line is at fault";
 
 const SERVE_HELP: &str = "Example:
   revcache serve /etc/revcache/table.toml --listen 127.0.0.1:8080 --log /var/log/revcache/access.log
@@ -332,14 +351,33 @@ fn serve_of<'a>(alloc: Global, matches: &ArgMatches<'a>) -> Result<Form<'a>, Fau
     }
 }
 
+/// What a check asks for.
+fn check_of<'a>(alloc: Global, matches: &ArgMatches<'a>) -> Result<Form<'a>, Fault> {
+    let Some(path) = matches.get_str("table") else {
+        return Err(Fault::Usage(None));
+    };
+    let Some(text) = matches.get_str("ask") else {
+        return Ok(Form::Check(path, None));
+    };
+    match question_of(text) {
+        Some(question) => Ok(Form::Check(path, Some(question))),
+        None => Err(no_question(alloc, text)),
+    }
+}
+
+/// What is said of a text that is no request.
+fn no_question(alloc: Global, text: &str) -> Fault {
+    let words = format!(in alloc;
+        "error: invalid value '{text}' for '--ask <REQUEST>': a method, a blank and a URL, as in 'GET http://h.example/a'"
+    );
+    Fault::Usage(words.ok())
+}
+
 /// What the words ask for.
 pub(crate) fn form_of<'a>(alloc: Global, matches: &ArgMatches<'a>) -> Result<Form<'a>, Fault> {
     match matches.subcommand() {
         None => Ok(Form::Replay),
-        Some(("check", inner)) => match inner.get_str("table") {
-            Some(path) => Ok(Form::Check(path)),
-            None => Err(Fault::Usage(None)),
-        },
+        Some(("check", inner)) => check_of(alloc, inner),
         Some((_, inner)) => serve_of(alloc, inner),
     }
 }

@@ -1,6 +1,5 @@
 //! The line that names a fault on standard error, what is said of it besides, and the program's exit status.
 
-use hx_allow::ConfigFault;
 use proxy_live::{RecordFault, ServeFault};
 use proxy_server::ReplayFault;
 use std::alloc::{AllocError, Global};
@@ -13,8 +12,8 @@ use std::{fmt, io};
 pub(crate) enum Fault {
     /// The command line is none of the program's.
     Usage(Option<String>),
-    /// The operator's table is at fault.
-    Table(ReplayFault),
+    /// The operator's table is at fault; where, if that can be told.
+    Table(ReplayFault, Option<String>),
     /// A file or a clock can't be read.
     Read(Option<String>),
     /// A file or standard output can't be written.
@@ -44,12 +43,6 @@ pub(crate) fn fault_of(error: &io::Error, other: Fault) -> Fault {
         Fault::NoMemory
     } else {
         other
-    }
-}
-
-impl From<ConfigFault> for Fault {
-    fn from(fault: ConfigFault) -> Fault {
-        Fault::Table(ReplayFault::Config(fault))
     }
 }
 
@@ -85,7 +78,7 @@ impl fmt::Display for Fault {
     fn fmt<W: fmt::Write>(&self, f: &mut Formatter<W>) -> fmt::Result {
         match self {
             Fault::Usage(_) => f.write_str("usage fault"),
-            Fault::Table(fault) => write!(f, "{fault}"),
+            Fault::Table(fault, _) => write!(f, "{fault}"),
             Fault::Read(_) => f.write_str("read fault"),
             Fault::Write(_) => f.write_str("write fault"),
             Fault::Socket(_) => f.write_str("socket fault"),
@@ -108,7 +101,7 @@ impl Fault {
     pub(crate) fn exit_status(&self) -> u8 {
         match self {
             Fault::Usage(_) => 64,
-            Fault::Table(fault) => fault.exit_status(),
+            Fault::Table(fault, _) => fault.exit_status(),
             _ => 1,
         }
     }
@@ -117,8 +110,11 @@ impl Fault {
     pub(crate) fn explain<R: Print>(&self, rt: &R) -> io::Result<()> {
         match self {
             Fault::Usage(words) => print_words(rt, words),
-            Fault::Table(ReplayFault::Config(fault)) => println!(rt; "{fault}"),
-            Fault::Table(_) => Ok(()),
+            Fault::Table(ReplayFault::Config(fault), place) => {
+                println!(rt; "{fault}")?;
+                print_words(rt, place)
+            }
+            Fault::Table(_, _) => Ok(()),
             Fault::Read(words) => print_words(rt, words),
             Fault::Write(words) => print_words(rt, words),
             Fault::Socket(words) => print_words(rt, words),

@@ -3,6 +3,7 @@
 //! One line on standard error names a fault, and the exit status tells its kind.
 #![tactic(auto)]
 
+mod checking;
 mod clock_watch;
 mod command_line;
 mod commit;
@@ -11,6 +12,7 @@ mod fault;
 mod figures;
 mod files;
 mod journal;
+mod mistakes;
 mod program;
 mod serving;
 mod stats_file;

@@ -1,13 +1,14 @@
 //! What the command line asks for, done.
 
+use crate::checking::{Question, tell};
 use crate::command_line::{Form, Service, VERSION, form_of, read};
 use crate::commit::commit_of;
 use crate::fault::{Fault, fault_of};
 use crate::files::read_table;
+use crate::mistakes::config_of;
 use crate::serving::serve;
 use clap::Error;
 use clap::error::ErrorKind;
-use hx_allow::Config;
 use std::io::IsTerminal;
 use std::net::Net;
 use std::process::ExitCode;
@@ -15,16 +16,15 @@ use std::random::RandomSource;
 use std::rt::{Clock, Env, Files};
 use std::{env, io};
 
-/// Checks a table, and tells how many lines it has.
-fn check<R: Files + Print + AllocGlobal>(rt: &R, path: &str) -> Result<(), Fault> {
+/// Checks a table, and tells what it says.
+fn check<R: Files + Print + AllocGlobal>(
+    rt: &R,
+    path: &str,
+    question: Option<&Question<'_>>,
+) -> Result<(), Fault> {
     let table = read_table(rt, path)?;
-    match Config::read(rt.alloc(), table.as_slice()) {
-        Ok(config) => match println!(rt; "ok {} lines", config.lines()) {
-            Ok(()) => Ok(()),
-            Err(_) => Err(Fault::Write(None)),
-        },
-        Err(fault) => Err(Fault::from(fault)),
-    }
+    let config = config_of(rt.alloc(), table.as_slice())?;
+    tell(rt, &config, question)
 }
 
 /// Prints the program's name and version, and the commit that it was built from, where that is known.
@@ -83,8 +83,12 @@ impl From<Fault> for Ended {
     }
 }
 
-fn checked<R: Files + Print + AllocGlobal>(rt: &R, path: &str) -> Result<(), Ended> {
-    match check(rt, path) {
+fn checked<R: Files + Print + AllocGlobal>(
+    rt: &R,
+    path: &str,
+    question: Option<&Question<'_>>,
+) -> Result<(), Ended> {
+    match check(rt, path, question) {
         Ok(()) => Ok(()),
         Err(fault) => Err(Ended {
             fault,
@@ -124,7 +128,7 @@ where
             tell_what_is_awaited(rt);
             return Ok(proxy_server::program::run(rt));
         }
-        Form::Check(path) => checked(rt, path)?,
+        Form::Check(path, question) => checked(rt, path, question.as_ref())?,
         Form::Serve(service) => served(rt, &service)?,
     }
     Ok(ExitCode::SUCCESS)

@@ -7,6 +7,7 @@ use crate::fault::{Fault, fault_of, words_of};
 use crate::figures::Figures;
 use crate::files::read_table;
 use crate::journal::{Journal, Target, log_file};
+use crate::mistakes::config_of;
 use crate::stats_file::StatsFile;
 use crate::warnings::Warnings;
 use crate::watch::{Goes, Watch};
@@ -242,7 +243,7 @@ pub(crate) fn serve<R: Net + Clock + Files + Print + Eprint + AllocGlobal + Rand
     service: &Service<'_>,
 ) -> Result<(), Fault> {
     let table = read_table(rt, service.table)?;
-    let config = Config::read(rt.alloc(), table.as_slice())?;
+    let config = config_of(rt.alloc(), table.as_slice())?;
     let mut limits = service.limits;
     limits.max_body = config.max_body();
     let mut sockets = sockets_of(rt, service.listen, limits)?;

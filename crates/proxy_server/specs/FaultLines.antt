@@ -1,8 +1,8 @@
 -- The line on standard error that names a fault, and the exit status.
 use Rattle.std.specs.Prelude.{ℕ, List, ◌++◌, map, ◌&&◌, nat_le, if◌then◌else◌, codes, decimal}
-use Rattle.hx_allow.specs.Keys.{key_text}
+use Rattle.hx_allow.specs.Keys.{key_text, word_key}
 use Rattle.hx_allow.specs.declared.faults.ConfigFault.{ConfigFault}
-use Rattle.hx_allow.specs.declared.faults.ConfigFault.TheVariants.{NotToml, UnknownKey, BadName, BadNumber, BadHost, BadMethod, BadPath, BadOrigin, NoLines, OutOfMemory, BadCache}
+use Rattle.hx_allow.specs.declared.faults.ConfigFault.TheVariants.{NotToml, UnknownKey, BadName, BadNumber, BadHost, BadMethod, BadPath, BadOrigin, NoLines, OutOfMemory, BadCache, BadWord}
 use Rattle.proxy_engine.specs.declared.happening.EngineFault.{EngineFault}
 use Rattle.proxy_engine.specs.declared.happening.EngineFault.TheVariants as engine
 use Rattle.proxy_server.specs.declared.faults.ReplayFault.{ReplayFault}
@@ -28,6 +28,7 @@ config_line (BadOrigin line) = codes "config fault 8 line " ++ decimal line
 config_line NoLines = codes "config fault 9"
 config_line OutOfMemory = codes "no memory"
 config_line (BadCache line) = codes "config fault 11 line " ++ decimal line
+config_line (BadWord line word) = codes "config fault 12 line " ++ (decimal line ++ (codes " key " ++ word_key word))
 
 -- an engine's fault; want of memory isn't named as one
 abbrev pub engine_line : EngineFault → List ℕ

@@ -50,6 +50,10 @@ fn write_config_fault<W: fmt::Write>(f: &mut Formatter<W>, fault: &ConfigFault) 
         ConfigFault::NoLines => f.write_str("config fault 9"),
         ConfigFault::OutOfMemory => f.write_str("no memory"),
         ConfigFault::BadCache(line) => write!(f, "config fault 11 line {line}"),
+        ConfigFault::BadWord(line, word) => {
+            write!(f, "config fault 12 line {line} key ")?;
+            f.write_str(word.as_str())
+        }
     }
 }
 

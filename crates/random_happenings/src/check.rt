@@ -13,6 +13,7 @@
 //! - Behind an unsafe request that went well nothing is sent of what was stored for its target before.
 //! - A request that the table sends past the store goes to the origin of its line, and its answer says so, and is kept for
 //!   nobody. No other request goes there, and no other answer says so.
+//! - An answer is as the words of its line have it: `words.rt` says how.
 
 use crate::counts::Counts;
 use crate::effects::{Effect, read_effect};
@@ -21,8 +22,9 @@ use crate::log::{Log, Step, Told};
 use crate::past_store::{is_claimed, is_told};
 use crate::replies::{Source, has_target, names_a_miss, read_reply, seconds_left, went_well};
 use crate::requests::Asked;
-use crate::tables::is_past_the_store;
+use crate::tables::{Table, is_past_the_store};
 use crate::waiting::{Link, Suspect, Waiter, beside, found, link_of};
+use crate::words::{Said, said_of};
 use bstr::ByteSlice;
 use std::alloc::{AllocError, Global};
 
@@ -114,8 +116,7 @@ struct Check<'a> {
     kept: Vec<Asked>,
     /// Until when the last answer that was stored or sent for a target is fresh, the latest behind the others.
     fresh: Vec<(Asked, u64)>,
-    /// Whether the table has lines without cache.
-    is_partly_without: bool,
+    table: Table,
     now: u64,
     counts: Counts,
 }
@@ -132,7 +133,7 @@ impl Drop for Check<'_> {
             woken: _,
             kept: _,
             fresh: _,
-            is_partly_without: _,
+            table: _,
             now: _,
             counts: _,
         } = self;
@@ -214,7 +215,7 @@ impl<'a> Check<'a> {
             woken: Vec::new(alloc),
             kept: Vec::new(alloc),
             fresh: Vec::new(alloc),
-            is_partly_without: log.is_partly_without,
+            table: log.table,
             now: 0,
             counts: Counts::default(),
         })
@@ -406,7 +407,8 @@ impl<'a> Check<'a> {
 
     /// Whether the table sends this request past the store.
     fn is_past(&self, asked: &Asked) -> bool {
-        self.is_partly_without && is_past_the_store(asked.method, asked.host, asked.path)
+        self.table == Table::PartlyWithout
+            && is_past_the_store(asked.method, asked.host, asked.path)
     }
 
     /// Whether the last answer that was stored or sent for the target of this request is fresh still.
@@ -633,6 +635,30 @@ impl<'a> Check<'a> {
         Ok(())
     }
 
+    /// An answer is as the words of its line have it.
+    fn ask_words(
+        &mut self,
+        number: u64,
+        head: &[u8],
+        source: Source,
+        asked: &Asked,
+    ) -> Result<(), Wrong> {
+        if self.table != Table::WithWords {
+            return Ok(());
+        }
+        match said_of(head, source, asked.host) {
+            Said::Nothing => {}
+            Said::Given => one_more(&mut self.counts.given),
+            Said::Explained => one_more(&mut self.counts.explained),
+            Said::Cookie => {
+                one_more(&mut self.counts.explained);
+                one_more(&mut self.counts.cookies_unstored);
+            }
+            Said::Wrong(rule) => return Err(Wrong::Rule(rule, number)),
+        }
+        Ok(())
+    }
+
     /// What an answer says of the link on which its request was, if there was one.
     fn note_link(&mut self, number: u64, head: &[u8]) {
         let Some(client) = self.clients.get_mut(place(number)) else {
@@ -663,6 +689,7 @@ impl<'a> Check<'a> {
             return Err(Wrong::Rule("a reply is to another request", number));
         }
         self.ask_past(number, head, &asked)?;
+        self.ask_words(number, head, source, &asked)?;
         self.count(source);
         self.note(head, source, &asked)?;
         self.keep(source, asked)

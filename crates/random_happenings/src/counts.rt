@@ -19,6 +19,12 @@ pub struct Counts {
     pub past_fresh: u64,
     /// Of them those that took away what was stored.
     pub past_taking: u64,
+    /// Answers that were stored though they state no lifetime.
+    pub given: u64,
+    /// Answers that say why they aren't stored.
+    pub explained: u64,
+    /// Of them those for a cookie.
+    pub cookies_unstored: u64,
     /// Requests that waited for others.
     pub waited: u64,
     /// Ends of others that woke some.

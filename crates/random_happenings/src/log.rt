@@ -1,6 +1,7 @@
 //! What happened, as the script has it, and what the engine did.
 
 use crate::requests::Asked;
+use crate::tables::Table;
 use std::alloc::Global;
 
 /// What the check has to know of a happening.
@@ -33,8 +34,7 @@ pub struct Log {
     pub steps: Vec<Step>,
     /// The requests of all connections, those of each in their order.
     pub asked: Vec<Asked>,
-    /// Whether the table has lines without cache.
-    pub is_partly_without: bool,
+    pub table: Table,
 }
 
 // By hand, so that a scope that ends is one call to the prover and not the drop of each part.
@@ -45,19 +45,19 @@ impl Drop for Log {
             effects: _,
             steps: _,
             asked: _,
-            is_partly_without: _,
+            table: _,
         } = self;
     }
 }
 
 impl Log {
-    pub fn new(alloc: Global, is_partly_without: bool) -> Self {
+    pub fn new(alloc: Global, table: Table) -> Self {
         Log {
             script: Vec::new(alloc),
             effects: Vec::new(alloc),
             steps: Vec::new(alloc),
             asked: Vec::new(alloc),
-            is_partly_without,
+            table,
         }
     }
 }

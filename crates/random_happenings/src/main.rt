@@ -1,5 +1,5 @@
-//! Plays 10,000 random happenings by a table whose lines all have a cache, and 10,000 by one with lines without, and checks
-//! what the proxy does of them.
+//! Plays 10,000 random happenings by a table whose lines all have a cache, 10,000 by one with lines without, and 10,000 by one
+//! whose lines have words on caching, and checks what the proxy does of them.
 //!
 //! A `World` of clients and origins makes happenings, the same in each run, one after another: requests and answers, whole,
 //! cut, faulty and too late, failures, ends, and moments that go forward and back. An engine beside it tells which links
@@ -20,6 +20,7 @@ mod requests;
 mod tables;
 mod trial;
 mod waiting;
+mod words;
 mod world;
 
 use std::process::ExitCode;

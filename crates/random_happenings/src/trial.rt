@@ -3,6 +3,7 @@
 use crate::check::{Wrong, check_run};
 use crate::counts::Counts;
 use crate::log::Log;
+use crate::tables::Table;
 use crate::world::{Stopped, World};
 use proxy_server::{ReplayFault, replay, replay_on_list};
 use std::alloc::Global;
@@ -13,8 +14,8 @@ const BEGINNING: u64 = 20_261_123;
 
 const HAPPENINGS: usize = 10_000;
 
-fn make(alloc: Global, is_partly_without: bool) -> Result<Log, Stopped> {
-    let mut world = World::new(alloc, is_partly_without, BEGINNING)?;
+fn make(alloc: Global, table: Table) -> Result<Log, Stopped> {
+    let mut world = World::new(alloc, table, BEGINNING)?;
     for _ in 0..HAPPENINGS {
         world.step()?;
     }
@@ -29,6 +30,17 @@ fn tell_past<R: Print>(rt: &R, counts: &Counts) -> io::Result<()> {
     }
     println!(rt;
         "{past} forwards past the store: {fresh} for what was fresh by the last answer, {taking} took away what was stored"
+    )
+}
+
+/// Prints what words on caching came to, where the table has some.
+fn tell_words<R: Print>(rt: &R, counts: &Counts) -> io::Result<()> {
+    let (given, explained, cookies) = (counts.given, counts.explained, counts.cookies_unstored);
+    if explained == 0 {
+        return Ok(());
+    }
+    println!(rt;
+        "{given} stored by a given lifetime, {explained} say why they aren't stored, {cookies} of them for a cookie"
     )
 }
 
@@ -54,6 +66,7 @@ fn tell<R: Print + Eprint>(
             println!(rt; "{counts}")?;
             tell_waiting(rt, &counts)?;
             tell_past(rt, &counts)?;
+            tell_words(rt, &counts)?;
             Ok(true)
         }
         Err(Wrong::OutOfMemory) => {
@@ -98,8 +111,8 @@ fn judge<R: Print + Eprint + AllocGlobal>(rt: &R, log: &Log) -> io::Result<bool>
     )
 }
 
-fn play<R: Print + Eprint + AllocGlobal>(rt: &R, is_partly_without: bool) -> io::Result<bool> {
-    match make(rt.alloc(), is_partly_without) {
+fn play<R: Print + Eprint + AllocGlobal>(rt: &R, table: Table) -> io::Result<bool> {
+    match make(rt.alloc(), table) {
         Ok(log) => judge(rt, &log),
         Err(stopped) => {
             eprintln!(rt; "no script: {stopped}")?;
@@ -108,9 +121,10 @@ fn play<R: Print + Eprint + AllocGlobal>(rt: &R, is_partly_without: bool) -> io:
     }
 }
 
-/// Prints of each trial whether the property holds, or what doesn't, and tells whether it does in both.
+/// Prints of each trial whether the property holds, or what doesn't, and tells whether it does in all.
 pub fn run<R: Print + Eprint + AllocGlobal>(rt: &R) -> io::Result<bool> {
-    let holds_with = play(rt, false)?;
-    let holds_without = play(rt, true)?;
-    Ok(holds_with && holds_without)
+    let with_cache = play(rt, Table::WithCache)?;
+    let partly_without = play(rt, Table::PartlyWithout)?;
+    let with_words = play(rt, Table::WithWords)?;
+    Ok(with_cache && partly_without && with_words)
 }

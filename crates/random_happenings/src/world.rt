@@ -5,7 +5,7 @@ use crate::answers::{Question, push_answer};
 use crate::dice::Dice;
 use crate::log::{Log, Step, Told};
 use crate::requests::{Asked, push_request};
-use crate::tables::{PARTLY_WITHOUT, WITH_CACHE};
+use crate::tables::Table;
 use case_text::push_item;
 use hx_allow::Config;
 use hx_status::FailKind;
@@ -222,20 +222,16 @@ fn late(
 }
 
 impl World {
-    /// Nothing has happened yet; the script has its table, which may have lines without cache.
-    pub fn new(alloc: Global, is_partly_without: bool, beginning: u64) -> Result<Self, Stopped> {
-        let table = if is_partly_without {
-            PARTLY_WITHOUT
-        } else {
-            WITH_CACHE
-        };
-        let config = match Config::read(alloc, table) {
+    /// Nothing has happened yet; the script has its table.
+    pub fn new(alloc: Global, table: Table, beginning: u64) -> Result<Self, Stopped> {
+        let text = table.text();
+        let config = match Config::read(alloc, text) {
             Ok(config) => config,
             Err(_) => return Err(Stopped::Refused),
         };
         let shelf = ListShelf::new(alloc, config.capacity());
-        let mut log = Log::new(alloc, is_partly_without);
-        push_item(&mut log.script, Item::Config(table))?;
+        let mut log = Log::new(alloc, table);
+        push_item(&mut log.script, Item::Config(text))?;
         Ok(World {
             alloc,
             dice: Dice::new(beginning),

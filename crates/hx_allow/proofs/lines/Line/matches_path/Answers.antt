@@ -1,4 +1,4 @@
-use Rattle.std.proofs.Common.{◌≡◌, sym, ap, ◌∙◌}
+use Rattle.std.proofs.Common.{sym, ap, ◌∙◌}
 use Rattle.hx_allow.specs.Lines.{Line}
 use Rattle.hx_allow.specs.Matching.{matches_path}
 use Rattle.hx_allow.proofs.PathTails.{without_tail}

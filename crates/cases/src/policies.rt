@@ -1,0 +1,50 @@
+//! What a line says of caching, in a case: `words` and each word as `lifetime=60`, with the values of the operator's table.
+
+use hx_policy::Policy;
+use std::alloc::AllocError;
+
+/// A policy with one word more.
+fn with_word(policy: Policy, word: &str) -> Option<Policy> {
+    let mut policy = policy;
+    match word.split_once('=')? {
+        ("lifetime", seconds) => policy.lifetime = Some(seconds.parse::<u32>().ok()?),
+        ("stale-if-error", seconds) => policy.stale_if_error = Some(seconds.parse::<u32>().ok()?),
+        ("set-cookie", "not-stored") => policy.stores_cookies = false,
+        ("errors", "not-stored") => policy.stores_errors = false,
+        ("request-directives", "ignored") => policy.heeds_requests = false,
+        ("explain", "storing") => policy.explains_storing = true,
+        _ => return None,
+    }
+    Some(policy)
+}
+
+/// The policy that a text names, or None where it isn't such a text.
+pub fn policy_of(text: &str) -> Option<Policy> {
+    let mut policy = Policy::plain(true);
+    for word in text.strip_prefix("words ")?.split(' ') {
+        policy = with_word(policy, word)?;
+    }
+    Some(policy)
+}
+
+fn write_seconds(text: &mut String, key: &str, seconds: Option<u32>) -> Result<(), AllocError> {
+    match seconds {
+        Some(seconds) => write!(text, " {key}={seconds}"),
+        None => Ok(()),
+    }
+}
+
+fn write_unless(text: &mut String, kept: bool, word: &str) -> Result<(), AllocError> {
+    if kept { Ok(()) } else { text.push_str(word) }
+}
+
+/// Writes each word of a policy that isn't as it is without words, behind a space.
+pub fn write_words(text: &mut String, policy: Policy) -> Result<(), AllocError> {
+    write_unless(text, policy.caches, " cache=off")?;
+    write_seconds(text, "lifetime", policy.lifetime)?;
+    write_seconds(text, "stale-if-error", policy.stale_if_error)?;
+    write_unless(text, policy.stores_cookies, " set-cookie=not-stored")?;
+    write_unless(text, policy.stores_errors, " errors=not-stored")?;
+    write_unless(text, policy.heeds_requests, " request-directives=ignored")?;
+    write_unless(text, !policy.explains_storing, " explain=storing")
+}

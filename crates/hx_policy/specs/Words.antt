@@ -1,0 +1,30 @@
+-- The words of a line, and the statuses that a cache may give a lifetime.
+--
+-- plain: a line without words of version 3     is_heuristic: statuses     given_lifetime: what the operator gives
+use Rattle.std.specs.Prelude.{ℕ, ◌==◌, if◌then◌else◌, Bool, true, false, List, [], ◌∷◌, Option, None}
+use Rattle.std.specs.List.{list_any}
+use Rattle.hx_policy.specs.declared.words.Policy.{Policy}
+
+-- neither more nor less is stored and reused than the written rules say
+abbrev pub plain : Bool → Policy
+plain caches = record {
+  caches = caches;
+  lifetime = None;
+  stale_if_error = None;
+  stores_cookies = true;
+  stores_errors = true;
+  heeds_requests = true;
+  explains_storing = false;
+}
+
+-- the statuses that are heuristically cacheable (RFC 9110, section 15.1)
+abbrev pub heuristic_statuses : List ℕ
+heuristic_statuses = 200 ∷ 203 ∷ 204 ∷ 206 ∷ 300 ∷ 301 ∷ 308 ∷ 404 ∷ 405 ∷ 410 ∷ 414 ∷ 501 ∷ []
+
+abbrev pub is_heuristic : ℕ → Bool
+is_heuristic status = list_any (λ s. s == status) heuristic_statuses
+
+-- "A cache MUST NOT use heuristics" but for "statuses that are defined as heuristically cacheable" and what public marks
+-- (RFC 9111, section 4.2.2); own: for those statuses alone
+abbrev pub given_lifetime : Policy → ℕ → Option ℕ
+given_lifetime policy status = if is_heuristic status then policy.lifetime else None

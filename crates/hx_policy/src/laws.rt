@@ -1,0 +1,79 @@
+//! What the definitions say of policies and statuses: each function's contract is a law or worked cases, and its body is
+//! empty.
+ghost use Rattle.std.specs.Prelude.{◌≡◌, ℕ, Bool, Some, None, true, false};
+ghost use Rattle.hx_policy.specs.Words.{plain, is_heuristic, given_lifetime};
+ghost use Rattle.hx_policy.specs.declared.words.Policy.{Policy as Words};
+
+/// A line that has no word of version 3 gives no lifetime and no stale-if-error, stores and heeds what the written rules say,
+/// and tells no storing rule.
+pub fn a_plain_policy_has_no_words()
+    ensures caches { (caches : Bool) → (plain caches).caches ≡ caches }
+    ensures lifetime { (caches : Bool) (status : ℕ) → given_lifetime (plain caches) status ≡ None }
+    ensures on_error { (caches : Bool) → (plain caches).stale_if_error ≡ None }
+    ensures cookies { (caches : Bool) → (plain caches).stores_cookies ≡ true }
+    ensures errors { (caches : Bool) → (plain caches).stores_errors ≡ true }
+    ensures requests { (caches : Bool) → (plain caches).heeds_requests ≡ true }
+    ensures storing { (caches : Bool) → (plain caches).explains_storing ≡ false }
+{}
+
+/// A lifetime is given to a status that is heuristically cacheable, and to no other (RFC 9111, section 4.2.2).
+pub fn a_lifetime_is_given_to_heuristic_statuses_alone()
+    ensures given { (words : Words) (status : ℕ) → is_heuristic status ≡ true → given_lifetime words status ≡ words.lifetime }
+    ensures other { (words : Words) (status : ℕ) → is_heuristic status ≡ false → given_lifetime words status ≡ None }
+    ensures of_200 { (words : Words) → given_lifetime words 200 ≡ words.lifetime }
+    ensures of_404 { (words : Words) → given_lifetime words 404 ≡ words.lifetime }
+    ensures of_302 { (words : Words) → given_lifetime words 302 ≡ None }
+    ensures of_500 { (words : Words) → given_lifetime words 500 ≡ None }
+{}
+
+/// The statuses that RFC 9110, section 15.1 calls heuristically cacheable.
+pub fn statuses_are_heuristically_cacheable()
+    ensures status_200 { is_heuristic 200 ≡ true }
+    ensures status_203 { is_heuristic 203 ≡ true }
+    ensures status_204 { is_heuristic 204 ≡ true }
+    ensures status_206 { is_heuristic 206 ≡ true }
+    ensures status_300 { is_heuristic 300 ≡ true }
+    ensures status_301 { is_heuristic 301 ≡ true }
+    ensures status_308 { is_heuristic 308 ≡ true }
+    ensures status_404 { is_heuristic 404 ≡ true }
+    ensures status_405 { is_heuristic 405 ≡ true }
+    ensures status_410 { is_heuristic 410 ≡ true }
+    ensures status_414 { is_heuristic 414 ≡ true }
+    ensures status_501 { is_heuristic 501 ≡ true }
+{}
+
+/// The other statuses of that standard aren't (RFC 9110, sections 15.2 to 15.6).
+pub fn other_statuses_are_not()
+    ensures status_100 { is_heuristic 100 ≡ false }
+    ensures status_101 { is_heuristic 101 ≡ false }
+    ensures status_201 { is_heuristic 201 ≡ false }
+    ensures status_202 { is_heuristic 202 ≡ false }
+    ensures status_205 { is_heuristic 205 ≡ false }
+    ensures status_302 { is_heuristic 302 ≡ false }
+    ensures status_303 { is_heuristic 303 ≡ false }
+    ensures status_304 { is_heuristic 304 ≡ false }
+    ensures status_305 { is_heuristic 305 ≡ false }
+    ensures status_307 { is_heuristic 307 ≡ false }
+    ensures status_400 { is_heuristic 400 ≡ false }
+    ensures status_401 { is_heuristic 401 ≡ false }
+    ensures status_402 { is_heuristic 402 ≡ false }
+    ensures status_403 { is_heuristic 403 ≡ false }
+    ensures status_406 { is_heuristic 406 ≡ false }
+    ensures status_407 { is_heuristic 407 ≡ false }
+    ensures status_408 { is_heuristic 408 ≡ false }
+    ensures status_409 { is_heuristic 409 ≡ false }
+    ensures status_411 { is_heuristic 411 ≡ false }
+    ensures status_412 { is_heuristic 412 ≡ false }
+    ensures status_413 { is_heuristic 413 ≡ false }
+    ensures status_415 { is_heuristic 415 ≡ false }
+    ensures status_416 { is_heuristic 416 ≡ false }
+    ensures status_417 { is_heuristic 417 ≡ false }
+    ensures status_421 { is_heuristic 421 ≡ false }
+    ensures status_422 { is_heuristic 422 ≡ false }
+    ensures status_426 { is_heuristic 426 ≡ false }
+    ensures status_500 { is_heuristic 500 ≡ false }
+    ensures status_502 { is_heuristic 502 ≡ false }
+    ensures status_503 { is_heuristic 503 ≡ false }
+    ensures status_504 { is_heuristic 504 ≡ false }
+    ensures status_505 { is_heuristic 505 ≡ false }
+{}

@@ -1,0 +1,55 @@
+//! The words of a line.
+ghost use Rattle.std.specs.Prelude.{◌≡◌};
+ghost use Rattle.hx_policy.specs.Words.{plain, given_lifetime};
+
+use crate::heuristics::is_heuristic;
+
+/// What a line says of caching. Each word but the first needs version 3 of the table.
+#[derive(Clone, Copy, Debug, PartialEq, Eq)]
+pub struct Policy {
+    /// Requests may be answered from the store, and their responses stored.
+    pub caches: bool,
+    /// The lifetime of a response of a heuristically cacheable status that states none, in seconds, 1 to 2147483648 (RFC
+    /// 9111, section 4.2.2).
+    pub lifetime: Option<u32>,
+    /// The stale-if-error of a response, in seconds, where neither the response nor the request has that directive (RFC
+    /// 5861, section 4).
+    pub stale_if_error: Option<u32>,
+    /// A response with Set-Cookie is stored though it has no public (RFC 9111, section 7.3).
+    pub stores_cookies: bool,
+    /// A response of status 400 or above is stored though its status isn't heuristically cacheable.
+    pub stores_errors: bool,
+    /// A request's no-cache, max-age and min-fresh count (RFC 9111, section 5.2.1, calls them advisory).
+    pub heeds_requests: bool,
+    /// An answer that is passed on, isn't stored and tells no other detail tells the first storing rule against it (RFC 9211,
+    /// section 2.8).
+    pub explains_storing: bool,
+}
+
+impl Policy {
+    /// The policy of a line that has no word of version 3.
+    pub fn plain(caches: bool) -> Policy
+        ensures { result ≡ plain caches }
+    {
+        Policy {
+            caches,
+            lifetime: None,
+            stale_if_error: None,
+            stores_cookies: true,
+            stores_errors: true,
+            heeds_requests: true,
+            explains_storing: false,
+        }
+    }
+
+    /// The lifetime that the operator gives a response of a status that states none, in seconds.
+    pub fn given_lifetime(self, status: u16) -> Option<u32>
+        ensures { result ≡ given_lifetime self status }
+    {
+        if is_heuristic(status) {
+            self.lifetime
+        } else {
+            None
+        }
+    }
+}

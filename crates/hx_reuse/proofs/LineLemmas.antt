@@ -1,0 +1,278 @@
+-- What the words of a line change, and that a line without words changes nothing.
+use Rattle.std.proofs.Common.{◌≡◌, ℕ, ◌≤◌, ◌<◌, ◌-◌, ◌⊎◌, inl, inr, Bool, true, false, cond, List, [], ◌∷◌, refl, sym, ◌∙◌, ap}
+use Rattle.std.specs.Prelude.{not, ◌&&◌, ◌||◌, ◌==◌, nat_lt, bytes_eq, codes, length, find, filter, is_none, Option, Some, None, option_map}
+use Rattle.hx_fields.specs.declared.field_line.Field.{Field}
+use Rattle.hx_directives.specs.Occurrences.{occurrences_of}
+use Rattle.hx_directives.specs.Answers.{is_same_directive, has, seconds, first_valid, max_stale}
+use Rattle.hx_directives.specs.declared.names.Directive.{Directive}
+use Rattle.hx_directives.specs.declared.names.Directive.TheVariants.{StaleIfError}
+use Rattle.hx_directives.specs.declared.occurrences.Occurrence.{Occurrence}
+use Rattle.hx_directives.specs.declared.answers.MaxStale.{MaxStale}
+use Rattle.hx_target.specs.declared.keys.Key.{Key}
+use Rattle.hx_target.specs.Keys.{same_key}
+use Rattle.hx_age.specs.declared.lifetimes.Lifetime.{Lifetime}
+use Rattle.hx_age.specs.Lifetime.{lifetime_of}
+use Rattle.hx_age.specs.Age.{age_of}
+use Rattle.hx_hop.specs.declared.request_view.Asked.{Asked}
+use Rattle.hx_store.specs.Stored.{Stored}
+use Rattle.hx_policy.specs.declared.words.Policy.{Policy}
+use Rattle.hx_policy.specs.Words.{plain, is_heuristic, given_lifetime}
+use Rattle.hx_reuse.specs.declared.rule.ReuseRule.{ReuseRule}
+use Rattle.hx_reuse.specs.declared.rule.ReuseRule.TheVariants.{Operator, Method, Content, Range, Precondition, UriMiss, VaryMiss, ResponseNoCache, RequestNoCache, AboveMaxAge, BelowMinFresh, MustRevalidate, NoLifetime, StaleNoCache, NoMaxStale, PastMaxStale, StaleMaxAge, StaleMinFresh}
+use Rattle.hx_reuse.specs.declared.rule.ErrorRule.{ErrorRule}
+use Rattle.hx_reuse.specs.declared.rule.ErrorRule.TheVariants as on_error
+use Rattle.hx_reuse.specs.Chosen.{chosen_of}
+use Rattle.hx_reuse.specs.Lifetimes.{given, lifetime_under}
+use Rattle.hx_reuse.specs.Rules.{Standing, stands_at, standing, fresh, asks_to_validate, above_max_age, below_min_fresh, asks_for_freshness, accepts_stale, past_limit, is_some_and, against, stands, reuse_rules, reuse_rule_of, decided, decision_of}
+use Rattle.hx_reuse.specs.ErrorRules.{stated_once, response_limit, request_limit, operator_limit, is_past, against_on_error, error_rules, standing_on, error_rule_on, leave_of, leave_on_error}
+use Rattle.hx_reuse.specs.OnError.{staleness_at}
+use Rattle.hx_reuse.specs.PlainLines.{plain_against, plain_against_chosen, plain_stands, plain_decision_of, plain_against_on_error, plain_leave_on_error}
+use Rattle.hx_reuse.specs.LineWords.{asks_advice, AsksTheSame, SaysNoLimit, without_limit}
+use Rattle.hx_fields.proofs.JoinedTests.{never, first_absent, last_absent, neither, or_right, has_value, is_below, is_not_below}
+use Rattle.hx_reuse.proofs.OnErrorLemmas.{is_given}
+
+-- two tests that agree everywhere find the same
+same_found : {X : Type 0} (p q : X → Bool) (xs : List X) → ((x : X) → p x ≡ q x) → find p xs ≡ find q xs
+same_found p q [] all = refl
+same_found p q (x ∷ xs) all = rw (all x, same_found p q xs all) refl
+
+-- and of a value that may be absent say the same
+same_of_some : {X : Type 0} (p q : X → Bool) (o : Option X) → ((x : X) → p x ≡ q x) → is_some_and p o ≡ is_some_and q o
+same_of_some p q None all = refl
+same_of_some p q (Some x) all = all x
+
+-- ---- a lifetime
+
+stays : (l : Lifetime) (o : Option ℕ) (b : Bool) → l.explicit ≡ b → b ≡ true → cond l.explicit l (given o l) ≡ l
+stays l o true e h = rw e refl
+stays l o false e h = absurd (never (sym h))
+
+pub stated_stays : (policy : Policy) (status : ℕ) (fields : List Field) → (lifetime_of fields).explicit ≡ true → lifetime_under policy status fields ≡ lifetime_of fields
+stated_stays policy status fields h = stays (lifetime_of fields) (given_lifetime policy status) true h refl
+
+none_given : (l : Lifetime) (o : Option ℕ) (b : Bool) → o ≡ None → cond b l (given o l) ≡ l
+none_given l o true h = refl
+none_given l o false h = ap (λ (n : Option ℕ). given n l) h
+
+pub others_stay : (policy : Policy) (status : ℕ) (fields : List Field) → is_heuristic status ≡ false → lifetime_under policy status fields ≡ lifetime_of fields
+others_stay policy status fields h =
+    none_given (lifetime_of fields) (given_lifetime policy status) (lifetime_of fields).explicit (ap (λ (b : Bool). cond b policy.lifetime None) h)
+
+is_some_given : (l : Lifetime) (o : Option ℕ) (n : ℕ) (b : Bool) → b ≡ false → o ≡ Some n → cond b l (given o l) ≡ given (Some n) l
+is_some_given l o n b h k = rw (h, k) refl
+
+pub given_counts : (policy : Policy) (status : ℕ) (fields : List Field) (n : ℕ) → (lifetime_of fields).explicit ≡ false → is_heuristic status ≡ true → policy.lifetime ≡ Some n
+    → lifetime_under policy status fields ≡ given (Some n) (lifetime_of fields)
+given_counts policy status fields n none heuristic word =
+    is_some_given (lifetime_of fields) (given_lifetime policy status) n (lifetime_of fields).explicit none (ap (λ (b : Bool). cond b policy.lifetime None) heuristic ∙ word)
+
+same_none : (b : Bool) → ◌≡◌ {A = Option ℕ} (cond b None None) None
+same_none true = refl
+same_none false = refl
+
+pub plain_lifetime : (caches : Bool) (status : ℕ) (fields : List Field) → lifetime_under (plain caches) status fields ≡ lifetime_of fields
+plain_lifetime caches status fields =
+    none_given (lifetime_of fields) (given_lifetime (plain caches) status) (lifetime_of fields).explicit (same_none (is_heuristic status))
+
+-- ---- a line without words
+
+pub plain_rule : (caches : Bool) (which : ReuseRule) (lifetime : Lifetime) (age : ℕ) (response request : List Occurrence) →
+    against which (stands_at (plain caches) lifetime age response request) ≡ plain_against which lifetime age response request
+plain_rule caches Operator lifetime age response request = refl
+plain_rule caches Method lifetime age response request = refl
+plain_rule caches Content lifetime age response request = refl
+plain_rule caches Range lifetime age response request = refl
+plain_rule caches Precondition lifetime age response request = refl
+plain_rule caches UriMiss lifetime age response request = refl
+plain_rule caches VaryMiss lifetime age response request = refl
+plain_rule caches ResponseNoCache lifetime age response request = refl
+plain_rule caches RequestNoCache lifetime age response request = refl
+plain_rule caches AboveMaxAge lifetime age response request = refl
+plain_rule caches BelowMinFresh lifetime age response request = refl
+plain_rule caches MustRevalidate lifetime age response request = refl
+plain_rule caches NoLifetime lifetime age response request = refl
+plain_rule caches StaleNoCache lifetime age response request = refl
+plain_rule caches NoMaxStale lifetime age response request = refl
+plain_rule caches PastMaxStale lifetime age response request = refl
+plain_rule caches StaleMaxAge lifetime age response request = refl
+plain_rule caches StaleMinFresh lifetime age response request = refl
+
+last_none : (a b : Bool) → b ≡ true → a && b ≡ a
+last_none true b h = h
+last_none false b h = refl
+
+last_false : (a b : Bool) → b ≡ false → a || b ≡ a
+last_false true b h = refl
+last_false false b h = h
+
+no_limit : (caches : Bool) (lifetime : Lifetime) (age : ℕ) (response request : List Occurrence) → operator_limit (stands_at (plain caches) lifetime age response request) ≡ None
+no_limit caches lifetime age response request = same_none (has response StaleIfError || has request StaleIfError)
+
+pub plain_error_rule : (caches : Bool) (which : ErrorRule) (lifetime : Lifetime) (age : ℕ) (response request : List Occurrence) →
+    against_on_error which (stands_at (plain caches) lifetime age response request) ≡ plain_against_on_error which lifetime age response request
+plain_error_rule caches on_error.NoCache lifetime age response request = refl
+plain_error_rule caches on_error.MustRevalidate lifetime age response request = refl
+plain_error_rule caches on_error.NoLifetime lifetime age response request = refl
+plain_error_rule caches on_error.RequestNoCache lifetime age response request = refl
+plain_error_rule caches on_error.NoDirective lifetime age response request =
+    let s : Standing = stands_at (plain caches) lifetime age response request in
+    last_none (is_none (response_limit s) && is_none (request_limit s)) (is_none (operator_limit s)) (ap is_none (no_limit caches lifetime age response request))
+plain_error_rule caches on_error.TooStale lifetime age response request =
+    let s : Standing = stands_at (plain caches) lifetime age response request in
+    last_false (is_past s (response_limit s) || is_past s (request_limit s)) (is_past s (operator_limit s)) (ap (is_past s) (no_limit caches lifetime age response request))
+
+plain_chosen : (caches : Bool) (which : ReuseRule) (e : Stored) (asked : Asked) (now : ℕ) → against which (standing (plain caches) e asked now) ≡ plain_against_chosen which e asked now
+plain_chosen caches which e asked now =
+    ap (λ (l : Lifetime). against which (stands_at (plain caches) l (age_of e.times now) (occurrences_of e.fields) (occurrences_of asked.fields))) (plain_lifetime caches e.status e.fields)
+    ∙ plain_rule caches which (lifetime_of e.fields) (age_of e.times now) (occurrences_of e.fields) (occurrences_of asked.fields)
+
+module _ (caches : Bool) (held : List Stored) (asked : Asked) (now : ℕ) where
+  plain_stand : (which : ReuseRule) → stands which (plain caches) held asked now ≡ plain_stands which caches held asked now
+  plain_stand Operator = refl
+  plain_stand Method = refl
+  plain_stand Content = refl
+  plain_stand Range = refl
+  plain_stand Precondition = refl
+  plain_stand UriMiss = refl
+  plain_stand VaryMiss = refl
+  plain_stand which =
+      same_of_some (λ e. against which (standing (plain caches) e asked now)) (λ e. plain_against_chosen which e asked now) (chosen_of held asked)
+      (λ e. plain_chosen caches which e asked now)
+
+  pub plain_decides : decision_of (plain caches) held asked now ≡ plain_decision_of caches held asked now
+  unfolding decision_of reuse_rule_of plain_decision_of
+  plain_decides =
+      ap (λ (o : Option ReuseRule). decided o (option_map (λ e. e.serial) (chosen_of held asked)))
+      (same_found (λ which. stands which (plain caches) held asked now) (λ which. plain_stands which caches held asked now) reuse_rules plain_stand)
+
+pub plain_leaves : (caches : Bool) (response : Stored) (request : List Occurrence) (now : ℕ) → leave_on_error (plain caches) response request now ≡ plain_leave_on_error response request now
+unfolding error_rule_on plain_leave_on_error
+plain_leaves caches response request now =
+    let age = age_of response.times now in
+    let directives = occurrences_of response.fields in
+    ap leave_of (same_found (λ which. against_on_error which (standing_on (plain caches) response request now)) (λ which. plain_against_on_error which (lifetime_of response.fields) age directives request) error_rules
+    (λ which. ap (λ (l : Lifetime). against_on_error which (stands_at (plain caches) l age directives request)) (plain_lifetime caches response.status response.fields)
+    ∙ plain_error_rule caches which (lifetime_of response.fields) age directives request))
+
+-- ---- a request's advice
+
+unheeded : (word test : Bool) → word ≡ false → word && test ≡ false
+unheeded word test h = first_absent word test h
+
+pub advice_never_stands : (which : ReuseRule) (s : Standing) → s.policy.heeds_requests ≡ false → asks_advice which ≡ true → against which s ≡ false
+advice_never_stands RequestNoCache s h is = last_absent (fresh s) (asks_to_validate s) (unheeded s.policy.heeds_requests _ h)
+advice_never_stands AboveMaxAge s h is = last_absent (fresh s) (above_max_age s) (unheeded s.policy.heeds_requests _ h)
+advice_never_stands BelowMinFresh s h is = last_absent (fresh s) (below_min_fresh s) (unheeded s.policy.heeds_requests _ h)
+advice_never_stands StaleNoCache s h is = last_absent (not (fresh s)) (asks_to_validate s) (unheeded s.policy.heeds_requests _ h)
+advice_never_stands StaleMaxAge s h is = last_absent (not (fresh s)) (above_max_age s) (unheeded s.policy.heeds_requests _ h)
+advice_never_stands StaleMinFresh s h is = last_absent (not (fresh s)) (asks_for_freshness s) (unheeded s.policy.heeds_requests _ h)
+advice_never_stands which s h is = absurd (never (sym is))
+
+pub advice_never_on_error : (s : Standing) → s.policy.heeds_requests ≡ false → against_on_error on_error.RequestNoCache s ≡ false
+advice_never_on_error s h = unheeded s.policy.heeds_requests _ h
+
+module _ (policy : Policy) (off : policy.heeds_requests ≡ false) (lifetime : Lifetime) (age : ℕ) (response one two : List Occurrence) (same : max_stale one ≡ max_stale two) where
+  abbrev here : Standing
+  here = stands_at policy lifetime age response one
+
+  abbrev there : Standing
+  there = stands_at policy lifetime age response two
+
+  -- of the request's directives nothing counts but max-stale
+  advice_is_none : (which : ReuseRule) → against which here ≡ against which there
+  advice_is_none RequestNoCache = advice_never_stands RequestNoCache here off refl ∙ sym (advice_never_stands RequestNoCache there off refl)
+  advice_is_none AboveMaxAge = advice_never_stands AboveMaxAge here off refl ∙ sym (advice_never_stands AboveMaxAge there off refl)
+  advice_is_none BelowMinFresh = advice_never_stands BelowMinFresh here off refl ∙ sym (advice_never_stands BelowMinFresh there off refl)
+  advice_is_none StaleNoCache = advice_never_stands StaleNoCache here off refl ∙ sym (advice_never_stands StaleNoCache there off refl)
+  advice_is_none StaleMaxAge = advice_never_stands StaleMaxAge here off refl ∙ sym (advice_never_stands StaleMaxAge there off refl)
+  advice_is_none StaleMinFresh = advice_never_stands StaleMinFresh here off refl ∙ sym (advice_never_stands StaleMinFresh there off refl)
+  advice_is_none NoMaxStale = ap (λ (m : MaxStale). not (fresh here) && not (accepts_stale m)) same
+  advice_is_none PastMaxStale = ap (λ (m : MaxStale). not (fresh here) && past_limit (age - lifetime.seconds) m) same
+  advice_is_none which = refl
+
+module _ (policy : Policy) (held : List Stored) (asked other : Asked) (now : ℕ) (off : policy.heeds_requests ≡ false) (like : AsksTheSame held asked other) where
+  same_stand : (which : ReuseRule) → stands which policy held asked now ≡ stands which policy held other now
+  same_stand Operator = refl
+  same_stand Method = ap (λ (m : List ℕ). not (bytes_eq m (codes "GET") || bytes_eq m (codes "HEAD"))) like.same_method
+  same_stand Content = like.same_content
+  same_stand Range = like.same_range
+  same_stand Precondition = like.same_precondition
+  same_stand UriMiss = ap (λ (k : Key). length (filter (λ e. same_key e.key k) held) == 0) like.one_key
+  same_stand VaryMiss = ap is_none like.same_choice
+  same_stand which =
+      same_of_some (λ e. against which (standing policy e asked now)) (λ e. against which (standing policy e other now)) (chosen_of held asked)
+      (λ e. advice_is_none policy off (lifetime_under policy e.status e.fields) (age_of e.times now) (occurrences_of e.fields) (occurrences_of asked.fields) (occurrences_of other.fields) like.same_max_stale which)
+      ∙ ap (is_some_and (λ e. against which (standing policy e other now))) like.same_choice
+
+  pub advice_decides_nothing : decision_of policy held asked now ≡ decision_of policy held other now
+  unfolding decision_of reuse_rule_of
+  advice_decides_nothing =
+      let rule = same_found (λ which. stands which policy held asked now) (λ which. stands which policy held other now) reuse_rules same_stand in
+      ap (λ (o : Option ReuseRule). decided o (option_map (λ e. e.serial) (chosen_of held asked))) rule
+      ∙ ap (λ (c : Option Stored). decided (find (λ which. stands which policy held other now) reuse_rules) (option_map (λ e. e.serial) c)) like.same_choice
+
+-- ---- a staleness after an error
+
+-- a directive that doesn't occur has no argument
+none_occurs : (found : List Occurrence) (d : Directive) → has found d ≡ false → filter (λ o. is_same_directive o.directive d) found ≡ []
+none_occurs [] d h = refl
+none_occurs (o ∷ more) d h = at (is_same_directive o.directive d) h (none_occurs more d)
+  where
+    at : (t : Bool) → t || has more d ≡ false → (has more d ≡ false → filter (λ x. is_same_directive x.directive d) more ≡ []) → cond t (o ∷ filter (λ x. is_same_directive x.directive d) more) (filter (λ x. is_same_directive x.directive d) more) ≡ []
+    at true k rest = absurd (never k)
+    at false k rest = rest k
+
+none_stated : (found : List Occurrence) → has found StaleIfError ≡ false → stated_once (seconds found StaleIfError) ≡ None
+none_stated found h = rw (none_occurs found StaleIfError h) refl
+
+none_valid : (found : List Occurrence) → has found StaleIfError ≡ false → first_valid found StaleIfError ≡ None
+none_valid found h = rw (none_occurs found StaleIfError h) refl
+
+module _ (policy : Policy) (response : Stored) (request : List Occurrence) (now most : ℕ) (silent : SaysNoLimit response request) (word : policy.stale_if_error ≡ Some most) where
+  abbrev s : Standing
+  s = standing_on policy response request now
+
+  limit_is : operator_limit s ≡ Some most
+  limit_is =
+      is_given policy response request now most (record { line_has = word; response_has_none = silent.response_has_none; request_has_none = silent.request_has_none })
+
+  past_by : (o : Option ℕ) (t : Bool) → o ≡ Some most → nat_lt most (staleness_at policy response now) ≡ t → is_past s o ≡ t
+  past_by o t h k = ap (is_past s) h ∙ k
+
+  pub limit_allows : staleness_at policy response now ≤ most → (against_on_error on_error.NoDirective s ≡ false) × (against_on_error on_error.TooStale s ≡ false)
+  limit_allows within = (
+    last_absent (is_none (response_limit s) && is_none (request_limit s)) (is_none (operator_limit s)) (has_value (operator_limit s) most limit_is),
+    neither (is_past s (response_limit s) || is_past s (request_limit s)) (is_past s (operator_limit s))
+        (neither (is_past s (response_limit s)) (is_past s (request_limit s)) (ap (is_past s) (none_stated s.response silent.response_has_none)) (ap (is_past s) (none_valid s.request silent.request_has_none)))
+        (past_by (operator_limit s) false limit_is (is_not_below most (staleness_at policy response now) within)),
+  )
+
+  pub limit_ends : most < staleness_at policy response now → against_on_error on_error.TooStale s ≡ true
+  limit_ends past =
+      or_right (is_past s (response_limit s) || is_past s (request_limit s)) (is_past s (operator_limit s))
+      (past_by (operator_limit s) true limit_is (is_below most (staleness_at policy response now) past))
+
+module _ (policy : Policy) (response : Stored) (request : List Occurrence) (now : ℕ) where
+  abbrev with : Standing
+  with = standing_on policy response request now
+
+  abbrev without : Standing
+  without = standing_on (without_limit policy) response request now
+
+  one_says : (a b : Bool) (o p : Option ℕ) → (a ≡ true) ⊎ (b ≡ true) → cond (a || b) None o ≡ cond (a || b) None p
+  one_says true b o p h = refl
+  one_says false true o p h = refl
+  one_says false false o p (inl h) = absurd (never (sym h))
+  one_says false false o p (inr h) = absurd (never (sym h))
+
+  same_limit : (has (occurrences_of response.fields) StaleIfError ≡ true) ⊎ (has request StaleIfError ≡ true) → operator_limit with ≡ operator_limit without
+  same_limit h = one_says (has (occurrences_of response.fields) StaleIfError) (has request StaleIfError) policy.stale_if_error None h
+
+  same_error_rule : operator_limit with ≡ operator_limit without → (which : ErrorRule) → against_on_error which with ≡ against_on_error which without
+  same_error_rule h on_error.NoDirective = ap (λ (o : Option ℕ). (is_none (response_limit with) && is_none (request_limit with)) && is_none o) h
+  same_error_rule h on_error.TooStale = ap (λ (o : Option ℕ). (is_past with (response_limit with) || is_past with (request_limit with)) || is_past with o) h
+  same_error_rule h which = refl
+
+  pub stated_limit_stays : (has (occurrences_of response.fields) StaleIfError ≡ true) ⊎ (has request StaleIfError ≡ true) → error_rule_on policy response request now ≡ error_rule_on (without_limit policy) response request now
+  unfolding error_rule_on
+  stated_limit_stays h = same_found (λ which. against_on_error which with) (λ which. against_on_error which without) error_rules (same_error_rule (same_limit h))

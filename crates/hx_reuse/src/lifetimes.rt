@@ -1,0 +1,33 @@
+//! How long a response is fresh under what a line of the operator's table says of caching.
+ghost use Rattle.std.specs.Prelude.{◌≡◌};
+ghost use Rattle.hx_directives.specs.Occurrences.{occurrences_of};
+ghost use Rattle.hx_reuse.specs.Lifetimes.{lifetime_under};
+
+use hx_age::Lifetime;
+use hx_directives::{Directives, MOST_SECONDS};
+use hx_fields::Fields;
+use hx_policy::Policy;
+
+/// The lifetime that a response states, or else the one that the operator gives its status, which then counts as stated (RFC
+/// 9111, sections 4.2.1 and 4.2.2). Its directives are handed in.
+pub fn lifetime_under(
+    policy: Policy,
+    status: u16,
+    fields: &Fields,
+    directives: &Directives,
+) -> Lifetime
+    requires { directives.now ≡ occurrences_of fields.now }
+    ensures { result ≡ lifetime_under policy status fields.now }
+{
+    let lifetime = Lifetime::of(fields, directives);
+    if lifetime.explicit {
+        return lifetime;
+    }
+    match policy.given_lifetime(status) {
+        Some(seconds) => Lifetime {
+            explicit: true,
+            seconds: u64::from(seconds).min(MOST_SECONDS) as u32,
+        },
+        None => lifetime,
+    }
+}

@@ -1,0 +1,161 @@
+//! What `check` tells of a table that is read: how many lines it has, what in it has no effect, and what a request meets.
+
+use crate::fault::Fault;
+use http::Method;
+use hx_allow::{Config, Verdict};
+use hx_fields::{Bytes, Fields};
+use hx_policy::Policy;
+use hx_target::{Target, TargetFault, read_target};
+use std::alloc::{AllocError, Global};
+use std::io;
+
+/// A request that is asked about.
+#[derive(Clone, Copy, Debug)]
+pub(crate) struct Question<'a> {
+    /// As it was typed: a method, a blank and a URL.
+    text: &'a str,
+    method: &'a str,
+    host: &'a str,
+    /// The path and the query.
+    path: &'a str,
+}
+
+/// The host and the path of a URL. A front takes https away, so both schemes are one here.
+fn parts_of(url: &str) -> Option<(&str, &str)> {
+    let rest = match url.strip_prefix("http://") {
+        Some(rest) => rest,
+        None => url.strip_prefix("https://")?,
+    };
+    match rest.split_once('/') {
+        Some((host, _)) => Some((host, rest.strip_prefix(host)?)),
+        None => Some((rest, "/")),
+    }
+}
+
+/// What is asked about, or none where it is no method, blank and URL.
+pub(crate) fn question_of(text: &str) -> Option<Question<'_>> {
+    let (method, url) = text.split_once(' ')?;
+    let (host, path) = parts_of(url)?;
+    Some(Question {
+        text,
+        method,
+        host,
+        path,
+    })
+}
+
+fn target_of(alloc: Global, question: &Question<'_>) -> Result<Target, TargetFault> {
+    let mut fields = Fields::new(alloc);
+    fields.push(b"Host", question.host.as_bytes())?;
+    let target = Bytes::copy_of(alloc, question.path.as_bytes())?;
+    read_target(alloc, &target, &fields)
+}
+
+fn told(is_default: bool, word: &'static str) -> &'static str {
+    if is_default { "" } else { word }
+}
+
+/// Tells the words of a line that allows.
+fn tell_policy<R: Print>(rt: &R, policy: Policy) -> io::Result<()> {
+    if !policy.caches {
+        return println!(rt; "    cache = \"off\"");
+    }
+    println!(rt; "    cache = \"on\"")?;
+    if let Some(seconds) = policy.lifetime {
+        println!(rt; "    lifetime = {seconds}")?;
+    }
+    if let Some(seconds) = policy.stale_if_error {
+        println!(rt; "    stale-if-error = {seconds}")?;
+    }
+    for word in [
+        told(policy.stores_cookies, "set-cookie = \"not-stored\""),
+        told(policy.stores_errors, "errors = \"not-stored\""),
+        told(policy.heeds_requests, "request-directives = \"ignored\""),
+        told(!policy.explains_storing, "explain = \"storing\""),
+    ] {
+        if !word.is_empty() {
+            println!(rt; "    {word}")?;
+        }
+    }
+    Ok(())
+}
+
+/// Tells which line decides on a request, and what it says.
+fn tell_verdict<R: Print>(
+    rt: &R,
+    config: &Config,
+    text: &str,
+    method: &Method,
+    target: &Target,
+) -> io::Result<()> {
+    match config.judge(method, target) {
+        Verdict::Allowed(line) => {
+            println!(rt;
+                "{text} is allowed by line {line}, origin {}",
+                config.origin(line)
+            )?;
+            tell_policy(rt, config.policy(line))
+        }
+        Verdict::DeniedBy(line) => println!(rt; "{text} is denied by line {line}"),
+        Verdict::NoLine => println!(rt; "{text} is denied: no line allows it"),
+    }
+}
+
+/// Tells what a request meets.
+fn tell_answer<R: Print + AllocGlobal>(
+    rt: &R,
+    config: &Config,
+    question: &Question<'_>,
+) -> Result<(), Fault> {
+    let Ok(method) = Method::from_bytes(rt.alloc(), question.method.as_bytes()) else {
+        return Err(Fault::Usage(None));
+    };
+    let told = match target_of(rt.alloc(), question) {
+        Ok(target) => tell_verdict(rt, config, question.text, &method, &target),
+        Err(TargetFault::OutOfMemory) => return Err(Fault::NoMemory),
+        Err(fault) => println!(rt;
+            "{} is refused before the table is asked: {fault}",
+            question.text
+        ),
+    };
+    match told {
+        Ok(()) => Ok(()),
+        Err(_) => Err(Fault::Write(None)),
+    }
+}
+
+/// Tells each line that is never reached, and a limit that has no effect.
+fn tell_idle<R: Print>(rt: &R, config: &Config) -> io::Result<()> {
+    for line in 1..=256u16 {
+        if let Some(first) = config.taken_by(line) {
+            println!(rt; "line {line} is never reached: line {first} takes all of it")?;
+        }
+    }
+    if config.max_stored() > config.max_body() {
+        println!(rt;
+            "max_stored is above max_body: what is larger than max_body isn't stored either"
+        )?;
+    }
+    Ok(())
+}
+
+fn tell_table<R: Print>(rt: &R, config: &Config) -> io::Result<()> {
+    println!(rt; "ok {} lines", config.lines())?;
+    tell_idle(rt, config)
+}
+
+/// Tells what a table says, and what a request meets where one is asked about.
+pub(crate) fn tell<R: Print + AllocGlobal>(
+    rt: &R,
+    config: &Config,
+    question: Option<&Question<'_>>,
+) -> Result<(), Fault> {
+    match tell_table(rt, config) {
+        Ok(()) => {}
+        Err(_) => return Err(Fault::Write(None)),
+    }
+    match question {
+        Some(question) => tell_answer(rt, config, question),
+        None => Ok(()),
+    }
+}
