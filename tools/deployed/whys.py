@@ -23,8 +23,8 @@ ROOT = os.path.dirname(TOOLS)
 SAID = [
     ("Cache-Status: edge;fwd=stale;detail=must-revalidate", ["MustRevalidate", "RFC 9111, section 5.2.2.2", "Origin"]),
     (
-        "edge;fwd=stale;fwd-status=304;ttl=60;stored",
-        ["NoMaxStale", "RFC 9111, section 4.2.4", "RFC 9211, section 2.5", "Client"],
+        "edge;fwd=stale;fwd-status=304;ttl=60",
+        ["NoMaxStale", "RFC 9111, section 4.2.4", "RFC 9211, section 2.3", "Client"],
     ),
     ("fwd=request;detail=min-fresh", ["BelowMinFresh", "RFC 9111, section 5.2.1.3", "Client"]),
     (

@@ -5,7 +5,7 @@ import shutil
 import subprocess
 import time
 
-from live.expect import Skipped, Unexpected, expect, expect_answer
+from live.expect import Skipped, Unexpected, expect, expect_answer, expect_within
 from live.origin import Origin, whole
 from live.scenario import KEPT, scenario
 from live.staying import HIT, STORED
@@ -15,15 +15,15 @@ WARNING = re.compile(r"warning: the clock went back by (\d+) seconds; what was s
 
 
 class Clock:
-    """The clock that a program sees, but for the one that never goes back: so many seconds ahead of the system's."""
+    """The clock that a program sees, so many seconds ahead of the system's: that of the day, or the one that never goes back."""
 
-    def __init__(self, folder, ahead):
+    def __init__(self, folder, ahead, name="SHIFT_CLOCK"):
         if not shutil.which("cc"):
             raise Skipped("there is no cc")
         library, self.file = f"{folder}/shift_clock.so", f"{folder}/clock"
         subprocess.run(["cc", "-O1", "-shared", "-fPIC", "-o", library, SOURCE], check=True)
         self.set(ahead)
-        self.environment = {**os.environ, "LD_PRELOAD": library, "SHIFT_CLOCK": self.file}
+        self.environment = {**os.environ, "LD_PRELOAD": library, name: self.file}
 
     def set(self, ahead):
         with open(f"{self.file}.new", "w", encoding="ascii") as it:
@@ -54,3 +54,20 @@ def a_clock_that_goes_back_is_told(stage):
         raise Unexpected("on standard error", "one line, that the clock went back by about 3600 seconds", err)
     expect("on standard output", b"", out)
     proxy.compare([origin])
+
+
+@scenario
+def a_clock_that_goes_back_is_recorded(stage):
+    """Two hundred seconds on, and then a hundred back: what is stored is as old as the clock has it, and a replay of the record tells the
+    same ages to the byte."""
+    clock = Clock(stage.room.name, 0)
+    stage.origin(Origin({"/a": whole(200, KEPT, content=b"hello")}))
+    client = stage.proxy(environment=clock.environment).client()
+    expect_answer(client.ask("/a"), 200, STORED, b"hello")
+    for ahead in (200, 100):
+        clock.set(ahead)
+        answer = client.ask("/a")
+        expect("status and content", (200, b"hello"), (answer.status, answer.content))
+        expect_within("by its Age an answer", ahead, ahead + 20, int(answer.value("Age")))
+    # (that it went back may be told meanwhile)
+    stage.lines = range(2)

@@ -160,9 +160,11 @@ def silent(fetch):
 class Refusing:
     """An address at which nobody listens: the port is taken, so no other program can."""
 
-    def __init__(self):
+    def __init__(self, port=0):
         self.socket = socket.socket()
-        self.socket.bind(("127.0.0.1", 0))
+        # (connections that are over may stand at the port still)
+        self.socket.setsockopt(socket.SOL_SOCKET, socket.SO_REUSEADDR, 1)
+        self.socket.bind(("127.0.0.1", port))
         self.address = "127.0.0.1:%d" % self.socket.getsockname()[1]
 
     def close(self):

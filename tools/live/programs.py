@@ -29,7 +29,7 @@ FAULTS = [
     ('name = "edge"', 'name = "edge"\ncolour = 1', "config fault 2 key colour", "correct its spelling or delete it"),
     ('path = "/"', 'path = "/"\ncache = "off"', "config fault 2 key cache", "cache needs version = 2"),
     ('name = "edge"', 'name = "Edge"', "config fault 3", "a lower-case letter and at most 31 of a-z, 0-9 and -"),
-    ("version = 1", "version = 3", "config fault 4 key version", "version has to be 1 or 2, without quotes"),
+    ("version = 1", "version = 4", "config fault 4 key version", "version has to be 1, 2 or 3, without quotes"),
     ("capacity = 64", 'capacity = "64"', "config fault 4 key capacity", WRONG_CAPACITY),
     ("max_body = 1000000", "max_body = -1", "config fault 4 key max_body", "max_body has to be a whole number from 0 to 16777216"),
     ("max_stored = 100000", "max_stored = 1.5", "config fault 4 key max_stored", "max_stored has to be a whole number from 0 to 16777216"),
@@ -147,6 +147,7 @@ def the_command_line_checks_a_table(stage):
         for words, ended, said in (
             (["check", file], (0, ""), "ok 1 lines\n"),
             (["check", f"{TOOLS}/../deploy/table.toml"], (0, ""), "ok 3 lines\n"),
+            (["check", f"{TOOLS}/../deploy/site.toml"], (0, ""), "ok 7 lines\n"),
             (["check", wrong], table, f"{WRONG_CAPACITY}\n"),
             (["check", f"{file}.none"], (1, "read fault\n"), f"the table {file}.none can't be read: No such file or directory"),
             (["check", stage.room.name], (1, "read fault\n"), f"the table {stage.room.name} can't be read: Is a directory"),

@@ -1,5 +1,6 @@
 """The built program in front of origins, with a record of what happens at its connections."""
 import itertools
+import json
 import os
 import resource
 import select
@@ -15,13 +16,15 @@ from live.script import numbers_with
 LISTENING = "listening on "
 
 
-def table_of(lines, max_body=1000000, max_stored=100000, capacity=64):
-    """The operator's table, of (path, methods, origin) or of an origin's address for everything."""
-    text = f'version = 1\nname = "edge"\ncapacity = {capacity}\nmax_body = {max_body}\nmax_stored = {max_stored}\n'
+def table_of(lines, max_body=1000000, max_stored=100000, capacity=64, version=1):
+    """The operator's table, of (path, methods, origin), behind which its other words may stand, or of an origin's address for everything."""
+    text = f'version = {version}\nname = "edge"\ncapacity = {capacity}\nmax_body = {max_body}\nmax_stored = {max_stored}\n'
     for it in lines:
-        path, methods, origin = it if isinstance(it, tuple) else ("/", ["*"], it)
+        path, methods, origin, *more = it if isinstance(it, tuple) else ("/", ["*"], it)
         names = ", ".join(f'"{name}"' for name in methods)
         text += f'\n[[line]]\nhost = "*"\nmethods = [{names}]\npath = "{path}"\norigin = "{origin}"\n'
+        # (a text or a number is written in TOML as in JSON)
+        text += "".join(f"{key} = {json.dumps(value)}\n" for words in more for key, value in words.items())
     return text
 
 
@@ -178,7 +181,11 @@ class Stage:
     def proxy(self, *lines, turns=None, options=(), listen="127.0.0.1:0", records=True, environment=None, **table):
         """A program before the origins of these lines, or before the ones that were made."""
         text = table_of(lines or [it.address for it in self.origins], **table)
-        it = Proxy(self.program, self.room.name, text, turns, options, listen, records, environment)
+        return self.proxy_of(text, turns, options, listen, records, environment)
+
+    def proxy_of(self, text, *more):
+        """A program by the text of a table."""
+        it = Proxy(self.program, self.room.name, text, *more)
         self.proxies.append(it)
         return it
 

@@ -1,0 +1,116 @@
+"""deploy/site.toml as it stands but for its ports: each line does what its comment says, and the origins are asked as often as that needs."""
+import itertools
+import subprocess
+
+from deployed.fronts import expect_from
+from deployed.stand import DEPLOY, curl, deployed, need, part, wait_until
+from live.expect import expect
+from live.origin import Origin, whole
+
+URL = "http://h.example{}".format
+MINUTE = "Cache-Control: max-age=60"
+
+
+def with_a_cookie():
+    """A page with a cookie of its own for each time that it is asked for."""
+    numbers = itertools.count(1)
+    return lambda fetch: whole(200, MINUTE, f"Set-Cookie: sid={next(numbers)}", content=b"welcome")(fetch)
+
+
+class Site:
+    """A cache by this table, before an origin of pages, one of assets, one of the API and one that answers to PURGE."""
+
+    def __init__(self, stand):
+        bare, second = whole(200, content=b"hello"), whole(200, "Cache-Control: max-age=1", content=b"hello")
+        of_pages = {"/": bare, "/news": bare, "/old": second, "/login": with_a_cookie(), "/account/me": with_a_cookie()}
+        of_api = {
+            "/api/public/list": bare,
+            "/api/public/old": second,
+            "/api/public/bad": whole(400, MINUTE, content=b"bad"),
+            "/api/orders": bare,
+            "/api/rates": whole(200, MINUTE, content=b"hello"),
+        }
+        self.pages, self.api = stand.origin(Origin(of_pages)), stand.origin(Origin(of_api))
+        self.assets = stand.origin(Origin({"/assets/app.js": bare, "/assets/gone.js": whole(404, content=b"none")}))
+        self.purges = stand.origin(Origin({it: whole(204) for it in ("/news", "/assets/app.js")}))
+        words = {"127.0.0.1:8081": self.pages, "127.0.0.1:8083": self.assets, "127.0.0.1:8082": self.api, "127.0.0.1:8089": self.purges}
+        self.cache = stand.proxy(deployed("site.toml", {old: it.address for old, it in words.items()}))
+
+    def expect(self, origin, count, target, *answers, words=()):
+        """What these requests get, one behind the other, and how many of them came to the origin."""
+        before = len(origin.fetches)
+        for status, reason in answers:
+            expect_from(curl(self.cache.port, URL(target), *words), status, reason)
+        expect(f"requests at the origin for {target}", count, len(origin.fetches) - before)
+
+
+@part
+def site(stand):
+    need("curl")
+    yield "it_is_a_table", lambda: it_is_a_table(stand)
+    for it in (what_is_denied, what_one_visitor_sees, what_all_share, what_the_api_says, what_is_purged, while_the_origins_fail):
+        yield it.__name__, lambda it=it: it(Site(stand))
+
+
+def it_is_a_table(stand):
+    ran = subprocess.run([stand.program, "check", f"{DEPLOY}/site.toml"], stdin=subprocess.DEVNULL, capture_output=True, text=True, timeout=20)
+    expect("from check", (0, "ok 7 lines\n", ""), (ran.returncode, ran.stdout, ran.stderr))
+
+
+def what_is_denied(site):
+    site.expect(site.pages, 0, "/admin/users", (403, "denied by line 1"))
+    site.expect(site.assets, 0, "/assets/app.js", (403, "no line allows it"), words=["--data", "x=1"])
+    site.expect(site.pages, 0, "/news", (403, "no line allows it"), words=["--request", "DELETE"])
+
+
+def what_one_visitor_sees(site):
+    """Never stored, whatever it says; and a cookie keeps a page out."""
+    site.expect(site.pages, 2, "/account/me", *[(200, "edge;fwd=bypass;detail=operator")] * 2)
+    site.expect(site.pages, 2, "/login", *[(200, "edge;fwd=uri-miss;detail=not-stored-set-cookie")] * 2)
+
+
+def what_all_share(site):
+    """An hour, ten seconds or a minute of what states nothing; a reload is served from the store. An error isn't stored, but for a 404."""
+    stored, hit = (200, "edge;fwd=uri-miss;ttl=;stored"), (200, "edge;hit;ttl=")
+    for origin, target, most in ((site.assets, "/assets/app.js", 3600), (site.api, "/api/public/list", 10), (site.pages, "/news", 60)):
+        site.expect(origin, 1, target, stored, hit, hit)
+        site.expect(origin, 0, target, hit, words=["--header", "Cache-Control: no-cache"])
+        ttl = int(curl(site.cache.port, URL(target)).value("Cache-Status").rpartition("=")[2])
+        expect(f"of {target} a ttl up to {most}", True, most - 8 <= ttl <= most)
+    site.expect(site.assets, 1, "/assets/gone.js", (404, stored[1]), (404, hit[1]))
+    site.expect(site.api, 2, "/api/public/bad", *[(400, "edge;fwd=uri-miss;detail=not-stored-error-status")] * 2)
+
+
+def what_the_api_says(site):
+    """The rest of the API is stored where it says so itself, and a reload of it reaches its origin."""
+    site.expect(site.api, 2, "/api/orders", *[(200, "edge;fwd=uri-miss")] * 2)
+    site.expect(site.api, 1, "/api/rates", (200, "edge;fwd=uri-miss;ttl=;stored"), (200, "edge;hit;ttl="))
+    words = ["--header", "Cache-Control: no-cache"]
+    site.expect(site.api, 1, "/api/rates", (200, "edge;fwd=request;ttl=;stored;detail=no-cache"), words=words)
+    site.expect(site.api, 1, "/api/rates", (200, "edge;fwd=method"), words=["--request", "PATCH", "--data", "x=1"])
+    site.expect(site.api, 1, "/api/rates", (200, "edge;fwd=uri-miss;ttl=;stored"))
+
+
+def what_is_purged(site):
+    for origin, target in ((site.pages, "/news"), (site.assets, "/assets/app.js")):
+        stored, hit = (200, "edge;fwd=uri-miss;ttl=;stored"), (200, "edge;hit;ttl=")
+        site.expect(origin, 1, target, stored, hit)
+        site.expect(site.purges, 1, target, (204, "edge;fwd=method"), words=["--request", "PURGE"])
+        site.expect(origin, 1, target, stored, hit)
+
+
+def while_the_origins_fail(site):
+    """A page and an asset stand in for an origin that fails, an answer of the API doesn't, and nothing is made up for what is new."""
+    old = "/old", "/api/public/old"
+    for it in old:
+        expect_from(curl(site.cache.port, URL(it)), 200, "edge;fwd=uri-miss;ttl=;stored")
+    for origin in (site.pages, site.api):
+        origin.answers = {it: whole(503, content=b"down") for it in origin.answers}
+
+    def are_stale():
+        return not any(curl(site.cache.port, URL(it)).reason().startswith("edge;hit") for it in old)
+
+    wait_until(are_stale, "the end of both lifetimes")
+    site.expect(site.pages, 1, "/old", (200, "edge;fwd=stale;fwd-status=503;ttl=;detail=stale-if-error"))
+    site.expect(site.pages, 1, "/news", (503, "edge;fwd=uri-miss;detail=not-stored-nothing-allows"))
+    site.expect(site.api, 1, "/api/public/old", (503, "edge;fwd=stale;detail=not-stored-nothing-allows"))
