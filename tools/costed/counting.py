@@ -29,7 +29,8 @@ class Program:
         except subprocess.TimeoutExpired:
             raise Failed(f"a replay took more than {self.seconds} s") from None
         if done.returncode:
-            raise Failed(f"a replay ended with status {done.returncode}")
+            why = f": {done.stderr.decode().strip()}" if done.stderr else ""
+            raise Failed(f"a replay ended with status {done.returncode}{why}")
         return done.stdout
 
     def effects(self, text):
