@@ -4,6 +4,8 @@ import os
 import re
 
 CODE = re.compile(r"`+[^`]*`+")
+# A line of an index says nothing but where something is said.
+OF_INDEX = re.compile(r" *- (?:\[.+\]\(#\S+\)|\*\*[^*]+\*\*)")
 
 
 def cells_of(line):
@@ -40,13 +42,14 @@ class Documents:
                 table.rows.append(dict(zip(table.heads, cells_of(line))))
             elif not is_row:
                 table = None
-            is_end = not line.strip() or is_row or line.startswith(("#", "- "))
+            is_index = OF_INDEX.fullmatch(line)
+            is_end = not line.strip() or is_row or is_index or line.startswith(("#", "- "))
             if is_end and text:
                 self.paragraphs.append((page, section, " ".join(text)))
                 text = []
             if line.startswith("#"):
                 section = line.lstrip("# ")
-            elif line.strip() and not is_row:
+            elif line.strip() and not is_row and not is_index:
                 text.append(line.strip())
 
     def with_heads(self, *heads, without=()):

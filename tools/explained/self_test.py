@@ -48,8 +48,9 @@ def row_agrees(words, type, name, number):
     if type == "ErrorRule":
         _, row = words.documents.row(lambda it: it["Rule"] == name, "Rule", "Stands where", "Word", "RFC")
         return [row.get(it) for it in ("No", "Word")] == [str(number), words.sources.texts("error_word_of", type)[name]]
-    _, row = words.documents.row(lambda it: it["Rule"] == name, "Rule", "Stands where", "RFC", without=["fwd", "Word"])
-    return row.get("No") == str(number)
+    word = words.sources.texts("storing_word_of", type)[name]
+    _, row = words.documents.row(lambda it: it["Rule"] == name, "Rule", "Stands where", "`not-stored-`", "RFC")
+    return [row.get(it) for it in ("No", "`not-stored-`")] == [str(number), word]
 
 
 def of_words(words, root):
@@ -81,6 +82,11 @@ def of_texts(found):
         ):
             keys = [it.key for it in found.of(text) if it.key.startswith("reuse-")]
             yield text, [] if keys == [f"reuse-{number}"] else [f"{text} is taken for {keys}"]
+    for name, number in sources.numbers("number_of", "StoreRule").items():
+        word = f"not-stored-{sources.texts('storing_word_of', 'StoreRule')[name]}"
+        for text in (f"Cache-Status: edge;fwd=uri-miss;detail={word}", f"fwd=stale;detail={word}", word):
+            keys = [it.key for it in found.of(text) if it.key.startswith("storing-")]
+            yield text, [] if keys == [f"storing-{number}"] else [f"{text} is taken for {keys}"]
     lines = [
         *sources.texts("config_line", "ConfigFault").values(),
         *sources.texts("engine_line", "EngineFault").values(),

@@ -6,6 +6,8 @@ import re
 from explained.documents import codes_in
 from explained.entries import CHANGERS, NAMES_OF_CAUSES, Entry
 
+# What stands in front of the word of a storing rule.
+NOT_STORED = "not-stored-"
 # Of the places that only mention a text so many are shown.
 MOST_PLACES = 3
 
@@ -42,10 +44,16 @@ class Texts:
         entries += [self.words.parameter(it) for it in ("fwd-status", "ttl", "stored", "collapsed") if it in parameters]
         reason, detail = parameters.get("fwd"), parameters.get("detail")
         entries += [self.words.detail(name) for name, word in self.own_details().items() if word == detail]
+        entries += [self.words.storing(name) for name in self.storing_rules(detail)]
         is_sent = {"hit", "stored", "collapsed", "ttl"} & set(parameters) or detail in self.own_details().values()
-        if entries and not is_sent:
+        if entries and not is_sent and not self.storing_rules(detail):
             entries.append(self.not_stored(reason, detail))
         return entries
+
+    def storing_rules(self, detail):
+        """The storing rule that a detail names, by which an answer isn't stored."""
+        word = (detail or "").removeprefix(NOT_STORED)
+        return self.named("storing_word_of", "StoreRule", word) if word != detail else []
 
     def own_details(self):
         return self.sources.texts("word_of", "Detail")
@@ -54,6 +62,9 @@ class Texts:
         """The rule of a reason and a detail; where the detail stands in place of the rule's, each of that reason."""
         if (reason, detail) in self.by_text:
             return [self.words.reuse(self.by_text[reason, detail])]
+        if self.storing_rules(detail):
+            # it stands where the rule has no detail of its own
+            return self.of_rule(reason, None)
         if detail in self.own_details().values():
             return [self.words.reuse(name) for (it, _), name in self.by_text.items() if it == reason]
         return []
@@ -137,6 +148,7 @@ class Texts:
     def of_word(self, word):
         """All that one word names."""
         entries = [self.words.reuse(it) for it in self.names_of_rules(word)]
+        entries += [self.words.storing(it) for it in self.storing_rules(word.removeprefix("detail="))]
         entries += [
             self.words.storing(it) for it in self.sources.table("number_of", "StoreRule") if it.lower() == word.lower()
         ]
