@@ -48,7 +48,8 @@ def few_closed_connections_stay(stage):
     proxy = stage.proxy(("/", ["*"], "deny"), records=False)
     before = proxy.descriptors()
     clients = [refused(proxy) for _ in range(CLOSING + 44)]
-    if (more := proxy.descriptors() - before) > CLOSING:
+    # (none of them is silent for long enough to be closed for that)
+    if (more := fewer_descriptors(proxy, before + CLOSING, 1) - before) > CLOSING:
         raise Unexpected("descriptors for closed connections", f"at most {CLOSING}", more)
     expect("whether the first and the last are closed whole", (True, False), (is_reset(clients[0]), is_reset(clients[-1])))
     for it in clients:
@@ -79,7 +80,7 @@ def expect_let_go(proxy, client, before, began, text):
     """A client that began to ask then, and takes nothing of what it asked for, is cut off in time, and lacks a part of it."""
     client.is_cut_off = True
     expect("descriptors behind it", before, fewer_descriptors(proxy, before, 2 * LATEST))
-    expect_within("its end", SHORT, 2 * LATEST, time.monotonic() - began)
+    expect_within("its end", SHORT / 2, 2 * LATEST, time.monotonic() - began)
     client.open_window()
     client.drain()
     if len(client.received) >= len(text):

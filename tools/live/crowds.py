@@ -245,3 +245,22 @@ def what_is_announced_takes_no_memory(stage):
     if grown > 16 << 20:
         raise Unexpected("memory that is asked for by a hundred contents of 16 MB, of which a byte has come,", "less than one of them", f"{grown} bytes")
     expect_answer(busy.ask("/a"), 200, "edge;hit;ttl=600", b"hello")
+
+
+@scenario
+def uploads_beside_one_another_wait_for_none(stage):
+    """Eight clients send three contents each at the same time, in some parts. While a record is written one of them is taken at a time,
+    and none has to wait for that: all are answered soon."""
+    stage.origin(Origin({"/a": whole(200, KEPT, content=b"hello"), "/post": whole(201, content=b"made")}))
+    proxy = stage.proxy()
+    clients = [proxy.client() for _ in range(8)]
+    for it in clients:
+        expect("status", 200, it.ask("/a").status)
+    began, text = time.monotonic(), request("/post", method="POST", content=b"x" * 40)
+    for _ in range(3):
+        for at in range(0, len(text), 10):
+            for it in clients:
+                it.send(text[at : at + 10])
+        for it in clients:
+            expect_answer(it.response("POST"), 201, "edge;fwd=method", b"made")
+    expect_within("the last answer", 0, 3 * AT_ONCE, time.monotonic() - began)

@@ -126,6 +126,32 @@ def an_answer_that_is_cut_off_is_502(stage):
 
 
 @scenario
+def an_end_that_comes_with_data_is_read(stage):
+    """A server that was halted for a while finds an origin's answer and its end, and a client's request and its end, in one: it reads both.
+    An answer without a length is whole then, one that lacks a part is 502, and the client is let go behind its answer."""
+    go, head = threading.Event(), head_of(200, [KEPT])
+    parts = {"/whole": head + b"hello", "/part": head_of(200, [KEPT, "Content-Length: 6"]) + b"hello"}
+    origin = stage.origin(Origin({path: held_back(go, raw(text, ends)) for path, text in parts.items()} | {"/a": whole(200, KEPT, content=b"a")}))
+    proxy = stage.proxy()
+    waiting, leaving = [proxy.client() for _ in parts], proxy.client()
+    expect_answer(leaving.ask("/a"), 200, "edge;fwd=uri-miss;ttl=600;stored", b"a")
+    for it, path in zip(waiting, parts):
+        it.send(request(path))
+    origin.wait_for(3)
+    proxy.wait_until_quiet()
+    proxy.process.send_signal(signal.SIGSTOP)
+    go.set()
+    leaving.send(request("/a"))
+    leaving.half_close()
+    time.sleep(0.5)
+    proxy.process.send_signal(signal.SIGCONT)
+    expect_answer(waiting[0].response(), 200, "edge;fwd=uri-miss;ttl=600;stored", b"hello")
+    expect_refusal(waiting[1].response(), 502, "origin closed;fwd=uri-miss")
+    expect_answer(leaving.response(), 200, "edge;hit;ttl=600", b"a")
+    expect("the connection closed", True, leaving.is_closed())
+
+
+@scenario
 def an_answer_that_is_none_is_502(stage):
     """RFC 9112, 6.3: what can't be framed is a bad answer; contents above max_body aren't passed on."""
     answers = {

@@ -1,11 +1,12 @@
 """Scenarios of large answers: they come whole, and nothing comes amid them."""
 import threading
+import time
 
 from live.expect import Unexpected, expect, expect_answer
 from live.origin import Origin, held_back, whole
 from live.scenario import KEPT, LATEST, scenario
 from live.staying import HIT, STORED
-from live.taking import BOTH, DOWNLOAD, short, text_of
+from live.taking import BOTH, DOWNLOAD, pieces_of, short, text_of
 from live.waiting import MISS
 
 # The most bytes of a content, and so many answers come while a client takes what is before them.
@@ -22,6 +23,13 @@ def an_answer_of_the_most_bytes_comes_whole(stage):
         expect_answer(client.ask("/a"), 200, member, text)
 
 
+def wait_for_piece(proxy, piece):
+    """Until what a client sent last was handed in."""
+    deadline = time.monotonic() + LATEST
+    while pieces_of(proxy)[-1:] != [piece] and time.monotonic() < deadline:
+        pass
+
+
 @scenario
 def a_short_answer_waits_behind_a_long_one(stage):
     """A client takes slowly what it asked for; the answers to what it asked for behind that, which their origin gives meanwhile, come
@@ -33,8 +41,9 @@ def a_short_answer_waits_behind_a_long_one(stage):
     expect_answer(proxy.client().ask("/a"), 200, STORED, text)
     client = proxy.client(window=4096)
     # (what ends the first request brings the others: no more than a dozen stand in so few bytes)
-    client.send(b"GET /a HTTP/1.1\r\n")
-    proxy.wait_until_quiet()
+    begun = b"GET /a HTTP/1.1\r\n"
+    client.send(begun)
+    wait_for_piece(proxy, begun)
     client.send(b"Host: h\r\n\r\n" + b"".join(short(f"/{i}") for i in range(LATE)))
     for i, it in enumerate(go):
         origin.wait_for(i + 2)

@@ -3,7 +3,7 @@ import os
 import resource
 import time
 
-from live.client import PATIENCE, request
+from live.client import PATIENCE
 from live.expect import expect, expect_answer, expect_refusal
 from live.logs import expect_lines, lines_of, words_of
 from live.origin import Origin, whole

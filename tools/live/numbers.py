@@ -5,12 +5,15 @@ import threading
 
 from live.client import PATIENCE, request
 from live.expect import expect, expect_answer, expect_refusal
-from live.origin import Origin, held_back, whole
+from live.origin import Origin, whole
 from live.scenario import KEPT, scenario
 from live.staying import STORED
 
 # A number of 16 bits is one of so many. So many connections are open at a time.
 NUMBERS, SIDE_BY_SIDE = 1 << 16, 100
+# The first may wait for so many seconds: a program that is built with checks takes minutes for the others.
+LONGEST = 600
+LONG = ["--origin-timeout", str(LONGEST), "--exchange-timeout", str(LONGEST)]
 # (reset, a connection leaves nothing behind in the system: its ports would run out)
 RESET = struct.pack("ii", 1, 0)
 
@@ -34,9 +37,10 @@ def ask_and_go(proxy, count):
 def a_reply_goes_to_who_asked_behind_many_others(stage):
     """The first client waits for its origin while 65,536 others ask and go: who comes then has its own answers, the first gets nothing
     of them, and at last what it asked for."""
-    go = threading.Event()
-    origin = stage.origin(Origin({"/late": held_back(go, whole(200, KEPT, content=b"late")), "/a": whole(200, KEPT, content=b"hello")}))
-    proxy = stage.proxy(("/denied", ["*"], "deny"), ("/", ["GET"], origin.address), records=False)
+    go, late = threading.Event(), whole(200, KEPT, content=b"late")
+    # (it waits for as long as the others take)
+    origin = stage.origin(Origin({"/late": lambda fetch: go.wait(LONGEST) and late(fetch), "/a": whole(200, KEPT, content=b"hello")}))
+    proxy = stage.proxy(("/denied", ["*"], "deny"), ("/", ["GET"], origin.address), records=False, options=LONG)
     first = proxy.client()
     first.send(request("/late"))
     origin.wait_for(1)
