@@ -40,6 +40,30 @@ FAULTS = [
     ("[[line]]", "[line]", "config fault 9", "a table has 1 to 256 lines, each of which begins with [[line]]"),
     ('version = 1', 'version = 2', "config fault 11 line 1", 'in [[line]] number 1 cache has to be "on" or "off"'),
 ]
+# Where such a fault is, where a third line says it: a part of that line.
+PLACES = {
+    "config fault 1": "line 2, column 8",
+    "config fault 2 key colour": "the key colour stands at the top of the table",
+    "config fault 2 key cache": "the key cache stands in [[line]] number 1",
+}
+# Lines of which some are never reached, and what is told of a table with them.
+CROSSED = [
+    ("/a", ["GET"], "127.0.0.1:1"),
+    ("/", ["*"], "127.0.0.1:2", {"lifetime": 60, "explain": "storing"}),
+    ("/a/b", ["GET"], "deny"),
+    ("/c", ["POST"], "127.0.0.1:3"),
+    ("/", ["TRACEROUTE"], "deny"),
+]
+IDLE = "".join(f"line {n} is never reached: line {first} takes all of it\n" for n, first in ((3, 1), (4, 2), (5, 2)))
+IDLE += "max_stored is above max_body: what is larger than max_body isn't stored either\n"
+# What requests meet there.
+MET = [
+    ("GET http://h.example/a/b", "is allowed by line 1, origin 127.0.0.1:1", ['cache = "on"']),
+    ("GET https://h.example", "is allowed by line 2, origin 127.0.0.1:2", ['cache = "on"', "lifetime = 60", 'explain = "storing"']),
+    ("DELETE http://h.example/%61?x=/", "is allowed by line 2, origin 127.0.0.1:2", ['cache = "on"', "lifetime = 60", 'explain = "storing"']),
+    ("OPTIONS http://h.example/a", "is denied: no line allows it", []),
+    ("GET http://h.example/a/../b", "is refused before the table is asked: no segment of a path may be . or .., escaped or not", []),
+]
 # The most bytes of a script, and of one happening in it.
 MOST_SCRIPT, MOST_HAPPENING = 16777216, 4200
 
@@ -234,7 +258,7 @@ def who_sits_at_a_terminal_is_told_what_is_awaited(stage):
 
 @scenario
 def a_check_says_what_may_stand_there(stage):
-    """`check` of a table at fault: beside the line that names the fault, one on standard output says what may stand there."""
+    """`check` of a table at fault: beside the line that names the fault, one on standard output says what may stand there, and where it is."""
     good, file = table_of(["127.0.0.1:1"]), f"{stage.room.name}/table.toml"
     for old, new, named, words in FAULTS:
         text = good.replace(old, new, 1)
@@ -244,8 +268,25 @@ def a_check_says_what_may_stand_there(stage):
             it.write(text)
         status, out, err = run(stage, "check", file)
         expect(f"of `{new}` status and standard error", (2, f"{named}\n"), (status, err))
-        if words not in out or out.count("\n") != 1:
-            raise Unexpected(f"of `{new}`, on standard output", f"a line with `{words}`", out)
+        # (what a parser says of a text that is no TOML may have more lines)
+        said, _, place = out.partition("\n")
+        if words not in said or PLACES.get(named, "") not in place or bool(place) != (named in PLACES):
+            raise Unexpected(f"of `{new}`, on standard output", f"a line with `{words}`, then {PLACES.get(named, 'none')}", out)
+
+
+@scenario
+def a_check_says_what_has_no_effect_and_what_a_request_meets(stage):
+    """`check` of a good table names lines that are never reached and a limit above another; with `--ask` also what a request meets."""
+    file = f"{stage.room.name}/table.toml"
+    with open(file, "w", encoding="utf-8") as it:
+        it.write(table_of(CROSSED, max_body=10, max_stored=11, version=3))
+    expect("of a table", (0, f"ok 5 lines\n{IDLE}", ""), run(stage, "check", file))
+    for asked, met, words in MET:
+        told = f"{asked} {met}\n" + "".join(f"    {it}\n" for it in words)
+        expect(f"of `{asked}`", (0, f"ok 5 lines\n{IDLE}{told}", ""), run(stage, "check", file, "--ask", asked))
+    for words in ("", "GET", "http://h.example/", "GET h.example/", "GET ftp://h.example/", "G@T http://h.example/"):
+        status, out, err = run(stage, "check", file, "--ask", words)
+        expect(f"of `{words}` status and standard error", (64, "usage fault\n"), (status, err))
 
 
 def replay(stage, script, **more):
