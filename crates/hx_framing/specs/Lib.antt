@@ -36,5 +36,4 @@ pub mod ChunkTokens
 pub mod Decoding
 pub mod Written
 pub mod WrittenResponse
-pub mod FaultTexts
 pub mod FaultOrder

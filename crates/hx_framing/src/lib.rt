@@ -23,7 +23,7 @@
 //! | `Contents` | the content by its framing (`body_at`) | 9112, 6 |
 //! | `Chunks`, `Chunking` | content in chunks, a byte at a time, each fault at its byte | 9112, 7.1 |
 //! | `SizeLine` | which lines are sizes of chunks, and their limits | 9112, 7.1 and 7.1.1 |
-//! | `Fault`, `FaultTexts` | the faults' numbers and texts | |
+//! | `Fault` | the faults' numbers | |
 //! | `RequestState`, `ResponseState` | what `kept` and `weight` count, and what is unfinished (`IsUnfinished`), by `IsOpen` of `Contents` and `IsOpenLine` of `ChunkTokens` | |
 //! | `Text` | the bytes of messages that are sent | 9112, 3 to 7 |
 //!

@@ -1,5 +1,4 @@
 pub mod Moments
-pub mod FaultTexts
 pub mod Replies
 pub mod Storing
 pub mod Leading

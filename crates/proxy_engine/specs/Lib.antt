@@ -1,7 +1,6 @@
 pub mod Lookahead
 pub mod Peeked
 pub mod Happenings
-pub mod FaultTexts
 pub mod Activities
 pub mod Story
 pub mod Admitted

@@ -1,10 +1,8 @@
 //! What the definitions give on values that can be judged by eye.
 ghost use Rattle.std.specs.Prelude.{◌≡◌, ◌∷◌, [], codes, length, Some, None, true, false};
 ghost use Rattle.hx_fields.specs.Examples.{line};
-ghost use Rattle.hx_framing.specs.declared.fault.FrameFault.TheVariants as fault;
 ghost use Rattle.hx_framing.specs.declared.writing.AddedLine.{AddedLine};
 ghost use Rattle.hx_framing.specs.Examples.{get_request, first_forward, stored_fields, hit_fields};
-ghost use Rattle.hx_framing.specs.FaultTexts.{fault_text};
 ghost use Rattle.hx_framing.specs.Places.{empty_lines_length, head_length};
 ghost use Rattle.hx_framing.specs.Text.{line_of, request_text, response_text};
 
@@ -55,22 +53,4 @@ pub fn empty_lines_in_front()
 /// A line that is added has its name and its value.
 pub fn added_lines()
     ensures { (added : AddedLine) → line_of added ≡ line added.name.now added.value.now }
-{}
-
-/// What each fault tells: what may stand there, or what is wrong.
-pub fn fault_texts()
-    ensures head { fault_text fault.Head
-        ≡ codes "a head has to be a start line, field lines and an empty line, of at most 32768 bytes and 100 field lines" }
-    ensures version { fault_text fault.Version ≡ codes "the version of a message has to be HTTP/1.0 or HTTP/1.1" }
-    ensures both_lengths { fault_text fault.BothLengths
-        ≡ codes "Transfer-Encoding and Content-Length may not stand in one message" }
-    ensures length { fault_text fault.Length
-        ≡ codes "the length of a message has to be one number in Content-Length, or chunked as the last coding of HTTP/1.1" }
-    ensures coding { fault_text fault.Coding ≡ codes "the only transfer coding that is read is chunked" }
-    ensures chunk { fault_text fault.Chunk
-        ≡ codes "each chunk has to be its size in hexadecimal digits, a line end, as many bytes, and a line end" }
-    ensures too_large { fault_text fault.TooLarge ≡ codes "the content of a message has more bytes than may be read" }
-    ensures expect { fault_text fault.Expect ≡ codes "the only expectation that is met is 100-continue" }
-    ensures truncated { fault_text fault.Truncated ≡ codes "the stream has ended in the middle of a message" }
-    ensures status { fault_text fault.Status ≡ codes "the status of a final response has to be from 200 to 599" }
 {}
