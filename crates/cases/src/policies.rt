@@ -12,6 +12,7 @@ fn with_word(policy: Policy, word: &str) -> Option<Policy> {
         ("set-cookie", "not-stored") => policy.stores_cookies = false,
         ("errors", "not-stored") => policy.stores_errors = false,
         ("request-directives", "ignored") => policy.heeds_requests = false,
+        ("wait", "missing-or-stale") => policy.waits_for_stale = true,
         ("explain", "storing") => policy.explains_storing = true,
         _ => return None,
     }
@@ -46,5 +47,6 @@ pub fn write_words(text: &mut String, policy: Policy) -> Result<(), AllocError> 
     write_unless(text, policy.stores_cookies, " set-cookie=not-stored")?;
     write_unless(text, policy.stores_errors, " errors=not-stored")?;
     write_unless(text, policy.heeds_requests, " request-directives=ignored")?;
+    write_unless(text, !policy.waits_for_stale, " wait=missing-or-stale")?;
     write_unless(text, !policy.explains_storing, " explain=storing")
 }

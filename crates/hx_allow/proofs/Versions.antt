@@ -67,10 +67,10 @@ no_cache ms none = not_among_known (Line One) (codes "cache") ms refl none
 
 -- where no word of the third version stands none is bad, and the policy is that of the versions before
 pub no_bad_word : (ms : Members) → HasNoWord ms → first_bad_word ms ≡ None
-no_bad_word ms none = rw none.lifetime (rw none.stale_if_error (rw none.set_cookie (rw none.errors (rw none.request_directives (rw none.explain refl)))))
+no_bad_word ms none = rw none.lifetime (rw none.stale_if_error (rw none.set_cookie (rw none.errors (rw none.request_directives (rw none.wait (rw none.explain refl))))))
 
 pub plain_policy : (ms : Members) → HasNoWord ms → policy_read ms ≡ plain (not (says (codes "cache") (codes "off") ms))
-plain_policy ms none = rw none.lifetime (rw none.stale_if_error (rw none.set_cookie (rw none.errors (rw none.request_directives (rw none.explain refl)))))
+plain_policy ms none = rw none.lifetime (rw none.stale_if_error (rw none.set_cookie (rw none.errors (rw none.request_directives (rw none.wait (rw none.explain refl))))))
 
 no_words : (version : TableVersion) (ms : Members) → ¬ (version ≡ Three) → first_unknown (Line version) ms ≡ None → HasNoWord ms
 no_words One ms other none = record {
@@ -79,6 +79,7 @@ no_words One ms other none = record {
   set_cookie = not_among_known (Line One) (codes "set-cookie") ms refl none;
   errors = not_among_known (Line One) (codes "errors") ms refl none;
   request_directives = not_among_known (Line One) (codes "request-directives") ms refl none;
+  wait = not_among_known (Line One) (codes "wait") ms refl none;
   explain = not_among_known (Line One) (codes "explain") ms refl none;
 }
 no_words Two ms other none = record {
@@ -87,6 +88,7 @@ no_words Two ms other none = record {
   set_cookie = not_among_known (Line Two) (codes "set-cookie") ms refl none;
   errors = not_among_known (Line Two) (codes "errors") ms refl none;
   request_directives = not_among_known (Line Two) (codes "request-directives") ms refl none;
+  wait = not_among_known (Line Two) (codes "wait") ms refl none;
   explain = not_among_known (Line Two) (codes "explain") ms refl none;
 }
 no_words Three ms other none = absurd (other refl)
@@ -109,9 +111,10 @@ without_words (member key value ms) none =
     let set_cookie = is_other (codes "set-cookie") key value (get_member (codes "set-cookie") ms) none.set_cookie in
     let errors = is_other (codes "errors") key value (get_member (codes "errors") ms) none.errors in
     let request_directives = is_other (codes "request-directives") key value (get_member (codes "request-directives") ms) none.request_directives in
+    let wait = is_other (codes "wait") key value (get_member (codes "wait") ms) none.wait in
     let explain = is_other (codes "explain") key value (get_member (codes "explain") ms) none.explain in
-    let rest : HasNoWord ms = record { lifetime = lifetime.1; stale_if_error = stale_if_error.1; set_cookie = set_cookie.1; errors = errors.1; request_directives = request_directives.1; explain = explain.1 } in
-    rw lifetime.0 (rw stale_if_error.0 (rw set_cookie.0 (rw errors.0 (rw request_directives.0 (rw explain.0 (rw (without_words ms rest) refl))))))
+    let rest : HasNoWord ms = record { lifetime = lifetime.1; stale_if_error = stale_if_error.1; set_cookie = set_cookie.1; errors = errors.1; request_directives = request_directives.1; wait = wait.1; explain = explain.1 } in
+    rw lifetime.0 (rw stale_if_error.0 (rw set_cookie.0 (rw errors.0 (rw request_directives.0 (rw wait.0 (rw explain.0 (rw (without_words ms rest) refl)))))))
 
 pub same_fault : (version : TableVersion) (n : ℕ) (ms : Members) → get_member (codes "cache") ms ≡ None → HasNoWord ms → line_fault version n ms ≡ line_fault One n ms
 unfolding line_fault

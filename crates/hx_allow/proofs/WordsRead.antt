@@ -12,7 +12,7 @@ use Rattle.hx_allow.specs.Values.{first_unknown, text_at, items_at, is_some_and,
 use Rattle.hx_allow.specs.Versions.{HasNoWord, TakesItsWords}
 use Rattle.hx_allow.specs.declared.faults.ConfigFault.TheVariants.{UnknownKey, BadHost, BadMethod, BadPath, BadOrigin, BadCache, BadWord}
 use Rattle.hx_allow.specs.declared.faults.LineWord.{LineWord}
-use Rattle.hx_allow.specs.declared.faults.LineWord.TheVariants.{Lifetime, StaleIfError, SetCookie, Errors, RequestDirectives, Explain}
+use Rattle.hx_allow.specs.declared.faults.LineWord.TheVariants.{Lifetime, StaleIfError, SetCookie, Errors, RequestDirectives, Wait, Explain}
 use Rattle.hx_allow.specs.declared.values.Scope.TheVariants.{Line}
 use Rattle.hx_allow.specs.declared.values.TableVersion.{TableVersion}
 use Rattle.hx_allow.proofs.LinesRead.{none_stands, each_line_read}
@@ -43,14 +43,16 @@ no_words ms untaken none =
     let third = none_stands (not (has_good_word SetCookie ms)) _ SetCookie second.1 in
     let fourth = none_stands (not (has_good_word Errors ms)) _ Errors third.1 in
     let fifth = none_stands (not (has_good_word RequestDirectives ms)) _ RequestDirectives fourth.1 in
-    let sixth = none_stands (not (has_good_word Explain ms)) _ Explain fifth.1 in
+    let sixth = none_stands (not (has_good_word Wait ms)) _ Wait fifth.1 in
+    let seventh = none_stands (not (has_good_word Explain ms)) _ Explain sixth.1 in
     record {
       lifetime = absent Lifetime ms untaken (not_false (has_good_word Lifetime ms) first.0);
       stale_if_error = absent StaleIfError ms untaken (not_false (has_good_word StaleIfError ms) second.0);
       set_cookie = absent SetCookie ms untaken (not_false (has_good_word SetCookie ms) third.0);
       errors = absent Errors ms untaken (not_false (has_good_word Errors ms) fourth.0);
       request_directives = absent RequestDirectives ms untaken (not_false (has_good_word RequestDirectives ms) fifth.0);
-      explain = absent Explain ms untaken (not_false (has_good_word Explain ms) sixth.0);
+      wait = absent Wait ms untaken (not_false (has_good_word Wait ms) sixth.0);
+      explain = absent Explain ms untaken (not_false (has_good_word Explain ms) seventh.0);
     }
 
 -- a line that takes words has an origin and its cache on

@@ -3,7 +3,7 @@ use Rattle.std.specs.Prelude.{ℕ, List, [], ◌++◌, Option, None, Some, codes
 use Rattle.hx_allow.specs.declared.faults.ConfigFault.{ConfigFault}
 use Rattle.hx_allow.specs.declared.faults.ConfigFault.TheVariants.{NotToml, UnknownKey, BadName, BadNumber, BadHost, BadMethod, BadPath, BadOrigin, NoLines, OutOfMemory, BadCache, BadWord}
 use Rattle.hx_allow.specs.declared.faults.LineWord.{LineWord}
-use Rattle.hx_allow.specs.declared.faults.LineWord.TheVariants.{Lifetime, StaleIfError, SetCookie, Errors, RequestDirectives, Explain}
+use Rattle.hx_allow.specs.declared.faults.LineWord.TheVariants.{Lifetime, StaleIfError, SetCookie, Errors, RequestDirectives, Wait, Explain}
 use Rattle.hx_allow.specs.declared.faults.NumberKey.{NumberKey}
 use Rattle.hx_allow.specs.declared.faults.NumberKey.TheVariants.{Version, Capacity, MaxBody, MaxStored}
 
@@ -31,12 +31,13 @@ words_of_word StaleIfError = codes "stale-if-error has to be a whole number of s
 words_of_word SetCookie = codes "set-cookie has to be \"stored\" or \"not-stored\", in a line that has an origin and its cache on"
 words_of_word Errors = codes "errors has to be \"stored\" or \"not-stored\", in a line that has an origin and its cache on"
 words_of_word RequestDirectives = codes "request-directives has to be \"heeded\" or \"ignored\", in a line that has an origin and its cache on"
+words_of_word Wait = codes "wait has to be \"missing\" or \"missing-or-stale\", in a line that has an origin and its cache on"
 words_of_word Explain = codes "explain has to be \"reuse\" or \"storing\", in a line that has an origin and its cache on"
 
 -- what has to stand there
 abbrev pub words_of : ConfigFault → List ℕ
 words_of NotToml = codes "the table is no TOML, has a key twice, or has more than 1048576 bytes; look for a quote or bracket that is missing"
-words_of (UnknownKey key) = codes "a key isn't known where it stands; correct its spelling or delete it: behind [[line]] keys belong to that line; cache needs version = 2 or 3, and lifetime, stale-if-error, set-cookie, errors, request-directives and explain need version = 3"
+words_of (UnknownKey key) = codes "a key isn't known where it stands; correct its spelling or delete it: behind [[line]] keys belong to that line; cache needs version = 2 or 3, and lifetime, stale-if-error, set-cookie, errors, request-directives, wait and explain need version = 3"
 words_of BadName = codes "name has to be a lower-case letter and at most 31 of a-z, 0-9 and -, in quotes"
 words_of (BadNumber key) = words_of_number key
 words_of (BadHost line) = codes "host has to be \"*\" or one host in lower case, without a port, an IPv6 address in brackets"

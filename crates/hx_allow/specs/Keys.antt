@@ -3,7 +3,7 @@ use Rattle.std.specs.Prelude.{ℕ, List, [], ◌∷◌, codes, map}
 use Rattle.hx_allow.specs.declared.faults.ConfigFault.{ConfigFault}
 use Rattle.hx_allow.specs.declared.faults.ConfigFault.TheVariants.{NotToml, UnknownKey, BadName, BadNumber, BadHost, BadMethod, BadPath, BadOrigin, NoLines, OutOfMemory, BadCache, BadWord}
 use Rattle.hx_allow.specs.declared.faults.LineWord.{LineWord}
-use Rattle.hx_allow.specs.declared.faults.LineWord.TheVariants.{Lifetime, StaleIfError, SetCookie, Errors, RequestDirectives, Explain}
+use Rattle.hx_allow.specs.declared.faults.LineWord.TheVariants.{Lifetime, StaleIfError, SetCookie, Errors, RequestDirectives, Wait, Explain}
 use Rattle.hx_allow.specs.declared.faults.NumberKey.{NumberKey}
 use Rattle.hx_allow.specs.declared.faults.NumberKey.TheVariants.{Version, Capacity, MaxBody, MaxStored}
 
@@ -19,11 +19,12 @@ word_key StaleIfError = codes "stale-if-error"
 word_key SetCookie = codes "set-cookie"
 word_key Errors = codes "errors"
 word_key RequestDirectives = codes "request-directives"
+word_key Wait = codes "wait"
 word_key Explain = codes "explain"
 
 -- the words of a line, in the order in which they are looked at
 abbrev pub line_words : List LineWord
-line_words = Lifetime ∷ StaleIfError ∷ SetCookie ∷ Errors ∷ RequestDirectives ∷ Explain ∷ []
+line_words = Lifetime ∷ StaleIfError ∷ SetCookie ∷ Errors ∷ RequestDirectives ∷ Wait ∷ Explain ∷ []
 
 abbrev pub word_keys : List (List ℕ)
 word_keys = map word_key line_words

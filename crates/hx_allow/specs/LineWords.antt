@@ -8,7 +8,7 @@ use Rattle.hx_policy.specs.declared.words.Policy.{Policy}
 use Rattle.hx_allow.specs.Keys.{line_words, word_key}
 use Rattle.hx_allow.specs.Values.{text_at, is_some_and, number_between}
 use Rattle.hx_allow.specs.declared.faults.LineWord.{LineWord}
-use Rattle.hx_allow.specs.declared.faults.LineWord.TheVariants.{Lifetime, StaleIfError, SetCookie, Errors, RequestDirectives, Explain}
+use Rattle.hx_allow.specs.declared.faults.LineWord.TheVariants.{Lifetime, StaleIfError, SetCookie, Errors, RequestDirectives, Wait, Explain}
 
 -- the most seconds that a lifetime has (RFC 9111, section 1.2.2)
 abbrev pub most_seconds : ℕ
@@ -34,6 +34,7 @@ has_good_value StaleIfError ms = is_some (stale_if_error_at ms)
 has_good_value SetCookie ms = has_either (codes "set-cookie") (codes "stored") (codes "not-stored") ms
 has_good_value Errors ms = has_either (codes "errors") (codes "stored") (codes "not-stored") ms
 has_good_value RequestDirectives ms = has_either (codes "request-directives") (codes "heeded") (codes "ignored") ms
+has_good_value Wait ms = has_either (codes "wait") (codes "missing") (codes "missing-or-stale") ms
 has_good_value Explain ms = has_either (codes "explain") (codes "reuse") (codes "storing") ms
 
 -- a key says this text
@@ -61,5 +62,6 @@ policy_read ms = record {
   stores_cookies = not (says (codes "set-cookie") (codes "not-stored") ms);
   stores_errors = not (says (codes "errors") (codes "not-stored") ms);
   heeds_requests = not (says (codes "request-directives") (codes "ignored") ms);
+  waits_for_stale = says (codes "wait") (codes "missing-or-stale") ms;
   explains_storing = says (codes "explain") (codes "storing") ms;
 }

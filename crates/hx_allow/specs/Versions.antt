@@ -11,6 +11,7 @@ pub record HasNoWord (ms : Members) : Type 0 where
   pub set_cookie : get_member (codes "set-cookie") ms ≡ None
   pub errors : get_member (codes "errors") ms ≡ None
   pub request_directives : get_member (codes "request-directives") ms ≡ None
+  pub wait : get_member (codes "wait") ms ≡ None
   pub explain : get_member (codes "explain") ms ≡ None
 
 -- a line has no word of the third version, or it allows and has its cache on

@@ -50,6 +50,8 @@ fn words_of_word(word: LineWord) -> &'static str
             "errors has to be \"stored\" or \"not-stored\", in a line that has an origin and its cache on",
         LineWord::RequestDirectives =>
             "request-directives has to be \"heeded\" or \"ignored\", in a line that has an origin and its cache on",
+        LineWord::Wait =>
+            "wait has to be \"missing\" or \"missing-or-stale\", in a line that has an origin and its cache on",
         LineWord::Explain =>
             "explain has to be \"reuse\" or \"storing\", in a line that has an origin and its cache on",
     }
@@ -63,7 +65,7 @@ fn words_of(fault: &ConfigFault) -> &'static str
         ConfigFault::NotToml =>
             "the table is no TOML, has a key twice, or has more than 1048576 bytes; look for a quote or bracket that is missing",
         ConfigFault::UnknownKey(_) =>
-            "a key isn't known where it stands; correct its spelling or delete it: behind [[line]] keys belong to that line; cache needs version = 2 or 3, and lifetime, stale-if-error, set-cookie, errors, request-directives and explain need version = 3",
+            "a key isn't known where it stands; correct its spelling or delete it: behind [[line]] keys belong to that line; cache needs version = 2 or 3, and lifetime, stale-if-error, set-cookie, errors, request-directives, wait and explain need version = 3",
         ConfigFault::BadName =>
             "name has to be a lower-case letter and at most 31 of a-z, 0-9 and -, in quotes",
         ConfigFault::BadNumber(key) => words_of_number(*key),

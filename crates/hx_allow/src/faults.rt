@@ -47,6 +47,8 @@ pub enum LineWord {
     Errors,
     /// Whether a request's no-cache, max-age and min-fresh count (RFC 9111, section 5.2.1).
     RequestDirectives,
+    /// Whether a GET waits for another that goes forward since what is held is stale (RFC 9111, section 4).
+    Wait,
     /// Whether an answer that isn't stored tells why (RFC 9211, section 2.8).
     Explain,
 }
@@ -62,6 +64,7 @@ impl LineWord {
             LineWord::SetCookie => "set-cookie",
             LineWord::Errors => "errors",
             LineWord::RequestDirectives => "request-directives",
+            LineWord::Wait => "wait",
             LineWord::Explain => "explain",
         }
     }

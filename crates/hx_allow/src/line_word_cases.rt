@@ -10,7 +10,7 @@ ghost use Rattle.hx_allow.specs.LineTables.{line_fault, line_of};
 ghost use Rattle.hx_allow.specs.Tables.{judge_table};
 ghost use Rattle.hx_allow.specs.Values.{is_known};
 ghost use Rattle.hx_allow.specs.declared.faults.ConfigFault.TheVariants.{BadCache, BadWord, UnknownKey};
-ghost use Rattle.hx_allow.specs.declared.faults.LineWord.TheVariants.{Lifetime, StaleIfError, SetCookie, Errors, RequestDirectives, Explain};
+ghost use Rattle.hx_allow.specs.declared.faults.LineWord.TheVariants.{Lifetime, StaleIfError, SetCookie, Errors, RequestDirectives, Wait, Explain};
 ghost use Rattle.hx_allow.specs.declared.values.Scope.TheVariants.{Top, Line};
 ghost use Rattle.hx_allow.specs.declared.values.TableVersion.TheVariants.{One, Two, Three};
 
@@ -21,6 +21,7 @@ pub fn keys_of_words()
     ensures set_cookie { is_known (Line Three) (word_key SetCookie) ≡ true }
     ensures errors { is_known (Line Three) (word_key Errors) ≡ true }
     ensures request_directives { is_known (Line Three) (word_key RequestDirectives) ≡ true }
+    ensures wait { is_known (Line Three) (word_key Wait) ≡ true }
     ensures explain { is_known (Line Three) (word_key Explain) ≡ true }
     ensures cache { is_known (Line Three) (codes "cache") ≡ true }
     ensures host { is_known (Line Three) (codes "host") ≡ true }
@@ -33,6 +34,8 @@ pub fn keys_of_words()
     ensures text_of_set_cookie { word_key SetCookie ≡ codes "set-cookie" }
     ensures text_of_errors { word_key Errors ≡ codes "errors" }
     ensures text_of_request_directives { word_key RequestDirectives ≡ codes "request-directives" }
+    ensures text_of_wait { word_key Wait ≡ codes "wait" }
+    ensures wait_of_two { is_known (Line Two) (codes "wait") ≡ false }
     ensures text_of_explain { word_key Explain ≡ codes "explain" }
 {}
 
@@ -65,6 +68,10 @@ pub fn texts_of_a_line()
     ensures errors_heeded { line_fault Three 1 (with_keys (text (codes "errors") (codes "heeded") ∷ [])) ≡ Some (BadWord 1 Errors) }
     ensures directives_heeded { line_fault Three 1 (with_keys (text (codes "request-directives") (codes "heeded") ∷ [])) ≡ None }
     ensures directives_ignored { line_fault Three 1 (with_keys (text (codes "request-directives") (codes "ignored") ∷ [])) ≡ None }
+    ensures wait_missing { line_fault Three 1 (with_keys (text (codes "wait") (codes "missing") ∷ [])) ≡ None }
+    ensures wait_stale { line_fault Three 1 (with_keys (text (codes "wait") (codes "missing-or-stale") ∷ [])) ≡ None }
+    ensures wait_stale_alone { line_fault Three 1 (with_keys (text (codes "wait") (codes "stale") ∷ [])) ≡ Some (BadWord 1 Wait) }
+    ensures wait_no_text { line_fault Three 1 (with_keys ((codes "wait", boolean true) ∷ [])) ≡ Some (BadWord 1 Wait) }
     ensures explain_reuse { line_fault Three 1 (with_keys (text (codes "explain") (codes "reuse") ∷ [])) ≡ None }
     ensures explain_storing { line_fault Three 1 (with_keys (text (codes "explain") (codes "storing") ∷ [])) ≡ None }
     ensures explain_all { line_fault Three 1 (with_keys (text (codes "explain") (codes "all") ∷ [])) ≡ Some (BadWord 1 Explain) }
@@ -84,6 +91,8 @@ pub fn where_words_stand()
     ensures set_cookie_next { line_fault Three 2 (with_keys (text (codes "set-cookie") (codes "x") ∷ text (codes "errors") (codes "x") ∷ text (codes "request-directives") (codes "x") ∷ [])) ≡ Some (BadWord 2 SetCookie) }
     ensures errors_next { line_fault Three 2 (with_keys (text (codes "errors") (codes "x") ∷ text (codes "request-directives") (codes "x") ∷ [])) ≡ Some (BadWord 2 Errors) }
     ensures directives_next { line_fault Three 2 (with_keys (text (codes "explain") (codes "x") ∷ text (codes "request-directives") (codes "x") ∷ [])) ≡ Some (BadWord 2 RequestDirectives) }
+    ensures wait_next { line_fault Three 2 (with_keys (text (codes "explain") (codes "x") ∷ text (codes "wait") (codes "x") ∷ [])) ≡ Some (BadWord 2 Wait) }
+    ensures wait_denying { line_fault Three 2 (denying_with (text (codes "wait") (codes "missing") ∷ [])) ≡ Some (BadWord 2 Wait) }
     ensures explain_last { line_fault Three 2 (with_keys (text (codes "explain") (codes "x") ∷ [])) ≡ Some (BadWord 2 Explain) }
 {}
 
@@ -99,6 +108,8 @@ pub fn what_words_say()
     ensures errors { (line_of (with_keys (text (codes "errors") (codes "not-stored") ∷ []))).policy ≡ record (plain true) { stores_errors = false } }
     ensures errors_stored { (line_of (with_keys (text (codes "errors") (codes "stored") ∷ []))).policy ≡ plain true }
     ensures directives { (line_of (with_keys (text (codes "request-directives") (codes "ignored") ∷ []))).policy ≡ record (plain true) { heeds_requests = false } }
+    ensures wait { (line_of (with_keys (text (codes "wait") (codes "missing-or-stale") ∷ []))).policy ≡ record (plain true) { waits_for_stale = true } }
+    ensures wait_missing { (line_of (with_keys (text (codes "wait") (codes "missing") ∷ []))).policy ≡ plain true }
     ensures explain { (line_of (with_keys (text (codes "explain") (codes "storing") ∷ []))).policy ≡ record (plain true) { explains_storing = true } }
     ensures explain_reuse { (line_of (with_keys (text (codes "explain") (codes "reuse") ∷ []))).policy ≡ plain true }
     ensures directives_heeded { (line_of (with_keys (text (codes "request-directives") (codes "heeded") ∷ []))).policy ≡ plain true }
@@ -107,5 +118,5 @@ pub fn what_words_say()
 /// A whole table of version 3.
 #[tactic(auto, unfolding(toml::proofs::OnLiterals::toml_on_literals, crate::specs::Tables::judge_table, crate::specs::Tables::table_fault, crate::specs::Tables::table_of, crate::specs::Tables::is_name, crate::specs::LineTables::line_fault, crate::specs::LineTables::line_of, crate::specs::LineTables::is_line_host, crate::specs::LineTables::is_line_method, crate::specs::LineTables::is_line_path, crate::specs::Addresses::is_address, hx_target::specs::Hosts::is_host, hx_target::specs::Hosts::short_number, hx_target::specs::Paths::has_dot_segment))]
 pub fn a_table_with_words_is_read()
-    ensures { option_map judge_table (parse_document (codes "version = 3\nname = \"edge\"\ncapacity = 2\nmax_body = 1000\nmax_stored = 1000\n\n[[line]]\nhost = \"*\"\nmethods = [\"GET\"]\npath = \"/\"\norigin = \"127.0.0.1:8081\"\nlifetime = 60\nstale-if-error = 600\nset-cookie = \"not-stored\"\nerrors = \"not-stored\"\nrequest-directives = \"ignored\"\nexplain = \"storing\"\n")) ≡ Some (Ok (record { name = codes "edge"; capacity = 2; max_body = 1000; max_stored = 1000; lines = record (reads None (codes "GET") (codes "/") origin_8081) { policy = record { caches = true; lifetime = Some 60; stale_if_error = Some 600; stores_cookies = false; stores_errors = false; heeds_requests = false; explains_storing = true } } ∷ [] })) }
+    ensures { option_map judge_table (parse_document (codes "version = 3\nname = \"edge\"\ncapacity = 2\nmax_body = 1000\nmax_stored = 1000\n\n[[line]]\nhost = \"*\"\nmethods = [\"GET\"]\npath = \"/\"\norigin = \"127.0.0.1:8081\"\nlifetime = 60\nstale-if-error = 600\nset-cookie = \"not-stored\"\nerrors = \"not-stored\"\nrequest-directives = \"ignored\"\nwait = \"missing-or-stale\"\nexplain = \"storing\"\n")) ≡ Some (Ok (record { name = codes "edge"; capacity = 2; max_body = 1000; max_stored = 1000; lines = record (reads None (codes "GET") (codes "/") origin_8081) { policy = record { caches = true; lifetime = Some 60; stale_if_error = Some 600; stores_cookies = false; stores_errors = false; heeds_requests = false; waits_for_stale = true; explains_storing = true } } ∷ [] })) }
 {}

@@ -52,6 +52,7 @@ fn has_good_value(word: LineWord, table: &Table) -> bool
         LineWord::SetCookie => has_either(table, "set-cookie", "stored", "not-stored"),
         LineWord::Errors => has_either(table, "errors", "stored", "not-stored"),
         LineWord::RequestDirectives => has_either(table, "request-directives", "heeded", "ignored"),
+        LineWord::Wait => has_either(table, "wait", "missing", "missing-or-stale"),
         LineWord::Explain => has_either(table, "explain", "reuse", "storing"),
     }
 }
@@ -87,6 +88,9 @@ pub fn first_bad_word(table: &Table) -> Option<LineWord>
     if !has_good_word(LineWord::RequestDirectives, table) {
         return Some(LineWord::RequestDirectives);
     }
+    if !has_good_word(LineWord::Wait, table) {
+        return Some(LineWord::Wait);
+    }
     if !has_good_word(LineWord::Explain, table) {
         return Some(LineWord::Explain);
     }
@@ -104,6 +108,7 @@ pub fn policy_read(table: &Table) -> Policy
         stores_cookies: !says(table, "set-cookie", "not-stored"),
         stores_errors: !says(table, "errors", "not-stored"),
         heeds_requests: !says(table, "request-directives", "ignored"),
+        waits_for_stale: says(table, "wait", "missing-or-stale"),
         explains_storing: says(table, "explain", "storing"),
     }
 }

@@ -72,6 +72,7 @@ fn is_word_key(key: &[u8]) -> bool
         || key == b"set-cookie".as_slice()
         || key == b"errors".as_slice()
         || key == b"request-directives".as_slice()
+        || key == b"wait".as_slice()
         || key == b"explain".as_slice()
 }
 

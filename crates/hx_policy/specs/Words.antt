@@ -14,6 +14,7 @@ plain caches = record {
   stores_cookies = true;
   stores_errors = true;
   heeds_requests = true;
+  waits_for_stale = false;
   explains_storing = false;
 }
 

@@ -5,7 +5,7 @@ ghost use Rattle.hx_policy.specs.Words.{plain, is_heuristic, given_lifetime};
 ghost use Rattle.hx_policy.specs.declared.words.Policy.{Policy as Words};
 
 /// A line that has no word of version 3 gives no lifetime and no stale-if-error, stores and heeds what the written rules say,
-/// and tells no storing rule.
+/// lets nobody wait for what is stale, and tells no storing rule.
 pub fn a_plain_policy_has_no_words()
     ensures caches { (caches : Bool) → (plain caches).caches ≡ caches }
     ensures lifetime { (caches : Bool) (status : ℕ) → given_lifetime (plain caches) status ≡ None }
@@ -13,6 +13,7 @@ pub fn a_plain_policy_has_no_words()
     ensures cookies { (caches : Bool) → (plain caches).stores_cookies ≡ true }
     ensures errors { (caches : Bool) → (plain caches).stores_errors ≡ true }
     ensures requests { (caches : Bool) → (plain caches).heeds_requests ≡ true }
+    ensures waiting { (caches : Bool) → (plain caches).waits_for_stale ≡ false }
     ensures storing { (caches : Bool) → (plain caches).explains_storing ≡ false }
 {}
 

@@ -21,6 +21,9 @@ pub struct Policy {
     pub stores_errors: bool,
     /// A request's no-cache, max-age and min-fresh count (RFC 9111, section 5.2.1, calls them advisory).
     pub heeds_requests: bool,
+    /// A GET that goes forward since what is held is stale waits for another that did, as one for which nothing is held does;
+    /// and a request whose own answer may not be stored leads nobody (RFC 9111, section 4).
+    pub waits_for_stale: bool,
     /// An answer that is passed on, isn't stored and tells no other detail tells the first storing rule against it (RFC 9211,
     /// section 2.8).
     pub explains_storing: bool,
@@ -38,6 +41,7 @@ impl Policy {
             stores_cookies: true,
             stores_errors: true,
             heeds_requests: true,
+            waits_for_stale: false,
             explains_storing: false,
         }
     }

@@ -83,7 +83,7 @@ module _ (table : Table) (es : List Stored) (xs : List Exchange) (now : ℕ) (as
       unless : (rule : ReuseRule) (against : Option ℕ) (b : Bool) → decision_of (policy_of table.lines n) es asked now ≡ decision.Forward rule against →
           Goes (unanswered table xs n now asked rule (condition_at es against) b)
       unless rule against true d = tt
-      unless rule against false d = led rule against (leader_for xs asked rule) d
+      unless rule against false d = led rule against (leader_for (policy_of table.lines n) xs asked rule) d
 
       by_decision : (d : Decision) → decision_of (policy_of table.lines n) es asked now ≡ d → Goes (allowed table es xs n now asked d)
       by_decision (decision.Hit t) k = tt

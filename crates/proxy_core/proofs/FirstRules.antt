@@ -111,7 +111,7 @@ module _ (table : Table) (limit : ℕ) (past : List Item) (distinct : Distinct (
           decision_of (policy_of table.lines line) es asked now ≡ decision.Forward rule against → is_only_if_cached asked ≡ b →
           NamesFirst table limit past next x (Arrive now id asked) (unanswered table xs line now asked rule (condition_at es against) b)
       unless line rule against true v d k = λ h. inr (inr (line, rule, v, k, (names_the_least (policy_of table.lines line) es asked now rule against d).0, refl))
-      unless line rule against false v d k = on line (condition_at es against) (leader_for xs asked rule)
+      unless line rule against false v d k = on line (condition_at es against) (leader_for (policy_of table.lines line) xs asked rule)
 
       by_decision : (line : ℕ) (d : Decision) → verdict_of table.lines asked.method asked.target ≡ verdict.Allowed line → decision_of (policy_of table.lines line) es asked now ≡ d →
           NamesFirst table limit past next x (Arrive now id asked) (allowed table es xs line now asked d)

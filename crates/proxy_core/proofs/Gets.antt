@@ -10,6 +10,7 @@ use Rattle.std.proofs.lemmas.Map.Keys.{sorted_head, sorted_tail}
 use Rattle.std.proofs.lemmas.Bool.{cases_Bool, eqb-true, false≢true}
 use Rattle.std.proofs.lemmas.Bool.Decides.{nat_tests}
 use Rattle.std.proofs.lemmas.Option.{same_Some}
+use Rattle.hx_policy.specs.declared.words.Policy.{Policy}
 use Rattle.hx_reuse.specs.declared.rule.ReuseRule.{ReuseRule}
 use Rattle.hx_target.specs.declared.keys.Key.{Key}
 use Rattle.hx_target.specs.Keys.{same_key}
@@ -17,7 +18,7 @@ use Rattle.proxy_core.specs.declared.condition.Condition.{Condition}
 use Rattle.proxy_core.specs.declared.exchange.Exchange.{Exchange}
 use Rattle.proxy_core.specs.declared.get_index.GetIndex.{GetIndex}
 use Rattle.proxy_core.specs.declared.stage.Stage.TheVariants.{Released}
-use Rattle.proxy_core.specs.Leading.{is_get, is_uri_miss, is_forwarded, waits_for, leads, leader}
+use Rattle.proxy_core.specs.Leading.{is_get, goes_alike, may_lead, is_forwarded, waits_for, leads, leader}
 use Rattle.proxy_core.specs.State.{release, overtake, goes_out, gone_out, sent_out}
 use Rattle.proxy_core.specs.Arrivals.{AreApart, Pass, Tells, on_all}
 use Rattle.proxy_core.specs.Gets.{asks_for, gets_in, GetsPass, IsGetEntered, GetHasLeft, AreSame, AreWithout}
@@ -67,59 +68,59 @@ overtake-asked key x = elim (same_key x.asked.target.key key) as (λ b. (cond b 
 -- ---- the first that leads
 
 -- those that lead have numbers that are still to come, and these ascend
-abbrev pub LeadersLeft : Key → List ℕ → Numbered → Type 0
-LeadersLeft key ns es = Pass (leads key) (λ k. list_any (λ n. at k n) ns) es × IsStrictlySortedBy nat_cmp ns
+abbrev pub LeadersLeft : Policy → ReuseRule → Key → List ℕ → Numbered → Type 0
+LeadersLeft policy why key ns es = Pass (leads policy why key) (λ k. list_any (λ n. at k n) ns) es × IsStrictlySortedBy nat_cmp ns
 
 parts : (a b c : Bool) → (a && (b && c)) ≡ true → (a && b) ≡ true
 parts true true c h = refl
 parts true false c h = absurd (false≢true h)
 parts false b c h = absurd (false≢true h)
 
-gets_lead : (key : Key) (p : ℕ → Bool) (es : Numbered) → GetsPass key p es → Pass (leads key) p es
-gets_lead key p [] h = tt
-gets_lead key p (e ∷ es) h =
-    (λ w. h.0 (parts (same_key e.1.asked.target.key key) (is_get e.1.asked) (is_uri_miss e.1.rule && is_forwarded e.1.stage) w), gets_lead key p es h.1)
+gets_lead : (policy : Policy) (why : ReuseRule) (key : Key) (p : ℕ → Bool) (es : Numbered) → GetsPass key p es → Pass (leads policy why key) p es
+gets_lead policy why key p [] h = tt
+gets_lead policy why key p (e ∷ es) h =
+    (λ w. h.0 (parts (same_key e.1.asked.target.key key) (is_get e.1.asked) (goes_alike e.1.rule why && (is_forwarded e.1.stage && may_lead policy e.1.for_others)) w), gets_lead policy why key p es h.1)
 
-pub leaders : (key : Key) (ns : List ℕ) (es : Numbered) → IsStrictlySortedBy nat_cmp ns → GetsPass key (λ k. list_any (λ n. at k n) ns) es → LeadersLeft key ns es
-leaders key ns es s h = (gets_lead key (λ k. list_any (λ n. at k n) ns) es h, s)
+pub leaders : (policy : Policy) (why : ReuseRule) (key : Key) (ns : List ℕ) (es : Numbered) → IsStrictlySortedBy nat_cmp ns → GetsPass key (λ k. list_any (λ n. at k n) ns) es → LeadersLeft policy why key ns es
+leaders policy why key ns es s h = (gets_lead policy why key (λ k. list_any (λ n. at k n) ns) es h, s)
 
-nobody : (key : Key) (es : Numbered) → Pass (leads key) (λ k. false) es → leader key (values_of es) ≡ None
-nobody key [] h = refl
-nobody key (e ∷ es) h = elim (cases_Bool (leads key e.1)) [
+nobody : (policy : Policy) (why : ReuseRule) (key : Key) (es : Numbered) → Pass (leads policy why key) (λ k. false) es → leader policy why key (values_of es) ≡ None
+nobody policy why key [] h = refl
+nobody policy why key (e ∷ es) h = elim (cases_Bool (leads policy why key e.1)) [
   | inl t ↦ absurd (false≢true (h.0 t))
-  | inr f ↦ ap (λ b. cond b (Some e.1.id) (leader key (values_of es))) f ∙ nobody key es h.1
+  | inr f ↦ ap (λ b. cond b (Some e.1.id) (leader policy why key (values_of es))) f ∙ nobody policy why key es h.1
 ]
 
-pub none_leads : (key : Key) (es : Numbered) → LeadersLeft key [] es → leader key (values_of es) ≡ None
-none_leads key es h = nobody key es h.0
+pub none_leads : (policy : Policy) (why : ReuseRule) (key : Key) (es : Numbered) → LeadersLeft policy why key [] es → leader policy why key (values_of es) ≡ None
+none_leads policy why key es h = nobody policy why key es h.0
 
-pub none_asks : (key : Key) (es : Numbered) → GetsPass key (λ k. false) es → leader key (values_of es) ≡ None
-none_asks key es h = nobody key es (gets_lead key (λ k. false) es h)
+pub none_asks : (policy : Policy) (why : ReuseRule) (key : Key) (es : Numbered) → GetsPass key (λ k. false) es → leader policy why key (values_of es) ≡ None
+none_asks policy why key es h = nobody policy why key es (gets_lead policy why key (λ k. false) es h)
 
 rest_of : (n m : ℕ) (ns : List ℕ) → eqb n m ≡ false → list_any (λ k. at m k) (n ∷ ns) ≡ true → list_any (λ k. at m k) ns ≡ true
 rest_of n m ns o t = sym (ap (λ b. b || list_any (λ k. at m k) ns) (not_at n m o)) ∙ t
 
 -- one that isn't open
-pub not_open : (key : Key) (n : ℕ) (ns : List ℕ) (es : Numbered) → None ≡ lookup (at n) es → LeadersLeft key (n ∷ ns) es → LeadersLeft key ns es
-not_open key n ns es none h = (
-  pass-but (leads key) n (λ k. list_any (λ m. at k m) (n ∷ ns)) (λ k. list_any (λ m. at k m) ns) es (sym none) (λ m o t. rest_of n m ns o t) h.0,
+pub not_open : (policy : Policy) (why : ReuseRule) (key : Key) (n : ℕ) (ns : List ℕ) (es : Numbered) → None ≡ lookup (at n) es → LeadersLeft policy why key (n ∷ ns) es → LeadersLeft policy why key ns es
+not_open policy why key n ns es none h = (
+  pass-but (leads policy why key) n (λ k. list_any (λ m. at k m) (n ∷ ns)) (λ k. list_any (λ m. at k m) ns) es (sym none) (λ m o t. rest_of n m ns o t) h.0,
   sorted_tail nat_cmp n ns h.1,
 )
 
 -- one that doesn't lead
-pub not_leading : (key : Key) (n : ℕ) (x : Exchange) (ns : List ℕ) (es : Numbered) → IsStrictlySortedBy nat_cmp (keys_of es) → Some x ≡ lookup (at n) es → leads key x ≡ false →
-    LeadersLeft key (n ∷ ns) es → LeadersLeft key ns es
-not_leading key n x ns es s there idle h = (go es s there h.0, sorted_tail nat_cmp n ns h.1)
+pub not_leading : (policy : Policy) (why : ReuseRule) (key : Key) (n : ℕ) (x : Exchange) (ns : List ℕ) (es : Numbered) → IsStrictlySortedBy nat_cmp (keys_of es) → Some x ≡ lookup (at n) es → leads policy why key x ≡ false →
+    LeadersLeft policy why key (n ∷ ns) es → LeadersLeft policy why key ns es
+not_leading policy why key n x ns es s there idle h = (go es s there h.0, sorted_tail nat_cmp n ns h.1)
   where
-    go : (es : Numbered) → IsStrictlySortedBy nat_cmp (keys_of es) → Some x ≡ lookup (at n) es → Pass (leads key) (λ k. list_any (λ m. at k m) (n ∷ ns)) es → Pass (leads key) (λ k. list_any (λ m. at k m) ns) es
+    go : (es : Numbered) → IsStrictlySortedBy nat_cmp (keys_of es) → Some x ≡ lookup (at n) es → Pass (leads policy why key) (λ k. list_any (λ m. at k m) (n ∷ ns)) es → Pass (leads policy why key) (λ k. list_any (λ m. at k m) ns) es
     go [] s there h = tt
     go (e ∷ es) s there h = elim (cases_Bool (at n e.0)) [
       | inl t ↦ (
           let is : x ≡ e.1 = same_Some x e.1 (there ∙ ap (λ b. cond b (Some e.1) (lookup (at n) es)) t) in
           let k : n ≡ e.0 = eqb-true n e.0 (sym (at_is n e.0) ∙ t) in
           let none : lookup (at n) es ≡ None = ap (λ i. lookup (at i) es) k ∙ none_behind e.0 es (sorted_head nat_cmp e.0 (keys_of es) s) in (
-            λ w. absurd (false≢true (sym idle ∙ ap (leads key) is ∙ w)),
-            pass-but (leads key) n (λ k. list_any (λ m. at k m) (n ∷ ns)) (λ k. list_any (λ m. at k m) ns) es none (λ m o t. rest_of n m ns o t) h.1,
+            λ w. absurd (false≢true (sym idle ∙ ap (leads policy why key) is ∙ w)),
+            pass-but (leads policy why key) n (λ k. list_any (λ m. at k m) (n ∷ ns)) (λ k. list_any (λ m. at k m) ns) es none (λ m o t. rest_of n m ns o t) h.1,
           )
           )
       | inr f ↦ ((
@@ -130,9 +131,9 @@ not_leading key n x ns es s there idle h = (go es s there h.0, sorted_tail nat_c
     ]
 
 -- one that does
-pub it_leads : (key : Key) (n : ℕ) (x : Exchange) (ns : List ℕ) (es : Numbered) → IsStrictlySortedBy nat_cmp (keys_of es) → Some x ≡ lookup (at n) es → leads key x ≡ true →
-    LeadersLeft key (n ∷ ns) es → Some x.id ≡ leader key (values_of es)
-it_leads key n x ns es s there active h = go (sorted_head nat_cmp n ns h.1) es s there h.0
+pub it_leads : (policy : Policy) (why : ReuseRule) (key : Key) (n : ℕ) (x : Exchange) (ns : List ℕ) (es : Numbered) → IsStrictlySortedBy nat_cmp (keys_of es) → Some x ≡ lookup (at n) es → leads policy why key x ≡ true →
+    LeadersLeft policy why key (n ∷ ns) es → Some x.id ≡ leader policy why key (values_of es)
+it_leads policy why key n x ns es s there active h = go (sorted_head nat_cmp n ns h.1) es s there h.0
   where
     later : (m : ℕ) (ms : List ℕ) → AllByRecursion (λ k. nat_cmp n k ≡ Less) ms → list_any (λ k. at m k) ms ≡ true → nat_cmp n m ≡ Less
     later m [] a t = absurd (false≢true t)
@@ -148,23 +149,23 @@ it_leads key n x ns es s there active h = go (sorted_head nat_cmp n ns h.1) es s
         through : (m k : ℕ) → nat_cmp n m ≡ Less → nat_cmp m k ≡ Less → nat_cmp n k ≡ Less
         through m k a b = grind (arith, nat_tests, a, b)
 
-    go : AllByRecursion (λ k. nat_cmp n k ≡ Less) ns → (es : Numbered) → IsStrictlySortedBy nat_cmp (keys_of es) → Some x ≡ lookup (at n) es → Pass (leads key) (λ k. list_any (λ m. at k m) (n ∷ ns)) es → Some x.id ≡ leader key (values_of es)
+    go : AllByRecursion (λ k. nat_cmp n k ≡ Less) ns → (es : Numbered) → IsStrictlySortedBy nat_cmp (keys_of es) → Some x ≡ lookup (at n) es → Pass (leads policy why key) (λ k. list_any (λ m. at k m) (n ∷ ns)) es → Some x.id ≡ leader policy why key (values_of es)
     go a [] s there h = absurd (cc)
     go a (e ∷ es) s there h = elim (cases_Bool (at n e.0)) [
       | inl t ↦ (
           let is : x ≡ e.1 = same_Some x e.1 (there ∙ ap (λ b. cond b (Some e.1) (lookup (at n) es)) t) in
-          ap (λ (y : Exchange). Some y.id) is ∙ sym (ap (λ b. cond b (Some e.1.id) (leader key (values_of es))) (sym (ap (leads key) is) ∙ active))
+          ap (λ (y : Exchange). Some y.id) is ∙ sym (ap (λ b. cond b (Some e.1.id) (leader policy why key (values_of es))) (sym (ap (leads policy why key) is) ∙ active))
           )
       | inr f ↦ (
           let rest : Some x ≡ lookup (at n) es = there ∙ ap (λ b. cond b (Some e.1) (lookup (at n) es)) f in
-          elim (cases_Bool (leads key e.1)) [
+          elim (cases_Bool (leads policy why key e.1)) [
             | inl t ↦ (
                 let l : nat_cmp n e.0 ≡ Less = later e.0 ns a (rest_of n e.0 ns (sym (at_is n e.0) ∙ f) (h.0 t)) in
                 let none : lookup (at n) es ≡ None = none_behind n es (before e.0 es l (sorted_head nat_cmp e.0 (keys_of es) s)) in
                 let wrong : Some x ≡ None = rest ∙ none in
                 absurd (cc)
                 )
-            | inr o ↦ go a es (sorted_tail nat_cmp e.0 (keys_of es) s) rest h.1 ∙ sym (ap (λ b. cond b (Some e.1.id) (leader key (values_of es))) o)
+            | inr o ↦ go a es (sorted_tail nat_cmp e.0 (keys_of es) s) rest h.1 ∙ sym (ap (λ b. cond b (Some e.1.id) (leader policy why key (values_of es))) o)
           ]
           )
     ]

@@ -197,7 +197,7 @@ module _ (table : Table) (es : List Stored) where
 
       unless : (rule : ReuseRule) (condition : Option Condition) (b : Bool) → close_in asked.close (unanswered table xs line now asked rule condition b) ≡ asked.close
       unless rule condition true = refl
-      unless rule condition false = on condition (leader_for xs asked rule)
+      unless rule condition false = on condition (leader_for (policy_of table.lines line) xs asked rule)
 
       by_decision : (d : Decision) → close_in asked.close (allowed table es xs line now asked d) ≡ asked.close
       by_decision (decision.Hit s) = refl

@@ -18,6 +18,7 @@ pub mod Carries
 pub mod InOrder
 pub mod FirstRules
 pub mod Leads
+pub mod Openings
 pub mod SendLaws
 pub mod SentResponses
 pub mod Uncached

@@ -22,7 +22,6 @@ use Rattle.hx_reuse.specs.Rules.{decision_of}
 use Rattle.hx_reuse.specs.Meaning.{IsLeast, NamesTheResponse}
 use Rattle.hx_reuse.specs.ErrorRules.{error_rule_on}
 use Rattle.hx_reuse.specs.declared.rule.ReuseRule.{ReuseRule}
-use Rattle.hx_reuse.specs.declared.rule.ReuseRule.TheVariants as rules
 use Rattle.hx_reuse.specs.declared.rule.ErrorRule.{ErrorRule}
 use Rattle.hx_reuse.specs.declared.decision.Decision.{Decision}
 use Rattle.hx_reuse.specs.declared.decision.Decision.TheVariants as decision
@@ -134,9 +133,6 @@ forward_same table es asked now line a b o p m n =
     m.outcome_is ∙ ap (λ c. Forward line (forward_text table asked (condition_at es c))) against ∙ sym n.outcome_is
 
 module _ (table : Table) (es : List Stored) (xs : List Exchange) (now : ℕ) (asked : Asked) where
-  one_leads : (l : ℕ) → leader_for xs asked rules.UriMiss ≡ None → leader_for xs asked rules.UriMiss ≡ Some l → {P : Type 0} → P
-  one_leads l a b = never_one l (sym a ∙ b)
-
   turned_same : (o p : Outcome) → IsTurnedAway table now asked o → IsTurnedAway table now asked p → o ≡ p
   turned_same o p (inl (line, v, m)) (inl (other, w, n)) =
       let same : verdict.DeniedBy line ≡ verdict.DeniedBy other = sym v ∙ w in
@@ -147,10 +143,12 @@ module _ (table : Table) (es : List Stored) (xs : List Exchange) (now : ℕ) (as
   turned_same o p (inr (v, m)) (inr (w, n)) = m ∙ sym n
 
   module _ (line : ℕ) (o p : Outcome) (unused : used_in o ≡ None) (other_unused : used_in p ≡ None) where
-    meets : (rule : ReuseRule) → IsLeast (policy_of table.lines line) es asked now rule → NobodyLeads xs asked rule → WaitsForTheFirst table es xs now asked line p → {P : Type 0} → P
+    meets : (rule : ReuseRule) → IsLeast (policy_of table.lines line) es asked now rule → NobodyLeads (policy_of table.lines line) xs asked rule → WaitsForTheFirst table es xs now asked line p → {P : Type 0} → P
     meets rule least nobody w =
-        let miss : rule ≡ rules.UriMiss = one_rule (policy_of table.lines line) es asked now rule rules.UriMiss least w.nothing_held in
-        one_leads w.leader (sym (ap (leader_for xs asked) miss) ∙ leads_for_none xs asked rule nobody) (leads_for xs asked w.leader w.gets w.first_leads)
+        let same : rule ≡ w.rule = one_rule (policy_of table.lines line) es asked now rule w.rule least w.rule_is_least in
+        never_one w.leader
+        (sym (sym (ap (leader_for (policy_of table.lines line) xs asked) same) ∙ leads_for_none (policy_of table.lines line) xs asked rule nobody)
+        ∙ leads_for (policy_of table.lines line) xs asked w.rule w.leader w.gets w.may_wait w.first_leads)
 
   reached_same : (line : ℕ) (o p : Outcome) → used_in o ≡ None → used_in p ≡ None → IsReached table es xs now asked line o → IsReached table es xs now asked line p → o ≡ p
   reached_same line o p u v (inl (s, used)) h = never_one s (sym u ∙ used)
@@ -160,7 +158,11 @@ module _ (table : Table) (es : List Stored) (xs : List Exchange) (now : ℕ) (as
   reached_same line o p u v (inr (inl (a, m, others, nobody))) (inr (inr (inr (b, only, least, is)))) = no_true (sym others ∙ only)
   reached_same line o p u v (inr (inr (inl w))) (inr (inl (b, n, others, nobody))) = meets line p o v u b n.is_least nobody w
   reached_same line o p u v (inr (inr (inl w))) (inr (inr (inl z))) =
-      let same : Some w.leader ≡ Some z.leader = sym (leads_for xs asked w.leader w.gets w.first_leads) ∙ leads_for xs asked z.leader z.gets z.first_leads in
+      let rule : w.rule ≡ z.rule = one_rule (policy_of table.lines line) es asked now w.rule z.rule w.rule_is_least z.rule_is_least in
+      let same : Some w.leader ≡ Some z.leader =
+      sym (leads_for (policy_of table.lines line) xs asked w.rule w.leader w.gets w.may_wait w.first_leads)
+      ∙ ap (leader_for (policy_of table.lines line) xs asked) rule ∙ leads_for (policy_of table.lines line) xs asked z.rule z.leader z.gets z.may_wait z.first_leads
+      in
       w.outcome_is ∙ ap (λ l. Waits l) (same_Some w.leader z.leader same) ∙ sym z.outcome_is
   reached_same line o p u v (inr (inr (inl w))) (inr (inr (inr (b, only, least, is)))) = no_true (sym w.takes_others ∙ only)
   reached_same line o p u v (inr (inr (inr (a, only, least, is)))) (inr (inl (b, n, others, nobody))) = no_true (sym others ∙ only)

@@ -49,7 +49,7 @@ use Rattle.proxy_core.specs.Traces.{Item}
 use Rattle.proxy_core.specs.Histories.{IsGoodHistory, held_entries, open_exchanges, next_serial}
 use Rattle.proxy_core.specs.Sending.{IsReusable, MayBeSentInstead, IsFallback, MayBeSentAt, IsReached, IsTurnedAway, SendsStoredWhereItMay, SendsStoredNowhereElse, ForwardsWhereAllowed, ForwardsNowhereElse, ReachesWhereAllowed, RefusesWhereNotAllowed}
 use Rattle.proxy_core.proofs.Leaving.{serial_stays}
-use Rattle.proxy_core.proofs.Leads.{nobody_leads, is_led}
+use Rattle.proxy_core.proofs.Leads.{nobody_leads, is_led, led_by}
 use Rattle.proxy_core.proofs.FirstRules.{held_distinct}
 
 never_one : (s : ℕ) → ◌≡◌ {A = Option ℕ} None (Some s) → ⊥
@@ -232,7 +232,7 @@ module _ (table : Table) (es : List Stored) (distinct : Distinct (serials es)) (
 
       unless : (rule : ReuseRule) (condition : Option Condition) (b : Bool) → used_in (unanswered table xs line now asked rule condition b) ≡ Some s → ⊥
       unless rule condition true h = never_one s h
-      unless rule condition false h = on condition (leader_for xs asked rule) h
+      unless rule condition false h = on condition (leader_for (policy_of table.lines line) xs asked rule) h
 
       by_decision : (d : Decision) → decision_of (policy_of table.lines line) es asked now ≡ d → used_in (allowed table es xs line now asked d) ≡ Some s → IsReusable (policy_of table.lines line) es asked now s
       by_decision (decision.Hit t) k h = subst (λ n. IsReusable (policy_of table.lines line) es asked now n) (same_Some t s h) (reused_is_allowed (policy_of table.lines line) es asked now t k)
@@ -378,23 +378,30 @@ forwards_where_allowed table limit first now id line asked rule item past g e v 
 abbrev GoesOn : Table → List Stored → List Exchange → ℕ → ℕ → Asked → Type 0
 GoesOn table es xs now line asked =
     (verdict_of table.lines asked.method asked.target ≡ verdict.Allowed line)
-    × ((rule : ReuseRule) × IsLeast (policy_of table.lines line) es asked now rule × (leader_for xs asked rule ≡ None)) × (is_only_if_cached asked ≡ false)
+    × ((rule : ReuseRule) × IsLeast (policy_of table.lines line) es asked now rule × (leader_for (policy_of table.lines line) xs asked rule ≡ None)) × (is_only_if_cached asked ≡ false)
 
 forward_parts : (table : Table) (es : List Stored) (xs : List Exchange) (now line : ℕ) (asked : Asked) (bytes : List ℕ) (v : Verdict) → verdict_of table.lines asked.method asked.target ≡ v →
     arrived table es xs now asked v ≡ Forward line bytes → GoesOn table es xs now line asked
 forward_parts table es xs now line asked bytes (verdict.Allowed n) v h = by_decision (decision_of (policy_of table.lines n) es asked now) refl h
   where
-    on : (rule : ReuseRule) (against leader : Option ℕ) → leader_for xs asked rule ≡ leader → is_only_if_cached asked ≡ false →
+    on : (rule : ReuseRule) (against leader : Option ℕ) → leader_for (policy_of table.lines n) xs asked rule ≡ leader → is_only_if_cached asked ≡ false →
         decision_of (policy_of table.lines n) es asked now ≡ decision.Forward rule against → sent_on table n asked (condition_at es against) leader ≡ Forward line bytes → GoesOn table es xs now line asked
     on rule against (Some leader) l k d h = absurd (cc)
     on rule against None l k d h =
-        let same : n ≡ line = cc in
-        (v ∙ ap (λ m. verdict.Allowed m) same, (rule, subst (λ m. IsLeast (policy_of table.lines m) es asked now rule) same (names_the_least (policy_of table.lines n) es asked now rule against d).0, l), k)
+        let same : n ≡ line = cc in (
+          v ∙ ap (λ m. verdict.Allowed m) same,
+          (
+            rule,
+            subst (λ m. IsLeast (policy_of table.lines m) es asked now rule) same (names_the_least (policy_of table.lines n) es asked now rule against d).0,
+            subst (λ m. leader_for (policy_of table.lines m) xs asked rule ≡ None) same l,
+          ),
+          k,
+        )
 
     unless : (rule : ReuseRule) (against : Option ℕ) (b : Bool) → is_only_if_cached asked ≡ b → decision_of (policy_of table.lines n) es asked now ≡ decision.Forward rule against →
         unanswered table xs n now asked rule (condition_at es against) b ≡ Forward line bytes → GoesOn table es xs now line asked
     unless rule against true k d h = absurd (cc)
-    unless rule against false k d h = on rule against (leader_for xs asked rule) refl k d h
+    unless rule against false k d h = on rule against (leader_for (policy_of table.lines n) xs asked rule) refl k d h
 
     by_decision : (d : Decision) → decision_of (policy_of table.lines n) es asked now ≡ d → allowed table es xs n now asked d ≡ Forward line bytes → GoesOn table es xs now line asked
     by_decision (decision.Hit t) k h = absurd (cc)
@@ -410,27 +417,29 @@ forwards_nothing_else table limit first now id line asked bytes item past g e h 
 -- ---- reaching cache or origin
 
 module _ (table : Table) (es : List Stored) (xs : List Exchange) (now : ℕ) (asked : Asked) where
-  reach_on : (line : ℕ) (rule : ReuseRule) (against leader : Option ℕ) → is_only_if_cached asked ≡ false → leader_for xs asked rule ≡ leader →
+  reach_on : (line : ℕ) (rule : ReuseRule) (against leader : Option ℕ) → is_only_if_cached asked ≡ false → leader_for (policy_of table.lines line) xs asked rule ≡ leader →
       decision_of (policy_of table.lines line) es asked now ≡ decision.Forward rule against → IsReached table es xs now asked line (sent_on table line asked (condition_at es against) leader)
   reach_on line rule against None k l d =
       let named = names_the_least (policy_of table.lines line) es asked now rule against d in
-      inr (inl (rule, record { is_least = named.0; against = against; names = named.1; outcome_is = refl }, k, nobody_leads xs asked rule l))
+      inr (inl (rule, record { is_least = named.0; against = against; names = named.1; outcome_is = refl }, k, nobody_leads (policy_of table.lines line) xs asked rule l))
   reach_on line rule against (Some leader) k l d =
       let named = names_the_least (policy_of table.lines line) es asked now rule against d in
-      let led = is_led xs asked rule leader l in
+      let led = is_led (policy_of table.lines line) xs asked rule leader l in
       inr (inr (inl (record {
         leader = leader;
         takes_others = k;
         gets = led.0;
-        nothing_held = subst (IsLeast (policy_of table.lines line) es asked now) led.1 named.0;
-        first_leads = led.2;
+        rule = rule;
+        rule_is_least = named.0;
+        may_wait = led.1;
+        first_leads = led_by (policy_of table.lines line) rule asked.target.key xs leader led.2;
         outcome_is = refl;
       })))
 
   reach_unless : (line : ℕ) (rule : ReuseRule) (against : Option ℕ) (b : Bool) → is_only_if_cached asked ≡ b → decision_of (policy_of table.lines line) es asked now ≡ decision.Forward rule against →
       IsReached table es xs now asked line (unanswered table xs line now asked rule (condition_at es against) b)
   reach_unless line rule against true k d = inr (inr (inr (rule, k, (names_the_least (policy_of table.lines line) es asked now rule against d).0, refl)))
-  reach_unless line rule against false k d = reach_on line rule against (leader_for xs asked rule) k refl d
+  reach_unless line rule against false k d = reach_on line rule against (leader_for (policy_of table.lines line) xs asked rule) k refl d
 
   reach : (line : ℕ) (d : Decision) → decision_of (policy_of table.lines line) es asked now ≡ d → IsReached table es xs now asked line (allowed table es xs line now asked d)
   reach line (decision.Hit s) d = inl (s, refl)

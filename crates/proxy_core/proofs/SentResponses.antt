@@ -133,7 +133,7 @@ module _ (table : Table) (es : List Stored) (distinct : Distinct (serials es)) w
       unless : (rule : ReuseRule) (condition : Option Condition) (b : Bool) → used_in (unanswered table xs line now asked rule condition b) ≡ Some s →
           IsThatResponse table es x (Arrive now id asked) (unanswered table xs line now asked rule condition b) s
       unless rule condition true h = absurd (never_one s h)
-      unless rule condition false h = on condition (leader_for xs asked rule) h
+      unless rule condition false h = on condition (leader_for (policy_of table.lines line) xs asked rule) h
 
       by_decision : (d : Decision) → decision_of (policy_of table.lines line) es asked now ≡ d → used_in (allowed table es xs line now asked d) ≡ Some s →
           IsThatResponse table es x (Arrive now id asked) (allowed table es xs line now asked d) s

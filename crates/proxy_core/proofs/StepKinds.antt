@@ -108,7 +108,7 @@ module _ (table : Table) (es : List Stored) (x : Option Exchange) (event : Event
   kind_unanswered : (xs : List Exchange) (line now : ℕ) (asked : Asked) (rule : ReuseRule) (condition : Option Condition) (b : Bool) → KindOf es x event next (unanswered table xs line now asked rule condition b)
   unfolding KindOf
   kind_unanswered xs line now asked rule condition true = idle refl refl
-  kind_unanswered xs line now asked rule condition false = kind_sent_on line asked condition (leader_for xs asked rule)
+  kind_unanswered xs line now asked rule condition false = kind_sent_on line asked condition (leader_for (policy_of table.lines line) xs asked rule)
 
   kind_allowed : (xs : List Exchange) (line now : ℕ) (asked : Asked) (d : Decision) → ((s : ℕ) → d ≡ decision.Hit s → IsFound es s) → KindOf es x event next (allowed table es xs line now asked d)
   unfolding KindOf

@@ -300,7 +300,7 @@ module _ (table : Table) (es : List Stored) (xs : List Exchange) (next : Option 
 
       unless : (line : ℕ) (rule : ReuseRule) (condition : Option Condition) (b : Bool) → removed_in (unanswered table xs line now asked rule condition b) ≡ []
       unless line rule condition true = refl
-      unless line rule condition false = on line condition (leader_for xs asked rule)
+      unless line rule condition false = on line condition (leader_for (policy_of table.lines line) xs asked rule)
 
       by_decision : (line : ℕ) (d : Decision) → removed_in (allowed table es xs line now asked d) ≡ []
       by_decision line (decision.Hit s) = refl

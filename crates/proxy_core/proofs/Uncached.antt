@@ -118,4 +118,9 @@ goes_forward_over_it table limit first now id line asked item past g e v off =
   where
     by_word : (b : Bool) → is_only_if_cached asked ≡ b → item.outcome ≡ unanswered table (open_exchanges table limit past) line now asked Operator None b → IsToldByTheOperator table now asked line item.outcome
     by_word true k is = inr (k, is)
-    by_word false k is = inl (k, is ∙ ap (λ (b : Bool). sent_on table line asked None (cond b (leader asked.target.key (open_exchanges table limit past)) None)) (and_none (is_get asked)))
+    by_word false k is = inl (
+      k,
+      is
+          ∙ ap (λ (b : Bool). sent_on table line asked None (cond (is_get asked && b) (leader (policy_of table.lines line) Operator asked.target.key (open_exchanges table limit past)) None)) (and_none (policy_of table.lines line).waits_for_stale)
+          ∙ ap (λ (b : Bool). sent_on table line asked None (cond b (leader (policy_of table.lines line) Operator asked.target.key (open_exchanges table limit past)) None)) (and_none (is_get asked)),
+    )

@@ -113,7 +113,7 @@ stored_arrival table es xs now asked (verdict.Allowed line) s h = by_decision (d
 
     unless : (rule : ReuseRule) (condition : Option Condition) (b : Bool) → stored_in (unanswered table xs line now asked rule condition b) ≡ Some s → ⊥
     unless rule condition true h = none_stored s h
-    unless rule condition false h = on condition (leader_for xs asked rule) h
+    unless rule condition false h = on condition (leader_for (policy_of table.lines line) xs asked rule) h
 
     by_decision : (d : Decision) → stored_in (allowed table es xs line now asked d) ≡ Some s → ⊥
     by_decision (decision.Hit t) h = none_stored s h

@@ -4,6 +4,7 @@ use Rattle.std.specs.Prelude.{option_map}
 use Rattle.std.specs.List.{AllByRecursion}
 use Rattle.std.proofs.lemmas.Bool.{eqb-true, eq-eqb, false≢true, false_from_ne_true}
 use Rattle.std.proofs.lemmas.Option.{same_Some}
+use Rattle.hx_policy.specs.declared.words.Policy.{Policy}
 use Rattle.hx_target.specs.declared.keys.Key.{Key}
 use Rattle.hx_target.specs.Keys.{same_key}
 use Rattle.hx_hop.specs.declared.request_view.Asked.{Asked}
@@ -16,7 +17,6 @@ use Rattle.hx_store.specs.Serials.{is_in}
 use Rattle.hx_reuse.specs.Rules.{decision_of}
 use Rattle.hx_reuse.specs.Meaning.{IsLeast}
 use Rattle.hx_reuse.specs.declared.rule.ReuseRule.{ReuseRule}
-use Rattle.hx_reuse.specs.declared.rule.ReuseRule.TheVariants as rules
 use Rattle.hx_reuse.specs.declared.decision.Decision.{Decision}
 use Rattle.hx_reuse.specs.declared.decision.Decision.TheVariants as decision
 use Rattle.hx_reuse.proofs.MeaningLemmas.{names_the_least, forwards}
@@ -32,7 +32,7 @@ use Rattle.proxy_core.specs.declared.event.Event.{Event}
 use Rattle.proxy_core.specs.declared.event.Event.TheVariants.{Arrive, Answer, Fail, Wake, Abandon}
 use Rattle.proxy_core.specs.declared.fault.CoreFault.{CoreFault}
 use Rattle.proxy_core.specs.Moments.{too_late}
-use Rattle.proxy_core.specs.Leading.{is_forwarded, is_released, waits_for, is_get, is_uri_miss, leads, leader, leader_for, ready_ids}
+use Rattle.proxy_core.specs.Leading.{is_forwarded, is_released, waits_for, is_get, is_uri_miss, has_expired, can_wait, goes_alike, is_for_others, may_lead, leads, leader, leader_for, ready_ids}
 use Rattle.proxy_core.specs.Validating.{condition_at}
 use Rattle.proxy_core.specs.Outcomes.{find_exchange, id_of, arrived, allowed, sent_on, unanswered, is_only_if_cached, fallback_for, failed, woken, outcome_of, outcome_by, or_fault, not_ready, fault_of, fault_by, forward_text}
 use Rattle.proxy_core.specs.State.{State, overtake, release, opened, queued, rule_of, open_after, used_in}
@@ -41,8 +41,8 @@ use Rattle.proxy_core.specs.Histories.{held_entries, open_exchanges, next_serial
 use Rattle.proxy_core.specs.Promises.{goes_forward, ends, is_arrival, NoneArrives, key_by_step}
 use Rattle.proxy_core.specs.Carrying.{ArrivesBefore, StandInOrder, ids_of}
 use Rattle.proxy_core.specs.Sending.{IsReusable}
-use Rattle.proxy_core.specs.Waiting.{CouldWait, WaitsWhereOneLeads, IsToWait, WaitsNowhereElse, has_closed, OneGoesForward, is_wake, was_woken, NoneOf, stage_of, IsReady, WaitsUntilItsLeaderEnds, WokenOnceBehindItsLeader, ReadyInOrderOfArrival, WokenExactlyWhereReady, WokenIsJudgedAnew}
-use Rattle.proxy_core.proofs.Leads.{first_is, led_by, is_the_miss}
+use Rattle.proxy_core.specs.Waiting.{CouldWait, WaitsWhereOneLeads, IsToWait, WaitsNowhereElse, has_closed, OneGoesForward, PlainLinesWaitForMisses, is_wake, was_woken, NoneOf, stage_of, IsReady, WaitsUntilItsLeaderEnds, WokenOnceBehindItsLeader, ReadyInOrderOfArrival, WokenExactlyWhereReady, WokenIsJudgedAnew}
+use Rattle.proxy_core.proofs.Leads.{led_by, led_for, first_leads, is_led}
 use Rattle.proxy_core.proofs.ExchangeLists.{changed_by, find-push}
 use Rattle.proxy_core.proofs.Moves.{Move, apart, opens, queues, passes, again, wakes, closes, asked_of, ended_by, move_of, and_none, is_either, answer_either, released_from}
 use Rattle.proxy_core.proofs.Tracing.{same_table}
@@ -55,67 +55,60 @@ use Rattle.proxy_core.proofs.OpenLaws.{id_was_free}
 -- ---- the first that leads
 
 -- where one leads there is a first
-some_leads : (key : Key) (id : ℕ) (xs : List Exchange) (z : Exchange) → find_exchange id xs ≡ Some z → leads key z ≡ true → (l : ℕ) × (leader key xs ≡ Some l)
-some_leads key id [] z f h = absurd (cc)
-some_leads key id (x ∷ xs) z f h = by_test (λ g. some_leads key id xs z g h) (leads key x) refl
+some_leads : (policy : Policy) (why : ReuseRule) (key : Key) (id : ℕ) (xs : List Exchange) (z : Exchange) → find_exchange id xs ≡ Some z → leads policy why key z ≡ true → (l : ℕ) × (leader policy why key xs ≡ Some l)
+some_leads policy why key id [] z f h = absurd (cc)
+some_leads policy why key id (x ∷ xs) z f h = by_test (λ g. some_leads policy why key id xs z g h) (leads policy why key x) refl
   where
-    by_id : (find_exchange id xs ≡ Some z → (l : ℕ) × (leader key xs ≡ Some l)) → leads key x ≡ false → (b : Bool) → cond b (Some x) (find_exchange id xs) ≡ Some z → (l : ℕ) × (leader key xs ≡ Some l)
-    by_id rest k true f = absurd (false≢true (sym k ∙ (ap (leads key) (same_Some x z f) ∙ h)))
+    by_id : (find_exchange id xs ≡ Some z → (l : ℕ) × (leader policy why key xs ≡ Some l)) → leads policy why key x ≡ false → (b : Bool) → cond b (Some x) (find_exchange id xs) ≡ Some z → (l : ℕ) × (leader policy why key xs ≡ Some l)
+    by_id rest k true f = absurd (false≢true (sym k ∙ (ap (leads policy why key) (same_Some x z f) ∙ h)))
     by_id rest k false f = rest f
 
-    by_test : (find_exchange id xs ≡ Some z → (l : ℕ) × (leader key xs ≡ Some l)) → (b : Bool) → leads key x ≡ b → (l : ℕ) × (cond b (Some x.id) (leader key xs) ≡ Some l)
+    by_test : (find_exchange id xs ≡ Some z → (l : ℕ) × (leader policy why key xs ≡ Some l)) → (b : Bool) → leads policy why key x ≡ b → (l : ℕ) × (cond b (Some x.id) (leader policy why key xs) ≡ Some l)
     by_test rest true k = (x.id, refl)
     by_test rest false k = by_id rest k (eqb x.id id) f
 
 -- ---- who waits
 
--- what becomes of a GET for whose key nothing is held, where one leads
-waits_for_it : (table : Table) (limit first now id line l : ℕ) (asked : Asked) (item : Item) (past : List Item) → IsGoodHistory table limit first (item ∷ past) → item.event ≡ Arrive now id asked →
-    CouldWait table limit past now line asked → leader asked.target.key (open_exchanges table limit past) ≡ Some l → item.outcome ≡ Waits l
-waits_for_it table limit first now id line l asked item past g e could led =
+-- what becomes of a GET that may wait, where one leads
+waits_for_it : (table : Table) (limit first now id line l : ℕ) (asked : Asked) (rule : ReuseRule) (item : Item) (past : List Item) → IsGoodHistory table limit first (item ∷ past) →
+    item.event ≡ Arrive now id asked → CouldWait table limit past now line asked rule → leader (policy_of table.lines line) rule asked.target.key (open_exchanges table limit past) ≡ Some l → item.outcome ≡ Waits l
+waits_for_it table limit first now id line l asked rule item past g e could led =
     let es = held_entries table limit past in
     let xs = open_exchanges table limit past in
-    let d = forwards (policy_of table.lines line) es asked now rules.UriMiss could.nothing_held in
+    let d = forwards (policy_of table.lines line) es asked now rule could.is_least in
     arrival_is table limit first now id asked item past g e
     ∙ (ap (λ (v : Verdict). arrived table es xs now asked v) could.line_allows
     ∙ (ap (λ (d : Decision). allowed table es xs line now asked d) d.1
-    ∙ (ap (λ b. unanswered table xs line now asked rules.UriMiss (condition_at es d.0) b) could.takes_others
-    ∙ (ap (λ b. sent_on table line asked (condition_at es d.0) (cond (b && true) (leader asked.target.key xs) None)) could.gets
-    ∙ ap (λ (o : Option ℕ). sent_on table line asked (condition_at es d.0) o) led))))
+    ∙ (ap (λ b. unanswered table xs line now asked rule (condition_at es d.0) b) could.takes_others
+    ∙ ap (λ (o : Option ℕ). sent_on table line asked (condition_at es d.0) o) (led_for (policy_of table.lines line) xs asked rule l could.gets could.may_wait led))))
 
 pub waits_where_one_leads : WaitsWhereOneLeads
-waits_where_one_leads table limit first now id line l asked item past g e could f =
-    waits_for_it table limit first now id line l asked item past g e could
-    (ap (leader asked.target.key) f.open_are ∙ (first_is asked.target.key f.before f.x f.behind f.it_leads f.none_before ∙ ap (λ n. Some n) f.id))
+waits_where_one_leads table limit first now id line l asked rule item past g e could f =
+    waits_for_it table limit first now id line l asked rule item past g e could
+    (first_leads (policy_of table.lines line) rule asked.target.key (open_exchanges table limit past) l f)
 
 -- what is known of a request that waits
 abbrev WaitsBy : Table → List Stored → List Exchange → ℕ → ℕ → Asked → Type 0
 WaitsBy table es xs now l asked =
-    (line : ℕ) × (verdict_of table.lines asked.method asked.target ≡ verdict.Allowed line) × (is_only_if_cached asked ≡ false) × (is_get asked ≡ true)
-    × IsLeast (policy_of table.lines line) es asked now rules.UriMiss × (leader asked.target.key xs ≡ Some l)
+    (line : ℕ) × (rule : ReuseRule) × (verdict_of table.lines asked.method asked.target ≡ verdict.Allowed line) × (is_only_if_cached asked ≡ false)
+    × IsLeast (policy_of table.lines line) es asked now rule
+    × ((is_get asked ≡ true) × (can_wait (policy_of table.lines line) rule ≡ true) × (leader (policy_of table.lines line) rule asked.target.key xs ≡ Some l))
 
 wait_parts : (table : Table) (es : List Stored) (xs : List Exchange) (now l : ℕ) (asked : Asked) (v : Verdict) → verdict_of table.lines asked.method asked.target ≡ v →
     arrived table es xs now asked v ≡ Waits l → WaitsBy table es xs now l asked
 wait_parts table es xs now l asked (verdict.Allowed line) v h = by_decision (decision_of (policy_of table.lines line) es asked now) refl h
   where
-    by_tests : (rule : ReuseRule) (against : Option ℕ) (a b : Bool) → is_get asked ≡ a → is_uri_miss rule ≡ b → is_only_if_cached asked ≡ false →
-        decision_of (policy_of table.lines line) es asked now ≡ decision.Forward rule against → cond (a && b) (leader asked.target.key xs) None ≡ Some l → WaitsBy table es xs now l asked
-    by_tests rule against false b k m c d h = absurd (cc)
-    by_tests rule against true false k m c d h = absurd (cc)
-    by_tests rule against true true k m c d h =
-        (line, v, c, k, subst (λ (q : ReuseRule). IsLeast (policy_of table.lines line) es asked now q) (is_the_miss rule m) (names_the_least (policy_of table.lines line) es asked now rule against d).0, h)
-
-    by_leader : (rule : ReuseRule) (against o : Option ℕ) → leader_for xs asked rule ≡ o → is_only_if_cached asked ≡ false →
+    by_leader : (rule : ReuseRule) (against o : Option ℕ) → leader_for (policy_of table.lines line) xs asked rule ≡ o → is_only_if_cached asked ≡ false →
         decision_of (policy_of table.lines line) es asked now ≡ decision.Forward rule against → sent_on table line asked (condition_at es against) o ≡ Waits l → WaitsBy table es xs now l asked
     by_leader rule against None k c d h = absurd (cc)
     by_leader rule against (Some m) k c d h =
         let same : m ≡ l = cc in
-        by_tests rule against (is_get asked) (is_uri_miss rule) refl refl c d (k ∙ ap (λ n. Some n) same)
+        (line, rule, v, c, (names_the_least (policy_of table.lines line) es asked now rule against d).0, is_led (policy_of table.lines line) xs asked rule l (k ∙ ap (λ n. Some n) same))
 
     unless : (rule : ReuseRule) (against : Option ℕ) (b : Bool) → is_only_if_cached asked ≡ b → decision_of (policy_of table.lines line) es asked now ≡ decision.Forward rule against →
         unanswered table xs line now asked rule (condition_at es against) b ≡ Waits l → WaitsBy table es xs now l asked
     unless rule against true k d h = absurd (cc)
-    unless rule against false k d h = by_leader rule against (leader_for xs asked rule) refl k d h
+    unless rule against false k d h = by_leader rule against (leader_for (policy_of table.lines line) xs asked rule) refl k d h
 
     by_decision : (d : Decision) → decision_of (policy_of table.lines line) es asked now ≡ d → allowed table es xs line now asked d ≡ Waits l → WaitsBy table es xs now l asked
     by_decision (decision.Hit t) k h = absurd (cc)
@@ -181,8 +174,9 @@ waits_nowhere_else table limit first l item past g h = by_event item.event refl
           asked = asked;
           line = p.0;
           arrives = e;
-          could = record { line_allows = p.1; takes_others = p.2; gets = p.3; nothing_held = p.4 };
-          first_leads = led_by asked.target.key (open_exchanges table limit past) l p.5;
+          rule = p.1;
+          could = record { line_allows = p.2; takes_others = p.3; gets = p.5.0; is_least = p.4; may_wait = p.5.1 };
+          first_leads = led_by (policy_of table.lines p.0) p.1 asked.target.key (open_exchanges table limit past) l p.5.2;
         }
     by_event (Answer now id r) e = late (ap is_arrival e)
     by_event (Fail now id kind) e = late (ap is_arrival e)
@@ -501,15 +495,16 @@ woken_is_judged_anew table limit first now id item past g e =
 
 -- ---- one goes forward
 
--- the exchange of an id is at the origin, for this request, since nothing was held
-record AtTheOrigin (asked : Asked) (y : Option Exchange) : Type 0 where
+-- the exchange of an id is at the origin, for this request, by this rule
+record AtTheOrigin (rule : ReuseRule) (asked : Asked) (y : Option Exchange) : Type 0 where
   x : Exchange
   y_is : y ≡ Some x
   asked_is : x.asked ≡ asked
-  rule : x.rule ≡ rules.UriMiss
+  rule_is : x.rule ≡ rule
+  for_others : x.for_others ≡ is_for_others asked
   stage : x.stage ≡ Forwarded
 
-module _ (table : Table) (limit first now id : ℕ) (asked : Asked) (before : List Item) (o : Outcome) where
+module _ (table : Table) (limit first now id : ℕ) (rule : ReuseRule) (asked : Asked) (before : List Item) (o : Outcome) where
   abbrev began : State
   began = begun table limit first
 
@@ -519,28 +514,29 @@ module _ (table : Table) (limit first now id : ℕ) (asked : Asked) (before : Li
   abbrev its : List Item → Option Exchange
   its items = find_exchange id (left began (items ++ first_item ∷ before)).exchanges
 
-  overtaken_at : (key : Key) (x : Exchange) → AtTheOrigin asked (Some x) → AtTheOrigin asked (Some (overtake key x))
+  overtaken_at : (key : Key) (x : Exchange) → AtTheOrigin rule asked (Some x) → AtTheOrigin rule asked (Some (overtake key x))
   overtaken_at key x a = by_test (same_key x.asked.target.key key)
     where
       same : a.x ≡ x
       same = same_Some a.x x (sym a.y_is)
 
-      by_test : (b : Bool) → AtTheOrigin asked (Some (cond b (record x { overtaken = true }) x))
+      by_test : (b : Bool) → AtTheOrigin rule asked (Some (cond b (record x { overtaken = true }) x))
       by_test true = record {
         x = record x { overtaken = true };
         y_is = refl;
         asked_is = ap (λ (z : Exchange). z.asked) (sym (same_Some a.x x (sym a.y_is))) ∙ a.asked_is;
-        rule = ap (λ (z : Exchange). z.rule) (sym (same_Some a.x x (sym a.y_is))) ∙ a.rule;
+        rule_is = ap (λ (z : Exchange). z.rule) (sym (same_Some a.x x (sym a.y_is))) ∙ a.rule_is;
+        for_others = ap (λ (z : Exchange). z.for_others) (sym (same_Some a.x x (sym a.y_is))) ∙ a.for_others;
         stage = ap (λ (z : Exchange). z.stage) (sym (same_Some a.x x (sym a.y_is))) ∙ a.stage;
       }
       by_test false = a
 
-  released_at : (i : ℕ) (x : Exchange) → AtTheOrigin asked (Some x) → AtTheOrigin asked (Some (release i x))
+  released_at : (i : ℕ) (x : Exchange) → AtTheOrigin rule asked (Some x) → AtTheOrigin rule asked (Some (release i x))
   released_at i x a =
       let stage : x.stage ≡ Forwarded = ap (λ (z : Exchange). z.stage) (same_Some x a.x a.y_is) ∙ a.stage in
-      subst (λ b. AtTheOrigin asked (Some (cond b (record x { stage = Released }) x))) (sym (ap (waits_for i) stage)) a
+      subst (λ b. AtTheOrigin rule asked (Some (cond b (record x { stage = Released }) x))) (sym (ap (waits_for i) stage)) a
 
-  changed_at : (key : Option Key) (gone : Option ℕ) (y : Option Exchange) → AtTheOrigin asked y → AtTheOrigin asked (changed_by key gone y)
+  changed_at : (key : Option Key) (gone : Option ℕ) (y : Option Exchange) → AtTheOrigin rule asked y → AtTheOrigin rule asked (changed_by key gone y)
   changed_at key gone None a =
       let none : None ≡ Some a.x = a.y_is in
       absurd (cc)
@@ -549,8 +545,8 @@ module _ (table : Table) (limit first now id : ℕ) (asked : Asked) (before : Li
   changed_at (Some key) None (Some x) a = overtaken_at key x a
   changed_at (Some key) (Some i) (Some x) a = overtaken_at key (release i x) (released_at i x a)
 
-  origin_more : (i : Item) (items : List Item) (w x y : Option Exchange) → Move id w i.event i.outcome x y → AtTheOrigin asked x → (has_closed id (i ∷ items) ≡ true) ⊎ AtTheOrigin asked y
-  origin_more i items w x y (apart n h) a = inr (subst (AtTheOrigin asked) (sym h) (changed_at (key_by_step (asked_of w) i.event i.outcome) (ended_by i.event i.outcome) x a))
+  origin_more : (i : Item) (items : List Item) (w x y : Option Exchange) → Move id w i.event i.outcome x y → AtTheOrigin rule asked x → (has_closed id (i ∷ items) ≡ true) ⊎ AtTheOrigin rule asked y
+  origin_more i items w x y (apart n h) a = inr (subst (AtTheOrigin rule asked) (sym h) (changed_at (key_by_step (asked_of w) i.event i.outcome) (ended_by i.event i.outcome) x a))
   origin_more i items w x y (opens at es t r line e x_is f h) a =
       let none : None ≡ Some a.x = sym x_is ∙ a.y_is in
       absurd (cc)
@@ -562,31 +558,31 @@ module _ (table : Table) (limit first now id : ℕ) (asked : Asked) (before : Li
       absurd (cc)
   origin_more i items w x y (again z t u e x_is c f h j s) a =
       let same : z ≡ a.x = same_Some z a.x (sym x_is ∙ a.y_is) in
-      inr (record { x = _; y_is = h; asked_is = ap (λ (v : Exchange). v.asked) same ∙ a.asked_is; rule = ap (λ (v : Exchange). v.rule) same ∙ a.rule; stage = refl })
+      inr (record { x = _; y_is = h; asked_is = ap (λ (v : Exchange). v.asked) same ∙ a.asked_is; rule_is = ap (λ (v : Exchange). v.rule) same ∙ a.rule_is; for_others = ap (λ (v : Exchange). v.for_others) same ∙ a.for_others; stage = refl })
   origin_more i items w x y (wakes at es z t e x_is s f h) a =
       let same : z.stage ≡ Forwarded = ap (λ (v : Exchange). v.stage) (same_Some z a.x (sym x_is ∙ a.y_is)) ∙ a.stage in
       absurd (false≢true (ap is_released (sym same) ∙ s))
   origin_more i items w x y (closes z t e x_is f h) a =
       inl (ap (λ b. (b && (not (is_arrival i.event) && ends i.outcome)) || has_closed id items) t ∙ (ap (λ b. (not b && ends i.outcome) || has_closed id items) e ∙ ap (λ b. b || has_closed id items) f))
 
-  origin : (items : List Item) → IsGood began (items ++ first_item ∷ before) → AtTheOrigin asked (its []) → (has_closed id items ≡ true) ⊎ AtTheOrigin asked (its items)
+  origin : (items : List Item) → IsGood began (items ++ first_item ∷ before) → AtTheOrigin rule asked (its []) → (has_closed id items ≡ true) ⊎ AtTheOrigin rule asked (its items)
   origin [] g a = inr a
   origin (i ∷ items) g a = by_rest (origin items g.1 a)
     where
-      by_rest : (has_closed id items ≡ true) ⊎ AtTheOrigin asked (its items) → (has_closed id (i ∷ items) ≡ true) ⊎ AtTheOrigin asked (its (i ∷ items))
+      by_rest : (has_closed id items ≡ true) ⊎ AtTheOrigin rule asked (its items) → (has_closed id (i ∷ items) ≡ true) ⊎ AtTheOrigin rule asked (its (i ∷ items))
       by_rest (inl c) = inl (ap (λ b. (eqb (id_of i.event) id && (not (is_arrival i.event) && ends i.outcome)) || b) c ∙ sym (or_true (eqb (id_of i.event) id && (not (is_arrival i.event) && ends i.outcome))))
       by_rest (inr a) = origin_more i items _ (its items) (its (i ∷ items)) (move_of table (left began (items ++ first_item ∷ before)) i id (same_table began (items ++ first_item ∷ before)) g.0) a
 
 -- it is, right behind the arrival at which it goes there
-at_the_arrival : (table : Table) (limit first now id line : ℕ) (asked : Asked) (bytes : List ℕ) (before : List Item) (o : Outcome) → o ≡ Forward line bytes →
+at_the_arrival : (table : Table) (limit first now id line : ℕ) (rule : ReuseRule) (asked : Asked) (bytes : List ℕ) (before : List Item) (o : Outcome) → o ≡ Forward line bytes →
     IsGood (begun table limit first) (record { event = Arrive now id asked; outcome = o } ∷ before) →
-    IsLeast (policy_of table.lines line) (held_entries table limit before) asked now rules.UriMiss →
-    AtTheOrigin asked (find_exchange id (left (begun table limit first) (record { event = Arrive now id asked; outcome = o } ∷ before)).exchanges)
-at_the_arrival table limit first now id line asked bytes before o went g least =
+    IsLeast (policy_of table.lines line) (held_entries table limit before) asked now rule →
+    AtTheOrigin rule asked (find_exchange id (left (begun table limit first) (record { event = Arrive now id asked; outcome = o } ∷ before)).exchanges)
+at_the_arrival table limit first now id line rule asked bytes before o went g least =
     let s = left (begun table limit first) before in
     let y = opened s.table s.entries now id asked line in
-    let d = forwards (policy_of table.lines line) (held_entries table limit before) asked now rules.UriMiss least in
-    let decided : decision_of (policy_of s.table.lines line) s.entries asked now ≡ decision.Forward rules.UriMiss d.0 =
+    let d = forwards (policy_of table.lines line) (held_entries table limit before) asked now rule least in
+    let decided : decision_of (policy_of s.table.lines line) s.entries asked now ≡ decision.Forward rule d.0 =
     ap (λ (t : Table). decision_of (policy_of t.lines line) s.entries asked now) (same_table (begun table limit first) before)
     ∙ (ap (λ (es : List Stored). decision_of (policy_of table.lines line) es asked now) (entries_are_held table limit first before g.1) ∙ d.1) in
     let free : find_exchange id s.exchanges ≡ None = id_was_free (find_exchange id s.exchanges) now id asked g.0.allowed in
@@ -595,15 +591,16 @@ at_the_arrival table limit first now id line asked bytes before o went g least =
       y_is = ap (λ (o : Outcome). find_exchange id (open_after s.table s.entries s.exchanges (Arrive now id asked) o)) went
           ∙ (find-push id s.exchanges y free ∙ ap (λ b. cond b (Some y) (find_exchange id s.exchanges)) (eq-eqb id id refl));
       asked_is = refl;
-      rule = ap rule_of decided;
+      rule_is = ap rule_of decided;
+      for_others = refl;
       stage = refl;
     }
 
 pub one_goes_forward : OneGoesForward
-one_goes_forward table limit first key other later earlier between before g same l e =
+one_goes_forward table limit first key other rule why later earlier between before g same alike l may e others =
     ap (λ (v : Event). has_closed (id_of v) between) e.arrives
-    ∙ by_fate (origin table limit first e.now e.id e.asked before earlier.outcome between p
-    (at_the_arrival table limit first e.now e.id e.line e.asked e.bytes before earlier.outcome e.forward (part (begun table limit first) between (item ∷ before) p) e.nothing_held))
+    ∙ by_fate (origin table limit first e.now e.id rule e.asked before earlier.outcome between p
+    (at_the_arrival table limit first e.now e.id e.line rule e.asked e.bytes before earlier.outcome e.forward (part (begun table limit first) between (item ∷ before) p) e.is_least))
   where
     item : Item
     item = record { event = Arrive e.now e.id e.asked; outcome = earlier.outcome }
@@ -617,28 +614,56 @@ one_goes_forward table limit first key other later earlier between before g same
     p : IsGood (begun table limit first) (between ++ record { event = Arrive e.now e.id e.asked; outcome = earlier.outcome } ∷ before)
     p = good_plain table limit first (between ++ record { event = Arrive e.now e.id e.asked; outcome = earlier.outcome } ∷ before) g'
 
-    its_leads : (x : Exchange) → x.asked ≡ e.asked → x.rule ≡ rules.UriMiss → x.stage ≡ Forwarded → leads l.asked.target.key x ≡ true
-    its_leads x a r t =
-        ap (λ (q : Asked). same_key q.target.key l.asked.target.key && (is_get q && (is_uri_miss x.rule && is_forwarded x.stage))) a
-        ∙ (ap (λ (k : Key). same_key k l.asked.target.key && (is_get e.asked && (is_uri_miss x.rule && is_forwarded x.stage))) e.of_the_key
-        ∙ (ap (λ (k : Key). same_key key k && (is_get e.asked && (is_uri_miss x.rule && is_forwarded x.stage))) l.of_the_key
-        ∙ (ap (λ b. b && (is_get e.asked && (is_uri_miss x.rule && is_forwarded x.stage))) same
-        ∙ (ap (λ b. b && (is_uri_miss x.rule && is_forwarded x.stage)) e.gets
-        ∙ (ap (λ (q : ReuseRule). is_uri_miss q && is_forwarded x.stage) r ∙ ap is_forwarded t)))))
+    policy : Policy
+    policy = policy_of table.lines l.line
+
+    its_leads : (x : Exchange) → x.asked ≡ e.asked → x.rule ≡ rule → x.for_others ≡ is_for_others e.asked → x.stage ≡ Forwarded → leads policy why l.asked.target.key x ≡ true
+    its_leads x a r f t =
+        ap (λ (q : Asked). same_key q.target.key l.asked.target.key && (is_get q && (goes_alike x.rule why && (is_forwarded x.stage && may_lead policy x.for_others)))) a
+        ∙ (ap (λ (k : Key). same_key k l.asked.target.key && (is_get e.asked && (goes_alike x.rule why && (is_forwarded x.stage && may_lead policy x.for_others)))) e.of_the_key
+        ∙ (ap (λ (k : Key). same_key key k && (is_get e.asked && (goes_alike x.rule why && (is_forwarded x.stage && may_lead policy x.for_others)))) l.of_the_key
+        ∙ (ap (λ b. b && (is_get e.asked && (goes_alike x.rule why && (is_forwarded x.stage && may_lead policy x.for_others)))) same
+        ∙ (ap (λ b. b && (goes_alike x.rule why && (is_forwarded x.stage && may_lead policy x.for_others))) e.gets
+        ∙ (ap (λ (q : ReuseRule). goes_alike q why && (is_forwarded x.stage && may_lead policy x.for_others)) r
+        ∙ (ap (λ b. b && (is_forwarded x.stage && may_lead policy x.for_others)) alike
+        ∙ (ap (λ (q : Stage). is_forwarded q && may_lead policy x.for_others) t
+        ∙ (ap (may_lead policy) f ∙ others))))))))
 
     past : List Item
     past = between ++ earlier ∷ before
 
-    by_fate : (has_closed e.id between ≡ true) ⊎ AtTheOrigin e.asked (its table limit first e.now e.id e.asked before earlier.outcome between) → has_closed e.id between ≡ true
+    by_fate : (has_closed e.id between ≡ true) ⊎ AtTheOrigin rule e.asked (its table limit first e.now e.id rule e.asked before earlier.outcome between) → has_closed e.id between ≡ true
     by_fate (inl c) = c
     by_fate (inr a) =
         let at : find_exchange e.id (open_exchanges table limit (between ++ earlier ∷ before)) ≡ Some a.x =
         ap (λ (i : Item). find_exchange e.id (open_exchanges table limit (between ++ i ∷ before))) item_is
         ∙ (sym (ap (find_exchange e.id) (exchanges_are_open table limit first (between ++ record { event = Arrive e.now e.id e.asked; outcome = earlier.outcome } ∷ before) p)) ∙ a.y_is) in
-        let led = some_leads l.asked.target.key e.id (open_exchanges table limit (between ++ earlier ∷ before)) a.x at (its_leads a.x a.asked_is a.rule a.stage) in
+        let led = some_leads policy why l.asked.target.key e.id (open_exchanges table limit (between ++ earlier ∷ before)) a.x at (its_leads a.x a.asked_is a.rule_is a.for_others a.stage) in
         let went = forwards_nothing_else table limit first l.now l.id l.line l.asked l.bytes later (between ++ earlier ∷ before) g l.arrives l.forward in
         let waits : later.outcome ≡ Waits led.0 =
-        waits_for_it table limit first l.now l.id l.line led.0 l.asked later (between ++ earlier ∷ before) g l.arrives
-        (record { line_allows = went.0; takes_others = went.2; gets = l.gets; nothing_held = l.nothing_held }) led.1 in
+        waits_for_it table limit first l.now l.id l.line led.0 l.asked why later (between ++ earlier ∷ before) g l.arrives
+        (record { line_allows = went.0; takes_others = went.2; gets = l.gets; is_least = l.is_least; may_wait = may }) led.1 in
         let no : Forward l.line l.bytes ≡ Waits led.0 = sym l.forward ∙ waits in
         absurd (cc)
+
+-- ---- a line without the word
+
+alike_to_a_miss : (a b : Bool) → ((a && true) || (b && false)) ≡ a
+alike_to_a_miss true b = refl
+alike_to_a_miss false true = refl
+alike_to_a_miss false false = refl
+
+or_never : (a : Bool) → (a || false) ≡ a
+or_never true = refl
+or_never false = refl
+
+and_always : (a : Bool) → (a && true) ≡ a
+and_always true = refl
+and_always false = refl
+
+pub plain_lines_wait_for_misses : PlainLinesWaitForMisses
+plain_lines_wait_for_misses caches rule key x = (
+  or_never (is_uri_miss rule),
+  ap (λ b. same_key x.asked.target.key key && (is_get x.asked && (b && (is_forwarded x.stage && true)))) (alike_to_a_miss (is_uri_miss x.rule) (has_expired x.rule))
+      ∙ ap (λ b. same_key x.asked.target.key key && (is_get x.asked && (is_uri_miss x.rule && b))) (and_always (is_forwarded x.stage)),
+)

@@ -1,5 +1,6 @@
 -- The messages, stored responses and exchanges that the laws of worked cases speak of.
 use Rattle.std.specs.Prelude.{ℕ, true, false, List, [], ◌∷◌, codes, Some, None}
+use Rattle.hx_policy.specs.declared.words.Policy.{Policy}
 use Rattle.hx_policy.specs.Words.{plain}
 use Rattle.hx_fields.specs.declared.field_line.Field.{Field}
 use Rattle.hx_fields.specs.Examples.{line}
@@ -9,7 +10,8 @@ use Rattle.hx_vary.specs.Vary.{kept_values}
 use Rattle.hx_hop.specs.declared.request_view.Asked.{Asked}
 use Rattle.hx_allow.specs.Lines.{Line, Table}
 use Rattle.hx_store.specs.Stored.{Stored}
-use Rattle.hx_reuse.specs.declared.rule.ReuseRule.TheVariants.{UriMiss, NoLifetime}
+use Rattle.hx_reuse.specs.declared.rule.ReuseRule.TheVariants.{UriMiss, NoLifetime, NoMaxStale}
+use Rattle.proxy_core.specs.Leading.{is_for_others}
 use Rattle.proxy_core.specs.declared.stage.Stage.TheVariants.{Forwarded, Waiting}
 use Rattle.proxy_core.specs.declared.exchange.Exchange.{Exchange}
 use Rattle.proxy_core.specs.declared.outcome.Outcome.{Outcome}
@@ -45,7 +47,18 @@ table = record { name = codes "edge"; capacity = 2; max_body = 1000; max_stored 
 -- a request that went forward at 100, since nothing was held for it
 abbrev pub went : Asked → Exchange
 went asked =
-    record { id = 1; asked = asked; line = 1; rule = UriMiss; request_time = 100; condition = None; overtaken = false; stage = Forwarded }
+    record { id = 1; asked = asked; line = 1; rule = UriMiss; request_time = 100; condition = None; overtaken = false; for_others = is_for_others asked; stage = Forwarded }
+
+-- one that went forward since what was held was stale
+abbrev pub revalidates : Exchange
+revalidates = record (went (get [])) { rule = NoMaxStale }
+
+-- a line that lets requests wait for that, and a request with Authorization
+abbrev pub lets_wait : Policy
+lets_wait = record (plain true) { waits_for_stale = true }
+
+abbrev pub authorized : Asked
+authorized = get (line (codes "Authorization") (codes "Basic eA==") ∷ [])
 
 abbrev pub over_line_2 : Exchange
 over_line_2 = record (went (get [])) { line = 2 }

@@ -89,7 +89,7 @@ sent_on table line asked condition None = Forward line (forward_text table asked
 -- a rule keeps each stored response back
 abbrev pub unanswered : Table → List Exchange → ℕ → ℕ → Asked → ReuseRule → Option Condition → Bool → Outcome
 unanswered table xs line now asked rule condition true = refused now (OnlyIfCached rule) asked
-unanswered table xs line now asked rule condition false = sent_on table line asked condition (leader_for xs asked rule)
+unanswered table xs line now asked rule condition false = sent_on table line asked condition (leader_for (policy_of table.lines line) xs asked rule)
 
 abbrev pub as_hit : Policy → CacheStatusInfo
 as_hit policy = record { policy = policy; how = Hit; came = None; detail = None; collapsed = false }

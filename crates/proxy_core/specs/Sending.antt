@@ -21,7 +21,6 @@ use Rattle.hx_reuse.specs.Meaning.{IsChosen, IsLeast, NamesTheResponse}
 use Rattle.hx_reuse.specs.Reusable.{MayBeReused}
 use Rattle.hx_reuse.specs.OnError.{MayBeSentOnError}
 use Rattle.hx_reuse.specs.declared.rule.ReuseRule.{ReuseRule}
-use Rattle.hx_reuse.specs.declared.rule.ReuseRule.TheVariants.{UriMiss}
 use Rattle.hx_status.specs.declared.cause.Cause.TheVariants.{Denied, NoLine, OnlyIfCached}
 use Rattle.hx_status.specs.declared.status.Detail.{Detail}
 use Rattle.hx_status.specs.declared.status.Detail.TheVariants.{StaleIfError, ReuseAfterError, ReuseAfter304}
@@ -36,7 +35,7 @@ use Rattle.proxy_core.specs.Storing.{is_unasked}
 use Rattle.proxy_core.specs.Validating.{condition_at, is_validation, validated}
 use Rattle.proxy_core.specs.Replies.{stored_text}
 use Rattle.proxy_core.specs.Outcomes.{find_exchange, id_of, is_only_if_cached, is_error_status, refused, forward_text, as_hit, forwarded_as, collapsed_as}
-use Rattle.proxy_core.specs.Leading.{is_get, leader_for, NoneLeads, IsFirstToLead}
+use Rattle.proxy_core.specs.Leading.{is_get, can_wait, leader_for, NoneLeads, IsFirstToLead}
 use Rattle.proxy_core.specs.State.{used_in, used_form}
 use Rattle.proxy_core.specs.Traces.{Item}
 use Rattle.proxy_core.specs.Histories.{held_entries, open_exchanges, IsGoodHistory}
@@ -85,18 +84,20 @@ pub record GoesForward (table : Table) (held : List Stored) (asked : Asked) (now
   pub names : NamesTheResponse held asked rule against
   pub outcome_is : outcome ≡ Forward line (forward_text table asked (condition_at held against))
 
--- a GET for whose key nothing is held goes forward only where no other is at the origin for that reason
-abbrev pub NobodyLeads : List Exchange → Asked → ReuseRule → Type 0
-NobodyLeads xs asked rule = is_get asked ≡ true → rule ≡ UriMiss → NoneLeads asked.target.key xs
+-- a GET that may wait goes forward only where no other is at the origin for its reason
+abbrev pub NobodyLeads : Policy → List Exchange → Asked → ReuseRule → Type 0
+NobodyLeads policy xs asked rule = is_get asked ≡ true → can_wait policy rule ≡ true → NoneLeads policy rule asked.target.key xs
 
--- A GET for whose key nothing is held, and that takes an answer of the origin, waits for the first to arrive of those that are at
--- the origin for that reason (RFC 9111, section 4: collapsed requests).
+-- A GET for whose key nothing is held, or by the word of its line one for which what is held is stale, and that takes an answer of
+-- the origin, waits for the first to arrive of those that are at the origin for that reason (RFC 9111, section 4: collapsed requests).
 pub record WaitsForTheFirst (table : Table) (held : List Stored) (xs : List Exchange) (now : ℕ) (asked : Asked) (line : ℕ) (outcome : Outcome) : Type 0 where
   pub leader : ℕ
   pub takes_others : is_only_if_cached asked ≡ false
   pub gets : is_get asked ≡ true
-  pub nothing_held : IsLeast (policy_of table.lines line) held asked now UriMiss
-  pub first_leads : IsFirstToLead asked.target.key xs leader
+  pub rule : ReuseRule
+  pub rule_is_least : IsLeast (policy_of table.lines line) held asked now rule
+  pub may_wait : can_wait (policy_of table.lines line) rule ≡ true
+  pub first_leads : IsFirstToLead (policy_of table.lines line) rule asked.target.key xs leader
   pub outcome_is : outcome ≡ Waits leader
 
 -- A request that is allowed reaches the cache, which sends a stored response, or the origin of that line; or it waits for the
@@ -104,7 +105,7 @@ pub record WaitsForTheFirst (table : Table) (held : List Stored) (xs : List Exch
 abbrev pub IsReached : Table → List Stored → List Exchange → ℕ → Asked → ℕ → Outcome → Type 0
 IsReached table held xs now asked line outcome =
     ((s : ℕ) × (used_in outcome ≡ Some s))
-    ⊎ (((rule : ReuseRule) × GoesForward table held asked now line rule outcome × (is_only_if_cached asked ≡ false) × NobodyLeads xs asked rule)
+    ⊎ (((rule : ReuseRule) × GoesForward table held asked now line rule outcome × (is_only_if_cached asked ≡ false) × NobodyLeads (policy_of table.lines line) xs asked rule)
     ⊎ (WaitsForTheFirst table held xs now asked line outcome
     ⊎ ((rule : ReuseRule) × (is_only_if_cached asked ≡ true) × IsLeast (policy_of table.lines line) held asked now rule × (outcome ≡ refused now (OnlyIfCached rule) asked))))
 
@@ -180,14 +181,14 @@ abbrev pub ForwardsWhereAllowed : Type 0
 ForwardsWhereAllowed = (table : Table) (limit first now id line : ℕ) (asked : Asked) (rule : ReuseRule) (item : Item) (past : List Item) →
     IsGoodHistory table limit first (item ∷ past) → item.event ≡ Arrive now id asked →
     verdict_of table.lines asked.method asked.target ≡ Allowed line → IsLeast (policy_of table.lines line) (held_entries table limit past) asked now rule → is_only_if_cached asked ≡ false →
-    leader_for (open_exchanges table limit past) asked rule ≡ None →
+    leader_for (policy_of table.lines line) (open_exchanges table limit past) asked rule ≡ None →
     (bytes : List ℕ) × (item.outcome ≡ Forward line bytes)
 
 abbrev pub ForwardsNowhereElse : Type 0
 ForwardsNowhereElse = (table : Table) (limit first now id line : ℕ) (asked : Asked) (bytes : List ℕ) (item : Item) (past : List Item) →
     IsGoodHistory table limit first (item ∷ past) → item.event ≡ Arrive now id asked → item.outcome ≡ Forward line bytes →
     (verdict_of table.lines asked.method asked.target ≡ Allowed line)
-    × ((rule : ReuseRule) × IsLeast (policy_of table.lines line) (held_entries table limit past) asked now rule × (leader_for (open_exchanges table limit past) asked rule ≡ None)) × (is_only_if_cached asked ≡ false)
+    × ((rule : ReuseRule) × IsLeast (policy_of table.lines line) (held_entries table limit past) asked now rule × (leader_for (policy_of table.lines line) (open_exchanges table limit past) asked rule ≡ None)) × (is_only_if_cached asked ≡ false)
 
 -- A request that the table allows reaches the cache, which sends a stored response, or the origin of that line; or it waits for
 -- the answer to another; or it takes no response but a stored one, and is told the rule against that.

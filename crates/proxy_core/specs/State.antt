@@ -27,7 +27,7 @@ use Rattle.proxy_core.specs.declared.event.Event.{Event}
 use Rattle.proxy_core.specs.declared.event.Event.TheVariants.{Arrive, Answer, Fail, Wake, Abandon}
 use Rattle.proxy_core.specs.declared.fault.CoreFault.{CoreFault}
 use Rattle.proxy_core.specs.declared.fault.CoreFault.TheVariants.{OutOfMemory}
-use Rattle.proxy_core.specs.Leading.{waits_for}
+use Rattle.proxy_core.specs.Leading.{waits_for, is_for_others}
 use Rattle.proxy_core.specs.Outcomes.{find_exchange, id_of, outcome_by, fault_by}
 use Rattle.proxy_core.specs.Storing.{made, key_invalidated}
 use Rattle.proxy_core.specs.Validating.{condition_at, is_answered, refreshed}
@@ -135,6 +135,7 @@ opened table es now id asked line = record {
   request_time = now;
   condition = condition_at es (named_by (decision_of (policy_of table.lines line) es asked now));
   overtaken = false;
+  for_others = is_for_others asked;
   stage = Forwarded;
 }
 
@@ -154,6 +155,7 @@ queued table es now id asked line leader = record {
   request_time = now;
   condition = condition_at es (named_by (decision_of (policy_of table.lines line) es asked now));
   overtaken = false;
+  for_others = is_for_others asked;
   stage = Waiting leader;
 }
 

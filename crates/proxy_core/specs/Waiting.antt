@@ -1,4 +1,4 @@
--- Requests for one target wait for the first of them. A trace has its latest item first.
+-- Requests for one target that go forward for one reason wait for the first of them. A trace has its latest item first.
 --
 -- CouldWait: a request that may wait, for the first that leads (`Leading.antt`)
 -- WaitsWhereOneLeads, WaitsNowhereElse, OneGoesForward: who waits, and what for
@@ -24,7 +24,8 @@ use Rattle.proxy_core.specs.declared.outcome.Outcome.TheVariants.{Forward, Waits
 use Rattle.proxy_core.specs.declared.event.Event.{Event}
 use Rattle.proxy_core.specs.declared.event.Event.TheVariants.{Arrive, Answer, Fail, Wake, Abandon}
 use Rattle.proxy_core.specs.Moments.{too_late}
-use Rattle.proxy_core.specs.Leading.{is_released, is_get, ready_ids, IsFirstToLead}
+use Rattle.hx_policy.specs.Words.{plain}
+use Rattle.proxy_core.specs.Leading.{is_forwarded, is_released, is_get, is_uri_miss, is_for_others, can_wait, goes_alike, may_lead, leads, ready_ids, IsFirstToLead}
 use Rattle.proxy_core.specs.Outcomes.{find_exchange, id_of, fault_by, is_only_if_cached}
 use Rattle.proxy_core.specs.State.{used_in}
 use Rattle.proxy_core.specs.Traces.{Item}
@@ -35,19 +36,20 @@ use Rattle.proxy_core.specs.Sending.{IsReusable}
 
 -- ---- who waits
 
--- A GET that the table allows and that takes an answer of the origin, where nothing is held for its key: the operator keeps the
--- store open to it, and none of the rules before that one stands.
-pub record CouldWait (table : Table) (limit : ℕ) (past : List Item) (now line : ℕ) (asked : Asked) : Type 0 where
+-- A GET that the table allows and that takes an answer of the origin, where by the first rule against what is held it may wait:
+-- nothing is held for its key, or its line lets it wait for what is stale. No rule before that one stands.
+pub record CouldWait (table : Table) (limit : ℕ) (past : List Item) (now line : ℕ) (asked : Asked) (rule : ReuseRule) : Type 0 where
   pub line_allows : verdict_of table.lines asked.method asked.target ≡ Allowed line
   pub takes_others : is_only_if_cached asked ≡ false
   pub gets : is_get asked ≡ true
-  pub nothing_held : IsLeast (policy_of table.lines line) (held_entries table limit past) asked now UriMiss
+  pub is_least : IsLeast (policy_of table.lines line) (held_entries table limit past) asked now rule
+  pub may_wait : can_wait (policy_of table.lines line) rule ≡ true
 
 -- whoever could wait does, where one leads
 abbrev pub WaitsWhereOneLeads : Type 0
-WaitsWhereOneLeads = (table : Table) (limit first now id line leader : ℕ) (asked : Asked) (item : Item) (past : List Item) →
-    IsGoodHistory table limit first (item ∷ past) → item.event ≡ Arrive now id asked → CouldWait table limit past now line asked →
-    IsFirstToLead asked.target.key (open_exchanges table limit past) leader → item.outcome ≡ Waits leader
+WaitsWhereOneLeads = (table : Table) (limit first now id line leader : ℕ) (asked : Asked) (rule : ReuseRule) (item : Item) (past : List Item) →
+    IsGoodHistory table limit first (item ∷ past) → item.event ≡ Arrive now id asked → CouldWait table limit past now line asked rule →
+    IsFirstToLead (policy_of table.lines line) rule asked.target.key (open_exchanges table limit past) leader → item.outcome ≡ Waits leader
 
 -- Whoever waits has just arrived, could wait, and waits for the first that leads.
 pub record IsToWait (table : Table) (limit leader : ℕ) (item : Item) (past : List Item) : Type 0 where
@@ -56,8 +58,9 @@ pub record IsToWait (table : Table) (limit leader : ℕ) (item : Item) (past : L
   pub asked : Asked
   pub line : ℕ
   pub arrives : item.event ≡ Arrive now id asked
-  pub could : CouldWait table limit past now line asked
-  pub first_leads : IsFirstToLead asked.target.key (open_exchanges table limit past) leader
+  pub rule : ReuseRule
+  pub could : CouldWait table limit past now line asked rule
+  pub first_leads : IsFirstToLead (policy_of table.lines line) rule asked.target.key (open_exchanges table limit past) leader
 
 abbrev pub WaitsNowhereElse : Type 0
 WaitsNowhereElse = (table : Table) (limit first leader : ℕ) (item : Item) (past : List Item) → IsGoodHistory table limit first (item ∷ past) →
@@ -68,8 +71,8 @@ abbrev pub has_closed : ℕ → List Item → Bool
 has_closed id [] = false
 has_closed id (i ∷ items) = (id_of i.event == id && (not (is_arrival i.event) && ends i.outcome)) || has_closed id items
 
--- a GET for this key arrives and goes forward, since nothing is held for it
-pub record GoesForTheKey (table : Table) (limit : ℕ) (key : Key) (item : Item) (past : List Item) : Type 0 where
+-- a GET for this key arrives and goes forward by this rule
+pub record GoesForTheKey (table : Table) (limit : ℕ) (key : Key) (rule : ReuseRule) (item : Item) (past : List Item) : Type 0 where
   pub now : ℕ
   pub id : ℕ
   pub asked : Asked
@@ -79,15 +82,22 @@ pub record GoesForTheKey (table : Table) (limit : ℕ) (key : Key) (item : Item)
   pub forward : item.outcome ≡ Forward line bytes
   pub gets : is_get asked ≡ true
   pub of_the_key : asked.target.key ≡ key
-  pub nothing_held : IsLeast (policy_of table.lines line) (held_entries table limit past) asked now UriMiss
+  pub is_least : IsLeast (policy_of table.lines line) (held_entries table limit past) asked now rule
 
--- Of the GETs that arrive for a key while one of them is at the origin none goes there too: before a later one does the earlier
--- has ended.
+-- Of the GETs that arrive for a key while one of them is at the origin none goes there too for the same reason: before a later one
+-- does the earlier has ended. The later one's line lets it wait for that reason, and for an answer to a request like the earlier.
 abbrev pub OneGoesForward : Type 0
-OneGoesForward = (table : Table) (limit first : ℕ) (key other : Key) (later earlier : Item) (between before : List Item) →
-    IsGoodHistory table limit first (later ∷ (between ++ earlier ∷ before)) → same_key key other ≡ true →
-    GoesForTheKey table limit other later (between ++ earlier ∷ before) → GoesForTheKey table limit key earlier before →
+OneGoesForward = (table : Table) (limit first : ℕ) (key other : Key) (rule why : ReuseRule) (later earlier : Item) (between before : List Item) →
+    IsGoodHistory table limit first (later ∷ (between ++ earlier ∷ before)) → same_key key other ≡ true → goes_alike rule why ≡ true →
+    (went : GoesForTheKey table limit other why later (between ++ earlier ∷ before)) → can_wait (policy_of table.lines went.line) why ≡ true →
+    (first_went : GoesForTheKey table limit key rule earlier before) → may_lead (policy_of table.lines went.line) (is_for_others first_went.asked) ≡ true →
     has_closed (id_of earlier.event) between ≡ true
+
+-- A line without the word lets a GET wait where nothing is held for its key, and nowhere else; and for any that went for that.
+abbrev pub PlainLinesWaitForMisses : Type 0
+PlainLinesWaitForMisses = (caches : Bool) (rule : ReuseRule) (key : Key) (x : Exchange) →
+    (can_wait (plain caches) rule ≡ is_uri_miss rule)
+    × (leads (plain caches) UriMiss key x ≡ (same_key x.asked.target.key key && (is_get x.asked && (is_uri_miss x.rule && is_forwarded x.stage))))
 
 -- ---- until when
 

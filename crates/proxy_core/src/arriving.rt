@@ -14,7 +14,7 @@ use crate::condition::condition_at;
 use crate::exchange::Exchange;
 use crate::fault::CoreFault;
 use crate::judging::judge_by;
-use crate::leading::{is_get, is_uri_miss};
+use crate::leading::{can_wait, is_for_others, is_get};
 use crate::moments::moment_fault;
 use crate::outcome::Outcome;
 use crate::proxy::Core;
@@ -131,33 +131,39 @@ impl<S: Shelf> Core<S> {
                     request_time: now,
                     condition: condition_at(alloc, &self.shelf, named)?,
                     overtaken: false,
+                    for_others: is_for_others(&directives, asked),
                     stage: Stage::Forwarded,
                 };
-                self.wait_or_forward(alloc, exchange)
+                self.wait_or_forward(alloc, policy, exchange)
             }
         }
     }
 
     /// The open exchange for whose answer a request waits, which a rule keeps from the store.
-    fn leader_for(&self, asked: &Asked, rule: ReuseRule) -> Option<u64>
-        ensures { result ≡ leader_for self.now.exchanges asked.now rule }
+    fn leader_for(&self, policy: Policy, asked: &Asked, rule: ReuseRule) -> Option<u64>
+        ensures { result ≡ leader_for policy self.now.exchanges asked.now rule }
     {
-        if is_get(asked) && is_uri_miss(rule) {
-            self.exchanges.leader(&asked.target.key)
+        if is_get(asked) && can_wait(policy, rule) {
+            self.exchanges.leader(policy, rule, &asked.target.key)
         } else {
             None
         }
     }
 
     /// The exchange of a request opens, which waits or goes forward.
-    fn wait_or_forward(&mut self, alloc: Global, exchange: Exchange) -> Result<Outcome, AllocError>
+    fn wait_or_forward(
+        &mut self,
+        alloc: Global,
+        policy: Policy,
+        exchange: Exchange,
+    ) -> Result<Outcome, AllocError>
         requires free { find_exchange exchange.id self.old.exchanges ≡ None }
         requires stage { exchange.stage ≡ Forwarded }
-        ensures outcome { IfOk result (λ outcome. outcome ≡ sent_on self.old.table exchange.line exchange.asked exchange.condition (leader_for self.old.exchanges exchange.asked exchange.rule)) }
-        ensures after { OnOk result (self.new ≡ record self.old { exchanges = self.old.exchanges ++ placed (leader_for self.old.exchanges exchange.asked exchange.rule) exchange ∷ [] }) }
+        ensures outcome { IfOk result (λ outcome. outcome ≡ sent_on self.old.table exchange.line exchange.asked exchange.condition (leader_for policy self.old.exchanges exchange.asked exchange.rule)) }
+        ensures after { OnOk result (self.new ≡ record self.old { exchanges = self.old.exchanges ++ placed (leader_for policy self.old.exchanges exchange.asked exchange.rule) exchange ∷ [] }) }
         ensures unchanged { OnErr result (self.new ≡ self.old) }
     {
-        match self.leader_for(&exchange.asked, exchange.rule) {
+        match self.leader_for(policy, &exchange.asked, exchange.rule) {
             Some(leader) => {
                 let mut waiting = exchange;
                 waiting.stage = Stage::Waiting(leader);

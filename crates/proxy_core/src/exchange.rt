@@ -23,6 +23,8 @@ pub struct Exchange {
     pub condition: Option<Condition>,
     /// Whether its key was invalidated since (RFC 9111, section 4.4).
     pub overtaken: bool,
+    /// Whether nothing in the request keeps what it is answered for itself (RFC 9111, sections 5.2.1.5 and 3.5).
+    pub for_others: bool,
     pub stage: Stage,
 }
 
@@ -68,6 +70,7 @@ impl Drop for Exchange {
             request_time: _,
             condition: _,
             overtaken: _,
+            for_others: _,
             stage: _,
         } = self;
     }

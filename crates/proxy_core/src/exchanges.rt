@@ -26,6 +26,7 @@ use crate::ids::Ids;
 use crate::leading::{is_released, leads};
 use crate::released::Released;
 use crate::wait_index::WaitIndex;
+use hx_policy::Policy;
 use hx_reuse::ReuseRule;
 use hx_target::Key;
 use std::alloc::{AllocError, Global};
@@ -121,13 +122,13 @@ impl Exchanges {
         }
     }
 
-    /// The first exchange to arrive for whose answer GETs of this key wait. It looks through the open GETs of that key up to
-    /// that one, which mostly is the first of them.
-    pub(crate) fn leader(&self, key: &Key) -> Option<u64>
-        ensures { result ≡ leader key.now self.now }
+    /// The first exchange to arrive for whose answer GETs of this key wait that go forward by this rule, over a line of this
+    /// policy. It looks through the open GETs of that key up to that one, which mostly is the first of them.
+    pub(crate) fn leader(&self, policy: Policy, rule: ReuseRule, key: &Key) -> Option<u64>
+        ensures { result ≡ leader policy rule key.now self.now }
     {
         match self.gets.find(key) {
-            Some(arrivals) => first_to_lead(&self.by_arrival, arrivals, key),
+            Some(arrivals) => first_to_lead(&self.by_arrival, arrivals, policy, rule, key),
             None => None,
         }
     }
@@ -333,16 +334,18 @@ fn remove(
 fn first_to_lead(
     by_arrival: &BTreeMap<u64, Exchange>,
     arrivals: &BTreeSet<u64>,
+    policy: Policy,
+    rule: ReuseRule,
     key: &Key,
 ) -> Option<u64>
     requires { GetsPass key.now (contains nat_cmp arrivals.now) by_arrival.now.entries }
-    ensures { result ≡ leader key.now (values by_arrival.now) }
+    ensures { result ≡ leader policy rule key.now (values by_arrival.now) }
 {
     // It is said of the length that the numbers ascend.
     let _open = by_arrival.len();
     for arrival in arrivals {
         if let Some(x) = by_arrival.get(arrival) {
-            if leads(x, key) {
+            if leads(x, policy, rule, key) {
                 return Some(x.id);
             }
         }

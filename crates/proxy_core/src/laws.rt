@@ -6,7 +6,7 @@ ghost use Rattle.proxy_core.specs.Driving.{PromisesOfADrivenCore};
 ghost use Rattle.proxy_core.specs.Headline.{EveryGoodTraceHasIt, NoOtherTraceHasIt};
 ghost use Rattle.proxy_core.specs.Naming.{NamesFirstRules};
 ghost use Rattle.proxy_core.specs.Sending.{SendsStoredWhereItMay, SendsStoredNowhereElse, SendsWhatIsHeld, ForwardsWhereAllowed, ForwardsNowhereElse, ReachesWhereAllowed, RefusesWhereNotAllowed};
-ghost use Rattle.proxy_core.specs.Waiting.{WaitsWhereOneLeads, WaitsNowhereElse, OneGoesForward, WaitsUntilItsLeaderEnds, WokenOnceBehindItsLeader, ReadyInOrderOfArrival, WokenExactlyWhereReady, WokenIsJudgedAnew};
+ghost use Rattle.proxy_core.specs.Waiting.{WaitsWhereOneLeads, WaitsNowhereElse, OneGoesForward, WaitsUntilItsLeaderEnds, WokenOnceBehindItsLeader, ReadyInOrderOfArrival, WokenExactlyWhereReady, WokenIsJudgedAnew, PlainLinesWaitForMisses};
 ghost use Rattle.proxy_core.specs.StoredAnswers.{RemovesJustThat, StoresNowhereElse, StoresWhereItMay};
 ghost use Rattle.proxy_core.specs.Uncached.{StoresNothingOverIt, SendsNothingOverIt, GoesForwardOverIt};
 
@@ -90,13 +90,20 @@ pub fn a_line_without_cache_touches_no_stored_response()
     ensures forwards { GoesForwardOverIt }
 {}
 
-/// In a good trace a GET waits exactly where that nothing is held for its key is the first rule against a stored response, and a GET
-/// for that key is at the origin by the same rule: for the first of these to arrive. So while one that arrived is at the origin by this
-/// rule, none that arrives goes there by it. One that another rule sends forward, as a GET with Range, doesn't wait.
+/// In a good trace a GET waits exactly where the first rule against a stored response lets it, and a GET for that key is at the
+/// origin for the same reason: for the first of these to arrive. The rule is that nothing is held for its key, or where its line says
+/// so that what is held is stale. So while one that arrived is at the origin for a reason, none that may wait for that goes there for
+/// it. One that another rule sends forward, as a GET with Range, doesn't wait.
 pub fn requests_for_one_target_wait_for_the_first()
     ensures waits { WaitsWhereOneLeads }
     ensures only { WaitsNowhereElse }
     ensures one { OneGoesForward }
+{}
+
+/// Over a line that doesn't let them wait for what is stale, GETs wait where nothing is held for their key, and nowhere else; for any
+/// that went forward for that.
+pub fn a_plain_line_waits_for_what_is_missing_alone()
+    ensures { PlainLinesWaitForMisses }
 {}
 
 /// In a good trace a request that waits does so until the exchange that it waits for has ended, and may be woken from then on,

@@ -63,7 +63,8 @@ pub use crate::headline_cases::{
 pub use crate::ids::Ids;
 pub use crate::laws::{
     a_core_keeps_what_is_held, a_driven_core_keeps_the_promises, a_good_trace_leaves_no_choice,
-    a_line_without_cache_touches_no_stored_response, a_request_goes_forward_where_it_is_allowed,
+    a_line_without_cache_touches_no_stored_response, a_plain_line_waits_for_what_is_missing_alone,
+    a_request_goes_forward_where_it_is_allowed,
     a_request_reaches_cache_or_origin_where_it_is_allowed,
     a_stored_response_is_sent_where_one_may_be, a_waiting_request_is_woken_once_behind_its_leader,
     an_answer_is_stored_where_it_may_be, an_open_exchange_carries_its_arrival,
@@ -86,5 +87,5 @@ pub use crate::worked_cases::{
     stored_responses_are_sent_so, what_a_304_leaves, what_a_step_leaves_open,
     what_a_step_leaves_stored, what_an_answer_gives, what_an_arrival_gives, what_invalidates,
     what_is_made_of_an_answer, what_is_sent_after_a_failure, which_304_was_asked_for,
-    which_answers_are_stored, who_waits_for_whom,
+    which_answers_are_stored, who_waits_for_what_is_stale, who_waits_for_whom,
 };

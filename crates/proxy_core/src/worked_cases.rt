@@ -6,7 +6,7 @@ ghost use Rattle.hx_fields.specs.Examples.{line};
 ghost use Rattle.hx_allow.specs.declared.verdicts.Verdict.TheVariants as verdict;
 ghost use Rattle.hx_store.specs.Shelf.{serials};
 ghost use Rattle.hx_reuse.specs.declared.decision.Decision.TheVariants as decision;
-ghost use Rattle.hx_reuse.specs.declared.rule.ReuseRule.TheVariants.{UriMiss, VaryMiss, MustRevalidate, NoLifetime, NoMaxStale};
+ghost use Rattle.hx_reuse.specs.declared.rule.ReuseRule.TheVariants.{UriMiss, VaryMiss, ResponseNoCache, RequestNoCache, MustRevalidate, NoLifetime, StaleNoCache, NoMaxStale, PastMaxStale, StaleMaxAge, StaleMinFresh};
 ghost use Rattle.hx_reuse.specs.declared.rule.ErrorRule.TheVariants as on_error;
 ghost use Rattle.hx_status.specs.declared.status.Detail.TheVariants.{StaleIfError, ReuseAfterError};
 ghost use Rattle.hx_status.specs.declared.cause.FailKind.TheVariants.{BadAnswer, Refused};
@@ -23,7 +23,7 @@ ghost use Rattle.hx_validate.specs.Cases.{lines_of};
 ghost use Rattle.proxy_core.specs.Leading.{leader_for};
 ghost use Rattle.proxy_core.specs.Outcomes.{answered, arrived, as_hit, fallback_for, fault_of, forwarded_as, is_error_status, passed_unless, refused, removed_by, sent_refreshed, woken};
 ghost use Rattle.proxy_core.specs.State.{next_after, next_of, open_after, removed_in, stored_in, stored_list, used_in, used_list};
-ghost use Rattle.proxy_core.specs.Cases.{answer, asked_about_e, asks_for, bytes_of, connection, control, date_101, first_lines, first_stored, get, head, key_of, lines_of_304, over_line_2, posted, speaks, stored_e, stored_with, table, three_held, tag, vary, waiting, went};
+ghost use Rattle.proxy_core.specs.Cases.{answer, asked_about_e, asks_for, authorized, bytes_of, connection, control, date_101, first_lines, first_stored, get, head, key_of, lets_wait, lines_of_304, over_line_2, posted, revalidates, speaks, stored_e, stored_with, table, three_held, tag, vary, waiting, went};
 
 /// The stored response of the first run at 130: whole, to HEAD, and to a client that has it (RFC 9110, section 15.4.5); one that
 /// a 304 validated (RFC 9211, section 2.3); one of status 204 (RFC 9110, section 8.6).
@@ -154,13 +154,45 @@ pub fn what_is_sent_after_a_failure()
 
 /// For whom a request waits: for the first GET of its key that went forward since nothing was held, where it is one as well.
 pub fn who_waits_for_whom()
-    ensures first { leader_for (went (get []) ∷ record (went (get [])) { id = 2 } ∷ []) (get []) UriMiss ≡ Some 1 }
-    ensures a_head { leader_for (went (get []) ∷ []) head UriMiss ≡ None }
-    ensures another_rule { leader_for (went (get []) ∷ []) (get []) VaryMiss ≡ None }
-    ensures another_path { leader_for (went (get []) ∷ []) (asks_for (codes "GET") (codes "/b") []) UriMiss ≡ None }
-    ensures behind_a_head { leader_for (went head ∷ []) (get []) UriMiss ≡ None }
-    ensures behind_another_rule { leader_for (record (went (get [])) { rule = NoMaxStale } ∷ []) (get []) UriMiss ≡ None }
-    ensures behind_one_that_waits { leader_for (waiting ∷ []) (get []) UriMiss ≡ None }
+    ensures first { leader_for (plain true) (went (get []) ∷ record (went (get [])) { id = 2 } ∷ []) (get []) UriMiss ≡ Some 1 }
+    ensures a_head { leader_for (plain true) (went (get []) ∷ []) head UriMiss ≡ None }
+    ensures another_rule { leader_for (plain true) (went (get []) ∷ []) (get []) VaryMiss ≡ None }
+    ensures another_path { leader_for (plain true) (went (get []) ∷ []) (asks_for (codes "GET") (codes "/b") []) UriMiss ≡ None }
+    ensures behind_a_head { leader_for (plain true) (went head ∷ []) (get []) UriMiss ≡ None }
+    ensures behind_another_rule { leader_for (plain true) (record (went (get [])) { rule = NoMaxStale } ∷ []) (get []) UriMiss ≡ None }
+    ensures behind_one_that_waits { leader_for (plain true) (waiting ∷ []) (get []) UriMiss ≡ None }
+    ensures stale { leader_for (plain true) (revalidates ∷ []) (get []) NoMaxStale ≡ None }
+    ensures behind_authorization { leader_for (plain true) (went authorized ∷ []) (get []) UriMiss ≡ Some 1 }
+    ensures behind_no_store { leader_for (plain true) (went (get (control (codes "no-store") ∷ [])) ∷ []) (get []) UriMiss ≡ Some 1 }
+{}
+
+/// And where its line lets a request wait for what is stale: for the first GET of its key that went forward since what was held was
+/// stale, whatever lets no such response be sent. It waits neither for one that no-cache or a missing lifetime sends forward, nor by
+/// such a rule, nor for one whose answer may be for itself alone.
+pub fn who_waits_for_what_is_stale()
+    ensures first { leader_for lets_wait (revalidates ∷ record revalidates { id = 2 } ∷ []) (get []) NoMaxStale ≡ Some 1 }
+    ensures must_revalidate { leader_for lets_wait (revalidates ∷ []) (get []) MustRevalidate ≡ Some 1 }
+    ensures past_max_stale { leader_for lets_wait (revalidates ∷ []) (get []) PastMaxStale ≡ Some 1 }
+    ensures max_age { leader_for lets_wait (revalidates ∷ []) (get []) StaleMaxAge ≡ Some 1 }
+    ensures min_fresh { leader_for lets_wait (revalidates ∷ []) (get []) StaleMinFresh ≡ Some 1 }
+    ensures missing { leader_for lets_wait (went (get []) ∷ []) (get []) UriMiss ≡ Some 1 }
+    ensures missing_behind_stale { leader_for lets_wait (revalidates ∷ []) (get []) UriMiss ≡ None }
+    ensures stale_behind_missing { leader_for lets_wait (went (get []) ∷ []) (get []) NoMaxStale ≡ None }
+    ensures no_lifetime { leader_for lets_wait (record revalidates { rule = NoLifetime } ∷ []) (get []) NoLifetime ≡ None }
+    ensures no_cache { leader_for lets_wait (record revalidates { rule = ResponseNoCache } ∷ []) (get []) ResponseNoCache ≡ None }
+    ensures requests_no_cache { leader_for lets_wait (record revalidates { rule = RequestNoCache } ∷ []) (get []) RequestNoCache ≡ None }
+    ensures stale_no_cache { leader_for lets_wait (record revalidates { rule = StaleNoCache } ∷ []) (get []) StaleNoCache ≡ None }
+    ensures a_variant { leader_for lets_wait (record revalidates { rule = VaryMiss } ∷ []) (get []) VaryMiss ≡ None }
+    ensures a_head { leader_for lets_wait (revalidates ∷ []) head NoMaxStale ≡ None }
+    ensures behind_a_head { leader_for lets_wait (record (went head) { rule = NoMaxStale } ∷ []) (get []) NoMaxStale ≡ None }
+    ensures another_path { leader_for lets_wait (revalidates ∷ []) (asks_for (codes "GET") (codes "/b") []) NoMaxStale ≡ None }
+    ensures behind_one_that_waits { leader_for lets_wait (record revalidates { stage = Waiting 7 } ∷ []) (get []) NoMaxStale ≡ None }
+    ensures behind_one_released { leader_for lets_wait (record revalidates { stage = Released } ∷ []) (get []) NoMaxStale ≡ None }
+    ensures behind_authorization { leader_for lets_wait (record (went authorized) { rule = NoMaxStale } ∷ []) (get []) NoMaxStale ≡ None }
+    ensures behind_no_store { leader_for lets_wait (record (went (get (control (codes "no-store") ∷ []))) { rule = NoMaxStale } ∷ []) (get []) NoMaxStale ≡ None }
+    ensures missing_behind_authorization { leader_for lets_wait (went authorized ∷ []) (get []) UriMiss ≡ None }
+    ensures past_authorization { leader_for lets_wait (record (went authorized) { rule = NoMaxStale } ∷ record revalidates { id = 2 } ∷ []) (get []) NoMaxStale ≡ Some 2 }
+    ensures an_authorized_one { leader_for lets_wait (revalidates ∷ []) authorized NoMaxStale ≡ Some 1 }
 {}
 
 /// The faults of steps, the least of those that stand; and the serial behind a serial, while there is one.
@@ -220,6 +252,9 @@ pub fn what_a_step_leaves_open()
     ensures invalidated { open_after table [] (posted 1 (codes "/a") ∷ posted 2 (codes "/a") ∷ posted 3 (codes "/b") ∷ []) (Answer 130 1 (answer 204 [])) Ended ≡ record (posted 2 (codes "/a")) { overtaken = true } ∷ posted 3 (codes "/b") ∷ [] }
     ensures behind { open_after table [] (posted 1 (codes "/b") ∷ []) (Arrive 130 2 (get [])) (Forward 1 []) ≡ posted 1 (codes "/b") ∷ record (went (get [])) { id = 2; request_time = 130 } ∷ [] }
     ensures waits { open_after table [] (went (get []) ∷ []) (Arrive 130 2 (get [])) (Waits 1) ≡ went (get []) ∷ record waiting { request_time = 130 } ∷ [] }
+    ensures for_itself { open_after table [] [] (Arrive 130 1 authorized) (Forward 1 []) ≡ record (went authorized) { request_time = 130; for_others = false } ∷ [] }
+    ensures for_itself_by_no_store { open_after table [] [] (Arrive 130 1 (get (control (codes "no-store") ∷ []))) (Forward 1 []) ≡ record (went (get (control (codes "no-store") ∷ []))) { request_time = 130; for_others = false } ∷ [] }
+    ensures for_others { open_after table [] [] (Arrive 130 1 (get (control (codes "no-cache") ∷ []))) (Forward 1 []) ≡ record (went (get (control (codes "no-cache") ∷ []))) { request_time = 130; for_others = true } ∷ [] }
     ensures woken_on { open_after table (stored_e ∷ []) (record waiting { overtaken = true } ∷ []) (Wake 130 2) (Forward 1 []) ≡ record (asked_about_e (get [])) { id = 2; request_time = 130 } ∷ [] }
     ensures again { open_after table [] (record (asked_about_e (get [])) { overtaken = true } ∷ []) (Answer 130 1 (answer 304 [])) (Forward 1 []) ≡ record (asked_about_e (get [])) { request_time = 130; condition = None } ∷ [] }
 {}

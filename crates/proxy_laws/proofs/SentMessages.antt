@@ -123,7 +123,7 @@ module _ (table : Table) (es : List Stored) (token : IsToken table.name) (fit : 
 
     unanswered_one : (xs : List Exchange) (line : ℕ) (rule : ReuseRule) (against : Option ℕ) (b : Bool) → IsOneMessage table.name (is_head asked) (unanswered table xs line now asked rule (condition_at es against) b)
     unanswered_one xs line rule against true = refused_one (OnlyIfCached rule)
-    unanswered_one xs line rule against false = sent_on_one line (condition_at es against) (leader_for xs asked rule) (fit against)
+    unanswered_one xs line rule against false = sent_on_one line (condition_at es against) (leader_for (policy_of table.lines line) xs asked rule) (fit against)
 
     allowed_one : (xs : List Exchange) (line : ℕ) (d : Decision) → used_in (allowed table es xs line now asked d) ≡ None → IsOneMessage table.name (is_head asked) (allowed table es xs line now asked d)
     allowed_one xs line (decision.Hit serial) unused = never serial unused

@@ -71,6 +71,7 @@ fn tell_policy<R: Print>(rt: &R, policy: Policy) -> io::Result<()> {
         told(policy.stores_cookies, "set-cookie = \"not-stored\""),
         told(policy.stores_errors, "errors = \"not-stored\""),
         told(policy.heeds_requests, "request-directives = \"ignored\""),
+        told(!policy.waits_for_stale, "wait = \"missing-or-stale\""),
         told(!policy.explains_storing, "explain = \"storing\""),
     ] {
         if !word.is_empty() {

@@ -15,17 +15,19 @@
 //!   nobody. No other request goes there, and no other answer says so.
 //! - An answer is as the words of its line have it: `words.rt` says how.
 
+use crate::clients::{Client, clients_of, place};
 use crate::counts::Counts;
 use crate::effects::{Effect, read_effect};
-use crate::fields::{last_value, number_of, parts};
+use crate::fields::{id_of, id_of_request};
 use crate::log::{Log, Step, Told};
 use crate::past_store::{is_claimed, is_told};
-use crate::replies::{Source, has_target, names_a_miss, read_reply, seconds_left, went_well};
+use crate::replies::{
+    Reason, Source, has_target, read_reply, reason_told, seconds_left, went_well,
+};
 use crate::requests::Asked;
-use crate::tables::{Table, is_past_the_store};
-use crate::waiting::{Link, Suspect, Waiter, beside, found, link_of};
+use crate::tables::{Table, is_address, is_past_the_store, lets_wait_for_stale};
+use crate::waiting::{Arrival, Exchange, Now, Suspect, Waiter, Woken, beside, found, reason_of};
 use crate::words::{Said, said_of};
-use bstr::ByteSlice;
 use std::alloc::{AllocError, Global};
 
 /// What doesn't hold, with the connection or link at which it doesn't.
@@ -41,71 +43,15 @@ impl From<AllocError> for Wrong {
     }
 }
 
-struct Client<'a> {
-    asked: Vec<&'a Asked>,
-    /// How many of these have come whole.
-    whole: u64,
-    replies: usize,
-    link: Option<u64>,
-    /// The latest link of the request that has no reply.
-    last: Option<u64>,
-    is_accepted: bool,
-    is_over: bool,
-}
-
-// By hand, here and below, so that a scope that ends is one call to the prover and not the drop of each part.
-impl Drop for Client<'_> {
-    fn drop(self) {
-        let Client {
-            asked: _,
-            whole: _,
-            replies: _,
-            link: _,
-            last: _,
-            is_accepted: _,
-            is_over: _,
-        } = self;
-    }
-}
-
-impl Client<'_> {
-    /// The request that has come whole, and has neither a reply nor a link.
-    fn silent(&self) -> Option<Asked> {
-        let is_open = self.is_accepted && !self.is_over && self.link.is_none();
-        if is_open && (self.replies as u64) < self.whole {
-            return Some(**self.asked.get(self.replies)?);
-        }
-        None
-    }
-}
-
-/// What is known of the happening whose effects are checked.
-#[derive(Clone, Copy, Default)]
-struct Now {
-    /// The connection to which it happened, or to whose link.
-    about: Option<u64>,
-    /// The link of the exchange that it ended.
-    ended: Option<u64>,
-    /// How many had begun to wait before the latest that was woken.
-    last_woken: Option<u64>,
-    /// Whether a further request was served.
-    is_serving: bool,
-}
-
-impl Now {
-    /// Whether it has woken one that began to wait behind so many, or behind more.
-    fn has_woken_behind(&self, before: u64) -> bool {
-        match self.last_woken {
-            Some(last) => last >= before,
-            None => false,
-        }
-    }
-}
-
 struct Check<'a> {
     alloc: Global,
+    /// How many things have happened.
+    happenings: u64,
     clients: Vec<Client<'a>>,
-    links: Vec<Link>,
+    /// The requests that went forward, in their order.
+    exchanges: Vec<Exchange>,
+    /// The exchange of each link.
+    links: Vec<usize>,
     /// The requests that wait, in the order in which they began to.
     waiters: Vec<Waiter>,
     suspects: Vec<Suspect>,
@@ -125,7 +71,9 @@ impl Drop for Check<'_> {
     fn drop(self) {
         let Check {
             alloc: _,
+            happenings: _,
             clients: _,
+            exchanges: _,
             links: _,
             waiters: _,
             suspects: _,
@@ -146,56 +94,6 @@ fn one_more(count: &mut u64) {
     *count = count.saturating_add(1);
 }
 
-/// Where the end of this number, counted from 1, stands in a list.
-fn place(number: u64) -> usize {
-    match number.checked_sub(1) {
-        Some(before) => before as usize,
-        None => usize::MAX,
-    }
-}
-
-/// The connection and the ordinal that the field X-Id of a head names.
-fn id_of(head: &[u8]) -> Option<(u64, u64)> {
-    let (connection, ordinal) = last_value(head, b"X-Id")?.split_once_str(b".")?;
-    Some((number_of(connection)?, number_of(ordinal)?))
-}
-
-/// The same of a request that goes forward.
-fn id_of_request(request: &[u8]) -> Option<(u64, u64)> {
-    match parts(request) {
-        Some((head, _)) => id_of(head),
-        None => None,
-    }
-}
-
-/// Whether a line has this address, one of those without cache or one of the others.
-fn is_address(address: &[u8], is_past: bool) -> bool {
-    if is_past {
-        return address == b"127.0.0.1:8083".as_slice();
-    }
-    address == b"127.0.0.1:8081".as_slice() || address == b"127.0.0.1:8082".as_slice()
-}
-
-/// The clients of a log, which have sent nothing yet.
-fn clients_of<'a>(alloc: Global, log: &Log) -> Result<Vec<Client<'a>>, Wrong> {
-    let mut clients = Vec::new(alloc);
-    for step in &log.steps {
-        if let Told::Accepted(_) = step.told {
-            let client = Client {
-                asked: Vec::new(alloc),
-                whole: 0,
-                replies: 0,
-                link: None,
-                last: None,
-                is_accepted: false,
-                is_over: false,
-            };
-            clients.push(client).map_err(AllocError::from)?;
-        }
-    }
-    Ok(clients)
-}
-
 impl<'a> Check<'a> {
     /// Nothing has happened yet; the requests that the clients of a log will send are known.
     fn new(alloc: Global, log: &'a Log) -> Result<Self, Wrong> {
@@ -207,7 +105,9 @@ impl<'a> Check<'a> {
         }
         Ok(Check {
             alloc,
+            happenings: 0,
             clients,
+            exchanges: Vec::new(alloc),
             links: Vec::new(alloc),
             waiters: Vec::new(alloc),
             suspects: Vec::new(alloc),
@@ -229,16 +129,22 @@ impl<'a> Check<'a> {
         }
     }
 
+    /// The exchange of the link of this number.
+    fn exchange_on(&self, number: u64) -> usize {
+        self.links.get(place(number)).copied().unwrap_or(usize::MAX)
+    }
+
     /// What is known of a happening before its effects.
     fn tell(&mut self, told: Told) {
+        one_more(&mut self.happenings);
         self.woken.clear();
         self.happening = Now::default();
         self.happening.about = match told {
             Told::Accepted(number) => Some(number),
             Told::Client(number, _) => Some(number),
             Told::Gone(number) => Some(number),
-            Told::Link(number) => match link_of(self.links.as_slice(), number) {
-                Some(link) => Some(link.asked.connection),
+            Told::Link(number) => match self.exchanges.get(self.exchange_on(number)) {
+                Some(exchange) => Some(exchange.asked.connection),
                 None => None,
             },
             Told::Late => None,
@@ -265,54 +171,66 @@ impl<'a> Check<'a> {
     /// A client is gone: if its request waited, it waits no longer.
     fn forget(&mut self, number: u64) {
         let before = self.waiters.len();
-        self.waiters.retain(|waiter| waiter.connection != number);
+        self.waiters
+            .retain(|waiter| waiter.arrived.connection != number);
         if self.waiters.len() < before {
             one_more(&mut self.counts.waiters_gone);
         }
     }
 
-    /// Whether an effect on a connection wakes the request there.
-    fn wakes(&mut self, number: u64) -> Result<bool, Wrong> {
-        let Some(waiter) = self.waiters.iter().find(|it| it.connection == number) else {
-            return Ok(false);
+    /// The request that an effect on a connection wakes there.
+    fn wakes(&mut self, number: u64) -> Result<Option<Woken>, Wrong> {
+        let Some(waiter) = self
+            .waiters
+            .iter()
+            .find(|it| it.arrived.connection == number)
+        else {
+            return Ok(None);
         };
-        if !waiter.may_wait_for(self.happening.ended) {
+        let Some(ended) = waiter.waited_for(self.happening.ended) else {
             return Err(Wrong::Rule("a request is woken while what it waits for is open", number));
-        }
+        };
         if self.happening.is_serving {
             return Err(Wrong::Rule("a request is served before one that is woken", number));
         }
-        let before = waiter.before;
-        if self.happening.has_woken_behind(before) {
+        let arrived = waiter.arrived;
+        if self.happening.has_woken_behind(arrived) {
             return Err(Wrong::Rule("requests are woken in another order than they came", number));
         }
-        waiter.push_suspects(
-            &mut self.suspects,
-            self.links.as_slice(),
-            self.happening.ended,
-        )?;
-        self.wake(number, before)?;
-        Ok(true)
+        let reason = reason_of(self.exchanges.as_slice(), ended);
+        if !waiter.may_wait_by(reason) {
+            return Err(Wrong::Rule(
+                "a request waited that went forward for no such reason",
+                number,
+            ));
+        }
+        waiter.push_suspects(&mut self.suspects, self.exchanges.as_slice(), ended)?;
+        self.wake(arrived)?;
+        Ok(Some(Woken { arrived, reason }))
     }
 
     /// A request waits no longer.
-    fn wake(&mut self, number: u64, before: u64) -> Result<(), Wrong> {
+    fn wake(&mut self, arrived: Arrival) -> Result<(), Wrong> {
         if self.woken.is_empty() {
             one_more(&mut self.counts.wakings);
         }
-        self.happening.last_woken = Some(before);
-        self.waiters.retain(|waiter| waiter.connection != number);
-        Ok(self.woken.push(number).map_err(AllocError::from)?)
+        self.happening.last_woken = Some(arrived);
+        self.waiters.retain(|waiter| waiter.arrived != arrived);
+        Ok(
+            self.woken
+                .push(arrived.connection)
+                .map_err(AllocError::from)?,
+        )
     }
 
-    /// There may be an effect on a connection to which the happening happened, or which it wakes. Tells whether it does so now.
-    fn touch(&mut self, number: u64) -> Result<bool, Wrong> {
-        if self.wakes(number)? {
-            return Ok(true);
+    /// There may be an effect on a connection to which the happening happened, or which it wakes. Gives what it wakes now.
+    fn touch(&mut self, number: u64) -> Result<Option<Woken>, Wrong> {
+        if let Some(woken) = self.wakes(number)? {
+            return Ok(Some(woken));
         }
-        let is_woken = self.woken.iter().any(|woken| *woken == number);
-        if is_woken || self.happening.about == Some(number) {
-            return Ok(false);
+        let was_woken = self.woken.iter().any(|woken| *woken == number);
+        if was_woken || self.happening.about == Some(number) {
+            return Ok(None);
         }
         Err(Wrong::Rule(
             "an effect is on a connection to which nothing happened",
@@ -322,7 +240,7 @@ impl<'a> Check<'a> {
 
     /// The same of what is no answer and no forward, which wakes nobody.
     fn touch_only(&mut self, number: u64) -> Result<(), Wrong> {
-        if self.touch(number)? {
+        if self.touch(number)?.is_some() {
             return Err(Wrong::Rule("a request that waits gets something else", number));
         }
         Ok(())
@@ -331,16 +249,17 @@ impl<'a> Check<'a> {
     /// A request has come whole, and got nothing: it waits.
     fn begin_to_wait(&mut self, asked: Asked) -> Result<(), Wrong> {
         let connection = asked.connection;
-        if asked.method != "GET" || self.is_past(&asked) {
+        if asked.method != "GET" || asked.is_only_if_cached || self.is_past(&asked) {
             return Err(Wrong::Rule("a request that never waits gets nothing", connection));
         }
-        let beside = beside(self.alloc, self.links.as_slice(), &asked)?;
+        let lets_wait = self.lets_wait(&asked);
+        let beside = beside(self.alloc, self.exchanges.as_slice(), &asked, lets_wait)?;
         if beside.is_empty() {
             return Err(Wrong::Rule("a request waits for none", connection));
         }
         let waiter = Waiter {
-            connection,
-            before: self.counts.waited,
+            arrived: self.arrival(connection),
+            lets_wait,
             beside,
         };
         one_more(&mut self.counts.waited);
@@ -366,7 +285,7 @@ impl<'a> Check<'a> {
         if self
             .waiters
             .iter()
-            .any(|waiter| waiter.connection == connection)
+            .any(|waiter| waiter.arrived.connection == connection)
         {
             return None;
         }
@@ -386,8 +305,11 @@ impl<'a> Check<'a> {
             }
         }
         for waiter in &self.waiters {
-            if !waiter.has_one_to_wait_for(self.links.as_slice()) {
-                return Err(Wrong::Rule("a request waits for what has ended", waiter.connection));
+            if !waiter.has_one_to_wait_for(self.exchanges.as_slice()) {
+                return Err(Wrong::Rule(
+                    "a request waits for what has ended",
+                    waiter.arrived.connection,
+                ));
             }
         }
         Ok(())
@@ -409,6 +331,19 @@ impl<'a> Check<'a> {
     fn is_past(&self, asked: &Asked) -> bool {
         self.table == Table::PartlyWithout
             && is_past_the_store(asked.method, asked.host, asked.path)
+    }
+
+    /// Whether the line of this request lets it wait for what is stale.
+    fn lets_wait(&self, asked: &Asked) -> bool {
+        self.table == Table::WithWords && lets_wait_for_stale(asked.host, asked.path)
+    }
+
+    /// A request of this connection comes now.
+    fn arrival(&self, connection: u64) -> Arrival {
+        Arrival {
+            happening: self.happenings,
+            connection,
+        }
     }
 
     /// Whether the last answer that was stored or sent for the target of this request is fresh still.
@@ -448,8 +383,13 @@ impl<'a> Check<'a> {
         Ok(())
     }
 
-    /// A request of a connection goes forward on a link.
-    fn begin(&mut self, connection: u64, ordinal: u64, number: u64) -> Result<(), Wrong> {
+    /// A request of a connection goes forward on a link. Gives its exchange, where it had one before.
+    fn begin(
+        &mut self,
+        connection: u64,
+        ordinal: u64,
+        number: u64,
+    ) -> Result<Option<usize>, Wrong> {
         let client = self.client(connection)?;
         if client.link.is_some() {
             return Err(Wrong::Rule("two requests of a connection are at origins", connection));
@@ -461,31 +401,66 @@ impl<'a> Check<'a> {
             ));
         }
         client.link = Some(number);
-        // The request has had a link: its exchange goes on.
-        let goes_on = client.last.is_some();
-        client.last = Some(number);
-        if goes_on {
-            self.happening.ended = None;
-        }
-        Ok(())
+        Ok(client.exchange)
     }
 
-    /// A request goes forward that hasn't waited: there was none that it could have waited for.
-    fn begin_at_once(&mut self, asked: &Asked, number: u64) -> Result<(), Wrong> {
+    /// A request goes forward that has just come: there was none that it could have waited for.
+    fn begin_at_once(&mut self, asked: &Asked) -> Result<(), Wrong> {
         self.happening.is_serving = true;
         if asked.method != "GET" {
             return Ok(());
         }
-        let others = beside(self.alloc, self.links.as_slice(), asked)?;
+        let lets_wait = self.lets_wait(asked);
+        let others = beside(self.alloc, self.exchanges.as_slice(), asked, lets_wait)?;
         for other in &others {
             let suspect = Suspect {
-                links: (*other, number),
+                exchanges: (*other, self.exchanges.len()),
+                lets_wait,
                 rule: "a request goes forward beside one that it could have waited for",
                 connection: asked.connection,
             };
             self.suspects.push(suspect).map_err(AllocError::from)?;
         }
         Ok(())
+    }
+
+    /// When a request came that goes forward for the first time.
+    fn came_at(&mut self, asked: &Asked, woken: Option<Woken>) -> Result<Arrival, Wrong> {
+        let Some(woken) = woken else {
+            self.begin_at_once(asked)?;
+            return Ok(self.arrival(asked.connection));
+        };
+        one_more(&mut self.counts.woken_forward);
+        if woken.reason == Some(Reason::Expired) {
+            one_more(&mut self.counts.waited_for_stale);
+        }
+        Ok(woken.arrived)
+    }
+
+    /// A request goes forward for the first time.
+    fn open(&mut self, asked: Asked, number: u64, woken: Option<Woken>) -> Result<(), Wrong> {
+        let arrived = self.came_at(&asked, woken)?;
+        let exchange = self.exchanges.len();
+        if let Some(client) = self.clients.get_mut(place(asked.connection)) {
+            client.exchange = Some(exchange);
+        }
+        let opened = Exchange {
+            asked,
+            arrived,
+            link: Some(number),
+            reason: None,
+        };
+        self.exchanges.push(opened).map_err(AllocError::from)?;
+        Ok(self.links.push(exchange).map_err(AllocError::from)?)
+    }
+
+    /// A request goes forward once more: its exchange goes on.
+    fn go_on(&mut self, exchange: usize, number: u64) -> Result<(), Wrong> {
+        if let Some(exchange) = self.exchanges.get_mut(exchange) {
+            exchange.link = Some(number);
+        }
+        self.happening.ended = None;
+        Ok(self.links.push(exchange).map_err(AllocError::from)?)
     }
 
     fn forward(&mut self, number: u64, address: &[u8], request: &[u8]) -> Result<(), Wrong> {
@@ -495,32 +470,31 @@ impl<'a> Check<'a> {
         let Some((connection, ordinal)) = id_of_request(request) else {
             return Err(Wrong::Rule("a forward is of no request", number));
         };
-        let is_woken = self.touch(connection)?;
-        self.begin(connection, ordinal, number)?;
+        let woken = self.touch(connection)?;
+        let exchange = self.begin(connection, ordinal, number)?;
         let Some(asked) = self.unanswered(connection) else {
             return Err(Wrong::Rule("a forward is of no request", number));
         };
         self.send_on(&asked, number, address)?;
-        if is_woken {
-            one_more(&mut self.counts.woken_forward);
-        } else {
-            self.begin_at_once(&asked, number)?;
+        match exchange {
+            Some(exchange) => self.go_on(exchange, number),
+            None => self.open(asked, number, woken),
         }
-        Ok(self.links.push(Link::new(asked)).map_err(AllocError::from)?)
     }
 
     fn drop_link(&mut self, number: u64) -> Result<(), Wrong> {
-        let connection = match self.links.get_mut(place(number)) {
-            Some(link) if !link.is_dropped => {
-                link.is_dropped = true;
-                link.asked.connection
+        let exchange = self.exchange_on(number);
+        let connection = match self.exchanges.get_mut(exchange) {
+            Some(exchange) if exchange.link == Some(number) => {
+                exchange.link = None;
+                exchange.asked.connection
             }
             _ => return Err(Wrong::Rule("a link is dropped that isn't there", number)),
         };
         if self.happening.about != Some(connection) {
             return Err(Wrong::Rule("a link is dropped to which nothing happened", number));
         }
-        self.happening.ended = Some(number);
+        self.happening.ended = Some(exchange);
         if let Some(client) = self.clients.get_mut(place(connection)) {
             client.link = None;
         }
@@ -659,31 +633,56 @@ impl<'a> Check<'a> {
         Ok(())
     }
 
-    /// What an answer says of the link on which its request was, if there was one.
-    fn note_link(&mut self, number: u64, head: &[u8]) {
+    /// What an answer says of why its request went forward, if it did.
+    fn note_reason(&mut self, number: u64, head: &[u8]) {
         let Some(client) = self.clients.get_mut(place(number)) else {
             return;
         };
-        let Some(last) = client.last else {
+        let Some(exchange) = client.exchange else {
             self.happening.is_serving = true;
             return;
         };
-        client.last = None;
-        if let Some(link) = self.links.get_mut(place(last)) {
-            link.is_miss = names_a_miss(head);
+        client.exchange = None;
+        if let Some(exchange) = self.exchanges.get_mut(exchange) {
+            exchange.reason = reason_told(head);
         }
+    }
+
+    /// A stored response is sent to a request that waited: it tells for what, and that is what the one went forward for.
+    fn ask_woken(
+        &mut self,
+        number: u64,
+        head: &[u8],
+        asked: &Asked,
+        woken: Woken,
+    ) -> Result<(), Wrong> {
+        let told = reason_told(head);
+        let may_wait = match told {
+            Some(Reason::Missing) => true,
+            Some(Reason::Expired) => self.lets_wait(asked),
+            Some(Reason::Other) | None => false,
+        };
+        if !may_wait || (woken.reason.is_some() && woken.reason != told) {
+            return Err(Wrong::Rule("a request tells wrongly for what it waited", number));
+        }
+        if told == Some(Reason::Expired) {
+            one_more(&mut self.counts.waited_for_stale);
+            one_more(&mut self.counts.collapsed_stale);
+        }
+        Ok(())
     }
 
     /// A reply to the first request of a client that has none.
     fn reply(&mut self, number: u64, bytes: &[u8]) -> Result<(), Wrong> {
-        let is_woken = self.touch(number)?;
+        let woken = self.touch(number)?;
         let asked = self.next_asked(number)?;
         let (head, source) = read_reply(number, bytes)?;
-        if is_woken != matches!(source, Source::Collapsed) {
+        if woken.is_some() != matches!(source, Source::Collapsed) {
             return Err(Wrong::Rule("a reply says wrongly whether its request waited", number));
         }
-        if !is_woken {
-            self.note_link(number, head);
+        match woken {
+            Some(woken) => self.ask_woken(number, head, &asked, woken)?,
+            None => self.note_reason(number, head),
         }
         if !self.answers(head, source, &asked)? {
             return Err(Wrong::Rule("a reply is to another request", number));
@@ -764,7 +763,7 @@ pub fn check_run(alloc: Global, log: &Log, text: &[u8]) -> Result<Counts, Wrong>
     if !rest.is_empty() {
         return Err(Wrong::Rule("there are effects of no happening", 0));
     }
-    if let Some(suspect) = found(check.suspects.as_slice(), check.links.as_slice()) {
+    if let Some(suspect) = found(check.suspects.as_slice(), check.exchanges.as_slice()) {
         return Err(Wrong::Rule(suspect.rule, suspect.connection));
     }
     Ok(check.counts)

@@ -33,6 +33,10 @@ pub struct Counts {
     pub collapsed: u64,
     /// Woken requests that went forward.
     pub woken_forward: u64,
+    /// Woken requests that waited for what is stale, as far as an answer told it.
+    pub waited_for_stale: u64,
+    /// Of them those that were sent a stored response.
+    pub collapsed_stale: u64,
     /// Requests whose clients went away while they waited.
     pub waiters_gone: u64,
 }

@@ -40,3 +40,17 @@ pub fn number_of(digits: &[u8]) -> Option<u64> {
         }
     }
 }
+
+/// The connection and the ordinal that the field X-Id of a head names.
+pub fn id_of(head: &[u8]) -> Option<(u64, u64)> {
+    let (connection, ordinal) = last_value(head, b"X-Id")?.split_once_str(b".")?;
+    Some((number_of(connection)?, number_of(ordinal)?))
+}
+
+/// The same of a request that goes forward.
+pub fn id_of_request(request: &[u8]) -> Option<(u64, u64)> {
+    match parts(request) {
+        Some((head, _)) => id_of(head),
+        None => None,
+    }
+}

@@ -9,6 +9,7 @@
 
 mod answers;
 mod check;
+mod clients;
 mod counts;
 mod dice;
 mod effects;

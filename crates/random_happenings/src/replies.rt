@@ -57,12 +57,25 @@ pub enum Source {
     Collapsed,
 }
 
+/// Whether it is a stored response to a request that waited, behind which only the detail of its rule stands.
+fn is_collapsed(member: &[u8]) -> bool {
+    match member.split_once_str(b";collapsed") {
+        Some((front, b"")) => {
+            front.starts_with(b"fwd=uri-miss;ttl=") || front.starts_with(b"fwd=stale;ttl=")
+        }
+        Some((front, behind)) => {
+            front.starts_with(b"fwd=stale;ttl=") && behind.starts_with(b";detail=")
+        }
+        None => false,
+    }
+}
+
 /// Where the member of Cache-Status says that an answer comes from.
 fn source_by(member: &[u8]) -> Source {
     if member.starts_with(b"hit") {
         return Source::Hit;
     }
-    if member.starts_with(b"fwd=uri-miss;ttl=") && member.ends_with(b";collapsed") {
+    if is_collapsed(member) {
         return Source::Collapsed;
     }
     if member.contains_str(b";stored") {
@@ -89,11 +102,45 @@ fn source_of(head: &[u8]) -> Option<Source> {
     Some(source_by(status.strip_prefix(b"edge;")?))
 }
 
-/// Whether an answer tells that its request went forward since nothing was held for its target.
-pub fn names_a_miss(head: &[u8]) -> bool {
-    match last_value(head, b"Cache-Status") {
-        Some(member) => member.starts_with(b"edge;fwd=uri-miss"),
-        None => false,
+/// Why a request went forward.
+#[derive(Clone, Copy, Debug, PartialEq, Eq)]
+pub enum Reason {
+    /// Nothing was held for its target.
+    Missing,
+    /// What was held for it had a lifetime, which was over, and may not be sent so.
+    Expired,
+    Other,
+}
+
+/// The reason of what was stale, by its detail, unless a later word has taken the place of that. A rule without one leaves room
+/// for why an answer isn't stored.
+fn reason_by_detail(detail: &[u8]) -> Option<Reason> {
+    if detail.starts_with(b"stale-if-error") || detail.starts_with(b"reuse-after-") {
+        return None;
+    }
+    let has_expired = detail.starts_with(b"not-stored-")
+        || ["must-revalidate", "max-stale", "max-age", "min-fresh"]
+            .iter()
+            .any(|word| word.as_bytes() == detail);
+    Some(if has_expired {
+        Reason::Expired
+    } else {
+        Reason::Other
+    })
+}
+
+/// Why an answer tells that its request went forward.
+pub fn reason_told(head: &[u8]) -> Option<Reason> {
+    let member = last_value(head, b"Cache-Status")?.strip_prefix(b"edge;fwd=")?;
+    if member.starts_with(b"uri-miss") {
+        return Some(Reason::Missing);
+    }
+    let Some(told) = member.strip_prefix(b"stale") else {
+        return Some(Reason::Other);
+    };
+    match told.split_once_str(b";detail=") {
+        Some((_, detail)) => reason_by_detail(detail),
+        None => Some(Reason::Expired),
     }
 }
 

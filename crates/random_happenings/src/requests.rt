@@ -1,6 +1,7 @@
 //! What clients send.
 
 use crate::dice::Dice;
+use crate::fields::last_value;
 use std::alloc::{AllocError, Global};
 
 const UNUSUAL_METHODS: &[&str] = &[
@@ -76,6 +77,10 @@ pub struct Asked {
     pub host: &'static str,
     pub path: &'static str,
     pub method: &'static str,
+    /// Whether it has neither no-store nor Authorization.
+    pub is_for_others: bool,
+    /// Whether it has only-if-cached.
+    pub is_only_if_cached: bool,
 }
 
 impl Asked {
@@ -87,7 +92,17 @@ impl Asked {
             host: dice.pick(HOSTS),
             path: dice.pick(PATHS),
             method: one_of(dice, "GET", 5, UNUSUAL_METHODS),
+            is_for_others: true,
+            is_only_if_cached: false,
         }
+    }
+
+    /// Notes what its text says of its answer.
+    pub fn note_fields(&mut self, text: &[u8]) {
+        let control = last_value(text, b"Cache-Control").unwrap_or(b"");
+        let has_no_store = control == b"no-store".as_slice();
+        self.is_for_others = !has_no_store && last_value(text, b"Authorization").is_none();
+        self.is_only_if_cached = control == b"only-if-cached".as_slice();
     }
 
     pub fn has_target_of(&self, other: &Asked) -> bool {

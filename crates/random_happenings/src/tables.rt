@@ -8,7 +8,7 @@ pub enum Table {
     WithCache,
     /// Some have none.
     PartlyWithout,
-    /// Two lines have words on caching.
+    /// Some have words on caching.
     WithWords,
 }
 
@@ -91,8 +91,9 @@ path = \"/\"
 origin = \"127.0.0.1:8081\"
 ";
 
-/// The table of the third trial: the line of one host gives a lifetime and a staleness and ignores what requests want, that of the
-/// others stores no cookies and no errors and tells why an answer isn't stored.
+/// The table of the third trial: the line of one host gives a lifetime and a staleness and ignores what requests want, those of the
+/// others store no cookies and no errors and tell why an answer isn't stored. That host's line and the one of /a let requests wait
+/// for what is stale.
 const WITH_WORDS: &[u8] = b"version = 3
 name = \"edge\"
 capacity = 4
@@ -113,6 +114,17 @@ origin = \"127.0.0.1:8082\"
 lifetime = 30
 stale-if-error = 100
 request-directives = \"ignored\"
+wait = \"missing-or-stale\"
+
+[[line]]
+host = \"*\"
+methods = [\"*\"]
+path = \"/a\"
+origin = \"127.0.0.1:8081\"
+set-cookie = \"not-stored\"
+errors = \"not-stored\"
+wait = \"missing-or-stale\"
+explain = \"storing\"
 
 [[line]]
 host = \"*\"
@@ -131,4 +143,17 @@ pub fn is_past_the_store(method: &str, host: &str, path: &str) -> bool {
         "/b" => host == "i" && method != "TRACE",
         _ => false,
     }
+}
+
+/// Whether the third table lets a GET wait for what is stale: one for the host i, or for /a.
+pub fn lets_wait_for_stale(host: &str, path: &str) -> bool {
+    host == "i" || path == "/a"
+}
+
+/// Whether a line has this address, one of those without cache or one of the others.
+pub fn is_address(address: &[u8], is_past: bool) -> bool {
+    if is_past {
+        return address == b"127.0.0.1:8083".as_slice();
+    }
+    address == b"127.0.0.1:8081".as_slice() || address == b"127.0.0.1:8082".as_slice()
 }

@@ -41,6 +41,11 @@ fn tell_words<R: Print>(rt: &R, counts: &Counts) -> io::Result<()> {
     }
     println!(rt;
         "{given} stored by a given lifetime, {explained} say why they aren't stored, {cookies} of them for a cookie"
+    )?;
+    let (stale, collapsed) = (counts.waited_for_stale, counts.collapsed_stale);
+    let forward = stale.saturating_sub(collapsed);
+    println!(rt;
+        "{stale} waited for what is stale, as far as answers told it: {collapsed} to a stored response and {forward} to a forward"
     )
 }
 

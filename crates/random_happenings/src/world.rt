@@ -120,9 +120,10 @@ impl Caller {
     /// Begins a request, which is sent behind the rest.
     fn begin(&mut self, alloc: Global, dice: &mut Dice) -> Result<Asked, AllocError> {
         self.begun = self.begun.saturating_add(1);
-        let asked = Asked::random(dice, self.number, self.begun);
+        let mut asked = Asked::random(dice, self.number, self.begun);
         let mut text = String::new(alloc);
         push_request(&mut text, dice, &asked)?;
+        asked.note_fields(text.as_bytes());
         self.rest.extend_from_slice(text.as_bytes())?;
         self.wholes.push(self.sent.saturating_add(self.rest.len()))?;
         Ok(asked)

@@ -59,6 +59,7 @@ stale-if-error = 600
 set-cookie = \"not-stored\"
 errors = \"not-stored\"
 request-directives = \"ignored\"
+wait = \"missing-or-stale\"
 explain = \"storing\"
 
 [[line]]
@@ -78,6 +79,7 @@ fn each_line_tells_its_words(rt: HostRuntime) -> Result<(), Fail> {
     assert!(rt; !policy.stores_cookies);
     assert!(rt; !policy.stores_errors);
     assert!(rt; !policy.heeds_requests);
+    assert!(rt; policy.waits_for_stale);
     assert!(rt; policy.explains_storing);
     assert!(rt; config.policy(2) == Policy::plain(true));
     assert!(rt; config.policy(3) == Policy::plain(false));

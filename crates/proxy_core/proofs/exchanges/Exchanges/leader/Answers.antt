@@ -16,6 +16,6 @@ pub returns-in-None : goal.returns-in-None
 returns-in-None c =
     let key = c.args.key.now in
     let es = c.self.inside.by_arrival.entries in
-    sym (none_asks key es (passes (λ x. asks_for key x.asked) (λ m. false) es c.self.invariant.indexes.ids.apart
+    sym (none_asks c.args.policy c.args.rule key es (passes (λ x. asks_for key x.asked) (λ m. false) es c.self.invariant.indexes.ids.apart
     (λ m. ap (λ o. set_has o m) c.in-None.ensures ∙ c.self.invariant.asking key m)))
-    ∙ ap (leader key) c.self.view_is
+    ∙ ap (leader c.args.policy c.args.rule key) c.self.view_is
