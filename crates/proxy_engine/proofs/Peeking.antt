@@ -1,5 +1,6 @@
 -- A reader that is asked ahead: what is known of the next answer.
-use Rattle.std.proofs.Common.{◌≡◌, ℕ, Bool, false, List, [], ◌∷◌, refl, sym, subst}
+use Rattle.std.proofs.Common.{◌≡◌, ℕ, Bool, true, false, not, List, [], ◌∷◌, refl, sym, subst}
+use Rattle.hx_framing.specs.declared.messages.Request.{Request}
 use Rattle.hx_framing.specs.declared.messages.Response.{Response}
 use Rattle.hx_framing.specs.declared.messages.Next.{Next}
 use Rattle.hx_framing.specs.declared.messages.Next.TheVariants as next
@@ -7,7 +8,8 @@ use Rattle.hx_framing.specs.declared.readers.response_reader.ResponsePhase.{Resp
 use Rattle.hx_framing.specs.declared.readers.response_reader.ResponsePhase.TheVariants as phase
 use Rattle.hx_framing.specs.Progress.{Progress, start}
 use Rattle.hx_framing.specs.Reading.{Incomplete}
-use Rattle.hx_framing.specs.RequestStream.{Answers as RequestAnswers}
+use Rattle.hx_framing.specs.RequestReading.{Reads}
+use Rattle.hx_framing.specs.RequestStream.{StreamSpells, Answers as RequestAnswers}
 use Rattle.hx_framing.specs.ResponseState.{State, StandsFor, KeepsBy}
 use Rattle.hx_framing.specs.ResponseStream.{Answers as ResponseAnswers}
 use Rattle.proxy_engine.specs.declared.lookahead.Lookahead.{Lookahead}
@@ -49,3 +51,18 @@ pub spare_stands : (r s : State) (p : Progress Response) → s ≡ record r { sp
 spare_stands r s p same h =
     subst (λ (t : State). StandsFor t p) (sym same)
     (record { max_body = h.max_body; to_head = h.to_head; ended = h.ended; spells = h.spells; keeps = spare_keeps r s.spare p r.phase p.given h.keeps })
+
+-- ---- each byte that came is of a message given, and more may come
+
+pub not_true : (b : Bool) → not b ≡ true → b ≡ false
+not_true true e = cc
+not_true false e = refl
+
+pub quiet_answers : (p : Progress Request) → p.ended ≡ false → StreamSpells p.max_body p.stream p.given [] → RequestAnswers p next.More
+quiet_answers p still spells = record {
+  rest = [];
+  reading = Incomplete;
+  spells = spells;
+  reads = subst (λ (e : Bool). Reads p.max_body e p.told [] Incomplete) (sym still) refl;
+  answer_is = refl;
+}

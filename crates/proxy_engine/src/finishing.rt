@@ -26,6 +26,7 @@ use hx_store::Shelf;
 use proxy_core::{Core, Outcome};
 use proxy_script::Effect;
 use std::alloc::{AllocError, Global};
+use std::mem::replace;
 
 /// The failure that a fault in an answer is.
 fn kind_of(fault: FrameFault) -> FailKind
@@ -39,7 +40,11 @@ fn kind_of(fault: FrameFault) -> FailKind
 }
 
 /// How the request of an open exchange goes forward once more, if it does.
-pub(crate) fn way_again<S: Shelf>(core: &Core<S>, alloc: Global, id: u64) -> Result<Way, AllocError>
+pub(crate) fn way_again<S: Shelf>(
+    core: &Core<S>,
+    address: Vec<u8>,
+    id: u64,
+) -> Result<Way, AllocError>
     requires { is_some (find_exchange id core.now.exchanges) ≡ true }
     ensures empty { IfOk result (λ way. (way.address.items ≡ []) × (vec_len way.address ≡ 0)) }
     ensures room { IfOk result (λ way. HasRoomFor core.now.table (vec_capacity way.address)) }
@@ -49,7 +54,7 @@ pub(crate) fn way_again<S: Shelf>(core: &Core<S>, alloc: Global, id: u64) -> Res
     let Some(exchange) = core.exchange(id) else {
         unreachable!()
     };
-    Way::new(alloc, core.config(), &exchange.asked)
+    Way::new(address, core.config(), &exchange.asked)
 }
 
 /// The origin failed.
@@ -200,7 +205,8 @@ impl<S: Shelf> Engine<S> {
         let i = self.ends.links.at(j).connection;
         let count = self.ends.connections.len();
         prove!(i < count);
-        let mut way = way_again(&self.core, alloc, i + 1)?;
+        let address = replace(&mut self.ends.address, Vec::new(alloc));
+        let mut way = way_again(&self.core, address, i + 1)?;
         let outcome = end(self.ends.links.at(j), &mut self.core, alloc, now, i + 1)?;
         way.set_address(self.core.config(), &outcome);
         free(&mut self.ends.connections, &mut self.ends.links, j, i);

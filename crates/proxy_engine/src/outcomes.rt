@@ -127,15 +127,21 @@ pub(crate) struct Way {
 }
 
 impl Way {
-    /// With room for the address of each line's origin.
-    pub(crate) fn new(alloc: Global, config: &Config, asked: &Asked) -> Result<Way, AllocError>
+    /// With room for the address of each line's origin, made of the room that is there.
+    pub(crate) fn new(
+        mut address: Vec<u8>,
+        config: &Config,
+        asked: &Asked,
+    ) -> Result<Way, AllocError>
         ensures empty { IfOk result (λ way. (way.address.items ≡ []) × (vec_len way.address ≡ 0)) }
         ensures room { IfOk result (λ way. HasRoomFor config.now (vec_capacity way.address)) }
         ensures max_body { IfOk result (λ way. way.max_body ≡ config.now.max_body) }
         ensures to_head { IfOk result (λ way. way.to_head ≡ is_head asked.now) }
     {
+        address.clear();
+        address.reserve_exact(config.longest_origin())?;
         Ok(Way {
-            address: Vec::with_capacity(alloc, config.longest_origin())?,
+            address,
             max_body: config.max_body(),
             to_head: is_head(asked),
         })
@@ -236,13 +242,10 @@ impl Ends {
         ensures load { load_on self.new ≤ load_on self.old + outcome_load outcome }
     {
         match outcome {
-            Outcome::Reply(reply) => send_reply(
-                &mut self.connections,
-                effects,
-                i,
-                reply.bytes,
-                reply.close,
-            ),
+            Outcome::Reply(reply) => {
+                self.address = way.address;
+                send_reply(&mut self.connections, effects, i, reply.bytes, reply.close);
+            }
             Outcome::Forward(_, bytes) => {
                 let number = self.number_at(self.links.len());
                 open_link(
@@ -256,8 +259,11 @@ impl Ends {
                 let address = Bytes::from_vec(way.address);
                 put(effects, Effect::Forward(number, address, bytes));
             }
-            Outcome::Waits(_) => marks::queue_at(&mut self.connections, i),
-            Outcome::Ended => {}
+            Outcome::Waits(_) => {
+                self.address = way.address;
+                marks::queue_at(&mut self.connections, i);
+            }
+            Outcome::Ended => self.address = way.address,
         }
     }
 }

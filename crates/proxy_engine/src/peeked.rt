@@ -83,12 +83,40 @@ impl<R: Reader> Peeked<R> {
     {
         match self.ahead {
             Lookahead::Unknown => {
-                let next = self.inner.next(alloc)?;
-                self.ahead = Lookahead::from_next(next);
-                Ok(())
+                if self.inner.is_quiet() {
+                    self.ahead = Lookahead::Quiet;
+                    Ok(())
+                } else {
+                    self.read(alloc)
+                }
             }
             Lookahead::Quiet => Ok(()),
             Lookahead::Due(_) => Ok(()),
+        }
+    }
+
+    /// Reads what is due next, of which nothing is known.
+    fn read(&mut self, alloc: Global) -> Result<(), AllocError>
+        requires { self.old.ahead ≡ Lookahead.Unknown }
+        ensures stands { (p : Progress R.Message) → Stands R.StandsFor R.Answers self.old p → Stands R.StandsFor R.Answers self.new p }
+        ensures looked { OnOk result ((a : Next R.Message) × Shows self.new.ahead a) }
+        ensures unknown { OnErr result (is_unknown self.new.ahead ≡ true) }
+        ensures load { load R.weight self.new ≤ load R.weight self.old }
+        ensures unsettled { unsettled self.new.ahead ≤ unsettled self.old.ahead }
+    {
+        match self.inner.next(alloc) {
+            Ok(next) => {
+                match self.ahead {
+                    // Told once more, so that nothing is moved out to be dropped.
+                    Lookahead::Unknown => {
+                        self.ahead = Lookahead::from_next(next);
+                    }
+                    Lookahead::Quiet => unreachable!(),
+                    Lookahead::Due(_) => unreachable!(),
+                }
+                Ok(())
+            }
+            Err(fault) => Err(fault),
         }
     }
 

@@ -1,7 +1,8 @@
 //! What a reader of a stream of messages keeps to, whatever the messages are. Both readers of hx_framing do.
-ghost use Rattle.std.specs.Prelude.{◌≡◌, ℕ, ◌+◌, ◌*◌, ◌≤◌, List, false, IsOk, IfOk, OnOk, OnErr, length};
+ghost use Rattle.std.specs.Prelude.{◌≡◌, ℕ, ◌+◌, ◌*◌, ◌≤◌, List, true, false, IsOk, IfOk, OnOk, OnErr, length};
 ghost use Rattle.hx_framing.specs.Progress.{Progress, fed, finished, moved, cost, IsDue};
 ghost use Rattle.hx_framing.specs.declared.messages.Next.{Next};
+ghost use Rattle.hx_framing.specs.declared.messages.Next.TheVariants as next;
 
 use hx_framing::{Next, Request, RequestReader, Response, ResponseReader};
 use std::alloc::{AllocError, Global};
@@ -43,6 +44,10 @@ pub trait Reader: Drop {
     fn finish(&mut self)
         ensures stands { (p : Progress Self.Message) → StandsFor self.old p → StandsFor self.new (finished p) }
         ensures weight { weight self.new ≤ weight self.old + end_weight };
+
+    /// Whether a look at it tells that nothing is due yet. Where it doesn't, something may be due or not.
+    fn is_quiet(&self) -> bool
+        ensures { result ≡ true → (p : Progress Self.Message) → StandsFor self.now p → Answers p next.More };
 
     /// What is due behind the messages given. An `Err` changes nothing.
     fn next(&mut self, alloc: Global) -> Result<Next<Self::Message>, AllocError>
@@ -87,6 +92,11 @@ impl Reader for RequestReader {
         self.finish();
     }
 
+    /// Each byte that came belongs to a request that was given, and more may come.
+    fn is_quiet(&self) -> bool {
+        self.is_between_requests() && !self.has_ended()
+    }
+
     fn next(&mut self, alloc: Global) -> Result<Next<Request>, AllocError> {
         self.next(alloc)
     }
@@ -123,6 +133,10 @@ impl Reader for ResponseReader {
 
     fn finish(&mut self) {
         self.finish();
+    }
+
+    fn is_quiet(&self) -> bool {
+        false
     }
 
     fn next(&mut self, alloc: Global) -> Result<Next<Response>, AllocError> {

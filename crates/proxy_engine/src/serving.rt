@@ -30,6 +30,7 @@ use hx_store::Shelf;
 use proxy_core::refused;
 use proxy_script::Effect;
 use std::alloc::{AllocError, Global};
+use std::mem::replace;
 
 /// The client may send the content of its request.
 fn send_continue(
@@ -122,7 +123,8 @@ impl<S: Shelf> Engine<S> {
     {
         let mut effects = room(alloc)?;
         self.ends.links.reserve_one(alloc)?;
-        let mut way = Way::new(alloc, self.core.config(), asked)?;
+        let address = replace(&mut self.ends.address, Vec::new(alloc));
+        let mut way = Way::new(address, self.core.config(), asked)?;
         let count = self.ends.connections.len();
         prove!(i < count);
         let outcome = match self.core.arrive(alloc, now, i + 1, asked) {

@@ -14,6 +14,7 @@ use crate::outcomes::{lacks_memory, room};
 use hx_store::Shelf;
 use proxy_script::Effect;
 use std::alloc::{AllocError, Global};
+use std::mem::replace;
 
 impl<S: Shelf> Engine<S> {
     /// The request of the connection at a place is judged anew, where a link number is left for it. All that can fail comes
@@ -31,7 +32,8 @@ impl<S: Shelf> Engine<S> {
         self.ends.links.reserve_one(alloc)?;
         let count = self.ends.connections.len();
         prove!(i < count);
-        let mut way = way_again(&self.core, alloc, i + 1)?;
+        let address = replace(&mut self.ends.address, Vec::new(alloc));
+        let mut way = way_again(&self.core, address, i + 1)?;
         let outcome = match self.core.wake(alloc, now, i + 1) {
             Ok(outcome) => outcome,
             Err(fault) => return Err(lacks_memory(fault)),
