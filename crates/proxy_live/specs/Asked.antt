@@ -1,5 +1,5 @@
 -- Which origin was asked for a reply, as far as the order of links tells. An origin is named by its place.
-use Rattle.std.specs.Prelude.{ℕ, ◌==◌, Bool, true, false, if◌then◌else◌, List, [], ◌∷◌, Option, Some, None}
+use Rattle.std.specs.Prelude.{◌≡◌, ◌⊎◌, ◌≤◌, length, insert, slice_get, option_map, ℕ, ◌==◌, Bool, true, false, if◌then◌else◌, List, [], ◌∷◌, Option, Some, None}
 use Rattle.proxy_live.specs.declared.asked.Asked.{Asked}
 use Rattle.proxy_live.specs.declared.asked.Places.{Places}
 use Rattle.proxy_live.specs.declared.asked.Places.TheVariants.{Nowhere, One, Several}
@@ -36,3 +36,12 @@ failed_place failed (Some place) = Some place
 abbrev pub place_of : Asked → Bool → Option ℕ
 place_of asked true = asked.shut
 place_of asked false = if asked.is_unsure then unsure_place asked.places asked.shut else failed_place asked.failed.items asked.shut
+
+-- a link that has failed stands among the others with the place of its origin, or it is one of them already
+abbrev pub IsAmong : ℕ → ℕ → List (ℕ × ℕ) → List (ℕ × ℕ) → Type 0
+IsAmong link place old new = ((i : ℕ) × (i ≤ length old) × (new ≡ insert old i (link, place))) ⊎ ((new ≡ old) × ((i : ℕ) × (option_map (λ (one : ℕ × ℕ). one.0) (slice_get old i) ≡ Some link)))
+
+-- it does, or from then on the order tells nothing
+abbrev pub KeepsOrder : ℕ → ℕ → Asked → Asked → Type 0
+KeepsOrder link place old new =
+    (IsAmong link place old.failed.items new.failed.items × (new.is_unsure ≡ old.is_unsure)) ⊎ ((new.failed.items ≡ old.failed.items) × (new.is_unsure ≡ true))

@@ -4,7 +4,8 @@
 //! are kept in the order in which the engine takes them, the least first. Where some of them may have no reply that order tells nothing,
 //! and a reply is of an origin only where it can be of no other.
 ghost use Rattle.std.specs.Prelude.{◌≡◌, ◌≤◌, length};
-ghost use Rattle.proxy_live.specs.Asked.{with_place, only_place, place_of};
+ghost use Rattle.std.specs.Bool.{OnFalse, OnTrue};
+ghost use Rattle.proxy_live.specs.Asked.{with_place, only_place, place_of, IsAmong, KeepsOrder};
 
 use crate::limits::PLACES;
 use std::alloc::Global;
@@ -72,6 +73,7 @@ impl Asked {
     pub(crate) fn lose_link(&mut self, l: u64, place: usize)
         ensures places { self.new.places ≡ with_place self.old.places place }
         ensures shut { self.new.shut ≡ self.old.shut }
+        ensures order { KeepsOrder l place self.old self.new }
     {
         self.places = self.places.with(place);
         if !self.keep(l, place) {
@@ -81,6 +83,9 @@ impl Asked {
 
     /// Keeps a link that has failed. Whether there was room and memory for it.
     fn keep(&mut self, l: u64, place: usize) -> bool
+        ensures kept { OnTrue result (IsAmong l place self.old.failed.items self.new.failed.items) }
+        ensures not_kept { OnFalse result (self.new.failed.items ≡ self.old.failed.items) }
+        ensures unsure { self.new.is_unsure ≡ self.old.is_unsure }
         ensures places { self.new.places ≡ self.old.places }
         ensures shut { self.new.shut ≡ self.old.shut }
     {
@@ -88,7 +93,10 @@ impl Asked {
             return false;
         }
         match self.failed.binary_search_by(|one| l.cmp(&one.0)) {
-            Ok(_) => true,
+            Ok(at) => match self.failed.get(at) {
+                Some(one) => one.0 == l,
+                None => false,
+            },
             Err(at) => at <= self.failed.len() && self.failed.insert(at, (l, place)).is_ok(),
         }
     }
