@@ -17,7 +17,7 @@ use hx_status::FailKind;
 use mio::event::Event;
 use mio::net::{TcpListener, TcpStream};
 use mio::{Events, Interest, Poll, Token};
-use proxy_log::{Lines, ReplyReader};
+use proxy_log::Lines;
 use proxy_turn::{End, MOST_WORKS, Received, Report, SocketFailed, Sockets, TurnFault};
 use std::alloc::{AllocError, Global};
 use std::io::ErrorKind;
@@ -68,8 +68,6 @@ pub struct LiveSockets<'a, R: Net> {
     pub(crate) log: Option<Lines>,
     /// Counts of replies, where they are kept.
     pub(crate) replies: Option<Replies>,
-    /// Reads replies, where they are counted or logged.
-    pub(crate) reader: ReplyReader,
     pub(crate) doors: Doors,
     pub(crate) turns: Turns,
     /// Who was asked for what goes out next.
@@ -226,7 +224,6 @@ impl<'a, R: Net> LiveSockets<'a, R> {
             limits,
             log: None,
             replies: None,
-            reader: ReplyReader::new(),
             doors: Doors::new(),
             turns: Turns::new(),
             asked: Asked::new(alloc),

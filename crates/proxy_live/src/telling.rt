@@ -4,7 +4,7 @@ ghost use Rattle.std.specs.Prelude.{◌≡◌};
 use crate::clients::Clients;
 use crate::live_sockets::LiveSockets;
 use crate::sorts::{Sort, Source, sort_of};
-use proxy_log::{Lines, Told};
+use proxy_log::{Lines, Told, told_by};
 use std::net::Net;
 
 /// A reply that was written.
@@ -41,7 +41,7 @@ impl<'a, R: Net> LiveSockets<'a, R> {
         ensures reads { self.new.reads ≡ self.old.reads }
         ensures failures { self.new.failures ≡ self.old.failures }
     {
-        let Some(told) = self.reader.read(bytes) else {
+        let Some(told) = told_by(bytes) else {
             return;
         };
         let sort = sort_of(told.reason);

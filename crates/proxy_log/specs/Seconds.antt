@@ -1,5 +1,5 @@
 -- Milliseconds as seconds with three digits behind the point.
-use Rattle.std.specs.Prelude.{ℕ, ◌+◌, ◌/◌, ◌%◌, List, [], ◌∷◌, ◌++◌, codes, decimal}
+use Rattle.std.specs.Prelude.{ℕ, ◌+◌, ◌/◌, ◌%◌, List, [], ◌∷◌, ◌++◌, decimal}
 
 -- three digits: of a number below 1,000
 abbrev pub three_digits : ℕ → List ℕ

@@ -1,10 +1,12 @@
 //! What a client asked for, read from its bytes a second time.
-ghost use Rattle.std.specs.Prelude.{◌≤◌, length, IfOk};
+ghost use Rattle.std.specs.Prelude.{◌≡◌, ◌≤◌, length, drop, IfOk, OnOk, None, Some, true};
+ghost use Rattle.std.specs.Option.{option_or};
+ghost use Rattle.proxy_log.specs.Asked.{Asks, IsKept, NamesTarget, next_question, nothing, question_in, uri_text};
 
 use crate::request_line::request_line;
 use hx_fields::Bytes;
 use hx_framing::{Next, Request, RequestReader};
-use hx_target::{Target, read_target};
+use hx_target::{Target, TargetFault, read_target};
 use itoa::Buffer;
 use std::alloc::{AllocError, Global};
 use std::collections::VecDeque;
@@ -31,7 +33,9 @@ pub struct Question {
     pub target: Bytes,
 }
 
-fn no_question(alloc: Global) -> Question {
+fn no_question(alloc: Global) -> Question
+    ensures { result ≡ nothing }
+{
     Question {
         method: Bytes::new(alloc),
         target: Bytes::new(alloc),
@@ -39,7 +43,9 @@ fn no_question(alloc: Global) -> Question {
 }
 
 /// The text of a target URI (RFC 9110, section 4.2.1); the default port is left out.
-fn uri_of(alloc: Global, target: &Target) -> Result<Bytes, AllocError> {
+fn uri_of(alloc: Global, target: &Target) -> Result<Bytes, AllocError>
+    ensures { IfOk result (λ text. text ≡ uri_text target.now) }
+{
     let mut text = Vec::from_slice(alloc, b"http://")?;
     text.extend_from_slice(target.key.host.as_slice())?;
     if target.key.port != 80 {
@@ -51,18 +57,31 @@ fn uri_of(alloc: Global, target: &Target) -> Result<Bytes, AllocError> {
     Ok(Bytes::from_vec(text))
 }
 
-fn question_of(alloc: Global, request: &Request) -> Result<Question, AllocError> {
-    let method = Bytes::copy_of(alloc, request.method.as_str().as_bytes())?;
-    let target = match read_target(alloc, &request.target, &request.fields) {
-        Ok(target) => uri_of(alloc, &target)?,
-        Err(_) => request.target.copy(alloc)?,
-    };
-    Ok(Question { method, target })
+/// What a line of the log has as the target of a request. Its only error is want of memory.
+fn target_of(alloc: Global, request: &Request) -> Result<Bytes, AllocError>
+    ensures { IfOk result (λ text. NamesTarget request.now text) }
+{
+    match read_target(alloc, &request.target, &request.fields) {
+        Ok(target) => uri_of(alloc, &target),
+        Err(TargetFault::OutOfMemory) => Err(AllocError),
+        Err(_) => request.target.copy(alloc),
+    }
+}
+
+fn question_of(alloc: Global, request: &Request) -> Result<Question, AllocError>
+    ensures { IfOk result (λ question. Asks request.now question) }
+{
+    Ok(Question {
+        method: Bytes::copy_of(alloc, request.method.as_str().as_bytes())?,
+        target: target_of(alloc, request)?,
+    })
 }
 
 /// What the request line of a head asks for that was refused, or whose content is to come; the target is as it came.
-fn question_in(alloc: Global, head: &[u8]) -> Result<Question, AllocError> {
-    match request_line(alloc, head)? {
+fn question_in(alloc: Global, head: &[u8]) -> Result<Question, AllocError>
+    ensures { IfOk result (λ question. question ≡ question_in head.now) }
+{
+    match request_line(head) {
         Some((method, target)) => Ok(Question {
             method: Bytes::copy_of(alloc, method)?,
             target: Bytes::copy_of(alloc, target)?,
@@ -119,11 +138,35 @@ impl Asked {
     }
 
     /// Keeps what a request asks for whose head has come, if that isn't kept yet.
-    fn begin(&mut self, alloc: Global, head: &[u8]) -> Result<(), AllocError> {
+    fn begin(&mut self, alloc: Global, head: &[u8]) -> Result<(), AllocError>
+        ensures begun { OnOk result (self.new.begun ≡ option_or self.old.begun (Some (question_in head.now))) }
+        ensures same { self.new.questions.items ≡ self.old.questions.items }
+        ensures over { self.new.over ≡ self.old.over }
+    {
         if self.begun.is_none() {
             self.begun = Some(question_in(alloc, head)?);
         }
         Ok(())
+    }
+
+    /// Keeps what a request asks for that came whole: it is what had begun.
+    fn keep(&mut self, alloc: Global, request: &Request) -> Result<(), AllocError>
+        ensures kept { OnOk result (IsKept request.now self.old.questions.items self.new.questions.items) }
+        ensures none_begun { OnOk result (self.new.begun ≡ None) }
+    {
+        self.questions.push_back(question_of(alloc, request)?)?;
+        self.begun = None;
+        Ok(())
+    }
+
+    /// Hears no more behind a request that is refused, and keeps what it asks for.
+    fn refuse(&mut self, alloc: Global, head: &[u8]) -> Result<(), AllocError>
+        ensures over { self.new.over ≡ true }
+        ensures begun { OnOk result (self.new.begun ≡ option_or self.old.begun (Some (question_in head.now))) }
+        ensures same { self.new.questions.items ≡ self.old.questions.items }
+    {
+        self.over = true;
+        self.begin(alloc, head)
     }
 
     /// Reads on. The text begins with a head, unless a content is to come, and ends where the stream does. Answers from where on
@@ -135,16 +178,14 @@ impl Asked {
         for _request in 0..u64::MAX {
             match self.reader.next(alloc)? {
                 Next::Message(request) => {
-                    self.questions.push_back(question_of(alloc, &request)?)?;
-                    self.begun = None;
+                    self.keep(alloc, &request)?;
                     // What the reader keeps stands behind the request.
                     from = text.len().saturating_sub(self.reader.kept());
                 }
                 // The interim response goes out; the request follows.
                 Next::NeedsContinue => self.begin(alloc, rest_from(text, from))?,
                 Next::Refused(_) => {
-                    self.over = true;
-                    self.begin(alloc, rest_from(text, from))?;
+                    self.refuse(alloc, rest_from(text, from))?;
                     break;
                 }
                 Next::More => {
@@ -169,7 +210,10 @@ impl Asked {
 
     /// What the next reply answers: the replies of a connection are in the order of its requests, and only the last of these is
     /// refused before it is whole.
-    pub fn next_question(&mut self, alloc: Global) -> Question {
+    pub fn next_question(&mut self, alloc: Global) -> Question
+        ensures asked { result ≡ next_question self.old.questions.items self.old.begun }
+        ensures left { self.new.questions.items ≡ drop 1 self.old.questions.items }
+    {
         if let Some(question) = self.questions.pop_front() {
             return question;
         }

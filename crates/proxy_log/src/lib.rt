@@ -5,10 +5,12 @@
 #![tactic(auto)]
 
 mod asked;
+pub mod laws;
 mod line;
 mod lines;
 mod request_line;
 mod seconds;
+mod text_lines;
 mod told;
 pub mod worked_cases;
 
@@ -16,4 +18,4 @@ pub use crate::asked::{Asked, Question};
 pub use crate::line::{Line, line_text};
 pub use crate::lines::Lines;
 pub use crate::seconds::push_seconds;
-pub use crate::told::{ReplyReader, Told};
+pub use crate::told::{Told, told_by};

@@ -1,7 +1,10 @@
 //! Lines that wait to be written.
 
+ghost use Rattle.std.specs.Prelude.{◌≡◌, ◌⊎◌, ◌+◌, ◌<◌, ◌^◌, ◌++◌, [], OnErr, OnOk};
+ghost use Rattle.proxy_log.specs.Line.{line_text};
+
 use crate::line::{Line, line_text};
-use std::alloc::Global;
+use std::alloc::{AllocError, Global};
 
 /// Room for so many bytes is kept for the next lines.
 const MOST_KEPT: usize = 65_536;
@@ -26,20 +29,31 @@ impl Lines {
     }
 
     /// Adds a line. Where there is no memory for it, it is lost, and counted.
-    pub fn add(&mut self, line: &Line) {
-        let added = match line_text(self.alloc, line) {
-            Ok(text) => self.text.extend_from_slice(text.as_slice()).is_ok(),
-            Err(_) => false,
-        };
-        if added {
-            self.added = self.added.saturating_add(1);
-        } else {
-            self.lose();
+    pub fn add(&mut self, line: &Line)
+        ensures { (self.new.text.items ≡ self.old.text.items ++ line_text line.now)
+            ⊎ ((self.new.text.items ≡ self.old.text.items) × (self.old.lost + 1 < 2 ^ 64 → self.new.lost ≡ self.old.lost + 1)) }
+    {
+        match self.write(line) {
+            Ok(()) => self.added = self.added.saturating_add(1),
+            Err(AllocError) => self.lose(),
         }
     }
 
+    /// Writes a line behind the others, or changes nothing.
+    fn write(&mut self, line: &Line) -> Result<(), AllocError>
+        ensures ok { OnOk result (self.new.text.items ≡ self.old.text.items ++ line_text line.now) }
+        ensures err { OnErr result (self.new.text.items ≡ self.old.text.items) }
+        ensures lost { self.new.lost ≡ self.old.lost }
+    {
+        let text = line_text(self.alloc, line)?;
+        self.text.extend_from_slice(text.as_slice())
+    }
+
     /// Counts a line that is lost.
-    pub fn lose(&mut self) {
+    pub fn lose(&mut self)
+        ensures text { self.new.text.items ≡ self.old.text.items }
+        ensures lost { self.old.lost + 1 < 2 ^ 64 → self.new.lost ≡ self.old.lost + 1 }
+    {
         self.lost = self.lost.saturating_add(1);
     }
 
@@ -54,12 +68,16 @@ impl Lines {
     }
 
     /// The lines.
-    pub fn as_slice(&self) -> &[u8] {
+    pub fn as_slice(&self) -> &[u8]
+        ensures { result.now ≡ self.now.text.items }
+    {
         self.text.as_slice()
     }
 
     /// Drops the lines, which were written or can't be.
-    pub fn clear(&mut self) {
+    pub fn clear(&mut self)
+        ensures { self.new.text.items ≡ [] }
+    {
         if self.text.len() > MOST_KEPT {
             self.text = Vec::new(self.alloc);
         } else {

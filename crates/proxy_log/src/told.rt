@@ -1,7 +1,11 @@
-//! What a reply says of itself, read from its bytes.
+//! What a reply says of itself, read from its bytes. What each function gives is in `specs/Told.antt`.
+ghost use Rattle.std.specs.Prelude.{◌≡◌, ◌==◌, ℕ, List, length};
+ghost use Rattle.std.specs.Option.{option_map};
+ghost use Rattle.hx_fields.specs.Names.{cut_at};
+ghost use Rattle.proxy_log.specs.Told.{behind_name, final_status, number_of, reason_of, reason_and_content, told_of, value_in};
 
-use memchr::memchr;
-use memchr::memmem::Finder;
+use crate::text_lines::{cut_line, is_empty_line, without_return};
+use hx_fields::cut_at;
 
 /// The status of a reply, and its reason.
 #[derive(Clone, Copy, Debug)]
@@ -9,126 +13,101 @@ pub struct Told<'a> {
     pub status: u16,
     /// What the proxy's member of Cache-Status says behind the proxy's name; in an answer of the proxy's own, the text of Refusal.
     pub reason: &'a [u8],
-    /// The last lines of its head, and its content.
-    rest: &'a [u8],
+    content: &'a [u8],
 }
 
 impl<'a> Told<'a> {
     /// The bytes of its content.
-    pub fn length(&self) -> u64 {
-        match content_behind(self.rest) {
-            Some(content) => content.len() as u64,
-            None => 0,
-        }
+    pub fn length(&self) -> u64
+        ensures { result ≡ length self.now.content.now }
+    {
+        self.content.len() as u64
     }
 }
 
-/// Reads replies as the proxy writes them. What it searches for is prepared once: a reply costs a look at each byte of its head.
-#[derive(Drop)]
-pub struct ReplyReader {
-    cache_status: Finder<'static>,
-    refusal: Finder<'static>,
-}
-
-impl ReplyReader {
-    pub fn new() -> ReplyReader {
-        ReplyReader {
-            cache_status: Finder::new(b"\nCache-Status: "),
-            refusal: Finder::new(b"\nRefusal: "),
-        }
-    }
-
-    /// What a reply says of itself. An interim response says nothing: it is no reply.
-    pub fn read<'a>(&self, reply: &'a [u8]) -> Option<Told<'a>> {
-        let status = number_of(reply.get(9..12)?)?;
-        if status < 200 {
-            return None;
-        }
-        if let Some((member, rest)) = own_line(reply, &self.cache_status) {
-            return Some(Told {
-                status,
-                reason: behind_name(member),
-                rest,
-            });
-        }
-        let (reason, rest) = own_line(reply, &self.refusal)?;
-        Some(Told {
-            status,
-            reason,
-            rest,
-        })
-    }
-}
-
-/// What stands behind the first LF.
-fn behind_line(text: &[u8]) -> Option<&[u8]> {
-    text.get(memchr(b'\n', text)?.saturating_add(1)..)
+/// What a reply says of itself, as the proxy writes it. An interim response says nothing: it is no reply.
+pub fn told_by(reply: &[u8]) -> Option<Told<'_>>
+    ensures { option_map (λ told. (told.status, (told.reason.now, told.content.now))) result ≡ told_of reply.now }
+{
+    let status = final_status(reply)?;
+    let (reason, content) = reason_and_content(reply)?;
+    Some(Told {
+        status,
+        reason,
+        content,
+    })
 }
 
 /// The number that three digits spell.
-fn number_of(digits: &[u8]) -> Option<u16> {
-    let mut n = 0u16;
-    for digit in digits {
-        if !digit.is_ascii_digit() {
-            return None;
-        }
-        n = n
-            .saturating_mul(10)
-            .saturating_add(u16::from(*digit - b'0'));
-    }
-    Some(n)
-}
-
-/// A member of Cache-Status without the name in front, which is short.
-fn behind_name(member: &[u8]) -> &[u8] {
-    for i in 0..member.len() {
-        if member[i] == b';' {
-            return &member[i + 1..];
-        }
-    }
-    member
-}
-
-/// What stands behind the first line of a name.
-fn behind_name_line<'a>(text: &'a [u8], name: &Finder<'_>) -> Option<&'a [u8]> {
-    text.get(name.find(text)?.saturating_add(name.needle().len())..)
-}
-
-/// Whether a line is one that the writer puts behind the proxy's own, or the empty one behind all.
-fn is_last(line: &[u8]) -> bool {
-    match line {
-        [b'\r', b'\n', ..] => true,
-        [b'C', b'o', b'n', ..] => line.starts_with(b"Content-Length: ")
-            || line.starts_with(b"Connection: close\r\n"),
-        _ => false,
+fn number_of(digits: &[u8]) -> Option<u16>
+    ensures { result ≡ number_of digits.now }
+{
+    match digits {
+        [a, b, c] if a.is_ascii_digit() && b.is_ascii_digit() && c.is_ascii_digit() => Some(
+            100 * u16::from(*a - b'0') + 10 * u16::from(*b - b'0') + u16::from(*c - b'0'),
+        ),
+        _ => None,
     }
 }
 
-/// The value of the proxy's own line of a name, and what stands behind that line. The name has an LF in front and its colon behind it.
-/// The lines of others with the name stand in front.
-fn own_line<'a>(reply: &'a [u8], name: &Finder<'_>) -> Option<(&'a [u8], &'a [u8])> {
-    let mut from = reply;
-    for _line in 0..reply.len() {
-        let value = behind_name_line(from, name)?;
-        let behind = behind_line(value)?;
-        if is_last(behind) {
-            // Its CR and LF aren't of the value.
-            let end = value.len().saturating_sub(behind.len()).saturating_sub(2);
-            return Some((value.get(..end)?, behind));
-        }
-        from = value;
+/// The status of a reply, where it isn't that of an interim response.
+fn final_status(reply: &[u8]) -> Option<u16>
+    ensures { result ≡ final_status reply.now }
+{
+    let status = number_of(reply.get(9..12)?)?;
+    if status < 200 {
+        return None;
     }
-    None
+    Some(status)
 }
 
-/// The content, behind the empty line that ends the last lines of a head.
-fn content_behind(lines: &[u8]) -> Option<&[u8]> {
-    let mut rest = lines;
-    for _line in 0..lines.len() {
-        if let Some(content) = rest.strip_prefix(b"\r\n".as_slice()) {
-            return Some(content);
+/// A member of Cache-Status without the name in front.
+fn behind_name(member: &[u8]) -> &[u8]
+    ensures { result.now ≡ behind_name member.now }
+{
+    match cut_at(b';', member) {
+        Some((_, behind)) => behind,
+        None => member,
+    }
+}
+
+/// What the proxy's line of Cache-Status says, or where it wrote none that of Refusal.
+fn own_reason<'a>(member: Option<&'a [u8]>, refusal: Option<&'a [u8]>) -> Option<&'a [u8]>
+    ensures { option_map (λ reason. reason.now) result
+        ≡ reason_of (option_map (λ value. value.now) member.entry) (option_map (λ value. value.now) refusal.entry) }
+{
+    match member {
+        Some(member) => Some(behind_name(member)),
+        None => refusal,
+    }
+}
+
+/// The value of a line whose name and colon are in front.
+fn value_in<'a>(front: &[u8], line: &'a [u8]) -> Option<&'a [u8]>
+    ensures { option_map (λ value. value.now) result ≡ value_in front.now line.now }
+{
+    if line.starts_with(front) {
+        Some(without_return(&line[front.len()..]))
+    } else {
+        None
+    }
+}
+
+/// The reason in a head, and the content behind it. Lines of others stand in front of the proxy's own.
+fn reason_and_content(reply: &[u8]) -> Option<(&[u8], &[u8])>
+    ensures { option_map (λ p. (p.0.now, p.1.now)) result ≡ reason_and_content reply.now }
+{
+    let mut member = None;
+    let mut refusal = None;
+    let mut rest = reply;
+    while let Some((line, behind)) = cut_line(rest) {
+        if is_empty_line(line) {
+            let reason = own_reason(member, refusal)?;
+            return Some((reason, behind));
         }
-        rest = behind_line(rest)?;
+        member = value_in(b"Cache-Status: ", line).or(member);
+        refusal = value_in(b"Refusal: ", line).or(refusal);
+        rest = behind;
     }
     None
 }

@@ -1,7 +1,8 @@
 //! The texts of worked lines, computed from the definitions: each function's contract is the cases, and its body is empty.
-ghost use Rattle.std.specs.Prelude.{◌≡◌, ◌∷◌, ◌++◌, [], codes};
+ghost use Rattle.std.specs.Prelude.{◌≡◌, ◌∷◌, ◌++◌, [], codes, Some, None};
 ghost use Rattle.proxy_log.specs.Cases.{answered, refused, unread, with_target};
 ghost use Rattle.proxy_log.specs.Line.{line_text};
+ghost use Rattle.proxy_log.specs.Told.{told_of};
 
 /// A miss, a hit, a denial with its blanks, a content that is refused, and what couldn't be read.
 pub fn lines_are_written()
@@ -18,4 +19,15 @@ pub fn bytes_that_break_a_line_are_escaped()
     ensures backslash { line_text (with_target (codes "/a\\x20")) ≡ codes "0.007 127.0.0.1:40001 GET /a\\x5Cx20 400 13 refused: form 0.000 -\n" }
     ensures above { line_text (with_target (codes "/" ++ 195 ∷ (169 ∷ (127 ∷ (126 ∷ []))))) ≡ codes "0.007 127.0.0.1:40001 GET /\\xC3\\xA9\\x7F~ 400 13 refused: form 0.000 -\n" }
     ensures below { line_text (with_target (0 ∷ (27 ∷ (33 ∷ [])))) ≡ codes "0.007 127.0.0.1:40001 GET \\x00\\x1B! 400 13 refused: form 0.000 -\n" }
+{}
+
+/// Answers of an origin and of the store, a refusal, an interim response, and what stands behind a head.
+pub fn replies_tell_their_reasons()
+    ensures last { told_of (codes "HTTP/1.1 200 OK\r\nCache-Status: o;hit\r\nCache-Status: p;fwd=uri-miss;stored\r\nContent-Length: 2\r\n\r\nhi") ≡ Some (200, (codes "fwd=uri-miss;stored", codes "hi")) }
+    ensures refusal { told_of (codes "HTTP/1.1 403 Forbidden\r\nRefusal: denied by line 1\r\nConnection: close\r\n\r\ndenied by line 1") ≡ Some (403, (codes "denied by line 1", codes "denied by line 1")) }
+    ensures others_refusal { told_of (codes "HTTP/1.1 404 Not Found\r\nRefusal: o\r\nCache-Status: p;hit;ttl=9\r\n\r\n") ≡ Some (404, (codes "hit;ttl=9", [])) }
+    ensures content { told_of (codes "HTTP/1.1 200 OK\r\nCache-Status: p;hit\r\n\r\nCache-Status: o;fwd=miss\r\n\r\n") ≡ Some (200, (codes "hit", codes "Cache-Status: o;fwd=miss\r\n\r\n")) }
+    ensures interim { told_of (codes "HTTP/1.1 100 Continue\r\n\r\n") ≡ None }
+    ensures early { told_of (codes "HTTP/1.1 103 Early Hints\r\nCache-Status: p;hit\r\n\r\n") ≡ None }
+    ensures silent { told_of (codes "HTTP/1.1 200 OK\r\n\r\nRefusal: x\r\n\r\n") ≡ None }
 {}

@@ -1,0 +1,133 @@
+-- Which bytes the text of a line has.
+use Rattle.std.proofs.Common.{◌≡◌, ℕ, ◌+◌, ◌<◌, ◌/◌, ◌%◌, ◌^◌, ◌==◌, ◌&&◌, not, Bool, true, false, cond, List, [], ◌∷◌, ◌++◌, codes, refl, ◌∙◌, arith, decimal}
+use Rattle.std.proofs.lemmas.Bool.{false≢true}
+use Rattle.std.proofs.lemmas.Grind.{common_steps}
+use Rattle.std.proofs.lemmas.List.Folds.{list_all-append}
+use Rattle.std.specs.List.{list_all}
+use Rattle.std.specs.Char.{is_ascii_digit}
+use Rattle.hx_framing.proofs.WrittenFields.{decimal_back}
+use Rattle.proxy_log.specs.Line.{is_shown, hex_digit, shown_byte, shown_text, word_text, line_text}
+use Rattle.proxy_log.specs.OneLine.{IsOneLine, IsGiven, is_byte, is_visible, is_word}
+use Rattle.proxy_log.specs.Seconds.{seconds_text, three_digits}
+use Rattle.proxy_log.specs.declared.line.Line.{Line}
+
+all_both : (p : ℕ → Bool) (xs ys : List ℕ) → list_all p xs ≡ true → list_all p ys ≡ true → list_all p (xs ++ ys) ≡ true
+all_both p xs ys first second = list_all-append p xs ys ∙ rw first second
+
+both : (a b : Bool) → (a && b) ≡ true → (a ≡ true) × (b ≡ true)
+both true b h = (refl, h)
+both false b h = absurd (false≢true h)
+
+all_weaker : (p q : ℕ → Bool) → ((b : ℕ) → p b ≡ true → q b ≡ true) → (xs : List ℕ) → list_all p xs ≡ true → list_all q xs ≡ true
+all_weaker p q weaker [] all = refl
+all_weaker p q weaker (x ∷ xs) all =
+    let parts = both (p x) (list_all p xs) all in
+    rw (weaker x parts.0) (all_weaker p q weaker xs parts.1)
+
+hex_is_word : (d : ℕ) → d < 16 → (is_visible (hex_digit d) && not (hex_digit d == 32)) ≡ true
+hex_is_word d below = grind (arith, common_steps)
+
+shown_is_visible : (blanks : Bool) (b : ℕ) → is_shown blanks b ≡ true → is_visible b ≡ true
+shown_is_visible blanks b is = grind (arith, common_steps)
+
+shown_is_word : (b : ℕ) → is_shown false b ≡ true → (is_visible b && not (b == 32)) ≡ true
+shown_is_word b is = grind (arith, common_steps)
+
+digit_is_visible : (b : ℕ) → is_ascii_digit b ≡ true → is_visible b ≡ true
+digit_is_visible b is = grind (arith, common_steps)
+
+figure_is_visible : (d : ℕ) → d < 10 → is_visible (48 + d) ≡ true
+figure_is_visible d below = grind (arith, common_steps)
+
+high_half : (b : ℕ) → is_byte b ≡ true → b / 16 < 16
+high_half b is = grind (arith, common_steps)
+
+low_half : (b : ℕ) → b % 16 < 16
+low_half b = grind (arith, common_steps)
+
+-- ---- bytes as they are shown
+
+byte_is_word : (b : ℕ) → is_byte b ≡ true → is_word (shown_byte false b) ≡ true
+byte_is_word b is = by_test (is_shown false b) refl
+  where
+    by_test : (t : Bool) → is_shown false b ≡ t → is_word (cond t (b ∷ []) (92 ∷ (120 ∷ (hex_digit (b / 16) ∷ (hex_digit (b % 16) ∷ []))))) ≡ true
+    by_test true shown = rw (shown_is_word b shown) refl
+    by_test false hidden = rw (hex_is_word (b / 16) (high_half b is), hex_is_word (b % 16) (low_half b)) refl
+
+byte_is_visible : (blanks : Bool) (b : ℕ) → is_byte b ≡ true → list_all is_visible (shown_byte blanks b) ≡ true
+byte_is_visible blanks b is = by_test (is_shown blanks b) refl
+  where
+    by_test : (t : Bool) → is_shown blanks b ≡ t → list_all is_visible (cond t (b ∷ []) (92 ∷ (120 ∷ (hex_digit (b / 16) ∷ (hex_digit (b % 16) ∷ []))))) ≡ true
+    by_test true shown = rw (shown_is_visible blanks b shown) refl
+    by_test false hidden =
+        rw ((both (is_visible (hex_digit (b / 16))) _ (hex_is_word (b / 16) (high_half b is))).0, (both (is_visible (hex_digit (b % 16))) _ (hex_is_word (b % 16) (low_half b))).0) refl
+
+each_shown : (p : ℕ → Bool) (blanks : Bool) → ((b : ℕ) → is_byte b ≡ true → list_all p (shown_byte blanks b) ≡ true)
+    → (bs : List ℕ) → list_all is_byte bs ≡ true → list_all p (shown_text blanks bs) ≡ true
+each_shown p blanks each [] all = refl
+each_shown p blanks each (b ∷ bs) all =
+    let parts = both (is_byte b) (list_all is_byte bs) all in
+    all_both p (shown_byte blanks b) (shown_text blanks bs) (each b parts.0) (each_shown p blanks each bs parts.1)
+
+text_is_visible : (bs : List ℕ) → list_all is_byte bs ≡ true → list_all is_visible (shown_text true bs) ≡ true
+text_is_visible bs all = each_shown is_visible true (byte_is_visible true) bs all
+
+pub word_is_word : (bs : List ℕ) → list_all is_byte bs ≡ true → is_word (word_text bs) ≡ true
+word_is_word [] all = refl
+word_is_word (b ∷ bs) all = each_shown (λ c. is_visible c && not (c == 32)) false byte_is_word (b ∷ bs) all
+
+word_is_visible : (bs : List ℕ) → list_all is_byte bs ≡ true → list_all is_visible (word_text bs) ≡ true
+word_is_visible bs all =
+    all_weaker (λ c. is_visible c && not (c == 32)) is_visible (λ c is. (both (is_visible c) (not (c == 32)) is).0) (word_text bs) (word_is_word bs all)
+
+number_is_visible : (n : ℕ) → n < 2 ^ 64 → list_all is_visible (decimal n) ≡ true
+number_is_visible n below = all_weaker is_ascii_digit is_visible digit_is_visible (decimal n) (decimal_back n below).1
+
+below_ten : (n : ℕ) → n < 1000 → (n / 100 < 10) × (n / 10 % 10 < 10) × (n % 10 < 10)
+below_ten n below = (grind (arith, common_steps), grind (arith, common_steps), grind (arith, common_steps))
+
+figures_are_visible : (n : ℕ) → n < 1000 → list_all is_visible (three_digits n) ≡ true
+figures_are_visible n below =
+    let parts = below_ten n below in
+    rw (figure_is_visible (n / 100) parts.0, figure_is_visible (n / 10 % 10) parts.1, figure_is_visible (n % 10) parts.2) refl
+
+whole_seconds : (n : ℕ) → n < 2 ^ 64 → (n / 1000 < 2 ^ 64) × (n % 1000 < 1000)
+whole_seconds n below = (grind (arith, common_steps), grind (arith, common_steps))
+
+time_is_visible : (n : ℕ) → n < 2 ^ 64 → list_all is_visible (seconds_text n) ≡ true
+time_is_visible n below =
+    let parts = whole_seconds n below in
+    all_both is_visible (decimal (n / 1000)) (46 ∷ three_digits (n % 1000)) (number_is_visible (n / 1000) parts.0) (figures_are_visible (n % 1000) parts.1)
+
+-- ---- the line
+
+record AreVisible (xs : List ℕ) : Type 0 where
+  are : list_all is_visible xs ≡ true
+
+-- a word behind others, and the space between them
+word_behind : {xs ys : List ℕ} → AreVisible xs → AreVisible ys → AreVisible (xs ++ codes " " ++ ys)
+word_behind {xs} {ys} first second =
+    record { are = all_both is_visible (xs ++ codes " ") ys (all_both is_visible xs (codes " ") first.are refl) second.are }
+
+words_are_visible : (line : Line) → IsGiven line
+    → AreVisible (seconds_text line.moment ++ codes " " ++ word_text line.client ++ codes " " ++ word_text line.method ++ codes " " ++ word_text line.target
+    ++ codes " " ++ decimal line.status ++ codes " " ++ decimal line.length ++ codes " " ++ shown_text true line.reason ++ codes " "
+    ++ seconds_text line.took ++ codes " " ++ word_text line.origin)
+words_are_visible line given =
+    word_behind (word_behind (word_behind (word_behind (word_behind (word_behind (word_behind (word_behind
+    (record { are = time_is_visible line.moment given.moment })
+    (record { are = word_is_visible line.client given.client }))
+    (record { are = word_is_visible line.method given.method }))
+    (record { are = word_is_visible line.target given.target }))
+    (record { are = number_is_visible line.status given.status }))
+    (record { are = number_is_visible line.length given.length }))
+    (record { are = text_is_visible line.reason given.reason }))
+    (record { are = time_is_visible line.took given.took }))
+    (record { are = word_is_visible line.origin given.origin })
+
+pub line_is_one_line : (line : Line) → IsGiven line → IsOneLine (line_text line)
+line_is_one_line line given = record {
+  front = _;
+  is = refl;
+  visible = (words_are_visible line given).are;
+}

@@ -1,0 +1,16 @@
+//! What is so of each line, by its definition: each function's contract is the law, and its body is empty.
+ghost use Rattle.std.specs.Prelude.{◌≡◌, ℕ, List, true};
+ghost use Rattle.std.specs.List.{list_all};
+ghost use Rattle.proxy_log.specs.Line.{line_text, word_text};
+ghost use Rattle.proxy_log.specs.OneLine.{IsGiven, IsOneLine, is_byte, is_word};
+ghost use Rattle.proxy_log.specs.declared.line.Line.{Line};
+
+/// Whatever a client and an origin sent, a line has one LF, which ends it, and no other control byte.
+pub fn a_line_is_one_line()
+    ensures { (line : Line) → IsGiven line → IsOneLine (line_text line) }
+{}
+
+/// A word has no space, so that words can be told apart.
+pub fn a_word_has_no_space()
+    ensures { (text : List ℕ) → list_all is_byte text ≡ true → is_word (word_text text) ≡ true }
+{}
