@@ -1,11 +1,13 @@
 """deploy/site.toml as it stands but for its ports: each line does what its comment says, and the origins are asked as often as that needs."""
 import itertools
 import subprocess
+import threading
+import time
 
 from deployed.fronts import expect_from
 from deployed.stand import DEPLOY, curl, deployed, need, part, wait_until
 from live.expect import expect
-from live.origin import Origin, whole
+from live.origin import Origin, held_back, whole
 
 URL = "http://h.example{}".format
 MINUTE = "Cache-Control: max-age=60"
@@ -31,7 +33,8 @@ class Site:
             "/api/rates": whole(200, MINUTE, content=b"hello"),
         }
         self.pages, self.api = stand.origin(Origin(of_pages)), stand.origin(Origin(of_api))
-        self.assets = stand.origin(Origin({"/assets/app.js": bare, "/assets/gone.js": whole(404, content=b"none")}))
+        of_assets = {"/assets/app.js": bare, "/assets/old.js": second, "/assets/gone.js": whole(404, content=b"none")}
+        self.assets = stand.origin(Origin(of_assets))
         self.purges = stand.origin(Origin({it: whole(204) for it in ("/news", "/assets/app.js")}))
         words = {"127.0.0.1:8081": self.pages, "127.0.0.1:8083": self.assets, "127.0.0.1:8082": self.api, "127.0.0.1:8089": self.purges}
         self.cache = stand.proxy(deployed("site.toml", {old: it.address for old, it in words.items()}))
@@ -48,7 +51,8 @@ class Site:
 def site(stand):
     need("curl")
     yield "it_is_a_table", lambda: it_is_a_table(stand)
-    for it in (what_is_denied, what_one_visitor_sees, what_all_share, what_the_api_says, what_is_purged, while_the_origins_fail):
+    parts = what_is_denied, what_one_visitor_sees, what_all_share, what_many_ask_for, what_the_api_says, what_is_purged
+    for it in (*parts, while_the_origins_fail):
         yield it.__name__, lambda it=it: it(Site(stand))
 
 
@@ -79,6 +83,26 @@ def what_all_share(site):
         expect(f"of {target} a ttl up to {most}", True, most - 8 <= ttl <= most)
     site.expect(site.assets, 1, "/assets/gone.js", (404, stored[1]), (404, hit[1]))
     site.expect(site.api, 2, "/api/public/bad", *[(400, "edge;fwd=uri-miss;detail=not-stored-error-status")] * 2)
+
+
+def what_many_ask_for(site):
+    """At the end of a lifetime one of ten who ask at once goes to the origin, and the others have its answer."""
+    old = (site.pages, "/old"), (site.assets, "/assets/old.js"), (site.api, "/api/public/old")
+    for origin, target in old:
+        site.expect(origin, 1, target, (200, "edge;fwd=uri-miss;ttl=;stored"))
+    time.sleep(2.1)
+    for origin, target in old:
+        go, before, told = threading.Event(), len(origin.fetches), []
+        origin.answers[target] = held_back(go, whole(200, MINUTE, content=b"hello"))
+        crowd = [threading.Thread(target=lambda: told.append(curl(site.cache.port, URL(target)).reason())) for _ in range(10)]
+        for it in crowd:
+            it.start()
+        time.sleep(2)
+        go.set()
+        for it in crowd:
+            it.join()
+        expect("what they were told", ["edge;fwd=stale;ttl=;collapsed"] * 9 + ["edge;fwd=stale;ttl=;stored"], sorted(told))
+        expect(f"requests at the origin for {target}", 1, len(origin.fetches) - before)
 
 
 def what_the_api_says(site):

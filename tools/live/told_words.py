@@ -129,6 +129,7 @@ VALUES = [
     ("set-cookie", ["stored", "not-stored"], ["Stored", "off", "", 0, False], '"stored" or "not-stored"'),
     ("errors", ["stored", "not-stored"], ["not stored", "no", 0], '"stored" or "not-stored"'),
     ("request-directives", ["heeded", "ignored"], ["ignore", "off", 1], '"heeded" or "ignored"'),
+    ("wait", ["missing", "missing-or-stale"], ["stale", "Missing", "off", "", 1, True], '"missing" or "missing-or-stale"'),
     ("explain", ["reuse", "storing"], ["on", "stored", 1, True], '"reuse" or "storing"'),
 ]
 

@@ -54,7 +54,7 @@ class Reason:
             else self.word
         )
         self.is_failure = self.is_refusal and words[0].startswith("origin ")
-        is_hit, is_collapsed = self.word.startswith("hit"), self.word.endswith(";collapsed")
+        is_hit, is_collapsed = self.word.startswith("hit"), "collapsed" in words[1:]
         self.is_hit, self.is_stored = (is_hit or is_collapsed) and not self.is_refusal, "stored" in words[1:]
         self.is_new = self.is_stored and words[0] == "fwd=uri-miss"
         # A stored response was sent in place of a failure, or of an error of the origin's own.
