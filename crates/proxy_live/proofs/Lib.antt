@@ -1,3 +1,4 @@
 mod AskedLemmas
 mod Living
 mod Passing
+mod Peering

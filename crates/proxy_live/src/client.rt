@@ -1,5 +1,5 @@
 //! A client's stream: where it stands, what it asks for, and what a log needs of it.
-ghost use Rattle.std.specs.Prelude.{◌≡◌, ◌≤◌, length, IfOk};
+ghost use Rattle.std.specs.Prelude.{◌≡◌, ◌<◌, ◌≤◌, length, IfOk};
 ghost use Rattle.proxy_turn.specs.Received.{IsReceived};
 
 use crate::early::{Came, Early};
@@ -8,6 +8,7 @@ use crate::peer::Peer;
 use crate::pieces::{LEAST, head_end};
 use crate::telling::Reply;
 use hx_fields::Bytes;
+use mio::net::TcpStream;
 use proxy_log::Asked;
 use proxy_turn::Received;
 use std::alloc::{AllocError, Global};
@@ -34,7 +35,7 @@ struct Logged {
 /// A client's stream.
 #[derive(Drop)]
 pub(crate) struct Client {
-    pub(crate) peer: Peer,
+    pub(crate) peer: Peer<TcpStream>,
     alloc: Global,
     pub(crate) place: Place,
     /// What came and wasn't handed in yet.
@@ -54,7 +55,7 @@ pub(crate) struct Client {
 
 impl Client {
     /// A client from which nothing has come, in the line of those.
-    pub(crate) fn new(alloc: Global, peer: Peer, stamp: u64) -> Client {
+    pub(crate) fn new(alloc: Global, peer: Peer<TcpStream>, stamp: u64) -> Client {
         Client {
             peer,
             alloc,
@@ -236,11 +237,16 @@ impl Client {
         }
     }
 
-    /// Reads what has come, if anything may have, as far as the head of one request: what was kept comes first.
+    /// Reads what has come, if anything may have, as far as the head of one request: what was kept comes first. From one that still
+    /// has to take what was written nothing is read.
     pub(crate) fn read(&mut self, buf: &mut [u8], now: u64) -> io::Result<Received>
         ensures within { IfOk result (IsReceived (length buf.old)) }
         ensures length { length buf.new ≡ length buf.old }
+        ensures takes_first { 0 < length self.old.peer.unsent → self.new ≡ self.old }
     {
+        if self.peer.has_unsent() {
+            return Ok(Received::Nothing);
+        }
         let least = self.least();
         if let Some(early) = &mut self.early {
             let n = early.give(buf, least);

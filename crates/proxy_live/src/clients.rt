@@ -9,6 +9,7 @@ use crate::limits::{Limits, PLACES, SHARED};
 use crate::lines::{Line, Lines};
 use crate::peer::Peer;
 use mio::event::Event;
+use mio::net::TcpStream;
 use proxy_turn::Received;
 use slab::Slab;
 use std::alloc::Global;
@@ -108,7 +109,7 @@ impl Clients {
     }
 
     /// Adds the stream of a new client; its key.
-    pub(crate) fn add(&mut self, peer: Peer) -> Option<usize> {
+    pub(crate) fn add(&mut self, peer: Peer<TcpStream>) -> Option<usize> {
         let stamp = self.lines.next_stamp();
         let client = Client::new(self.alloc, peer, stamp);
         match self.streams.insert(client) {

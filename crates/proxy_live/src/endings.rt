@@ -1,6 +1,7 @@
 //! How connections of clients ended that had not come to their end, and what had come and gone on those that are gone.
 
 use crate::peer::Peer;
+use mio::net::TcpStream;
 
 /// Why a connection is closed early.
 #[derive(Clone, Copy, Debug, PartialEq, Eq)]
@@ -79,7 +80,7 @@ impl Endings {
     }
 
     /// Adds what had come and gone on a connection.
-    pub(crate) fn add_bytes(&mut self, peer: &Peer) {
+    pub(crate) fn add_bytes(&mut self, peer: &Peer<TcpStream>) {
         self.received = self.received.saturating_add(peer.received);
         self.written = self.written.saturating_add(peer.written);
     }

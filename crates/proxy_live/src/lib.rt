@@ -32,8 +32,10 @@ mod send_buffer;
 mod server;
 mod sorts;
 mod stats;
+mod stream;
 mod telling;
 mod turns;
+mod unsent;
 
 pub use crate::counted_shelf::{CountedShelf, StoreCounts};
 pub use crate::doors::Troubles;

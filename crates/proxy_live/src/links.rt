@@ -3,6 +3,7 @@
 use crate::limits::Limits;
 use crate::origins::Origins;
 use crate::peer::Peer;
+use mio::net::TcpStream;
 use std::alloc::Global;
 
 /// A link.
@@ -10,7 +11,7 @@ use std::alloc::Global;
 pub(crate) struct Link {
     number: u64,
     /// Its stream, until that has failed.
-    peer: Option<Peer>,
+    peer: Option<Peer<TcpStream>>,
     /// When it began, in milliseconds of the clock that never goes back.
     began: u64,
     /// The place of its origin.
@@ -27,7 +28,7 @@ pub(crate) enum Overtime {
 
 impl Link {
     /// A link that begins; without a stream where that couldn't be had.
-    pub(crate) fn new(number: u64, peer: Option<Peer>, now: u64, origin: usize) -> Link {
+    pub(crate) fn new(number: u64, peer: Option<Peer<TcpStream>>, now: u64, origin: usize) -> Link {
         Link {
             number,
             peer,
@@ -98,7 +99,7 @@ impl Links {
     }
 
     /// The stream of a link.
-    pub(crate) fn stream_mut(&mut self, number: u64) -> Option<&mut Peer> {
+    pub(crate) fn stream_mut(&mut self, number: u64) -> Option<&mut Peer<TcpStream>> {
         match self.place(number) {
             Ok(i) => self.items.get_mut(i)?.peer.as_mut(),
             Err(_) => None,

@@ -104,7 +104,7 @@ fn begin_link<R: Net>(
     l: u64,
     address: &[u8],
     now: u64,
-) -> io::Result<Peer> {
+) -> io::Result<Peer<TcpStream>> {
     let Some(address) = address_of(address) else {
         return Err(io::Error::from(ErrorKind::InvalidInput));
     };
@@ -139,8 +139,7 @@ fn read_link(
     Err(SocketFailed)
 }
 
-/// Reads from the client of a number, but for one that still has to take what was written. After a failure its stream is dropped;
-/// of one that isn't there nothing comes.
+/// Reads from the client of a number. After a failure its stream is dropped; of one that isn't there nothing comes.
 fn read_client(
     clients: &mut Clients,
     n: u64,
@@ -154,9 +153,6 @@ fn read_client(
     let Some(client) = clients.get_mut(n) else {
         return Ok(Received::Nothing);
     };
-    if client.peer.has_unsent() {
-        return Ok(Received::Nothing);
-    }
     if let Ok(received) = client.read(buf, now) {
         *more = *more || client.may_give();
         return Ok(received);
@@ -166,7 +162,7 @@ fn read_client(
 }
 
 /// Takes what an event told of a link; the answer is an error where its connection couldn't be made.
-fn stir_link(peer: &mut Peer, event: &Event, now: u64) -> io::Result<()> {
+fn stir_link(peer: &mut Peer<TcpStream>, event: &Event, now: u64) -> io::Result<()> {
     if peer.connecting {
         if !peer.has_connected(event)? {
             return Ok(());
@@ -626,7 +622,7 @@ impl<'a, R: Net> LiveSockets<'a, R> {
     }
 
     /// Begins a link. Where no descriptor is left an idle client gives way to it.
-    fn begin(&mut self, l: u64, address: &[u8]) -> io::Result<Peer>
+    fn begin(&mut self, l: u64, address: &[u8]) -> io::Result<Peer<TcpStream>>
         ensures accepts { self.new.accepts ≡ self.old.accepts }
         ensures reads { self.new.reads ≡ self.old.reads }
         ensures failures { self.new.failures ≡ self.old.failures }

@@ -1,24 +1,22 @@
 //! A stream of the system, and what is known of it. No call waits.
-ghost use Rattle.std.specs.Prelude.{◌≡◌, ◌≤◌, length, IfOk};
+ghost use Rattle.std.specs.Prelude.{◌≡◌, ◌<◌, ◌≤◌, true, false, [], ◌∷◌, ◌++◌, length, IfOk, OnOk, OnErr};
 ghost use Rattle.proxy_turn.specs.Received.{IsReceived};
+ghost use Rattle.proxy_live.specs.Peers.{told_of, IsHanded, IsHandedInPart};
 
+use crate::stream::Stream;
+use crate::unsent::{Unsent, write_some};
 use mio::event::Event;
 use mio::net::TcpStream;
 use mio::{Interest, Poll, Token};
 use proxy_turn::Received;
 use std::alloc::Global;
 use std::io;
-use std::io::{ErrorKind, Read, Write};
-use std::net::Shutdown;
-
-/// The most bytes that wait for the peer of one stream.
-const MOST_UNSENT: usize = 67_108_864;
+use std::io::ErrorKind;
 
 /// A stream to a client or an origin.
 #[derive(Drop)]
-pub(crate) struct Peer {
-    stream: TcpStream,
-    alloc: Global,
+pub(crate) struct Peer<S: Stream + Drop> {
+    stream: S,
     /// The connection isn't made yet.
     pub(crate) connecting: bool,
     /// Something may have come that wasn't read.
@@ -29,9 +27,8 @@ pub(crate) struct Peer {
     pub(crate) ended: bool,
     /// Nothing can be written any more.
     broken: bool,
-    /// Bytes that the system didn't take yet, behind `sent` of them that it did.
-    unsent: Vec<u8>,
-    sent: usize,
+    /// Bytes that the system didn't take yet.
+    unsent: Unsent,
     /// When a byte last came or went, in milliseconds of the clock that never goes back.
     pub(crate) heard: u64,
     /// Nothing is sent any more, and the peer was told so.
@@ -41,38 +38,18 @@ pub(crate) struct Peer {
     pub(crate) written: u64,
 }
 
-/// Writes as many of the bytes as the system takes; answers how many.
-fn write_some(stream: &mut TcpStream, bytes: &[u8]) -> io::Result<usize> {
-    let mut at = 0usize;
-    for _try in 0..u64::MAX {
-        if at >= bytes.len() {
-            return Ok(at);
-        }
-        match stream.write(&bytes[at..]) {
-            Ok(0) => return Err(io::Error::from(ErrorKind::WriteZero)),
-            Ok(n) => at += n,
-            Err(e) if e.kind() == ErrorKind::Interrupted => {}
-            Err(e) if e.kind() == ErrorKind::WouldBlock => return Ok(at),
-            Err(e) => return Err(e),
-        }
-    }
-    Ok(at)
-}
-
-impl Peer {
-    pub(crate) fn new(alloc: Global, stream: TcpStream, now: u64) -> Peer {
+impl Peer<TcpStream> {
+    pub(crate) fn new(alloc: Global, stream: TcpStream, now: u64) -> Peer<TcpStream> {
         // Where it isn't to be had, small pieces wait a little.
         let _ = stream.set_nodelay(true);
         Peer {
             stream,
-            alloc,
             connecting: false,
             readable: true,
             hung: false,
             ended: false,
             broken: false,
-            unsent: Vec::new(alloc),
-            sent: 0,
+            unsent: Unsent::new(alloc),
             heard: now,
             half_closed: false,
             received: 0,
@@ -81,20 +58,47 @@ impl Peer {
     }
 
     /// A stream whose connection isn't made yet.
-    pub(crate) fn connecting(alloc: Global, stream: TcpStream, now: u64) -> Peer {
+    pub(crate) fn connecting(alloc: Global, stream: TcpStream, now: u64) -> Peer<TcpStream> {
         let mut peer = Peer::new(alloc, stream, now);
         peer.connecting = true;
         peer.readable = false;
         peer
     }
 
-    pub(crate) fn has_unsent(&self) -> bool {
+    /// Whether the connection is made, where an event told of it.
+    pub(crate) fn has_connected(&mut self, event: &Event) -> io::Result<bool> {
+        if let Some(e) = self.stream.take_error()? {
+            return Err(e);
+        }
+        if event.is_writable() {
+            self.connecting = false;
+        }
+        Ok(!self.connecting)
+    }
+
+    /// Asks the system for the event of this stream.
+    pub(crate) fn register(&mut self, poll: &Poll, token: Token) -> io::Result<()> {
+        let both = Interest::READABLE | Interest::WRITABLE;
+        poll.registry().register(&mut self.stream, token, both)
+    }
+
+    /// Why the connection can't be made, if that is known.
+    pub(crate) fn take_error(&self) -> io::Result<Option<io::Error>> {
+        self.stream.take_error()
+    }
+}
+
+impl<S: Stream + Drop> Peer<S> {
+    pub(crate) fn has_unsent(&self) -> bool
+        ensures some { result ≡ true → 0 < length self.now.unsent }
+        ensures empty { result ≡ false → self.now.unsent ≡ [] }
+    {
         !self.unsent.is_empty()
     }
 
-    /// How many bytes are kept for the peer.
+    /// How many bytes are held for the peer.
     pub(crate) fn unsent(&self) -> usize {
-        self.unsent.len()
+        self.unsent.held()
     }
 
     /// Whether no byte came or went for more than so many milliseconds. One that wasn't read yet has come.
@@ -113,31 +117,13 @@ impl Peer {
         }
     }
 
-    /// Whether the connection is made, where an event told of it.
-    pub(crate) fn has_connected(&mut self, event: &Event) -> io::Result<bool> {
-        if let Some(e) = self.stream.take_error()? {
-            return Err(e);
-        }
-        if event.is_writable() {
-            self.connecting = false;
-        }
-        Ok(!self.connecting)
-    }
-
-    /// Keeps bytes that the system didn't take.
-    fn keep(&mut self, bytes: &[u8]) -> io::Result<()> {
-        let waiting = self.unsent.len();
-        if waiting > MOST_UNSENT || bytes.len() > MOST_UNSENT - waiting {
-            return Err(io::Error::from(ErrorKind::OutOfMemory));
-        }
-        match self.unsent.extend_from_slice(bytes) {
-            Ok(()) => Ok(()),
-            Err(_) => Err(io::Error::from(ErrorKind::OutOfMemory)),
-        }
-    }
-
     /// Writes, and keeps what the system doesn't take. After a failure nothing more is written.
-    pub(crate) fn write(&mut self, bytes: &[u8], now: u64) -> io::Result<()> {
+    pub(crate) fn write(&mut self, bytes: &[u8], now: u64) -> io::Result<()>
+        ensures handed { self.old.broken ≡ false → OnOk result (IsHanded (λ took. S.Passed self.old.stream took [] self.new.stream) (self.old.unsent ++ bytes.now) self.new.unsent) }
+        ensures in_part { OnErr result (IsHandedInPart (λ took. S.Passed self.old.stream took [] self.new.stream) (self.old.unsent ++ bytes.now)) }
+        ensures failed { OnErr result (self.new.broken ≡ true) }
+        ensures broken { self.old.broken ≡ true → (self.new.stream ≡ self.old.stream) × (self.new.broken ≡ true) }
+    {
         if self.broken {
             return Ok(());
         }
@@ -149,66 +135,53 @@ impl Peer {
         written
     }
 
-    fn write_or_keep(&mut self, bytes: &[u8], now: u64) -> io::Result<()> {
+    fn write_or_keep(&mut self, bytes: &[u8], now: u64) -> io::Result<()>
+        requires { self.old.broken ≡ false }
+        ensures handed { OnOk result (IsHanded (λ took. S.Passed self.old.stream took [] self.new.stream) (self.old.unsent ++ bytes.now) self.new.unsent) }
+        ensures in_part { OnErr result (IsHandedInPart (λ took. S.Passed self.old.stream took [] self.new.stream) (self.old.unsent ++ bytes.now)) }
+    {
+        self.flush(now)?;
         if self.has_unsent() {
-            self.flush(now)?;
-        }
-        if self.has_unsent() {
-            return self.keep(bytes);
+            return self.unsent.keep(bytes);
         }
         let n = write_some(&mut self.stream, bytes)?;
         self.written = self.written.saturating_add(n as u64);
-        if n > 0 {
-            self.connecting = false;
-        }
-        if n < bytes.len() {
-            return self.keep(&bytes[n..]);
-        }
-        Ok(())
+        self.connecting = self.connecting && n == 0;
+        self.unsent.keep(&bytes[n..])
     }
 
     /// Nothing more is written; what the peer had said can still be read.
-    fn break_off(&mut self) {
+    fn break_off(&mut self)
+        ensures stream { self.new.stream ≡ self.old.stream }
+        ensures broken { self.new.broken ≡ true }
+        ensures let_go { self.new.unsent ≡ [] }
+    {
         self.broken = true;
         self.readable = true;
         self.hung = true;
-        self.let_go();
-    }
-
-    /// Lets go of what waited, and of its memory.
-    fn let_go(&mut self) {
-        self.unsent = Vec::new(self.alloc);
-        self.sent = 0;
-    }
-
-    /// Drops what was sent, once it is most of what is kept.
-    fn move_up(&mut self) {
-        let waiting = self.unsent.len();
-        if self.sent < waiting && self.sent > waiting / 2 {
-            let _ = self.unsent.drain(..self.sent);
-            self.sent = 0;
-        }
+        self.unsent.let_go();
     }
 
     /// Writes of what was kept as much as the system takes now. After a failure nothing more is written.
-    pub(crate) fn flush(&mut self, now: u64) -> io::Result<()> {
-        if self.sent < self.unsent.len() {
-            match write_some(&mut self.stream, &self.unsent[self.sent..]) {
-                Ok(0) => return Ok(()),
-                Ok(n) => {
-                    self.heard = now;
-                    self.written = self.written.saturating_add(n as u64);
-                    self.sent = self.sent.saturating_add(n);
-                    self.move_up();
-                }
-                Err(e) => {
-                    self.break_off();
-                    return Err(e);
-                }
-            }
+    pub(crate) fn flush(&mut self, now: u64) -> io::Result<()>
+        ensures handed { self.old.broken ≡ false → OnOk result (IsHanded (λ took. S.Passed self.old.stream took [] self.new.stream) self.old.unsent self.new.unsent) }
+        ensures in_part { OnErr result (IsHandedInPart (λ took. S.Passed self.old.stream took [] self.new.stream) self.old.unsent) }
+        ensures failed { OnErr result (self.new.broken ≡ true) }
+        ensures broken { self.old.broken ≡ true → (self.new.stream ≡ self.old.stream) × (self.new.broken ≡ true) }
+    {
+        if self.broken || self.unsent.is_empty() {
+            return Ok(());
         }
-        if self.sent >= self.unsent.len() {
-            self.let_go();
+        let n = match self.unsent.flush(&mut self.stream) {
+            Ok(n) => n,
+            Err(e) => {
+                self.break_off();
+                return Err(e);
+            }
+        };
+        if n > 0 {
+            self.heard = now;
+            self.written = self.written.saturating_add(n as u64);
         }
         Ok(())
     }
@@ -217,6 +190,9 @@ impl Peer {
     pub(crate) fn read(&mut self, buf: &mut [u8], now: u64) -> io::Result<Received>
         ensures within { IfOk result (IsReceived (length buf.old)) }
         ensures length { length buf.new ≡ length buf.old }
+        ensures passed { self.old.readable ≡ true → S.Passed self.old.stream [] (told_of result buf.new ∷ []) self.new.stream }
+        ensures unread { self.old.readable ≡ false → self.new.stream ≡ self.old.stream }
+        ensures unsent { self.new.unsent ≡ self.old.unsent }
     {
         if !self.readable {
             return Ok(Received::Nothing);
@@ -244,22 +220,16 @@ impl Peer {
     }
 
     /// Tells the peer, once, that nothing more comes.
-    pub(crate) fn shut_down(&mut self) -> io::Result<()> {
+    pub(crate) fn shut_down(&mut self) -> io::Result<()>
+        ensures shut { self.old.half_closed ≡ false → S.WasShut self.old.stream self.new.stream }
+        ensures once { self.old.half_closed ≡ true → self.new.stream ≡ self.old.stream }
+        ensures half_closed { self.new.half_closed ≡ true }
+        ensures unsent { self.new.unsent ≡ self.old.unsent }
+    {
         if self.half_closed {
             return Ok(());
         }
         self.half_closed = true;
-        self.stream.shutdown(Shutdown::Write)
-    }
-
-    /// Asks the system for the event of this stream.
-    pub(crate) fn register(&mut self, poll: &Poll, token: Token) -> io::Result<()> {
-        let both = Interest::READABLE | Interest::WRITABLE;
-        poll.registry().register(&mut self.stream, token, both)
-    }
-
-    /// Why the connection can't be made, if that is known.
-    pub(crate) fn take_error(&self) -> io::Result<Option<io::Error>> {
-        self.stream.take_error()
+        self.stream.shut_down()
     }
 }
