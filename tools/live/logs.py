@@ -264,10 +264,13 @@ def a_line_without_memory_is_lost(stage):
     expect("where nothing is refused, on both outputs", [b"", ""], said)
     lost = 0
     for n in range(last, first, -1):
-        said = told_of_a_denial(stage, library, n)[2:]
+        _, reached, *said = told_of_a_denial(stage, library, n)
+        # (how many turns it takes is chance, so a run may have fewer requests for memory)
+        if reached < n:
+            continue
         if "log fault" not in said[1]:
             break
-        expect("on both outputs", (b"no memory is left for lines of the log; give the process more\n", "log fault\n"), said)
+        expect("on both outputs", [b"no memory is left for lines of the log; give the process more\n", "log fault\n"], said)
         lost += 1
     expect("whether a line was lost", True, lost > 0)
 
