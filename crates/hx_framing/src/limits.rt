@@ -8,6 +8,12 @@ pub(crate) const MOST_HEAD_BYTES: usize = 32768;
 /// Field lines of a head. A head with more is refused as `Head`.
 pub(crate) const MOST_FIELD_LINES: usize = 100;
 
+/// Field lines for which there is room at first: a short head seldom has more, and room for all would be cleared each time.
+pub(crate) const FEW_FIELD_LINES: usize = 32;
+
+/// Bytes of a short head. To clear room for all the lines of a longer one costs little beside reading it.
+pub(crate) const SHORT_HEAD_BYTES: usize = 2048;
+
 /// Hexadecimal digits of a chunk's size, leading zeros counted. A size of more is refused as `Chunk`.
 pub(crate) const MOST_SIZE_DIGITS: usize = 15;
 

@@ -1,17 +1,18 @@
 //! Heads of requests (RFC 9112, sections 2 to 5). The definitions are in `specs/Head.antt`.
-ghost use Rattle.std.specs.Prelude.{◌≡◌, IfOk, IfSome, IfNone, OnErr, Ok};
+ghost use Rattle.std.specs.Prelude.{◌≡◌, ◌≤◌, ◌<◌, [], length, IfOk, IfSome, IfNone, OnErr, Ok};
 ghost use Rattle.http_header.specs.Token.{IsToken};
-ghost use Rattle.httparse.specs.Grammar.{RequestHead};
+ghost use Rattle.httparse.specs.Grammar.{RequestHead, ReadsRequest};
 ghost use Rattle.httparse.specs.Spans.{IsRequestAt, IsRequestWithin, span_bytes};
 ghost use Rattle.hx_framing.specs.Head.{IsHead, Judges, head_at, head_fault};
 ghost use Rattle.hx_framing.specs.declared.heads.request_head.Head.{Head};
+ghost use Rattle.hx_framing.specs.Places.{most_field_lines};
 ghost use Rattle.hx_framing.specs.RequestReading.{request_of};
 
 use crate::fault::FrameFault;
 use crate::heads::lines::{fields_at, part_at};
 use crate::heads::version::request_has_other_version;
 use crate::lengths::framing::without_lengths;
-use crate::limits::MOST_FIELD_LINES;
+use crate::limits::{FEW_FIELD_LINES, MOST_FIELD_LINES, SHORT_HEAD_BYTES};
 use crate::messages::Request;
 use http::Method;
 use http::method::MethodError;
@@ -61,12 +62,14 @@ impl Head {
     }
 }
 
-/// Where the parts of a head are, if just these bytes are one.
-fn find_head(bytes: &[u8], spans: &mut [HeaderSpan; MOST_FIELD_LINES]) -> Option<RequestSpans>
+/// Where the parts of a head are, if just these bytes are one that has no more lines than there is room for.
+fn find_head(bytes: &[u8], spans: &mut [HeaderSpan]) -> Option<RequestSpans>
+    requires { length spans.old ≤ most_field_lines }
     ensures within { IfSome result (IsRequestWithin bytes.now spans.new) }
     ensures found { IfSome result (λ r. (h : RequestHead) × IsHead bytes.now h
         × IsRequestAt bytes.now spans.new r h) }
-    ensures none { IfNone result ((h : RequestHead) → ¬ (IsHead bytes.now h)) }
+    ensures none { IfNone result ((h : RequestHead) → ReadsRequest bytes.now h []
+        → length spans.old < length h.fields) }
 {
     match parse_request(bytes, spans) {
         Ok(Status::Complete(found)) => {
@@ -129,6 +132,21 @@ pub(crate) fn judge_head(
     alloc: Global,
     bytes: &[u8],
 ) -> Result<Result<Head, FrameFault>, AllocError>
+    ensures judged { IfOk result (λ judged. Judges bytes.now judged) }
+    ensures memory_last { OnErr result ((head : Head) × Judges bytes.now (Ok head)) }
+{
+    if bytes.len() > SHORT_HEAD_BYTES {
+        return judge_long_head(alloc, bytes);
+    }
+    let mut spans = [EMPTY_HEADER_SPAN; FEW_FIELD_LINES];
+    match find_head(bytes, &mut spans) {
+        Some(found) => Ok(Ok(copy_head(alloc, bytes, &spans, found)?)),
+        None => judge_long_head(alloc, bytes),
+    }
+}
+
+/// The same with room for all the lines that a head may have. It stands apart, since its room is cleared at each call.
+fn judge_long_head(alloc: Global, bytes: &[u8]) -> Result<Result<Head, FrameFault>, AllocError>
     ensures judged { IfOk result (λ judged. Judges bytes.now judged) }
     ensures memory_last { OnErr result ((head : Head) × Judges bytes.now (Ok head)) }
 {
