@@ -4,13 +4,14 @@ ghost use Rattle.std.specs.Prelude.{◌≡◌, ◌≤◌, ◌-◌, ◌==◌, ◌
 ghost use Rattle.std.specs.List.{position_or_len};
 ghost use Rattle.hx_store.specs.Serials.{insert_ascending};
 
+use smallvec::SmallVec;
 use std::alloc::{AllocError, Global};
 use std::marker::Model;
 
-/// Serials, of which callers see the list.
+/// Serials, of which callers see the list. One alone takes no memory: most keys have no more.
 #[derive(Debug, Drop)]
 pub struct Serials {
-    serials: Vec<u64>,
+    serials: SmallVec<u64, 1>,
 }
 
 impl Model for Serials {
@@ -27,7 +28,7 @@ impl Serials {
         ensures { result ≡ [] }
     {
         Serials {
-            serials: Vec::new(alloc),
+            serials: SmallVec::new(alloc),
         }
     }
 
@@ -36,7 +37,7 @@ impl Serials {
         ensures { IfOk result (λ serials. serials ≡ []) }
     {
         Ok(Serials {
-            serials: Vec::with_capacity(alloc, n)?,
+            serials: SmallVec::with_capacity(alloc, n)?,
         })
     }
 
@@ -64,7 +65,7 @@ impl Serials {
         ensures { IfOk result (λ copied. copied ≡ self.now) }
     {
         Ok(Serials {
-            serials: Vec::from_slice(alloc, self.as_slice())?,
+            serials: SmallVec::from_slice(alloc, self.as_slice())?,
         })
     }
 

@@ -10,5 +10,5 @@ returns-clause-ok c =
     let s = c.args.serial in
     let e : c.insert.new.self.items ≡ insert xs c.place_of-place.result s = search rules in
     let p : c.place_of-place.result ≡ position_or_len (λ x. leb s x) xs =
-    c.place_of-place.ensures.place ∙ ap (λ zs. position_or_len (λ x. leb s x) zs) c.as_slice.ensures.value in
+    c.place_of-place.ensures.place ∙ ap (λ zs. position_or_len (λ x. leb s x) zs) c.as_slice.ensures in
     e ∙ ap (λ n. insert xs n s) p ∙ insert_at_place s xs ∙ ap (insert_ascending s) c.self.view_is
