@@ -44,6 +44,22 @@ line_that = record { host = None; methods = codes "*" ∷ []; path = codes "/"; 
 abbrev pub table : Table
 table = record { name = codes "edge"; capacity = 2; max_body = 1000; max_stored = 2; lines = line_that ∷ record line_that { policy = plain false } ∷ [] }
 
+-- the same, but for the words of its one line
+abbrev pub table_of : Policy → Table
+table_of policy = record table { lines = record line_that { policy = policy } ∷ [] }
+
+abbrev pub explains : Policy
+explains = record (plain true) { explains_storing = true }
+
+abbrev pub gives_60 : Policy
+gives_60 = record (plain true) { lifetime = Some 60 }
+
+abbrev pub no_cookies : Policy
+no_cookies = record (plain true) { stores_cookies = false }
+
+abbrev pub no_errors : Policy
+no_errors = record (plain true) { stores_errors = false }
+
 -- a request that went forward at 100, since nothing was held for it
 abbrev pub went : Asked → Exchange
 went asked =
@@ -91,6 +107,9 @@ connection value = line (codes "Connection") value
 
 abbrev pub vary : List ℕ → Field
 vary value = line (codes "Vary") value
+
+abbrev pub cookie : Field
+cookie = line (codes "Set-Cookie") (codes "a=1")
 
 abbrev pub speaks : List ℕ → Field
 speaks value = line (codes "Accept-Language") value

@@ -1,6 +1,6 @@
 //! What the definitions give on worked cases, computed from them: each function's contract is the cases, and its body is empty.
 
-ghost use Rattle.std.specs.Prelude.{◌≡◌, ◌∷◌, [], Some, None, true, false, codes, ℕ, ◌+◌, List, length, nat_le};
+ghost use Rattle.std.specs.Prelude.{◌≡◌, ◌∷◌, [], Some, None, true, false, codes, ℕ, ◌+◌, List, length, nat_le, pos, negsuc};
 ghost use Rattle.hx_policy.specs.Words.{plain};
 ghost use Rattle.hx_fields.specs.Examples.{line};
 ghost use Rattle.hx_allow.specs.declared.verdicts.Verdict.TheVariants as verdict;
@@ -16,14 +16,15 @@ ghost use Rattle.proxy_core.specs.declared.event.Event.TheVariants.{Arrive, Answ
 ghost use Rattle.proxy_core.specs.declared.outcome.Outcome.TheVariants.{Forward, Waits, Ended};
 ghost use Rattle.proxy_core.specs.declared.stage.Stage.TheVariants.{Waiting, Released};
 ghost use Rattle.proxy_core.specs.declared.fault.CoreFault.TheVariants.{IdTaken, UnknownId, MomentTooLate, NotForwarded, NotReady};
-ghost use Rattle.proxy_core.specs.Replies.{passed_text, refused_text, stored_text};
-ghost use Rattle.proxy_core.specs.Storing.{invalidates, is_storable, is_unasked, made, replaced_by};
+ghost use Rattle.hx_storable.specs.declared.rule.StoreRule.TheVariants.{NothingToReuse};
+ghost use Rattle.proxy_core.specs.Replies.{passed_text, refused_text, stored_text, ttl_at};
+ghost use Rattle.proxy_core.specs.Storing.{invalidates, is_storable, is_unasked, made, replaced_by, rule_told};
 ghost use Rattle.proxy_core.specs.Validating.{condition_on, is_answered, is_kept, is_validation, refreshed};
 ghost use Rattle.hx_validate.specs.Cases.{lines_of};
 ghost use Rattle.proxy_core.specs.Leading.{leader_for};
 ghost use Rattle.proxy_core.specs.Outcomes.{answered, arrived, as_hit, fallback_for, fault_of, forwarded_as, is_error_status, passed_unless, refused, removed_by, sent_refreshed, woken};
 ghost use Rattle.proxy_core.specs.State.{next_after, next_of, open_after, removed_in, stored_in, stored_list, used_in, used_list};
-ghost use Rattle.proxy_core.specs.Cases.{answer, asked_about_e, asks_for, authorized, bytes_of, connection, control, date_101, first_lines, first_stored, get, head, key_of, lets_wait, lines_of_304, over_line_2, posted, revalidates, speaks, stored_e, stored_with, table, three_held, tag, vary, waiting, went};
+ghost use Rattle.proxy_core.specs.Cases.{answer, asked_about_e, asks_for, authorized, bytes_of, connection, control, cookie, date_101, explains, first_lines, first_stored, get, gives_60, head, key_of, lets_wait, lines_of_304, no_cookies, no_errors, over_line_2, posted, revalidates, speaks, stored_e, stored_with, table, table_of, three_held, tag, vary, waiting, went};
 
 /// The stored response of the first run at 130: whole, to HEAD, and to a client that has it (RFC 9110, section 15.4.5); one that
 /// a 304 validated (RFC 9211, section 2.3); one of status 204 (RFC 9110, section 8.6).
@@ -140,6 +141,24 @@ pub fn what_a_304_leaves()
     ensures kept { removed_in (sent_refreshed table (asked_about_e (get [])) (answer 304 []) 105 first_stored) ≡ [] }
     ensures let_go { removed_in (sent_refreshed table (asked_about_e (get [])) (answer 304 []) 105 (stored_with 1 (vary (codes "*") ∷ first_lines))) ≡ 1 ∷ [] }
     ensures too_many { removed_in (sent_refreshed table (asked_about_e (get [])) (answer 304 []) 105 (stored_with 1 (tag (codes "\"e\"") ∷ lines_of 96))) ≡ 1 ∷ [] }
+{}
+
+/// What the words of the line change: an answer that isn't stored says why where its line explains it (RFC 9211, section 2.8), a
+/// stored response without a lifetime has the operator's (RFC 9111, section 4.2.2), and a 304 keeps neither a cookie nor an error
+/// whose line stores none.
+#[tactic(auto, unfolding(httpdate::proofs::OnLiterals::httpdate_on_literals, hx_storable::specs::Rules::storage_rule_of, hx_allow::specs::Matching::policy_of))]
+pub fn what_the_words_of_a_line_change()
+    ensures explained { rule_told (table_of explains) (went (get [])) (answer 200 []) 101 (Some 4) ≡ Some NothingToReuse }
+    ensures not_explained { rule_told table (went (get [])) (answer 200 []) 101 (Some 4) ≡ None }
+    ensures nothing_to_explain { rule_told (table_of explains) (went (get [])) (answer 200 first_lines) 101 (Some 4) ≡ None }
+    ensures given { ttl_at gives_60 stored_e 110 ≡ pos 50 }
+    ensures none_given { ttl_at (plain true) stored_e 110 ≡ negsuc 9 }
+    ensures stated { ttl_at gives_60 (stored_with 1 (control (codes "max-age=20") ∷ [])) 110 ≡ pos 10 }
+    ensures cookie_kept { is_kept table (asked_about_e (get [])) (answer 304 []) (stored_with 1 (cookie ∷ first_lines)) ≡ true }
+    ensures cookie_not_kept { is_kept (table_of no_cookies) (asked_about_e (get [])) (answer 304 []) (stored_with 1 (cookie ∷ first_lines)) ≡ false }
+    ensures without_cookie { is_kept (table_of no_cookies) (asked_about_e (get [])) (answer 304 []) first_stored ≡ true }
+    ensures error_kept { is_kept table (asked_about_e (get [])) (answer 304 []) (record first_stored { status = 503 }) ≡ true }
+    ensures error_not_kept { is_kept (table_of no_errors) (asked_about_e (get [])) (answer 304 []) (record first_stored { status = 503 }) ≡ false }
 {}
 
 /// What is held is sent after a failure: what may be reused, what stale-if-error allows (RFC 5861, section 4), each by its word, or
