@@ -23,3 +23,4 @@ pub mod Dropping
 pub mod Readable
 pub mod FinalAnswers
 pub mod OneRun
+pub mod FewOpen

@@ -48,7 +48,7 @@ from_zero : {A : Type 0} (es : List (ℕ × A)) → Above 0 es
 from_zero [] = tt
 from_zero (e ∷ es) = omega arith
 
-not_below : (i n : ℕ) → n ≤ i → nat_lt i n ≡ false
+pub not_below : (i n : ℕ) → n ≤ i → nat_lt i n ≡ false
 not_below i n l = search (arith, l)
 
 pub below : (i n : ℕ) → i < n → nat_lt i n ≡ true

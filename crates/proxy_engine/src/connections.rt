@@ -178,6 +178,13 @@ impl Connections {
         reading::open_count(&self.ends, self.count)
     }
 
+    /// Whether fewer than this are open.
+    pub(crate) fn are_fewer_open(&self, most: usize) -> bool
+        ensures { (ss : List ConnStory) → Both ConnStands self.now.items ss → result ≡ nat_lt (length (places_with is_open 0 ss)) most }
+    {
+        reading::are_fewer_open(&self.ends, self.count, most)
+    }
+
     /// Adds the clients from which bytes may come.
     pub(crate) fn push_readable(&self, ends: &mut Vec<End>) -> Result<(), AllocError>
         ensures { OnOk result ((ss : List ConnStory) → Both ConnStands self.now.items ss → ends.new.items ≡ ends.old.items ++ map client_end (places_with is_read 0 ss)) }

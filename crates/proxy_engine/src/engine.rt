@@ -1,5 +1,5 @@
 //! The engine: connections of clients, links to origins, and the core between them.
-ghost use Rattle.std.specs.Prelude.{◌≡◌, ◌≢◌, ◌<◌, ◌≤◌, ◌-◌, [], IfOk, IfErr, OnOk, OnErr, Some, Err, true};
+ghost use Rattle.std.specs.Prelude.{◌≡◌, ◌≢◌, ◌<◌, ◌≤◌, ◌-◌, nat_lt, [], IfOk, IfErr, OnOk, OnErr, Some, Err, true};
 ghost use Rattle.proxy_engine.specs.Story.{Story, connection_at, keeps};
 ghost use Rattle.proxy_engine.specs.Happenings.{said, takes_memory};
 ghost use Rattle.proxy_engine.specs.Reading.{ends_read, failed_links, open_count, next_connection, IsBetween};
@@ -131,6 +131,13 @@ impl<S: Shelf> Engine<S> {
         ensures { (s : Story) → Stands self.now s → result ≡ open_count s }
     {
         self.ends.connections.open_count()
+    }
+
+    /// Whether fewer connections than this are open. They aren't counted one by one unless as many may be.
+    pub fn has_fewer_connections(&self, most: usize) -> bool
+        ensures { (s : Story) → Stands self.now s → result ≡ nat_lt (open_count s) most }
+    {
+        self.ends.connections.are_fewer_open(most)
     }
 
     /// Whether a client is between two requests: it is open, has no open exchange, its input hasn't ended, and each byte that it

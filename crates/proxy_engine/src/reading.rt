@@ -1,5 +1,5 @@
 //! The ends that are open, one after another: from which of them bytes may come, and which have failed.
-ghost use Rattle.std.specs.Prelude.{◌≡◌, ◌≢◌, ℕ, ◌+◌, ◌≤◌, ◌^◌, ◌++◌, length, map, true, OnOk, OnErr};
+ghost use Rattle.std.specs.Prelude.{◌≡◌, ◌≢◌, ℕ, ◌+◌, ◌≤◌, ◌^◌, ◌++◌, length, map, nat_lt, true, OnOk, OnErr};
 ghost use Rattle.std.specs.Ordering.{nat_cmp};
 ghost use Rattle.std.specs.BTreeMap.{get};
 ghost use Rattle.proxy_engine.specs.Held.{flagged, connection_reads, connection_is_open, link_reads, link_failed};
@@ -51,6 +51,18 @@ pub(crate) fn open_count(ends: &BTreeMap<u64, Connection>, count: u64) -> usize
         }
     }
     open
+}
+
+/// Whether fewer than this of the connections at places below a count aren't gone. They are counted only where there are as many
+/// ends, without the one at the count, where the next connection will be.
+pub(crate) fn are_fewer_open(ends: &BTreeMap<u64, Connection>, count: u64, most: usize) -> bool
+    ensures { result ≡ nat_lt (length (places_with (flagged connection_is_open) 0 (listed ends.now count))) most }
+{
+    let beyond = if ends.contains_key(&count) { 1 } else { 0 };
+    if ends.len().saturating_sub(beyond) < most {
+        return true;
+    }
+    open_count(ends, count) < most
 }
 
 /// Adds the clients from which bytes may come, of those at places below a count.

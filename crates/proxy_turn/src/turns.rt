@@ -30,7 +30,7 @@ fn accept<S: Shelf, K: Sockets>(
 ) -> Result<u64, TurnFault>
     ensures { (s : Story) → Stands engine.old s → Asks s engine.new (λ made. K.Did sockets.old made sockets.new) (calls (K.accepts sockets.old) (K.reads sockets.old) (K.failures sockets.old)) (calls (K.accepts sockets.new) (K.reads sockets.new) (K.failures sockets.new)) result }
 {
-    if engine.open_connections() >= MOST_OPEN {
+    if !engine.has_fewer_connections(MOST_OPEN) {
         return Ok(0);
     }
     let Some(n) = engine.next_connection() else {
