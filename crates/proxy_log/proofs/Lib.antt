@@ -1,2 +1,4 @@
+pub mod Hearing
+pub mod LastLines
 pub mod LineBytes
 pub mod LineSteps

@@ -3,7 +3,7 @@
 -- uri_text, named_target: the target of a request
 -- Asks: what a request asks for
 -- request_line: method and target of the line with which a head begins that is no request
--- next_question: what the next reply answers
+-- next_question, begun_behind: what the next reply answers, and whether what has begun is still to be answered
 use Rattle.std.specs.Prelude.{◌≡◌, ℕ, ◌==◌, not, Bool, ◌&&◌, nat_eq, nat_lt, if◌then◌else◌, List, [], ◌∷◌, ◌++◌, length, slice_index, codes, decimal, Option, Some, None, unwrap_or, Result, Ok, Err}
 use Rattle.std.specs.Option.{option_map, option_and_then}
 use Rattle.std.specs.List.{starts_with, list_all}
@@ -92,3 +92,8 @@ abbrev pub next_question : List Question → Option Question → Question
 next_question (q ∷ qs) begun = q
 next_question [] (Some q) = q
 next_question [] None = nothing
+
+-- behind that reply the request that has begun is still to be answered, unless it was the one
+abbrev pub begun_behind : List Question → Option Question → Option Question
+begun_behind (q ∷ qs) begun = begun
+begun_behind [] begun = None

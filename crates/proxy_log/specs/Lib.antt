@@ -1,6 +1,8 @@
 pub mod Asked
 pub mod Cases
+pub mod Hearing
 pub mod Line
+pub mod Lines
 pub mod OneLine
 pub mod Seconds
 pub mod Told

@@ -1,7 +1,13 @@
 //! What a client asked for, read from its bytes a second time.
-ghost use Rattle.std.specs.Prelude.{◌≡◌, ◌≤◌, length, drop, IfOk, OnOk, None, Some, true};
+ghost use Rattle.std.specs.Prelude.{◌≡◌, ◌≤◌, ◌<◌, [], length, drop, IfOk, IfSome};
+ghost use Rattle.std.specs.Prelude.{MatchOption, OnOk, None, Some, false, true};
 ghost use Rattle.std.specs.Option.{option_or};
-ghost use Rattle.proxy_log.specs.Asked.{Asks, IsKept, NamesTarget, next_question, nothing, question_in, uri_text};
+ghost use Rattle.hx_framing.specs.declared.messages.Request.{Request};
+ghost use Rattle.hx_framing.specs.Progress.{Progress, fed, start};
+ghost use Rattle.hx_framing.specs.RequestState.{StandsFor, weight};
+ghost use Rattle.proxy_log.specs.Asked.{Asks, IsKept, NamesTarget, begun_behind, next_question, nothing, question_in};
+ghost use Rattle.proxy_log.specs.Asked.{uri_text};
+ghost use Rattle.proxy_log.specs.Hearing.{HasReadOn, HasReadSome};
 
 use crate::request_line::request_line;
 use hx_fields::Bytes;
@@ -100,7 +106,12 @@ fn rest_from(text: &[u8], from: usize) -> &[u8] {
 
 impl Asked {
     /// A stream from which nothing has come. Contents have at most `max_body` bytes.
-    pub fn new(alloc: Global, max_body: u64) -> Asked {
+    pub fn new(alloc: Global, max_body: u64) -> Asked
+        ensures stands { StandsFor result.reader (start max_body false) }
+        ensures questions { result.questions.items ≡ [] }
+        ensures begun { result.begun ≡ None }
+        ensures over { result.over ≡ false }
+    {
         Asked {
             reader: RequestReader::new(alloc, max_body),
             questions: VecDeque::new(alloc),
@@ -111,7 +122,12 @@ impl Asked {
     }
 
     /// Takes the next piece of the stream.
-    pub fn hear(&mut self, alloc: Global, piece: &[u8]) {
+    pub fn hear(&mut self, alloc: Global, piece: &[u8])
+        ensures heard { self.new.over ≡ false → (p : Progress Request) → StandsFor self.old.reader p → p.ended ≡ false
+            → HasReadOn (fed p piece.now) self.new.reader self.old.questions.items self.new.questions.items
+            self.old.begun self.new.begun }
+        ensures over { self.old.over ≡ true → self.new ≡ self.old }
+    {
         if self.over {
             return;
         }
@@ -121,7 +137,11 @@ impl Asked {
     }
 
     /// Keeps what the requests ask for that are whole with this piece, and what has come of the next head.
-    fn take(&mut self, alloc: Global, piece: &[u8]) -> Result<(), AllocError> {
+    fn take(&mut self, alloc: Global, piece: &[u8]) -> Result<(), AllocError>
+        ensures { OnOk result ((p : Progress Request) → StandsFor self.old.reader p → p.ended ≡ false
+            → HasReadOn (fed p piece.now) self.new.reader self.old.questions.items self.new.questions.items
+            self.old.begun self.new.begun) }
+    {
         self.reader.feed(piece)?;
         if self.head.is_empty() {
             let from = self.read_on(alloc, piece)?;
@@ -141,6 +161,7 @@ impl Asked {
     fn begin(&mut self, alloc: Global, head: &[u8]) -> Result<(), AllocError>
         ensures begun { OnOk result (self.new.begun ≡ option_or self.old.begun (Some (question_in head.now))) }
         ensures same { self.new.questions.items ≡ self.old.questions.items }
+        ensures reader { self.new.reader ≡ self.old.reader }
         ensures over { self.new.over ≡ self.old.over }
     {
         if self.begun.is_none() {
@@ -153,6 +174,7 @@ impl Asked {
     fn keep(&mut self, alloc: Global, request: &Request) -> Result<(), AllocError>
         ensures kept { OnOk result (IsKept request.now self.old.questions.items self.new.questions.items) }
         ensures none_begun { OnOk result (self.new.begun ≡ None) }
+        ensures reader { self.new.reader ≡ self.old.reader }
     {
         self.questions.push_back(question_of(alloc, request)?)?;
         self.begun = None;
@@ -164,40 +186,65 @@ impl Asked {
         ensures over { self.new.over ≡ true }
         ensures begun { OnOk result (self.new.begun ≡ option_or self.old.begun (Some (question_in head.now))) }
         ensures same { self.new.questions.items ≡ self.old.questions.items }
+        ensures reader { self.new.reader ≡ self.old.reader }
     {
         self.over = true;
         self.begin(alloc, head)
     }
 
+    /// Reads one request, or a continue. Answers from where on the text is a head that isn't whole, or nothing where no further
+    /// request is whole.
+    fn read_one(
+        &mut self,
+        alloc: Global,
+        text: &[u8],
+        from: usize,
+    ) -> Result<Option<usize>, AllocError>
+        ensures read { IfOk result (λ place. (p : Progress Request) → StandsFor self.old.reader p → MatchOption place
+            (HasReadOn p self.new.reader self.old.questions.items self.new.questions.items
+            self.old.begun self.new.begun)
+            (λ at. HasReadSome p self.new.reader self.old.questions.items self.new.questions.items
+            self.old.begun self.new.begun)) }
+        ensures less { IfOk result (λ place. IfSome place (λ at. weight self.new.reader < weight self.old.reader)) }
+    {
+        match self.reader.next(alloc)? {
+            Next::Message(request) => {
+                self.keep(alloc, &request)?;
+                // What the reader keeps stands behind the request.
+                Ok(Some(text.len().saturating_sub(self.reader.kept())))
+            }
+            // The interim response goes out; the request follows.
+            Next::NeedsContinue => {
+                self.begin(alloc, rest_from(text, from))?;
+                Ok(Some(from))
+            }
+            Next::Refused(_) => {
+                self.refuse(alloc, rest_from(text, from))?;
+                Ok(None)
+            }
+            Next::More => {
+                let head = rest_from(text, from);
+                // A head that is whole isn't kept by the reader.
+                if self.reader.kept() < head.len() {
+                    self.begin(alloc, head)?;
+                }
+                Ok(None)
+            }
+            Next::End => Ok(None),
+        }
+    }
+
     /// Reads on. The text begins with a head, unless a content is to come, and ends where the stream does. Answers from where on
     /// it is a head that isn't whole.
     fn read_on(&mut self, alloc: Global, text: &[u8]) -> Result<usize, AllocError>
-        ensures { IfOk result (λ from. from ≤ length text.now) }
+        ensures read { OnOk result ((p : Progress Request) → StandsFor self.old.reader p
+            → HasReadOn p self.new.reader self.old.questions.items self.new.questions.items
+            self.old.begun self.new.begun) }
+        ensures within { IfOk result (λ from. from ≤ length text.now) }
     {
         let mut from = 0usize;
-        for _request in 0..u64::MAX {
-            match self.reader.next(alloc)? {
-                Next::Message(request) => {
-                    self.keep(alloc, &request)?;
-                    // What the reader keeps stands behind the request.
-                    from = text.len().saturating_sub(self.reader.kept());
-                }
-                // The interim response goes out; the request follows.
-                Next::NeedsContinue => self.begin(alloc, rest_from(text, from))?,
-                Next::Refused(_) => {
-                    self.refuse(alloc, rest_from(text, from))?;
-                    break;
-                }
-                Next::More => {
-                    let head = rest_from(text, from);
-                    // A head that is whole isn't kept by the reader.
-                    if self.reader.kept() < head.len() {
-                        self.begin(alloc, head)?;
-                    }
-                    break;
-                }
-                Next::End => break,
-            }
+        while let Some(next) = self.read_one(alloc, text, from)? {
+            from = next;
         }
         // A content isn't kept.
         let rest = if self.begun.is_some() {
@@ -213,6 +260,9 @@ impl Asked {
     pub fn next_question(&mut self, alloc: Global) -> Question
         ensures asked { result ≡ next_question self.old.questions.items self.old.begun }
         ensures left { self.new.questions.items ≡ drop 1 self.old.questions.items }
+        ensures begun { self.new.begun ≡ begun_behind self.old.questions.items self.old.begun }
+        ensures reader { self.new.reader ≡ self.old.reader }
+        ensures over { self.new.over ≡ self.old.over }
     {
         if let Some(question) = self.questions.pop_front() {
             return question;

@@ -4,6 +4,7 @@
 //! that serves has to know of a log. Its text is in `specs/Line.antt`. Nothing here writes a file.
 #![tactic(auto)]
 
+mod about;
 mod asked;
 pub mod laws;
 mod line;
@@ -14,6 +15,7 @@ mod text_lines;
 mod told;
 pub mod worked_cases;
 
+pub use crate::about::{Seen, line_about};
 pub use crate::asked::{Asked, Question};
 pub use crate::line::{Line, line_text};
 pub use crate::lines::Lines;

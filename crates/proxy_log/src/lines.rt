@@ -1,7 +1,8 @@
 //! Lines that wait to be written.
 
-ghost use Rattle.std.specs.Prelude.{◌≡◌, ◌⊎◌, ◌+◌, ◌<◌, ◌^◌, ◌++◌, [], OnErr, OnOk};
+ghost use Rattle.std.specs.Prelude.{◌≡◌, ◌⊎◌, ◌++◌, [], OnErr, OnOk};
 ghost use Rattle.proxy_log.specs.Line.{line_text};
+ghost use Rattle.proxy_log.specs.Lines.{IsAdded, IsLost};
 
 use crate::line::{Line, line_text};
 use std::alloc::{AllocError, Global};
@@ -30,8 +31,7 @@ impl Lines {
 
     /// Adds a line. Where there is no memory for it, it is lost, and counted.
     pub fn add(&mut self, line: &Line)
-        ensures { (self.new.text.items ≡ self.old.text.items ++ line_text line.now)
-            ⊎ ((self.new.text.items ≡ self.old.text.items) × (self.old.lost + 1 < 2 ^ 64 → self.new.lost ≡ self.old.lost + 1)) }
+        ensures { IsAdded (line_text line.now) self.old self.new ⊎ IsLost self.old self.new }
     {
         match self.write(line) {
             Ok(()) => self.added = self.added.saturating_add(1),
@@ -43,6 +43,7 @@ impl Lines {
     fn write(&mut self, line: &Line) -> Result<(), AllocError>
         ensures ok { OnOk result (self.new.text.items ≡ self.old.text.items ++ line_text line.now) }
         ensures err { OnErr result (self.new.text.items ≡ self.old.text.items) }
+        ensures added { self.new.added ≡ self.old.added }
         ensures lost { self.new.lost ≡ self.old.lost }
     {
         let text = line_text(self.alloc, line)?;
@@ -51,8 +52,7 @@ impl Lines {
 
     /// Counts a line that is lost.
     pub fn lose(&mut self)
-        ensures text { self.new.text.items ≡ self.old.text.items }
-        ensures lost { self.old.lost + 1 < 2 ^ 64 → self.new.lost ≡ self.old.lost + 1 }
+        ensures { IsLost self.old self.new }
     {
         self.lost = self.lost.saturating_add(1);
     }

@@ -1,5 +1,5 @@
 //! What a reply says of itself, read from its bytes. What each function gives is in `specs/Told.antt`.
-ghost use Rattle.std.specs.Prelude.{◌≡◌, ◌==◌, ℕ, List, length};
+ghost use Rattle.std.specs.Prelude.{◌≡◌, ◌==◌, ◌<◌, ℕ, List, length};
 ghost use Rattle.std.specs.Option.{option_map};
 ghost use Rattle.hx_fields.specs.Names.{cut_at};
 ghost use Rattle.proxy_log.specs.Told.{behind_name, final_status, number_of, reason_of, reason_and_content, told_of, value_in};
@@ -82,11 +82,13 @@ fn own_reason<'a>(member: Option<&'a [u8]>, refusal: Option<&'a [u8]>) -> Option
     }
 }
 
-/// The value of a line whose name and colon are in front.
+/// The value of a line whose name and colon are in front. The seventh byte of a line tells the proxy's two names from nearly
+/// all others.
 fn value_in<'a>(front: &[u8], line: &'a [u8]) -> Option<&'a [u8]>
+    requires { 6 < length front.now }
     ensures { option_map (λ value. value.now) result ≡ value_in front.now line.now }
 {
-    if line.starts_with(front) {
+    if line.len() > 6 && line[6] == front[6] && line.starts_with(front) {
         Some(without_return(&line[front.len()..]))
     } else {
         None

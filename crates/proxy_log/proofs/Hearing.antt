@@ -1,0 +1,126 @@
+-- Steps of a reading, one behind the other.
+use Rattle.std.proofs.Common.{◌≡◌, ℕ, Bool, true, false, MatchOption, List, [], ◌∷◌, ◌++◌, Option, Some, None, IsSome, refl, sym, ◌∙◌, ap, subst}
+use Rattle.std.specs.Option.{option_or}
+use Rattle.std.proofs.lemmas.List.{append-nil, append_assoc}
+use Rattle.hx_framing.specs.declared.messages.Request.{Request}
+use Rattle.hx_framing.specs.declared.messages.Next.{Next}
+use Rattle.hx_framing.specs.Progress.{Progress}
+use Rattle.hx_framing.specs.RequestState.{State, StandsFor}
+use Rattle.hx_framing.specs.RequestStream.{Answers}
+use Rattle.proxy_log.specs.Asked.{IsKept}
+use Rattle.proxy_log.specs.Hearing.{AskFor, after, HasRead, HasReadOn, HasReadSome, is_last}
+use Rattle.proxy_log.specs.declared.asked.Question.{Question}
+
+pub AskFor-append : (rs : List Request) (qs : List Question) (rs' : List Request) (qs' : List Question) → AskFor rs qs → AskFor rs' qs' → AskFor (rs ++ rs') (qs ++ qs')
+AskFor-append [] [] rs' qs' a b = b
+AskFor-append [] (q ∷ qs) rs' qs' a b = absurd a
+AskFor-append (r ∷ rs) [] rs' qs' a b = absurd a
+AskFor-append (r ∷ rs) (q ∷ qs) rs' qs' a b = (a.0, AskFor-append rs qs rs' qs' a.1 b)
+
+-- nothing was given
+pub none_read : (p : Progress Request) (told : Bool) (reader : State) (before questions : List Question) (begun_before begun : Option Question)
+    → StandsFor reader (record p { told = told }) → questions ≡ before → ((p.told ≡ true → IsSome begun_before) → told ≡ true → IsSome begun)
+    → HasRead p [] told reader before questions begun_before begun
+none_read p told reader before questions begun_before begun stands same begins = record {
+  stands = subst (λ (given : List Request). StandsFor reader (record p { given = given; told = told })) (sym (append-nil p.given)) stands;
+  asked = [];
+  asks = tt;
+  kept = same ∙ sym (append-nil before);
+  has_begun = begins;
+}
+
+-- one after the other
+pub read_further : (p : Progress Request) (rs rs' : List Request) (told told' : Bool) (r1 r2 : State) (q0 q1 q2 : List Question) (b0 b1 b2 : Option Question)
+    → HasRead p rs told r1 q0 q1 b0 b1 → HasRead (after p rs told) rs' told' r2 q1 q2 b1 b2 → HasRead p (rs ++ rs') told' r2 q0 q2 b0 b2
+read_further p rs rs' told told' r1 r2 q0 q1 q2 b0 b1 b2 first second = record {
+  stands = subst (λ (given : List Request). StandsFor r2 (record p { given = given; told = told' })) (append_assoc p.given rs rs') second.stands;
+  asked = first.asked ++ second.asked;
+  asks = AskFor-append rs first.asked rs' second.asked first.asks second.asks;
+  kept = second.kept ∙ ap (λ (qs : List Question). qs ++ second.asked) first.kept ∙ append_assoc q0 first.asked second.asked;
+  has_begun = λ was. second.has_begun (first.has_begun was);
+}
+
+or_is_some : (a : Option Question) (q : Question) (b : Option Question) → b ≡ option_or a (Some q) → IsSome b
+or_is_some None q b is = subst (λ (o : Option Question). IsSome o) (sym is) refl
+or_is_some (Some x) q b is = subst (λ (o : Option Question). IsSome o) (sym is) refl
+
+pub stays_some : (a : Option Question) (q : Question) (b : Option Question) → b ≡ option_or a (Some q) → IsSome a → IsSome b
+stays_some a q b is was = or_is_some a q b is
+
+pub at_first : (p : Progress Request) (reader : State) (questions : List Question) (begun : Option Question) → StandsFor reader p → HasReadSome p reader questions questions begun begun
+at_first p reader questions begun stands = record {
+  requests = [];
+  told = p.told;
+  read = none_read p p.told reader questions questions begun begun stands refl (λ was. was);
+}
+
+-- a request and what it asks for
+pub message_read : (p : Progress Request) (m : Request) (reader : State) (before questions : List Question) (begun_before begun : Option Question)
+    → StandsFor reader (record p { given = p.given ++ m ∷ []; told = false }) → IsKept m before questions → HasReadSome p reader before questions begun_before begun
+message_read p m reader before questions begun_before begun stands kept = record {
+  requests = m ∷ [];
+  told = false;
+  read = record {
+    stands = stands;
+    asked = kept.question ∷ [];
+    asks = (kept.asks, tt);
+    kept = kept.last;
+    has_begun = λ was is. (cc);
+  };
+}
+
+-- a continue, and what begins there
+pub continue_read : (p : Progress Request) (q : Question) (reader : State) (before questions : List Question) (begun_before begun : Option Question)
+    → StandsFor reader (record p { told = true }) → questions ≡ before → begun ≡ option_or begun_before (Some q) → HasReadSome p reader before questions begun_before begun
+continue_read p q reader before questions begun_before begun stands same is = record {
+  requests = [];
+  told = true;
+  read = none_read p true reader before questions begun_before begun stands same (λ was told. or_is_some begun_before q begun is);
+}
+
+-- nothing further
+pub last_read : (p : Progress Request) (answer : Next Request) (reader : State) (before questions : List Question) (begun_before begun : Option Question)
+    → StandsFor reader p → Answers p answer → is_last answer ≡ true → questions ≡ before → (IsSome begun_before → IsSome begun) → HasReadOn p reader before questions begun_before begun
+last_read p answer reader before questions begun_before begun stands answers last same begins = record {
+  requests = [];
+  told = p.told;
+  read = none_read p p.told reader before questions begun_before begun stands same (λ was told. begins (was told));
+  answer = answer;
+  answers = subst (λ (given : List Request). Answers (record p { given = given }) answer) (sym (append-nil p.given)) answers;
+  last = last;
+}
+
+pub then_one : (p : Progress Request) (r1 r2 : State) (q0 q1 q2 : List Question) (b0 b1 b2 : Option Question)
+    → HasReadSome p r1 q0 q1 b0 b1 → ((p' : Progress Request) → StandsFor r1 p' → HasReadSome p' r2 q1 q2 b1 b2) → HasReadSome p r2 q0 q2 b0 b2
+then_one p r1 r2 q0 q1 q2 b0 b1 b2 first next =
+    let second : HasReadSome (after p first.requests first.told) r2 q1 q2 b1 b2 = next (after p first.requests first.told) first.read.stands in
+    record {
+      requests = first.requests ++ second.requests;
+      told = second.told;
+      read = read_further p first.requests second.requests first.told second.told r1 r2 q0 q1 q2 b0 b1 b2 first.read second.read;
+    }
+
+pub then_last : (p : Progress Request) (r1 r2 : State) (q0 q1 q2 : List Question) (b0 b1 b2 : Option Question)
+    → HasReadSome p r1 q0 q1 b0 b1 → ((p' : Progress Request) → StandsFor r1 p' → HasReadOn p' r2 q1 q2 b1 b2) → HasReadOn p r2 q0 q2 b0 b2
+then_last p r1 r2 q0 q1 q2 b0 b1 b2 first next =
+    let second : HasReadOn (after p first.requests first.told) r2 q1 q2 b1 b2 = next (after p first.requests first.told) first.read.stands in
+    record {
+      requests = first.requests ++ second.requests;
+      told = second.told;
+      read = read_further p first.requests second.requests first.told second.told r1 r2 q0 q1 q2 b0 b1 b2 first.read second.read;
+      answer = second.answer;
+      answers = subst (λ (given : List Request). Answers (record p { given = given; told = second.told }) second.answer) (append_assoc p.given first.requests second.requests) second.answers;
+      last = second.last;
+    }
+
+-- what holds of a place, and of none
+pub at_place : (A : Type 0) (B : ℕ → Type 0) (place : Option ℕ) (n : ℕ) → place ≡ Some n → MatchOption place A B → B n
+at_place A B None n is holds = absurd (cc)
+at_place A B (Some k) n is holds = subst B (some_injective k n is) holds
+  where
+    some_injective : (k n : ℕ) → Some k ≡ Some n → k ≡ n
+    some_injective k n same = cc
+
+pub at_no_place : (A : Type 0) (B : ℕ → Type 0) (place : Option ℕ) → place ≡ None → MatchOption place A B → A
+at_no_place A B None is holds = holds
+at_no_place A B (Some k) is holds = absurd (cc)

@@ -1,0 +1,53 @@
+//! The line about a reply.
+ghost use Rattle.std.specs.Prelude.{◌≡◌, length, IfOk};
+
+use crate::asked::Question;
+use crate::line::Line;
+use crate::told::Told;
+use hx_fields::Bytes;
+use std::alloc::{AllocError, Global};
+
+/// What is known of a reply beside its text.
+#[derive(Clone, Copy, Debug)]
+pub struct Seen<'a> {
+    /// When it was written, in milliseconds since 1970.
+    pub moment: u64,
+    /// The client's address and port.
+    pub client: &'a [u8],
+    /// From the request's first byte to the reply, in milliseconds.
+    pub took: u64,
+    /// The address of the origin that was asked; empty where none was.
+    pub origin: &'a [u8],
+}
+
+/// The line about a reply that answers a question. Its only error is want of memory.
+pub fn line_about(
+    alloc: Global,
+    question: Question,
+    told: &Told<'_>,
+    seen: &Seen<'_>,
+) -> Result<Line, AllocError>
+    ensures { IfOk result (λ line. line ≡ record {
+      moment = seen.now.moment;
+      client = seen.now.client.now;
+      method = question.method;
+      target = question.target;
+      status = told.now.status;
+      length = length told.now.content.now;
+      reason = told.now.reason.now;
+      took = seen.now.took;
+      origin = seen.now.origin.now;
+    }) }
+{
+    Ok(Line {
+        moment: seen.moment,
+        client: Bytes::copy_of(alloc, seen.client)?,
+        method: question.method,
+        target: question.target,
+        status: told.status,
+        length: told.length(),
+        reason: Bytes::copy_of(alloc, told.reason)?,
+        took: seen.took,
+        origin: Bytes::copy_of(alloc, seen.origin)?,
+    })
+}
