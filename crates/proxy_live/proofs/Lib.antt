@@ -2,3 +2,5 @@ mod AskedLemmas
 mod Living
 mod Passing
 mod Peering
+mod Scripts
+mod TurnRecords

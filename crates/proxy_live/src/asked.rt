@@ -3,9 +3,9 @@
 //! What an engine makes of an answer goes out right behind the end of its link. The end of a link that has failed isn't told: so these
 //! are kept in the order in which the engine takes them, the least first. Where some of them may have no reply that order tells nothing,
 //! and a reply is of an origin only where it can be of no other.
-ghost use Rattle.std.specs.Prelude.{◌≡◌, ◌≤◌, length};
+ghost use Rattle.std.specs.Prelude.{◌≡◌, ◌≤◌, ℕ, [], length, slice_get, option_map, Some, None, true, false, IfOk, IfErr};
 ghost use Rattle.std.specs.Bool.{OnFalse, OnTrue};
-ghost use Rattle.proxy_live.specs.Asked.{with_place, only_place, place_of, IsAmong, KeepsOrder};
+ghost use Rattle.proxy_live.specs.Asked.{with_place, only_place, place_of, left_of, Falls, HasRoom, IsAmong, IsGapFor, IsKept, KeepsOrder};
 
 use crate::limits::PLACES;
 use std::alloc::Global;
@@ -55,7 +55,9 @@ pub(crate) struct Asked {
 }
 
 impl Asked {
-    pub(crate) fn new(alloc: Global) -> Asked {
+    pub(crate) fn new(alloc: Global) -> Asked
+        ensures { Falls result.failed.items }
+    {
         Asked {
             shut: None,
             failed: Vec::new(alloc),
@@ -65,15 +67,20 @@ impl Asked {
     }
 
     /// A link was shut, whose origin has this place.
-    pub(crate) fn shut(&mut self, place: Option<usize>) {
+    pub(crate) fn shut(&mut self, place: Option<usize>)
+        ensures { self.new ≡ record self.old { shut = place } }
+    {
         self.shut = place;
     }
 
-    /// A link has failed. Where it can't be kept the order of the others tells nothing.
+    /// A link has failed. It is kept, unless as many are kept as can be open or memory is wanting for it: then the order of the others
+    /// tells nothing.
     pub(crate) fn lose_link(&mut self, l: u64, place: usize)
         ensures places { self.new.places ≡ with_place self.old.places place }
         ensures shut { self.new.shut ≡ self.old.shut }
         ensures order { KeepsOrder l place self.old self.new }
+        ensures kept { HasRoom self.old → IsKept l place self.old self.new }
+        ensures falls { Falls self.old.failed.items → Falls self.new.failed.items }
     {
         self.places = self.places.with(place);
         if !self.keep(l, place) {
@@ -85,6 +92,8 @@ impl Asked {
     fn keep(&mut self, l: u64, place: usize) -> bool
         ensures kept { OnTrue result (IsAmong l place self.old.failed.items self.new.failed.items) }
         ensures not_kept { OnFalse result (self.new.failed.items ≡ self.old.failed.items) }
+        ensures room { HasRoom self.old → result ≡ true }
+        ensures falls { Falls self.old.failed.items → Falls self.new.failed.items }
         ensures unsure { self.new.is_unsure ≡ self.old.is_unsure }
         ensures places { self.new.places ≡ self.old.places }
         ensures shut { self.new.shut ≡ self.old.shut }
@@ -92,28 +101,43 @@ impl Asked {
         if self.failed.len() >= PLACES {
             return false;
         }
-        match self.failed.binary_search_by(|one| l.cmp(&one.0)) {
-            Ok(at) => match self.failed.get(at) {
-                Some(one) => one.0 == l,
-                None => false,
-            },
-            Err(at) => at <= self.failed.len() && self.failed.insert(at, (l, place)).is_ok(),
+        match self.spot(l) {
+            Ok(_) => true,
+            Err(at) => self.failed.insert(at, (l, place)).is_ok(),
         }
     }
 
+    /// Where a link stands among those that have failed, or would.
+    fn spot(&self, l: u64) -> Result<usize, usize>
+        ensures found { IfOk result (λ at. option_map (λ (one : ℕ × ℕ). one.0) (slice_get self.now.failed.items at) ≡ Some l) }
+        ensures gap { Falls self.now.failed.items → IfErr result (IsGapFor self.now.failed.items l) }
+        ensures within { IfErr result (λ at. at ≤ length self.now.failed.items) }
+    {
+        self.failed.binary_search_by(|one| l.cmp(&one.0))
+    }
+
     /// A link to an unknown origin has failed.
-    pub(crate) fn lose_any(&mut self) {
+    pub(crate) fn lose_any(&mut self)
+        ensures { self.new ≡ record self.old { places = Places.Several; is_unsure = true } }
+    {
         self.places = Places::Several;
         self.is_unsure = true;
     }
 
     /// A client is lost that may have waited for an answer: no reply follows to what failed or is shut for it.
-    pub(crate) fn lose_client(&mut self) {
+    pub(crate) fn lose_client(&mut self)
+        ensures { self.new ≡ record self.old { is_unsure = true } }
+    {
         self.is_unsure = true;
     }
 
     /// Nothing is due any more of what has failed or was shut.
-    pub(crate) fn clear(&mut self) {
+    pub(crate) fn clear(&mut self)
+        ensures shut { self.new.shut ≡ None }
+        ensures failed { self.new.failed.items ≡ [] }
+        ensures places { self.new.places ≡ Places.Nowhere }
+        ensures sure { self.new.is_unsure ≡ false }
+    {
         self.shut = None;
         self.failed.clear();
         self.places = Places::Nowhere;
@@ -124,7 +148,12 @@ impl Asked {
     /// answered, or failed.
     #[tactic(auto, using(crate::proofs::AskedLemmas::least_place_append))]
     pub(crate) fn next(&mut self, answered: bool) -> Option<usize>
-        ensures { result ≡ place_of self.old answered }
+        ensures place { result ≡ place_of self.old answered }
+        ensures shut { self.new.shut ≡ None }
+        ensures left { self.new.failed.items ≡ left_of self.old answered }
+        ensures places { self.new.places ≡ self.old.places }
+        ensures unsure { self.new.is_unsure ≡ self.old.is_unsure }
+        ensures falls { Falls self.old.failed.items → Falls self.new.failed.items }
     {
         let shut = self.shut.take();
         if answered {

@@ -1,6 +1,8 @@
 //! A client's stream: where it stands, what it asks for, and what a log needs of it.
 ghost use Rattle.std.specs.Prelude.{◌≡◌, ◌<◌, ◌≤◌, length, IfOk};
+ghost use Rattle.proxy_live.specs.Patience.{has_left, is_longer};
 ghost use Rattle.proxy_turn.specs.Received.{IsReceived};
+ghost use Rattle.proxy_live.specs.Logging.{IsAbout};
 
 use crate::early::{Came, Early};
 use crate::lines::Line;
@@ -9,7 +11,7 @@ use crate::pieces::{LEAST, head_end};
 use crate::telling::Reply;
 use hx_fields::Bytes;
 use mio::net::TcpStream;
-use proxy_log::Asked;
+use proxy_log::{Asked, Seen, line_about};
 use proxy_turn::Received;
 use std::alloc::{AllocError, Global};
 use std::io;
@@ -22,6 +24,18 @@ pub(crate) enum Place {
     Open(u64),
     /// In a line, since it had this stamp.
     In(Line, u64),
+}
+
+/// What came of a read before a request has a place.
+#[derive(Clone, Copy, Debug, PartialEq, Eq)]
+pub(crate) enum Heard {
+    Nothing,
+    /// More of a request, or its end.
+    Something,
+    /// It has failed, or has ended and sent nothing.
+    Gone,
+    /// What came couldn't be kept.
+    NoMemory,
 }
 
 /// What a log needs of a client.
@@ -113,11 +127,13 @@ impl Client {
         }
     }
 
-    /// The line about a reply, where a log is kept.
+    /// The line about a reply, where a log is kept and the client has a place.
     pub(crate) fn line_about(
         &mut self,
         reply: &Reply<'_>,
-    ) -> Result<Option<proxy_log::Line>, AllocError> {
+    ) -> Result<Option<proxy_log::Line>, AllocError>
+        ensures { IfOk result (IsAbout self.old.logged reply.now) }
+    {
         let alloc = self.alloc;
         let Some(logged) = &mut self.logged else {
             return Ok(None);
@@ -127,17 +143,13 @@ impl Client {
         };
         let question = asked.next_question(alloc);
         let address = logged.address.to_string(alloc)?;
-        Ok(Some(proxy_log::Line {
+        let seen = Seen {
             moment: reply.moment,
-            client: Bytes::copy_of(alloc, address.as_str().as_bytes())?,
-            method: question.method,
-            target: question.target,
-            status: reply.told.status,
-            length: reply.told.length(),
-            reason: Bytes::copy_of(alloc, reply.told.reason)?,
+            client: address.as_str().as_bytes(),
             took: reply.took,
-            origin: Bytes::copy_of(alloc, reply.origin)?,
-        }))
+            origin: reply.origin,
+        };
+        Ok(Some(line_about(alloc, question, &reply.told, &seen)?))
     }
 
     /// Keeps what came and isn't handed in yet.
@@ -182,7 +194,9 @@ impl Client {
     }
 
     /// Whether its request has been incomplete for more than so many milliseconds.
-    pub(crate) fn is_late(&self, now: u64, limit: u64) -> bool {
+    pub(crate) fn is_late(&self, now: u64, limit: u64) -> bool
+        ensures { result ≡ is_longer now self.now.asked limit }
+    {
         match self.asked {
             Some(asked) => now.saturating_sub(asked) > limit,
             None => false,
@@ -191,7 +205,9 @@ impl Client {
 
     /// Whether it has sent its end, and for more than so many milliseconds nothing was written since; or at all, where places are
     /// short.
-    pub(crate) fn has_left(&self, now: u64, limit: u64, short: bool) -> bool {
+    pub(crate) fn has_left(&self, now: u64, limit: u64, short: bool) -> bool
+        ensures { result ≡ has_left now self.now.left self.now.peer.heard limit short }
+    {
         match self.left {
             Some(left) => short || now.saturating_sub(left.max(self.peer.heard)) > limit,
             None => false,
@@ -237,12 +253,52 @@ impl Client {
         }
     }
 
+    /// Reads a piece of what has come, if anything may have, behind what was kept. From one that still has to take what was written
+    /// nothing is read.
+    pub(crate) fn read_on(&mut self, buf: &mut [u8], now: u64) -> io::Result<Received>
+        ensures within { IfOk result (IsReceived (length buf.old)) }
+        ensures length { length buf.new ≡ length buf.old }
+        ensures takes_first { 0 < length self.old.peer.unsent.bytes → (self.new ≡ self.old) × (result ≡ Ok Received.Nothing) }
+    {
+        if !self.peer.has_unsent() {
+            return self.peer.read(buf, now);
+        }
+        Ok(Received::Nothing)
+    }
+
+    /// Reads a piece of what has come before its request has a place, and keeps it. Of one that still has to take what was written
+    /// nothing is read.
+    pub(crate) fn hear_early(&mut self, now: u64) -> Heard
+        ensures takes_first { 0 < length self.old.peer.unsent.bytes → (self.new ≡ self.old) × (result ≡ Heard.Nothing) }
+    {
+        let mut buf = [0u8; 4096];
+        match self.read_on(&mut buf, now) {
+            Ok(Received::Nothing) => Heard::Nothing,
+            Ok(Received::Bytes(n)) => {
+                if self.keep_early(&buf[..n]).is_err() {
+                    return Heard::NoMemory;
+                }
+                if self.asked.is_none() {
+                    self.asked = Some(now);
+                }
+                Heard::Something
+            }
+            Ok(Received::End) if self.has_early() => {
+                // The engine is told of the end behind what came before it.
+                self.peer.readable = true;
+                Heard::Something
+            }
+            Ok(Received::End) => Heard::Gone,
+            Err(_) => Heard::Gone,
+        }
+    }
+
     /// Reads what has come, if anything may have, as far as the head of one request: what was kept comes first. From one that still
     /// has to take what was written nothing is read.
     pub(crate) fn read(&mut self, buf: &mut [u8], now: u64) -> io::Result<Received>
         ensures within { IfOk result (IsReceived (length buf.old)) }
         ensures length { length buf.new ≡ length buf.old }
-        ensures takes_first { 0 < length self.old.peer.unsent → self.new ≡ self.old }
+        ensures takes_first { 0 < length self.old.peer.unsent.bytes → self.new ≡ self.old }
     {
         if self.peer.has_unsent() {
             return Ok(Received::Nothing);
@@ -258,7 +314,7 @@ impl Client {
                 return Ok(Received::Bytes(n));
             }
         }
-        match self.peer.read(buf, now)? {
+        match self.read_on(buf, now)? {
             Received::Bytes(n) => {
                 self.ask(now);
                 Ok(Received::Bytes(self.keep_rest(&buf[..n], least)))

@@ -1,8 +1,14 @@
 //! The streams of clients: those that have a place in the engine, and the lines of the others.
 //!
 //! A stream keeps its key, which is its token, from its accept to its close. It has a number while its request has a place.
+ghost use Rattle.std.specs.Prelude.{◌≡◌, length, IfOk, None};
+ghost use Rattle.std.specs.Ordering.{nat_cmp};
+ghost use Rattle.std.specs.BTreeMap.{get};
+ghost use Rattle.slab.specs.Slab as slab;
+ghost use Rattle.proxy_turn.specs.Received.{IsReceived};
+ghost use Rattle.proxy_live.specs.Numbers.{OthersStay, OtherKeysStay, OnlyAt};
 
-use crate::client::{Client, Place};
+use crate::client::{Client, Heard, Place};
 use crate::early::Came;
 use crate::endings::{Cut, Endings};
 use crate::limits::{Limits, PLACES, SHARED};
@@ -13,6 +19,8 @@ use mio::net::TcpStream;
 use proxy_turn::Received;
 use slab::Slab;
 use std::alloc::Global;
+use std::collections::{BTreeMap, btree_map};
+use std::io;
 
 /// How many streams are looked at, at a time, for whether their request is whole.
 const LOOKS: usize = 64;
@@ -20,9 +28,9 @@ const LOOKS: usize = 64;
 #[derive(Drop)]
 pub(crate) struct Clients {
     alloc: Global,
-    streams: Slab<Client>,
-    /// The numbers of those that have a place, in their order, and their keys.
-    open: Vec<(u64, usize)>,
+    pub(crate) streams: Slab<Client>,
+    /// The keys of those that have a place, by their numbers.
+    pub(crate) open: BTreeMap<u64, usize>,
     pub(crate) lines: Lines,
     /// The numbers of those that failed since the last turn.
     lost: Vec<u64>,
@@ -39,7 +47,7 @@ impl Clients {
         Clients {
             alloc,
             streams: Slab::new(alloc),
-            open: Vec::new(alloc),
+            open: BTreeMap::new(alloc),
             lines: Lines::new(alloc),
             lost: Vec::new(alloc),
             unsent: 0,
@@ -59,17 +67,11 @@ impl Clients {
         self.open.len()
     }
 
-    /// Where a number stands among those that have a place, or would.
-    fn spot(&self, n: u64) -> Result<usize, usize> {
-        self.open.binary_search_by(|pair| pair.0.cmp(&n))
-    }
-
     /// The key of a number that has a place.
-    fn key_of(&self, n: u64) -> Option<usize> {
-        match self.spot(n) {
-            Ok(i) => self.open.get(i).map(|pair| pair.1),
-            Err(_) => None,
-        }
+    fn key_of(&self, n: u64) -> Option<usize>
+        ensures { result ≡ get nat_cmp self.now.open n }
+    {
+        self.open.get(&n).copied()
     }
 
     pub(crate) fn get(&self, n: u64) -> Option<&Client> {
@@ -89,23 +91,36 @@ impl Clients {
         self.streams.get_mut(key)
     }
 
-    /// Takes a number from those that have a place; its key.
-    pub(crate) fn take_number(&mut self, n: u64) -> Option<usize> {
-        match self.spot(n) {
-            Ok(i) => {
-                if i < self.open.len() {
-                    Some(self.open.remove(i).1)
-                } else {
-                    None
-                }
-            }
-            Err(_) => None,
-        }
+    /// Reads from the client of a number, and tells whether more may be left; from one that isn't there nothing comes.
+    pub(crate) fn read(&mut self, n: u64, buf: &mut [u8], now: u64) -> io::Result<(Received, bool)>
+        ensures within { IfOk result (λ told. IsReceived (length buf.old) told.0) }
+        ensures length { length buf.new ≡ length buf.old }
+        ensures open { self.new.open ≡ self.old.open }
+        ensures others { OnlyAt self.old.open n self.old.streams self.new.streams }
+    {
+        let Some(key) = self.key_of(n) else {
+            return Ok((Received::Nothing, false));
+        };
+        let Some(client) = self.streams.get_mut(key) else {
+            return Ok((Received::Nothing, false));
+        };
+        let received = client.read(buf, now)?;
+        Ok((received, client.may_give()))
     }
 
-    /// The numbers that have a place, from a spot on.
-    pub(crate) fn number_at(&self, i: usize) -> Option<(u64, usize)> {
-        self.open.get(i).copied()
+    /// Takes a number from those that have a place; its key.
+    pub(crate) fn take_number(&mut self, n: u64) -> Option<usize>
+        ensures key { result ≡ get nat_cmp self.old.open n }
+        ensures gone { get nat_cmp self.new.open n ≡ None }
+        ensures others { OthersStay n self.old.open self.new.open }
+        ensures streams { self.new.streams ≡ self.old.streams }
+    {
+        self.open.remove(&n)
+    }
+
+    /// The numbers that have a place, and their keys.
+    pub(crate) fn numbers(&self) -> btree_map::Iter<'_, u64, usize> {
+        self.open.iter()
     }
 
     /// Adds the stream of a new client; its key.
@@ -126,7 +141,10 @@ impl Clients {
     }
 
     /// Drops a stream, wherever it stands. The engine is told before the next turn where it has a place.
-    pub(crate) fn drop_stream(&mut self, key: usize) {
+    pub(crate) fn drop_stream(&mut self, key: usize)
+        ensures gone { slab.get self.new.streams key ≡ None }
+        ensures others { OtherKeysStay key self.old.streams self.new.streams }
+    {
         let Some(client) = self.streams.try_remove(key) else {
             return;
         };
@@ -143,7 +161,11 @@ impl Clients {
     }
 
     /// Drops the stream of a number, of which the engine is told otherwise.
-    pub(crate) fn forget(&mut self, n: u64) {
+    pub(crate) fn forget(&mut self, n: u64)
+        ensures gone { get nat_cmp self.new.open n ≡ None }
+        ensures open { OthersStay n self.old.open self.new.open }
+        ensures others { OnlyAt self.old.open n self.old.streams self.new.streams }
+    {
         if let Some(key) = self.take_number(n) {
             if let Some(client) = self.streams.try_remove(key) {
                 self.unsent = self.unsent.saturating_sub(client.peer.unsent());
@@ -224,7 +246,10 @@ impl Clients {
     }
 
     /// Writes what is kept for a client, as far as the system takes it. Whether that could be done.
-    pub(crate) fn flush(&mut self, key: usize, now: u64) -> bool {
+    pub(crate) fn flush(&mut self, key: usize, now: u64) -> bool
+        ensures open { self.new.open ≡ self.old.open }
+        ensures others { OtherKeysStay key self.old.streams self.new.streams }
+    {
         let Some(client) = self.streams.get_mut(key) else {
             return false;
         };
@@ -236,7 +261,10 @@ impl Clients {
     }
 
     /// Writes to a client, and keeps what the system doesn't take. Whether that could be done.
-    pub(crate) fn write(&mut self, key: usize, bytes: &[u8], now: u64) -> bool {
+    pub(crate) fn write(&mut self, key: usize, bytes: &[u8], now: u64) -> bool
+        ensures open { self.new.open ≡ self.old.open }
+        ensures others { OtherKeysStay key self.old.streams self.new.streams }
+    {
         let Some(client) = self.streams.get_mut(key) else {
             return false;
         };
@@ -249,7 +277,9 @@ impl Clients {
 
     /// Writes to the client of a number. Where that fails its stream is dropped, and the engine told before the next turn. Whether
     /// it was there, and written to.
-    pub(crate) fn write_to(&mut self, n: u64, bytes: &[u8], now: u64) -> bool {
+    pub(crate) fn write_to(&mut self, n: u64, bytes: &[u8], now: u64) -> bool
+        ensures { OnlyAt self.old.open n self.old.streams self.new.streams }
+    {
         let Some(key) = self.key_of(n) else {
             return false;
         };
@@ -272,8 +302,8 @@ impl Clients {
 
     /// Whether something may have come that the next turn can read.
     pub(crate) fn some_readable(&self) -> bool {
-        for pair in &self.open {
-            if let Some(client) = self.streams.get(pair.1) {
+        for (_, key) in self.open.iter() {
+            if let Some(client) = self.streams.get(*key) {
                 if client.may_give() {
                     return true;
                 }
@@ -410,30 +440,15 @@ impl Clients {
         let Some(client) = self.streams.get_mut(key) else {
             return false;
         };
-        let mut buf = [0u8; 4096];
-        match client.peer.read(&mut buf, now) {
-            Ok(Received::Nothing) => false,
-            Ok(Received::Bytes(n)) => {
-                if client.keep_early(&buf[..n]).is_err() {
-                    self.cut(key, Cut::Memory);
-                    return false;
-                }
-                if client.asked.is_none() {
-                    client.asked = Some(now);
-                }
-                true
-            }
-            Ok(Received::End) => {
-                if client.has_early() {
-                    // The engine is told of the end behind what came before it.
-                    client.peer.readable = true;
-                    return true;
-                }
+        match client.hear_early(now) {
+            Heard::Nothing => false,
+            Heard::Something => true,
+            Heard::Gone => {
                 self.drop_stream(key);
                 false
             }
-            Err(_) => {
-                self.drop_stream(key);
+            Heard::NoMemory => {
+                self.cut(key, Cut::Memory);
                 false
             }
         }
@@ -543,11 +558,13 @@ impl Clients {
     }
 
     /// Gives who waits a place, under this number. Whether somebody did.
-    pub(crate) fn open(&mut self, n: u64) -> bool {
+    pub(crate) fn open(&mut self, n: u64) -> bool
+        ensures { OthersStay n self.old.open self.new.open }
+    {
         let Some(key) = self.next_in() else {
             return false;
         };
-        if self.open.push((n, key)).is_err() {
+        if self.open.insert(n, key).is_err() {
             return false;
         }
         let max_body = self.limits.max_body;

@@ -2,6 +2,7 @@
 //!
 //! A connection that is closed while its client still sends would be reset, and the last answer lost (RFC 9112, section
 //! 9.6). So it is closed by half, and what still comes is read and dropped for a while.
+ghost use Rattle.std.specs.Prelude.{◌≡◌, ◌<◌, length};
 
 use crate::client::Client;
 use crate::clients::Clients;
@@ -23,7 +24,7 @@ enum Stays {
 fn drop_input(client: &mut Client, now: u64) -> Stays {
     let mut buf = [0u8; 4096];
     for _piece in 0..PIECES {
-        match client.peer.read(&mut buf, now) {
+        match client.read_on(&mut buf, now) {
             Ok(Received::Bytes(_)) => {}
             Ok(Received::Nothing) => return Stays::Yes,
             Ok(Received::End) => return Stays::No,
@@ -34,7 +35,9 @@ fn drop_input(client: &mut Client, now: u64) -> Stays {
 }
 
 /// Closes a connection by half, once its client has taken everything, and goes on with dropping what comes.
-fn advance(client: &mut Client, now: u64) -> Stays {
+fn advance(client: &mut Client, now: u64) -> Stays
+    ensures { 0 < length client.old.peer.unsent.bytes → (client.new ≡ client.old) × (result ≡ Stays.Yes) }
+{
     if client.peer.has_unsent() {
         return Stays::Yes;
     }

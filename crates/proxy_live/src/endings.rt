@@ -1,5 +1,8 @@
 //! How connections of clients ended that had not come to their end, and what had come and gone on those that are gone.
+ghost use Rattle.std.specs.Prelude.{◌≡◌};
+ghost use Rattle.proxy_live.specs.EndingCounts.{counted_cut, counted_late, counted_if_late};
 
+use crate::counts::one_more;
 use crate::peer::Peer;
 use mio::net::TcpStream;
 
@@ -56,24 +59,30 @@ impl Endings {
         }
     }
 
-    pub(crate) fn count_cut(&mut self, cut: Cut) {
+    pub(crate) fn count_cut(&mut self, cut: Cut)
+        ensures { self.new ≡ counted_cut self.old cut }
+    {
         match cut {
-            Cut::Room => self.for_room = self.for_room.saturating_add(1),
-            Cut::Place => self.for_place = self.for_place.saturating_add(1),
-            Cut::Unsent => self.for_unsent = self.for_unsent.saturating_add(1),
-            Cut::Memory => self.for_memory = self.for_memory.saturating_add(1),
+            Cut::Room => self.for_room = one_more(self.for_room),
+            Cut::Place => self.for_place = one_more(self.for_place),
+            Cut::Unsent => self.for_unsent = one_more(self.for_unsent),
+            Cut::Memory => self.for_memory = one_more(self.for_memory),
         }
     }
 
-    pub(crate) fn count_lateness(&mut self, lateness: Lateness) {
+    pub(crate) fn count_lateness(&mut self, lateness: Lateness)
+        ensures { self.new ≡ counted_late self.old lateness }
+    {
         match lateness {
-            Lateness::Client => self.client_timeouts = self.client_timeouts.saturating_add(1),
-            Lateness::Request => self.request_timeouts = self.request_timeouts.saturating_add(1),
-            Lateness::Abandon => self.abandon_timeouts = self.abandon_timeouts.saturating_add(1),
+            Lateness::Client => self.client_timeouts = one_more(self.client_timeouts),
+            Lateness::Request => self.request_timeouts = one_more(self.request_timeouts),
+            Lateness::Abandon => self.abandon_timeouts = one_more(self.abandon_timeouts),
         }
     }
 
-    pub(crate) fn count_if_late(&mut self, lateness: Option<Lateness>) {
+    pub(crate) fn count_if_late(&mut self, lateness: Option<Lateness>)
+        ensures { self.new ≡ counted_if_late self.old lateness }
+    {
         if let Some(lateness) = lateness {
             self.count_lateness(lateness);
         }

@@ -1,15 +1,24 @@
 //! The links to origins, by number, and what was counted of each origin.
+ghost use Rattle.std.specs.Prelude.{◌≡◌, length, option_map, option_copied, IfOk, Some, None};
+ghost use Rattle.std.specs.Ordering.{nat_cmp};
+ghost use Rattle.std.specs.BTreeMap.{get};
+ghost use Rattle.std.specs.Bool.{OnTrue, OnFalse};
+ghost use Rattle.proxy_turn.specs.Received.{IsReceived};
+ghost use Rattle.proxy_live.specs.Numbers.{OthersStay};
 
 use crate::limits::Limits;
 use crate::origins::Origins;
 use crate::peer::Peer;
+use mio::event::Event;
 use mio::net::TcpStream;
+use proxy_turn::Received;
 use std::alloc::Global;
+use std::collections::BTreeMap;
+use std::io;
 
 /// A link.
 #[derive(Drop)]
 pub(crate) struct Link {
-    number: u64,
     /// Its stream, until that has failed.
     peer: Option<Peer<TcpStream>>,
     /// When it began, in milliseconds of the clock that never goes back.
@@ -28,9 +37,8 @@ pub(crate) enum Overtime {
 
 impl Link {
     /// A link that begins; without a stream where that couldn't be had.
-    pub(crate) fn new(number: u64, peer: Option<Peer<TcpStream>>, now: u64, origin: usize) -> Link {
+    pub(crate) fn new(peer: Option<Peer<TcpStream>>, now: u64, origin: usize) -> Link {
         Link {
-            number,
             peer,
             began: now,
             origin,
@@ -60,10 +68,26 @@ impl Link {
     }
 }
 
-/// Links in the order of their numbers.
+/// Takes what an event told of the stream of a link; the answer is an error where its connection couldn't be made.
+fn stir_peer(peer: &mut Peer<TcpStream>, event: &Event, now: u64) -> io::Result<()> {
+    if peer.connecting {
+        if !peer.has_connected(event)? {
+            return Ok(());
+        }
+        peer.heard = now;
+    }
+    peer.stir(event);
+    if event.is_writable() {
+        // What the origin had said before it broke off can still be read.
+        let _ = peer.flush(now);
+    }
+    Ok(())
+}
+
+/// Links by their numbers.
 #[derive(Drop)]
 pub(crate) struct Links {
-    items: Vec<Link>,
+    pub(crate) items: BTreeMap<u64, Link>,
     pub(crate) origins: Origins,
     /// How often the time of a link was over, by which.
     pub(crate) connect_timeouts: u64,
@@ -74,7 +98,7 @@ pub(crate) struct Links {
 impl Links {
     pub(crate) fn new(alloc: Global) -> Links {
         Links {
-            items: Vec::new(alloc),
+            items: BTreeMap::new(alloc),
             origins: Origins::new(alloc),
             connect_timeouts: 0,
             origin_timeouts: 0,
@@ -86,30 +110,64 @@ impl Links {
         self.items.is_empty()
     }
 
-    /// Where a number stands, or would.
-    fn place(&self, number: u64) -> Result<usize, usize> {
-        self.items.binary_search_by(|link| link.number.cmp(&number))
+    fn get(&self, number: u64) -> Option<&Link>
+        ensures { option_copied result ≡ get nat_cmp self.now.items number }
+    {
+        self.items.get(&number)
     }
 
-    fn get(&self, number: u64) -> Option<&Link> {
-        match self.place(number) {
-            Ok(i) => self.items.get(i),
-            Err(_) => None,
+    /// Takes what an event told of a link; the answer is an error where its connection couldn't be made.
+    pub(crate) fn stir(&mut self, number: u64, event: &Event, now: u64) -> io::Result<()>
+        ensures others { OthersStay number self.old.items self.new.items }
+    {
+        if let Some(link) = self.items.get_mut(&number) {
+            if let Some(peer) = &mut link.peer {
+                return stir_peer(peer, event, now);
+            }
         }
+        Ok(())
     }
 
-    /// The stream of a link.
-    pub(crate) fn stream_mut(&mut self, number: u64) -> Option<&mut Peer<TcpStream>> {
-        match self.place(number) {
-            Ok(i) => self.items.get_mut(i)?.peer.as_mut(),
-            Err(_) => None,
+    /// Reads from a link, and tells whether more may be left; from one without a stream nothing comes.
+    pub(crate) fn read(
+        &mut self,
+        number: u64,
+        buf: &mut [u8],
+        now: u64,
+    ) -> io::Result<(Received, bool)>
+        ensures within { IfOk result (λ told. IsReceived (length buf.old) told.0) }
+        ensures length { length buf.new ≡ length buf.old }
+        ensures others { OthersStay number self.old.items self.new.items }
+    {
+        if let Some(link) = self.items.get_mut(&number) {
+            if let Some(peer) = &mut link.peer {
+                let received = peer.read(buf, now)?;
+                return Ok((received, peer.readable));
+            }
         }
+        Ok((Received::Nothing, false))
     }
 
-    /// Puts a link in behind the others: numbers rise. Whether there was memory for it.
-    pub(crate) fn put(&mut self, link: Link) -> bool {
+    /// Writes to a link. Whether that could be done, or its connection had been made before it failed.
+    pub(crate) fn write(&mut self, number: u64, bytes: &[u8], now: u64) -> bool
+        ensures others { OthersStay number self.old.items self.new.items }
+    {
+        if let Some(link) = self.items.get_mut(&number) {
+            if let Some(peer) = &mut link.peer {
+                return peer.write(bytes, now).is_ok() || !peer.connecting;
+            }
+        }
+        true
+    }
+
+    /// Puts a link in under its number. Whether there was memory for it.
+    pub(crate) fn put(&mut self, number: u64, link: Link) -> bool
+        ensures put { OnTrue result (get nat_cmp self.new.items number ≡ Some link) }
+        ensures not_put { OnFalse result (get nat_cmp self.new.items number ≡ get nat_cmp self.old.items number) }
+        ensures others { OthersStay number self.old.items self.new.items }
+    {
         let origin = link.origin;
-        let is_put = self.items.push(link).is_ok();
+        let is_put = self.items.insert(number, link).is_ok();
         if is_put {
             self.origins.begin(origin);
         }
@@ -117,11 +175,10 @@ impl Links {
     }
 
     /// Drops the stream of a link. Its number stays until it is taken out.
-    pub(crate) fn drop_stream(&mut self, number: u64) {
-        let Ok(i) = self.place(number) else {
-            return;
-        };
-        if let Some(link) = self.items.get_mut(i) {
+    pub(crate) fn drop_stream(&mut self, number: u64)
+        ensures others { OthersStay number self.old.items self.new.items }
+    {
+        if let Some(link) = self.items.get_mut(&number) {
             if let Some(peer) = link.peer.take() {
                 self.origins
                     .add_bytes(link.origin, peer.received, peer.written);
@@ -130,13 +187,16 @@ impl Links {
     }
 
     /// Takes a link out. The place of its origin.
-    pub(crate) fn remove(&mut self, number: u64, now: u64) -> Option<usize> {
-        self.drop_stream(number);
-        let i = self.place(number).ok()?;
-        if i >= self.items.len() {
-            return None;
+    pub(crate) fn remove(&mut self, number: u64, now: u64) -> Option<usize>
+        ensures origin { result ≡ option_map (λ link. link.origin) (get nat_cmp self.old.items number) }
+        ensures gone { get nat_cmp self.new.items number ≡ None }
+        ensures others { OthersStay number self.old.items self.new.items }
+    {
+        let link = self.items.remove(&number)?;
+        if let Some(peer) = &link.peer {
+            self.origins
+                .add_bytes(link.origin, peer.received, peer.written);
         }
-        let link = self.items.remove(i);
         self.origins
             .end(link.origin, now.saturating_sub(link.began));
         Some(link.origin)
@@ -171,7 +231,7 @@ impl Links {
 
     /// For how long the oldest link is open, in milliseconds; 0 where there is none.
     pub(crate) fn oldest_age(&self, now: u64) -> u64 {
-        match self.items.first() {
+        match self.items.values().next() {
             Some(link) => now.saturating_sub(link.began),
             None => 0,
         }
@@ -181,7 +241,7 @@ impl Links {
     pub(crate) fn open_bytes(&self, origin: usize) -> (u64, u64) {
         let mut received = 0u64;
         let mut written = 0u64;
-        for link in &self.items {
+        for link in self.items.values() {
             if let Some(peer) = &link.peer {
                 if link.origin == origin {
                     received = received.saturating_add(peer.received);

@@ -2,6 +2,7 @@
 ghost use Rattle.std.specs.Prelude.{◌≡◌, ◌≤◌, length, IfOk};
 ghost use Rattle.proxy_turn.specs.Counts.{IsRise, failed};
 ghost use Rattle.proxy_turn.specs.Received.{IsReceived};
+ghost use Rattle.proxy_live.specs.Numbers.{OthersStay, OnlyAt};
 
 use crate::asked::Asked;
 use crate::clients::Clients;
@@ -11,12 +12,12 @@ use crate::links::{Link, Links};
 use crate::peer::Peer;
 use crate::replies::Replies;
 use crate::send_buffer::bound_send_buffers;
+use crate::tokens::Holder;
 use crate::turns::Turns;
 use hx_allow::Config;
 use hx_status::FailKind;
-use mio::event::Event;
 use mio::net::{TcpListener, TcpStream};
-use mio::{Events, Interest, Poll, Token};
+use mio::{Events, Interest, Poll};
 use proxy_log::Lines;
 use proxy_turn::{End, MOST_WORKS, Received, Report, SocketFailed, Sockets, TurnFault};
 use std::alloc::{AllocError, Global};
@@ -39,13 +40,6 @@ const MOST_TAKEN: usize = 64;
 
 /// The most connections that are taken once no more are to come.
 const MOST_WAITING: usize = 65_536;
-
-/// What a token stands for: a key or a number times 4, and one of these.
-const CLIENT: usize = 0;
-
-const LINK: usize = 1;
-
-const LISTENER: usize = 2;
 
 /// A listener, its clients and the links to origins. No call waits but `wait`.
 #[derive(Drop)]
@@ -85,10 +79,6 @@ pub struct LiveSockets<'a, R: Net> {
     pub(crate) failures: u64,
 }
 
-fn token_of(kind: usize, key: usize) -> Token {
-    Token(key.wrapping_mul(4).wrapping_add(kind))
-}
-
 fn address_of(text: &[u8]) -> Option<SocketAddr> {
     match str::from_utf8(text) {
         Ok(text) => text.parse::<SocketAddr>().ok(),
@@ -113,7 +103,7 @@ fn begin_link<R: Net>(
     if let Some(e) = peer.take_error()? {
         return Err(e);
     }
-    peer.register(poll, token_of(LINK, l as usize))?;
+    peer.register(poll, Holder::Link(l))?;
     Ok(peer)
 }
 
@@ -127,12 +117,10 @@ fn read_link(
 ) -> Result<Received, SocketFailed>
     ensures within { IfOk result (IsReceived (length buf.old)) }
     ensures length { length buf.new ≡ length buf.old }
+    ensures others { OthersStay l links.old.items links.new.items }
 {
-    let Some(peer) = links.stream_mut(l) else {
-        return Ok(Received::Nothing);
-    };
-    if let Ok(received) = peer.read(buf, now) {
-        *more = *more || peer.readable;
+    if let Ok((received, is_left)) = links.read(l, buf, now) {
+        *more = *more || is_left;
         return Ok(received);
     }
     links.drop_stream(l);
@@ -149,32 +137,15 @@ fn read_client(
 ) -> Result<Received, SocketFailed>
     ensures within { IfOk result (IsReceived (length buf.old)) }
     ensures length { length buf.new ≡ length buf.old }
+    ensures open { OthersStay n clients.old.open clients.new.open }
+    ensures others { OnlyAt clients.old.open n clients.old.streams clients.new.streams }
 {
-    let Some(client) = clients.get_mut(n) else {
-        return Ok(Received::Nothing);
-    };
-    if let Ok(received) = client.read(buf, now) {
-        *more = *more || client.may_give();
+    if let Ok((received, is_left)) = clients.read(n, buf, now) {
+        *more = *more || is_left;
         return Ok(received);
     }
     clients.forget(n);
     Err(SocketFailed)
-}
-
-/// Takes what an event told of a link; the answer is an error where its connection couldn't be made.
-fn stir_link(peer: &mut Peer<TcpStream>, event: &Event, now: u64) -> io::Result<()> {
-    if peer.connecting {
-        if !peer.has_connected(event)? {
-            return Ok(());
-        }
-        peer.heard = now;
-    }
-    peer.stir(event);
-    if event.is_writable() {
-        // What the origin had said before it broke off can still be read.
-        let _ = peer.flush(now);
-    }
-    Ok(())
 }
 
 /// Whether these bytes are an interim response: the request isn't answered yet.
@@ -202,8 +173,7 @@ impl<'a, R: Net> LiveSockets<'a, R> {
         let poll = Poll::new(net)?;
         let mut listener = TcpListener::bind(net, address)?;
         bound_send_buffers(&listener);
-        poll.registry()
-            .register(&mut listener, Token(LISTENER), Interest::READABLE)?;
+        poll.registry().register(&mut listener, Holder::Listener.token()?, Interest::READABLE)?;
         let address = listener.local_addr()?;
         let limits = limits.in_milliseconds();
         Ok(LiveSockets {
@@ -338,20 +308,16 @@ impl<'a, R: Net> LiveSockets<'a, R> {
 
     fn take_events(&mut self) {
         for event in self.events.iter() {
-            let token = event.token().0;
-            let key = token / 4;
-            if token % 4 == LISTENER {
-                self.acceptable = true;
-            } else if token % 4 == LINK {
-                if let Some(peer) = self.links.stream_mut(key as u64) {
-                    if stir_link(peer, event, self.now).is_err() {
-                        self.links.drop_stream(key as u64);
+            match Holder::of(event.token()) {
+                Holder::Listener => self.acceptable = true,
+                Holder::Link(l) => {
+                    if self.links.stir(l, event, self.now).is_err() {
+                        self.links.drop_stream(l);
                         // Where there is no memory for it, it counts as silent.
-                        let _ = self.lost.push((key as u64, FailKind::Refused));
+                        let _ = self.lost.push((l, FailKind::Refused));
                     }
                 }
-            } else {
-                self.clients.stir(key, event, self.now);
+                Holder::Client(key) => self.clients.stir(key, event, self.now),
             }
         }
     }
@@ -407,7 +373,7 @@ impl<'a, R: Net> LiveSockets<'a, R> {
             if self.log.is_some() {
                 client.keep_log(address);
             }
-            if let Err(e) = client.peer.register(&self.poll, token_of(CLIENT, key)) {
+            if let Err(e) = client.peer.register(&self.poll, Holder::Client(key)) {
                 self.clients.drop_stream(key);
                 return Err(e);
             }
@@ -598,14 +564,12 @@ impl<'a, R: Net> LiveSockets<'a, R> {
         ensures reads { self.new.reads ≡ self.old.reads }
         ensures failures { self.new.failures ≡ self.old.failures }
     {
-        if let Some(peer) = self.links.stream_mut(l) {
-            // What the origin had said before it broke off can still be read; its end is told then.
-            if peer.write(bytes, self.now).is_err() && peer.connecting {
-                self.links.drop_stream(l);
-                return self.lose_link(l, FailKind::Refused);
-            }
+        // What an origin had said before it broke off can still be read; its end is told then.
+        if self.links.write(l, bytes, self.now) {
+            return Ok(());
         }
-        Ok(())
+        self.links.drop_stream(l);
+        self.lose_link(l, FailKind::Refused)
     }
 
     /// Keeps until the next turn begins that a link has failed.
@@ -654,7 +618,7 @@ impl<'a, R: Net> LiveSockets<'a, R> {
         }
         let peer = begun.ok();
         let is_lost = peer.is_none();
-        if !self.links.put(Link::new(l, peer, self.now, origin)) {
+        if !self.links.put(l, Link::new(peer, self.now, origin)) {
             self.asked.lose_link(l, origin);
             return Err(SocketFailed);
         }

@@ -1,4 +1,6 @@
 //! Whose time is over, and who gives way where places are short.
+ghost use Rattle.std.specs.Prelude.{◌≡◌, ◌<◌, ◌-◌, ◌⊎◌, true, false, [], Some, length};
+ghost use Rattle.proxy_live.specs.Patience.{is_over, lateness_of, is_longer, asked_since};
 
 use crate::client::Client;
 use crate::clients::Clients;
@@ -8,7 +10,10 @@ use crate::lines::Line;
 use proxy_turn::End;
 
 /// Whether who stands in a line has had its time.
-fn is_over(client: &Client, line: Line, limits: &Limits, now: u64, draining: bool) -> bool {
+fn is_over(client: &Client, line: Line, limits: &Limits, now: u64, draining: bool) -> bool
+    ensures { result ≡ is_over line limits.now draining client.now.has_asked now client.now.peer.heard client.now.closed
+        client.now.asked }
+{
     let quiet = now.saturating_sub(client.peer.heard);
     match line {
         Line::Idle => {
@@ -27,7 +32,9 @@ fn is_over(client: &Client, line: Line, limits: &Limits, now: u64, draining: boo
 }
 
 /// Which time is over of one that stands in a line and had its time; none of one that has nothing more to come.
-fn lateness_of(client: &Client, line: Line, limits: &Limits, now: u64) -> Option<Lateness> {
+fn lateness_of(client: &Client, line: Line, limits: &Limits, now: u64) -> Option<Lateness>
+    ensures { result ≡ lateness_of line limits.now now client.now.peer.heard }
+{
     let is_silent = now.saturating_sub(client.peer.heard) > limits.client_timeout;
     match line {
         Line::Idle => if is_silent {
@@ -41,6 +48,27 @@ fn lateness_of(client: &Client, line: Line, limits: &Limits, now: u64) -> Option
         Line::Partial => Some(Lateness::Request),
         _ => None,
     }
+}
+
+/// Whether the request of a client, which is incomplete, has taken too long, or the client is silent.
+fn is_late(client: &mut Client, limits: &Limits, now: u64) -> bool
+    ensures asked { client.old.peer.unsent.bytes ≡ [] → client.new.asked ≡ asked_since now client.old.asked }
+    ensures unread { 0 < length client.old.peer.unsent.bytes → client.new.asked ≡ Some now }
+    ensures over { is_longer now client.new.asked limits.now.request_timeout ≡ true → result ≡ true }
+    ensures slow { 0 < length client.old.peer.unsent.bytes → limits.now.client_timeout < now - client.old.peer.heard
+        → result ≡ true }
+    ensures silent { client.old.peer.readable ≡ false → limits.now.client_timeout < now - client.old.peer.heard
+        → result ≡ true }
+    ensures only { result ≡ true → (is_longer now client.new.asked limits.now.request_timeout ≡ true)
+        ⊎ (limits.now.client_timeout < now - client.old.peer.heard) }
+{
+    if client.peer.has_unsent() {
+        // It isn't read meanwhile.
+        client.asked = Some(now);
+    } else if client.asked.is_none() {
+        client.asked = Some(now);
+    }
+    client.is_late(now, limits.request_timeout) || client.peer.is_silent(now, limits.client_timeout)
 }
 
 /// Whether nobody behind the first whose time isn't over has had its time: they came later.
@@ -165,28 +193,20 @@ impl Clients {
     /// Whether the request of a client, which is incomplete, has taken too long, or the client is silent.
     pub(crate) fn is_late(&mut self, n: u64, now: u64) -> bool {
         let limits = self.limits;
-        let Some(client) = self.get_mut(n) else {
-            return true;
-        };
-        if client.peer.has_unsent() {
-            // It isn't read meanwhile.
-            client.asked = Some(now);
-        } else if client.asked.is_none() {
-            client.asked = Some(now);
+        match self.get_mut(n) {
+            Some(client) => is_late(client, &limits, now),
+            None => true,
         }
-        client.is_late(now, limits.request_timeout)
-            || client.peer.is_silent(now, limits.client_timeout)
     }
 
     /// A client that has sent its end while it waits for its answer, for too long or, where places are short, at all. `reads` are
     /// those that don't wait for one.
     pub(crate) fn abandoned(&self, reads: &[End], now: u64, short: bool) -> Option<u64> {
-        for i in 0..self.open_count() {
-            let (n, key) = self.number_at(i)?;
-            if let Some(client) = self.stream(key) {
+        for (n, key) in self.numbers() {
+            if let Some(client) = self.stream(*key) {
                 let has_left = client.has_left(now, self.limits.abandon_timeout, short);
-                if has_left && !reads.contains(&End::Client(n)) {
-                    return Some(n);
+                if has_left && !reads.contains(&End::Client(*n)) {
+                    return Some(*n);
                 }
             }
         }

@@ -1,13 +1,14 @@
 //! A stream of the system, and what is known of it. No call waits.
-ghost use Rattle.std.specs.Prelude.{◌≡◌, ◌<◌, ◌≤◌, true, false, [], ◌∷◌, ◌++◌, length, IfOk, OnOk, OnErr};
+ghost use Rattle.std.specs.Prelude.{◌≡◌, ◌<◌, ◌≤◌, ◌-◌, ◌||◌, true, false, [], ◌∷◌, ◌++◌, length, IfOk, OnOk, OnErr};
 ghost use Rattle.proxy_turn.specs.Received.{IsReceived};
-ghost use Rattle.proxy_live.specs.Peers.{told_of, IsHanded, IsHandedInPart};
+ghost use Rattle.proxy_live.specs.Peers.{told_of, IsHanded, IsHandedInPart, IsLeft, tells_of_reading, tells_of_an_end};
 
 use crate::stream::Stream;
+use crate::tokens::Holder;
 use crate::unsent::{Unsent, write_some};
 use mio::event::Event;
 use mio::net::TcpStream;
-use mio::{Interest, Poll, Token};
+use mio::{Interest, Poll};
 use proxy_turn::Received;
 use std::alloc::Global;
 use std::io;
@@ -77,7 +78,8 @@ impl Peer<TcpStream> {
     }
 
     /// Asks the system for the event of this stream.
-    pub(crate) fn register(&mut self, poll: &Poll, token: Token) -> io::Result<()> {
+    pub(crate) fn register(&mut self, poll: &Poll, holder: Holder) -> io::Result<()> {
+        let token = holder.token()?;
         let both = Interest::READABLE | Interest::WRITABLE;
         poll.registry().register(&mut self.stream, token, both)
     }
@@ -90,8 +92,8 @@ impl Peer<TcpStream> {
 
 impl<S: Stream + Drop> Peer<S> {
     pub(crate) fn has_unsent(&self) -> bool
-        ensures some { result ≡ true → 0 < length self.now.unsent }
-        ensures empty { result ≡ false → self.now.unsent ≡ [] }
+        ensures some { result ≡ true → 0 < length self.now.unsent.bytes }
+        ensures empty { result ≡ false → self.now.unsent.bytes ≡ [] }
     {
         !self.unsent.is_empty()
     }
@@ -102,13 +104,19 @@ impl<S: Stream + Drop> Peer<S> {
     }
 
     /// Whether no byte came or went for more than so many milliseconds. One that wasn't read yet has come.
-    pub(crate) fn is_silent(&self, now: u64, limit: u64) -> bool {
+    pub(crate) fn is_silent(&self, now: u64, limit: u64) -> bool
+        ensures only { result ≡ true → limit < now - self.now.heard }
+        ensures quiet { self.now.readable ≡ false → limit < now - self.now.heard → result ≡ true }
+        ensures slow { 0 < length self.now.unsent.bytes → limit < now - self.now.heard → result ≡ true }
+    {
         let waits = self.readable && !self.has_unsent();
         !waits && now.saturating_sub(self.heard) > limit
     }
 
     /// Marks what an event told of reading.
-    pub(crate) fn stir(&mut self, event: &Event) {
+    pub(crate) fn stir(&mut self, event: &Event)
+        ensures { self.new ≡ record self.old { readable = self.old.readable || tells_of_reading event.now; hung = self.old.hung || tells_of_an_end event.now } }
+    {
         if event.is_readable() || event.is_read_closed() || event.is_error() {
             self.readable = true;
         }
@@ -119,10 +127,12 @@ impl<S: Stream + Drop> Peer<S> {
 
     /// Writes, and keeps what the system doesn't take. After a failure nothing more is written.
     pub(crate) fn write(&mut self, bytes: &[u8], now: u64) -> io::Result<()>
-        ensures handed { self.old.broken ≡ false → OnOk result (IsHanded (λ took. S.Passed self.old.stream took [] self.new.stream) (self.old.unsent ++ bytes.now) self.new.unsent) }
-        ensures in_part { OnErr result (IsHandedInPart (λ took. S.Passed self.old.stream took [] self.new.stream) (self.old.unsent ++ bytes.now)) }
+        ensures handed { self.old.broken ≡ false → OnOk result (IsHanded (λ took. S.Passed self.old.stream took [] self.new.stream) (self.old.unsent.bytes ++ bytes.now) self.new.unsent.bytes) }
+        ensures in_part { OnErr result (IsHandedInPart (λ took. S.Passed self.old.stream took [] self.new.stream) (self.old.unsent.bytes ++ bytes.now)) }
         ensures failed { OnErr result (self.new.broken ≡ true) }
         ensures broken { self.old.broken ≡ true → (self.new.stream ≡ self.old.stream) × (self.new.broken ≡ true) }
+        ensures readable { self.old.readable ≡ true → self.new.readable ≡ true }
+        ensures hung { self.old.hung ≡ true → self.new.hung ≡ true }
     {
         if self.broken {
             return Ok(());
@@ -137,8 +147,10 @@ impl<S: Stream + Drop> Peer<S> {
 
     fn write_or_keep(&mut self, bytes: &[u8], now: u64) -> io::Result<()>
         requires { self.old.broken ≡ false }
-        ensures handed { OnOk result (IsHanded (λ took. S.Passed self.old.stream took [] self.new.stream) (self.old.unsent ++ bytes.now) self.new.unsent) }
-        ensures in_part { OnErr result (IsHandedInPart (λ took. S.Passed self.old.stream took [] self.new.stream) (self.old.unsent ++ bytes.now)) }
+        ensures handed { OnOk result (IsHanded (λ took. S.Passed self.old.stream took [] self.new.stream) (self.old.unsent.bytes ++ bytes.now) self.new.unsent.bytes) }
+        ensures in_part { OnErr result (IsHandedInPart (λ took. S.Passed self.old.stream took [] self.new.stream) (self.old.unsent.bytes ++ bytes.now)) }
+        ensures readable { self.old.readable ≡ true → self.new.readable ≡ true }
+        ensures hung { self.old.hung ≡ true → self.new.hung ≡ true }
     {
         self.flush(now)?;
         if self.has_unsent() {
@@ -154,7 +166,9 @@ impl<S: Stream + Drop> Peer<S> {
     fn break_off(&mut self)
         ensures stream { self.new.stream ≡ self.old.stream }
         ensures broken { self.new.broken ≡ true }
-        ensures let_go { self.new.unsent ≡ [] }
+        ensures let_go { self.new.unsent.bytes ≡ [] }
+        ensures readable { self.new.readable ≡ true }
+        ensures hung { self.new.hung ≡ true }
     {
         self.broken = true;
         self.readable = true;
@@ -164,10 +178,12 @@ impl<S: Stream + Drop> Peer<S> {
 
     /// Writes of what was kept as much as the system takes now. After a failure nothing more is written.
     pub(crate) fn flush(&mut self, now: u64) -> io::Result<()>
-        ensures handed { self.old.broken ≡ false → OnOk result (IsHanded (λ took. S.Passed self.old.stream took [] self.new.stream) self.old.unsent self.new.unsent) }
-        ensures in_part { OnErr result (IsHandedInPart (λ took. S.Passed self.old.stream took [] self.new.stream) self.old.unsent) }
+        ensures handed { self.old.broken ≡ false → OnOk result (IsHanded (λ took. S.Passed self.old.stream took [] self.new.stream) self.old.unsent.bytes self.new.unsent.bytes) }
+        ensures in_part { OnErr result (IsHandedInPart (λ took. S.Passed self.old.stream took [] self.new.stream) self.old.unsent.bytes) }
         ensures failed { OnErr result (self.new.broken ≡ true) }
         ensures broken { self.old.broken ≡ true → (self.new.stream ≡ self.old.stream) × (self.new.broken ≡ true) }
+        ensures readable { self.old.readable ≡ true → self.new.readable ≡ true }
+        ensures hung { self.old.hung ≡ true → self.new.hung ≡ true }
     {
         if self.broken || self.unsent.is_empty() {
             return Ok(());
@@ -186,12 +202,15 @@ impl<S: Stream + Drop> Peer<S> {
         Ok(())
     }
 
-    /// Reads what has come, if anything may have.
+    /// Reads what has come, if anything may have. That something may be left to be read is forgotten only where the stream said that
+    /// nothing is, where its end was read, or where it gave fewer bytes than there was room for and no event told of its end.
     pub(crate) fn read(&mut self, buf: &mut [u8], now: u64) -> io::Result<Received>
         ensures within { IfOk result (IsReceived (length buf.old)) }
         ensures length { length buf.new ≡ length buf.old }
-        ensures passed { self.old.readable ≡ true → S.Passed self.old.stream [] (told_of result buf.new ∷ []) self.new.stream }
-        ensures unread { self.old.readable ≡ false → self.new.stream ≡ self.old.stream }
+        ensures passed { self.old.readable ≡ true → S.Passed self.old.stream [] (told_of self.new.readable result buf.new ∷ []) self.new.stream }
+        ensures left { self.old.readable ≡ true → IsLeft self.old.hung (length buf.old) result self.new.readable }
+        ensures unread { self.old.readable ≡ false → (self.new ≡ self.old) × (result ≡ Ok Received.Nothing) }
+        ensures hung { self.new.hung ≡ self.old.hung }
         ensures unsent { self.new.unsent ≡ self.old.unsent }
     {
         if !self.readable {
@@ -224,6 +243,8 @@ impl<S: Stream + Drop> Peer<S> {
         ensures shut { self.old.half_closed ≡ false → S.WasShut self.old.stream self.new.stream }
         ensures once { self.old.half_closed ≡ true → self.new.stream ≡ self.old.stream }
         ensures half_closed { self.new.half_closed ≡ true }
+        ensures readable { self.new.readable ≡ self.old.readable }
+        ensures hung { self.new.hung ≡ self.old.hung }
         ensures unsent { self.new.unsent ≡ self.old.unsent }
     {
         if self.half_closed {

@@ -1,8 +1,13 @@
 //! A record of what happens, as a script: the operator's table, and then each happening at its moment.
+ghost use Rattle.std.specs.Prelude.{◌≡◌, IfOk, OnOk};
+ghost use Rattle.std.specs.Io.KnownBytes.{Appends};
+ghost use Rattle.proxy_script.specs.Happenings.{said};
+ghost use Rattle.proxy_live.specs.Records.{Adds, Begins, Notes, items_of, text_of};
 
 use proxy_script::{Happening, Item, MOST_SCRIPT_BYTES, item_text};
 use std::alloc::{AllocError, Global};
 use std::io::Write;
+use std::marker::Model;
 
 /// Why nothing more can be recorded.
 #[derive(Clone, Copy, Debug, PartialEq, Eq)]
@@ -31,7 +36,21 @@ pub struct Recorder<W: Write + Drop> {
     over: bool,
 }
 
-fn put<W: Write>(writer: &mut W, text: &[u8]) -> Result<(), RecordFault> {
+impl<W: Write + Drop> Model for Recorder<W> {
+    ghost use Rattle.std.specs.Prelude.{◌≤◌};
+    ghost use Rattle.proxy_script.specs.declared.limits.TheConstants.{MOST_SCRIPT_BYTES};
+    ghost use Rattle.proxy_live.specs.Records.{Record};
+
+    ghost Value = { Record };
+
+    ghost view = { λ r. record { held = W.contents r.writer; len = r.len; moment = r.moment; over = r.over } };
+
+    ghost invariant = { λ r. r.len ≤ MOST_SCRIPT_BYTES };
+}
+
+fn put<W: Write>(writer: &mut W, text: &[u8]) -> Result<(), RecordFault>
+    ensures { OnOk result (Appends (W.contents writer.old) (W.contents writer.new) text.now) }
+{
     match writer.write_all(text) {
         Ok(()) => Ok(()),
         Err(_) => Err(RecordFault::Write),
@@ -44,7 +63,9 @@ fn text_of(
     last: u64,
     now: u64,
     happening: Happening<'_>,
-) -> Result<Vec<u8>, AllocError> {
+) -> Result<Vec<u8>, AllocError>
+    ensures { IfOk result (λ text. text.items ≡ text_of (items_of last now (said happening.entry))) }
+{
     let mut happens = item_text(alloc, Item::Happens(happening))?;
     if now == last {
         return Ok(happens);
@@ -56,37 +77,53 @@ fn text_of(
 
 impl<W: Write + Drop> Recorder<W> {
     /// Begins a record with the bytes of the operator's table.
-    pub fn begin(alloc: Global, writer: W, table: &[u8]) -> Result<Recorder<W>, RecordFault> {
+    pub fn begin(alloc: Global, writer: W, table: &[u8]) -> Result<Recorder<W>, RecordFault>
+        ensures { IfOk result (Begins (W.contents writer) table.now) }
+    {
         let text = item_text(alloc, Item::Config(table))?;
-        let mut writer = writer;
-        put(&mut writer, text.as_slice())?;
-        Ok(Recorder {
+        let mut recorder = Recorder {
             alloc,
             writer,
-            len: text.len(),
+            len: 0,
             moment: 0,
             over: false,
-        })
+        };
+        recorder.add(text.as_slice(), 0)?;
+        Ok(recorder)
     }
 
     /// Whether the record has ended.
-    pub fn is_over(&self) -> bool {
+    pub fn is_over(&self) -> bool
+        ensures { result ≡ self.now.over }
+    {
         self.over
     }
 
+    /// Adds a text whole, up to a moment, unless the record has ended or ends here.
+    fn add(&mut self, text: &[u8], moment: u64) -> Result<(), RecordFault>
+        ensures { OnOk result (Adds self.old text.now moment self.new) }
+    {
+        if self.over {
+            return Ok(());
+        }
+        if text.len() > MOST_SCRIPT_BYTES - self.len {
+            self.over = true;
+            return Ok(());
+        }
+        put(&mut self.writer, text)?;
+        self.len += text.len();
+        self.moment = moment;
+        Ok(())
+    }
+
     /// Records what happens at a moment, unless the record has ended or ends here.
-    pub fn happens(&mut self, now: u64, happening: Happening<'_>) -> Result<(), RecordFault> {
+    pub fn happens(&mut self, now: u64, happening: Happening<'_>) -> Result<(), RecordFault>
+        ensures { OnOk result (Notes self.old now (said happening.entry) self.new) }
+    {
         if self.over {
             return Ok(());
         }
         let text = text_of(self.alloc, self.moment, now, happening)?;
-        if self.len > MOST_SCRIPT_BYTES || text.len() > MOST_SCRIPT_BYTES - self.len {
-            self.over = true;
-            return Ok(());
-        }
-        put(&mut self.writer, text.as_slice())?;
-        self.len += text.len();
-        self.moment = now;
-        Ok(())
+        self.add(text.as_slice(), now)
     }
 }

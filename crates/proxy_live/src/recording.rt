@@ -3,9 +3,12 @@
 //! A script has all that is due done behind each happening, a turn behind all that it took. So while a record is written, at
 //! most one end gives something in a turn, and none before all is done that was due; then a replay does the same acts in the
 //! same order. Which end comes next goes round.
-ghost use Rattle.std.specs.Prelude.{◌≡◌, ◌≤◌, List, [], ◌∷◌, ◌++◌, length, IfOk, true, false, refl, is_some};
-ghost use Rattle.proxy_live.specs.Recorded.{PassedOn, passed_on};
-ghost use Rattle.proxy_turn.specs.Calls.{Call};
+ghost use Rattle.std.specs.Prelude.{◌≡◌, ◌≤◌, List, [], ◌∷◌, ◌++◌, length, IfOk, true, false, refl, Some, None, is_some, is_ok, not, ◌||◌, cond, option_map};
+ghost use Rattle.proxy_live.specs.Records.{Record};
+ghost use Rattle.proxy_live.specs.Recorded.{PassedOn, passed_on, NotesIf, IsNoted, is_recording, may_arrive, noted_none, noted_on, unfailed};
+ghost use Rattle.proxy_script.specs.Happenings.{said};
+ghost use Rattle.proxy_turn.specs.Calls.{Call, given_of};
+ghost use Rattle.proxy_turn.specs.Turn.{said_by, lost};
 ghost use Rattle.proxy_turn.specs.Counts.{IsRise, failed};
 ghost use Rattle.proxy_turn.specs.Received.{IsReceived};
 
@@ -19,10 +22,10 @@ use std::io::Write;
 #[derive(Drop)]
 pub struct Recording<K: Sockets + Drop, W: Write + Drop> {
     pub(crate) sockets: K,
-    record: Option<Recorder<W>>,
+    recorder: Option<Recorder<W>>,
     fault: Option<RecordFault>,
     /// The moment of the turn.
-    now: u64,
+    moment: u64,
     /// Something has happened in this turn, or something is due from the last one.
     taken: bool,
     /// The end that gave something last.
@@ -48,13 +51,12 @@ fn happening_of<'a>(
     end: End,
     received: &Result<Received, SocketFailed>,
     buf: &'a [u8],
-) -> Option<Happening<'a>> {
+) -> Option<Happening<'a>>
+    ensures { option_map said result ≡ said_by end (given_of received.now buf.now) }
+{
     match received {
         Ok(Received::Nothing) => None,
-        Ok(Received::Bytes(n)) => match buf.get(..*n) {
-            Some(bytes) => arrival(end, bytes),
-            None => None,
-        },
+        Ok(Received::Bytes(n)) => arrival(end, buf.get(..*n).unwrap_or(buf)),
         Ok(Received::End) => ending(end),
         Err(_) => loss(end, FailKind::Closed),
     }
@@ -62,16 +64,17 @@ fn happening_of<'a>(
 
 /// Records what happens, where a record is written. Whether it may be taken: not where it couldn't be recorded.
 fn note<W: Write + Drop>(
-    record: &mut Option<Recorder<W>>,
+    recorder: &mut Option<Recorder<W>>,
     fault: &mut Option<RecordFault>,
     now: u64,
     happening: Happening<'_>,
 ) -> bool
     ensures told { result ≡ false → is_some fault.new ≡ true }
     ensures kept { is_some fault.old ≡ true → is_some fault.new ≡ true }
+    ensures noted { is_some fault.new ≡ false → NotesIf now (Some (said happening.entry)) recorder.old recorder.new }
 {
-    if let Some(record) = record {
-        if let Err(e) = record.happens(now, happening) {
+    if let Some(recorder) = recorder {
+        if let Err(e) = recorder.happens(now, happening) {
             *fault = Some(e);
             return false;
         }
@@ -80,12 +83,12 @@ fn note<W: Write + Drop>(
 }
 
 impl<K: Sockets + Drop, W: Write + Drop> Recording<K, W> {
-    pub fn new(sockets: K, record: Option<Recorder<W>>) -> Recording<K, W> {
+    pub fn new(sockets: K, recorder: Option<Recorder<W>>) -> Recording<K, W> {
         Recording {
             sockets,
-            record,
+            recorder,
             fault: None,
-            now: 0,
+            moment: 0,
             taken: false,
             last: None,
             passed: false,
@@ -102,30 +105,38 @@ impl<K: Sockets + Drop, W: Write + Drop> Recording<K, W> {
 
     /// Begins a turn at a moment. `settled` says that nothing is due from the one before. Gives the moment of the turn, which
     /// is that of the one before until what was due then is done.
-    pub fn begin(&mut self, now: u64, settled: bool) -> u64 {
+    pub fn begin(&mut self, now: u64, settled: bool) -> u64
+        ensures moment { result ≡ self.new.moment }
+        ensures now { self.new.moment ≡ cond (settled || not (is_recording self.old.recorder)) now self.old.moment }
+        ensures recorder { self.new.recorder ≡ self.old.recorder }
+        ensures fault { self.new.fault ≡ self.old.fault }
+        ensures taken { self.new.taken ≡ not settled }
+    {
         if settled || !self.is_recording() {
-            self.now = now;
+            self.moment = now;
         }
         if !self.taken {
             self.last = None;
         }
         self.taken = !settled;
         self.passed = false;
-        self.now
+        self.moment
     }
 
     /// Whether a record is being written.
-    pub fn is_recording(&self) -> bool {
-        match &self.record {
-            Some(record) => !record.is_over(),
+    pub fn is_recording(&self) -> bool
+        ensures { result ≡ is_recording self.now.recorder }
+    {
+        match &self.recorder {
+            Some(recorder) => !recorder.is_over(),
             None => false,
         }
     }
 
     /// Whether a record has ended before the limit of a script.
     pub fn has_ended(&self) -> bool {
-        match &self.record {
-            Some(record) => record.is_over(),
+        match &self.recorder {
+            Some(recorder) => recorder.is_over(),
             None => false,
         }
     }
@@ -141,18 +152,29 @@ impl<K: Sockets + Drop, W: Write + Drop> Recording<K, W> {
     }
 
     /// Whether something may still happen in this turn.
-    pub fn may_happen(&self) -> bool {
+    pub fn may_happen(&self) -> bool
+        ensures { result ≡ may_arrive (is_some self.now.fault) self.now.taken (is_recording self.now.recorder) }
+    {
         self.fault.is_none() && (!self.taken || !self.is_recording())
     }
 
     /// Records what happens between two turns, as the one thing that happens.
-    pub fn note_between(&mut self, happening: Happening<'_>) -> bool {
+    pub fn note_between(&mut self, happening: Happening<'_>) -> bool
+        ensures told { result ≡ false → is_some self.new.fault ≡ true }
+        ensures noted { is_some self.new.fault ≡ false
+            → NotesIf self.old.moment (Some (said happening.entry)) self.old.recorder self.new.recorder }
+        ensures now { self.new.moment ≡ self.old.moment }
+        ensures taken { self.new.taken ≡ true }
+    {
         self.taken = true;
-        note(&mut self.record, &mut self.fault, self.now, happening)
+        note(&mut self.recorder, &mut self.fault, self.moment, happening)
     }
 
     /// Whether an end has to wait for another turn.
-    fn has_to_wait(&self, end: End) -> bool {
+    fn has_to_wait(&self, end: End) -> bool
+        ensures { result ≡ false
+            → may_arrive (is_some self.now.fault) self.now.taken (is_recording self.now.recorder) ≡ true }
+    {
         if !self.may_happen() {
             return true;
         }
@@ -175,11 +197,15 @@ impl<K: Sockets + Drop, W: Write + Drop> Recording<K, W> {
         ensures accepts { self.new.accepts ≡ self.old.accepts }
         ensures reads { self.new.reads ≡ self.old.reads }
         ensures failures { IsRise self.old.failures self.new.failures (failed done) }
+        ensures noted { is_some self.new.fault ≡ false
+            → NotesIf self.old.moment (cond (is_ok done) None (lost end kind)) self.old.recorder self.new.recorder }
+        ensures now { self.new.moment ≡ self.old.moment }
+        ensures taken { self.new.taken ≡ self.old.taken }
     {
         if done.is_err() {
             self.failures = self.failures.saturating_add(1);
             if let Some(happening) = loss(end, kind) {
-                let _ = note(&mut self.record, &mut self.fault, self.now, happening);
+                let _ = note(&mut self.recorder, &mut self.fault, self.moment, happening);
             }
         }
         done
@@ -187,7 +213,7 @@ impl<K: Sockets + Drop, W: Write + Drop> Recording<K, W> {
 }
 
 impl<K: Sockets + Drop, W: Write + Drop> Sockets for Recording<K, W> {
-    ghost Did = { λ s made t. (is_some s.fault ≡ true → is_some t.fault ≡ true) × (below : List Call) × K.Did s.sockets below t.sockets × PassedOn (is_some t.fault) made below };
+    ghost Did = { λ s made t. (is_some s.fault ≡ true → is_some t.fault ≡ true) × (below : List Call) × K.Did s.sockets below t.sockets × PassedOn (is_some t.fault) made below × (is_some t.fault ≡ false → IsNoted s.moment s.recorder s.taken made t.moment t.recorder t.taken) };
 
     ghost accepts = { λ s. s.accepts };
 
@@ -195,9 +221,9 @@ impl<K: Sockets + Drop, W: Write + Drop> Sockets for Recording<K, W> {
 
     ghost failures = { λ s. s.failures };
 
-    ghost none = { λ s. (λ failed. failed, [], K.none s.sockets, refl) };
+    ghost none = { λ s. (λ failed. failed, [], K.none s.sockets, refl, λ ok. noted_none s.moment s.recorder s.taken) };
 
-    ghost joined = { λ s t u a b first then. (λ failed. then.0 (first.0 failed), first.1 ++ then.1, K.joined s.sockets t.sockets u.sockets first.1 then.1 first.2 then.2, passed_on (is_some t.fault) (is_some u.fault) a b first.1 then.1 then.0 first.3 then.3) };
+    ghost joined = { λ s t u a b first then. (λ failed. then.0 (first.0 failed), first.1 ++ then.1, K.joined s.sockets t.sockets u.sockets first.1 then.1 first.2 then.2, passed_on (is_some t.fault) (is_some u.fault) a b first.1 then.1 then.0 first.3 then.3, λ ok. noted_on s.moment t.moment u.moment s.recorder t.recorder u.recorder s.taken t.taken u.taken a b (first.4 (unfailed (is_some t.fault) (is_some u.fault) then.0 ok)) (then.4 ok)) };
 
     fn accept(&mut self, n: u64) -> Result<bool, SocketFailed> {
         self.accepts = self.accepts.saturating_add(1);
@@ -207,9 +233,9 @@ impl<K: Sockets + Drop, W: Write + Drop> Sockets for Recording<K, W> {
         }
         match self.sockets.accept(n) {
             Ok(true) => Ok(note(
-                &mut self.record,
+                &mut self.recorder,
                 &mut self.fault,
-                self.now,
+                self.moment,
                 Happening::Accept(n),
             )),
             Ok(false) => Ok(false),
@@ -227,12 +253,15 @@ impl<K: Sockets + Drop, W: Write + Drop> Sockets for Recording<K, W> {
             return Ok(Received::Nothing);
         }
         let received = self.sockets.read(end, buf);
-        if let Some(happening) = happening_of(end, &received, buf) {
-            self.taken = true;
-            self.last = Some(end);
-            if !note(&mut self.record, &mut self.fault, self.now, happening) {
-                return Ok(Received::Nothing);
+        match happening_of(end, &received, buf) {
+            Some(happening) => {
+                self.taken = true;
+                self.last = Some(end);
+                if !note(&mut self.recorder, &mut self.fault, self.moment, happening) {
+                    return Ok(Received::Nothing);
+                }
             }
+            None => {}
         }
         if received.is_err() {
             self.failures = self.failures.saturating_add(1);

@@ -1,6 +1,6 @@
 //! Bytes that a stream is still to take.
-ghost use Rattle.std.specs.Prelude.{◌≡◌, ◌<◌, ◌≤◌, ◌+◌, true, false, ℕ, List, [], ◌++◌, length, take, drop, vec_len, IfOk, IfErr, OnOk, OnErr};
-ghost use Rattle.proxy_live.specs.Peers.{IsHandedInPart};
+ghost use Rattle.std.specs.Prelude.{◌≡◌, ◌<◌, ◌≤◌, ◌+◌, true, false, ℕ, List, [], ◌++◌, length, take, drop, vec_len, vec_capacity, IsOk, IfOk, OnOk, OnErr};
+ghost use Rattle.proxy_live.specs.Peers.{Keeping, IsHandedInPart};
 
 use crate::stream::Stream;
 use std::alloc::Global;
@@ -21,9 +21,9 @@ pub(crate) struct Unsent {
 }
 
 impl Model for Unsent {
-    ghost Value = { List ℕ };
+    ghost Value = { Keeping };
 
-    ghost view = { λ u. drop u.sent u.bytes.items };
+    ghost view = { λ u. record { bytes = drop u.sent u.bytes.items; held = length u.bytes.items; room = vec_capacity u.bytes } };
 
     ghost invariant = { λ u. (u.sent + u.sent ≤ length u.bytes.items) × (length u.bytes.items ≤ 67_108_864) };
 }
@@ -62,7 +62,7 @@ fn remove_front(bytes: &mut Vec<u8>, n: usize)
 
 impl Unsent {
     pub(crate) fn new(alloc: Global) -> Unsent
-        ensures { result ≡ [] }
+        ensures { result.bytes ≡ [] }
     {
         Unsent {
             alloc,
@@ -72,24 +72,29 @@ impl Unsent {
     }
 
     pub(crate) fn is_empty(&self) -> bool
-        ensures empty { result ≡ true → self.now ≡ [] }
-        ensures some { result ≡ false → 0 < length self.now }
+        ensures empty { result ≡ true → self.now.bytes ≡ [] }
+        ensures some { result ≡ false → 0 < length self.now.bytes }
     {
         self.bytes.is_empty()
     }
 
     /// How many bytes are held, those that the stream took and that weren't dropped yet among them.
     pub(crate) fn held(&self) -> usize
-        ensures bound { length self.now ≤ result }
+        ensures held { result ≡ self.now.held }
+        ensures bound { length self.now.bytes ≤ result }
         ensures most { result ≤ 67_108_864 }
     {
         self.bytes.len()
     }
 
-    /// Keeps bytes behind the others. Where there is no room for them, none of them is kept.
+    /// Keeps bytes behind the others. Where there is no room for them, none of them is kept; within the bound there is room for what
+    /// no further memory is wanted for.
     pub(crate) fn keep(&mut self, bytes: &[u8]) -> io::Result<()>
-        ensures ok { OnOk result (self.new ≡ self.old ++ bytes.now) }
-        ensures err { OnErr result (self.new ≡ self.old) }
+        ensures ok { OnOk result (self.new.bytes ≡ self.old.bytes ++ bytes.now) }
+        ensures held { OnOk result (self.new.held ≡ self.old.held + length bytes.now) }
+        ensures err { OnErr result (self.new.bytes ≡ self.old.bytes) }
+        ensures still { OnErr result (self.new.held ≡ self.old.held) }
+        ensures kept { self.old.held + length bytes.now ≤ 67_108_864 → self.old.held + length bytes.now ≤ self.old.room → IsOk result }
     {
         let held = self.bytes.len();
         if held > MOST_UNSENT || bytes.len() > MOST_UNSENT - held {
@@ -103,7 +108,8 @@ impl Unsent {
 
     /// Lets go of all bytes, and of their memory.
     pub(crate) fn let_go(&mut self)
-        ensures { self.new ≡ [] }
+        ensures bytes { self.new.bytes ≡ [] }
+        ensures held { self.new.held ≡ 0 }
     {
         self.bytes = Vec::new(self.alloc);
         self.sent = 0;
@@ -111,10 +117,10 @@ impl Unsent {
 
     /// Writes as many of the bytes as the stream takes now; answers how many.
     pub(crate) fn flush<S: Stream>(&mut self, stream: &mut S) -> io::Result<usize>
-        ensures bound { IfOk result (λ n. n ≤ length self.old) }
-        ensures took { IfOk result (λ n. S.Passed stream.old (take n self.old) [] stream.new) }
-        ensures kept { IfOk result (λ n. self.new ≡ drop n self.old) }
-        ensures in_part { OnErr result (IsHandedInPart (λ took. S.Passed stream.old took [] stream.new) self.old) }
+        ensures bound { IfOk result (λ n. n ≤ length self.old.bytes) }
+        ensures took { IfOk result (λ n. S.Passed stream.old (take n self.old.bytes) [] stream.new) }
+        ensures kept { IfOk result (λ n. self.new.bytes ≡ drop n self.old.bytes) }
+        ensures in_part { OnErr result (IsHandedInPart (λ took. S.Passed stream.old took [] stream.new) self.old.bytes) }
     {
         let n = write_some(stream, &self.bytes[self.sent..])?;
         let sent = self.sent + n;

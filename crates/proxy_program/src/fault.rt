@@ -1,4 +1,6 @@
 //! The line that names a fault on standard error, what is said of it besides, and the program's exit status.
+ghost use Rattle.std.specs.Prelude.{◌≡◌};
+ghost use Rattle.proxy_program.specs.Exits.{status_of};
 
 use proxy_live::{RecordFault, ServeFault};
 use proxy_server::ReplayFault;
@@ -98,7 +100,9 @@ fn print_words<R: Print>(rt: &R, words: &Option<String>) -> io::Result<()> {
 
 impl Fault {
     /// The program's exit status: 64 for the command line, 2 where the table is at fault, else 1.
-    pub(crate) fn exit_status(&self) -> u8 {
+    pub(crate) fn exit_status(&self) -> u8
+        ensures { result ≡ status_of self.now }
+    {
         match self {
             Fault::Usage(_) => 64,
             Fault::Table(fault, _) => fault.exit_status(),

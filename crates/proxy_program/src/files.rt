@@ -1,7 +1,10 @@
 //! The operator's table, from its file.
+ghost use Rattle.std.specs.Prelude.{IfOk, IfSome};
+ghost use Rattle.proxy_program.specs.TableFiles.{IsWholeOrTooLong, NoTableIsCut};
 
 use crate::fault::{Fault, fault_of, words_of};
-use hx_allow::MOST_TABLE_BYTES;
+use hx_allow::{MOST_TABLE_BYTES, a_table_is_toml_within_the_limit};
+use std::alloc::Global;
 use std::io::Read;
 use std::rt::Files;
 use std::{fs, io};
@@ -9,10 +12,25 @@ use std::{fs, io};
 /// The most bytes of a table, and one more: what is longer is no table, however long it is.
 const MOST: u64 = MOST_TABLE_BYTES as u64 + 1;
 
-fn read_some<R: Files + AllocGlobal>(rt: &R, path: &str) -> io::Result<Vec<u8>> {
-    let mut text = Vec::new(rt.alloc());
-    fs::open(rt, path)?.take(MOST).read_to_end(&mut text)?;
+/// What was read of a file, and is taken as a table, is all of that file.
+pub fn no_table_is_cut()
+    ensures { NoTableIsCut }
+{
+    a_table_is_toml_within_the_limit();
+}
+
+/// All that a reader gives, or so much of it that it is none of a table.
+fn read_most<F: Read + Drop>(alloc: Global, file: F) -> io::Result<Vec<u8>>
+    ensures { IfOk result (λ text. IfSome (F.remaining file) (IsWholeOrTooLong text.items)) }
+{
+    let mut text = Vec::new(alloc);
+    let mut front = file.take(MOST);
+    front.read_to_end(&mut text)?;
     Ok(text)
+}
+
+fn read_some<R: Files + AllocGlobal>(rt: &R, path: &str) -> io::Result<Vec<u8>> {
+    read_most(rt.alloc(), fs::open(rt, path)?)
 }
 
 /// The bytes of a table's file, as far as they matter.

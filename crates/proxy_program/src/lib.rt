@@ -19,4 +19,5 @@ mod stats_file;
 mod warnings;
 mod watch;
 
+pub use crate::files::no_table_is_cut;
 pub use crate::program::run;

@@ -1,4 +1,5 @@
 //! Where in a table its fault is: the line of the file where it stops being TOML, or where a key stands that isn't known.
+ghost use Rattle.proxy_program.specs.TableFiles.{IsConfigOf};
 
 use crate::fault::Fault;
 use hx_allow::{Config, ConfigFault};
@@ -63,7 +64,9 @@ fn place_of(alloc: Global, table: &[u8], fault: &ConfigFault) -> Option<String> 
 }
 
 /// Reads a table; a fault says where it is.
-pub(crate) fn config_of(alloc: Global, table: &[u8]) -> Result<Config, Fault> {
+pub(crate) fn config_of(alloc: Global, table: &[u8]) -> Result<Config, Fault>
+    ensures { IsConfigOf table.now result }
+{
     match Config::read(alloc, table) {
         Ok(config) => Ok(config),
         Err(fault) => {

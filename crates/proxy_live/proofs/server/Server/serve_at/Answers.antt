@@ -1,4 +1,4 @@
-use Rattle.std.proofs.Common.{rules, ◌≡◌, ◌<◌, sym, ap, subst, ◌∙◌, Err}
+use Rattle.std.proofs.Common.{rules, ◌≡◌, ◌<◌, refl, sym, ap, subst, ◌∙◌, Err}
 use Rattle.hx_fields.specs.declared.limits.TheConstants.{END_OF_TIME}
 use Rattle.proxy_turn.specs.Served.{Serves}
 use Rattle.proxy_turn.specs.declared.report.TurnFault.TheVariants as faults
@@ -59,3 +59,14 @@ returns-in-Err-Spent g c =
     let served = served_as c.min-moment.result c.args.self.now c.if-refresh.self-inside.engine c.turn_at-told.new.self c.look_ahead.new.self c.turn_at-told.result
     first c.look_ahead.ensures c.turn_at-told.ensures in
     (c.min-moment.result, early, subst (Serves c.min-moment.result c.args.self.now c.look_ahead.new.self) says served)
+
+pub returns-in-Some : goal.returns-in-Some
+returns-in-Some g c =
+    let early : c.min-moment.result < END_OF_TIME = search rules in
+    let first : c.if-refresh.self-inside.engine ≡ c.args.self.now = elim c.if-refresh.branch [
+      | then-refresh+else-is_err w ↦ rw w.self-inside-is c.self.view_is
+      | else-refresh w ↦ rw w.self-inside-is c.self.view_is
+    ] in
+    let served = served_as c.min-moment.result c.args.self.now c.if-refresh.self-inside.engine c.turn_at-told.new.self c.turn_at-told.new.self c.turn_at-told.result
+    first refl c.turn_at-told.ensures in
+    (c.turn_at-told.result, (c.min-moment.result, early, served))
