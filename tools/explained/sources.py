@@ -61,7 +61,7 @@ class Sources:
         """What the program says on standard error beside the definitions' lines: each text up to what is put in it."""
         found = set()
         for path in glob.glob(f"{self.root}/crates/proxy_program/src/*.rt") + glob.glob(
-            f"{self.root}/crates/proxy_server/src/*.rt"
+            f"{self.root}/crates/proxy_replay/src/*.rt"
         ):
             with open(path, encoding="utf-8") as it:
                 found |= {one.partition(";")[0].strip() for one in SAID.findall(it.read())}

@@ -2,8 +2,8 @@
 //!
 //! The text of a case is bytes as people write them, with escapes for what a line of text can't hold.
 //!
-//! `↵` is CR LF, `\r`, `\n`, `\t` and `\\` are as in Rust, `\xHH` is a byte, `\{TEXT*N}` is TEXT so many times, and `\.`
-//! nothing at all. Every other character stands for its bytes in UTF-8.
+//! `↵` is CR LF, `\r`, `\n`, `\t` and `\\` are as in Rust, `\xHH` is a byte, `\{TEXT*N}` is TEXT so many times, and
+//! `\.` nothing at all. Every other character stands for its bytes in UTF-8.
 #![tactic(auto)]
 
 mod folder;

@@ -65,7 +65,8 @@ fn play_here<R: Files + Print + AllocGlobal + Clone + Drop>(rt: &R) -> io::Resul
     Ok(all)
 }
 
-/// Plays each file that the arguments name, or all that lie here, prints what became of it, and tells whether all cases hold.
+/// Plays each file that the arguments name, or all that lie here, prints what became of it, and tells whether all cases
+/// hold.
 pub fn play_all<R: Files + Env + Print + AllocGlobal + Clone + Drop>(rt: &R) -> io::Result<bool> {
     let mut all = true;
     let mut is_named = false;

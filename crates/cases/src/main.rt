@@ -1,7 +1,8 @@
-//! Plays cases: small inputs with the answer that is expected of one part of the proxy, as text files that people write.
+//! Plays cases: small inputs with the answer that is expected of one part of the proxy, as text files that people
+//! write.
 //!
-//! `data/README.md` has the format. The files that the arguments name are played, or else all `*.cases` of the folder where
-//! the program runs. A line a file tells how many cases hold, and a line each what doesn't.
+//! `data/README.md` has the format. The files that the arguments name are played, or else all `*.cases` of the folder
+//! where the program runs. A line a file tells how many cases hold, and a line each what doesn't.
 #![tactic(auto)]
 
 mod ages;

@@ -1,4 +1,5 @@
-//! What a line says of caching, in a case: `words` and each word as `lifetime=60`, with the values of the operator's table.
+//! What a line says of caching, in a case: `words` and each word as `lifetime=60`, with the values of the operator's
+//! table.
 
 use hx_policy::Policy;
 use std::alloc::AllocError;

@@ -1,11 +1,12 @@
-//! Stored responses that may be sent. A case has them one by one: `stored 1 at 0`, with the number that is answered and the
-//! moment when it came, or `stored 1 at 2, asked for at 0`, and its lines; behind `for` the lines of the request that it
-//! answered. Last comes the request, as `at 59 GET`.
+//! Stored responses that may be sent. A case has them one by one: `stored 1 at 0`, with the number that is answered and
+//! the moment when it came, or `stored 1 at 2, asked for at 0`, and its lines; behind `for` the lines of the request
+//! that it answered. Last comes the request, as `at 59 GET`.
 //!
-//! `cache off` may stand in front of all: the request then goes over a line without cache; or `words` with the words of its line.
+//! `cache off` may stand in front of all: the request then goes over a line without cache; or `words` with the words of
+//! its line.
 //!
-//! A response without a Date is given that of its moment. `hit 1` is answered, or `forward` with the number and the name of
-//! the least rule against it, and which response that one is about.
+//! A response without a Date is given that of its moment. `hit 1` is answered, or `forward` with the number and the
+//! name of the least rule against it, and which response that one is about.
 
 use crate::lines::{Fault, Line};
 use crate::parts::{Part, word};

@@ -2,8 +2,8 @@
 
 use crate::words::push_shown_in_brackets;
 use case_text::failure_word;
+use proxy_replay::{ReplayFault, replay};
 use proxy_script::{Front, Happening, Item, read_item};
-use proxy_server::{ReplayFault, replay};
 use std::alloc::AllocError;
 
 /// Writes the words of what happens, without its bytes.

@@ -1,10 +1,10 @@
 //! Steps of the core, one after another, each with what it must give.
 //!
 //! The group's front is the operator's table. A case is a scenario: `at MOMENT, ID asks METHOD PATH`, `at MOMENT, ID is
-//! answered STATUS`, `at MOMENT, ID fails KIND`, `at MOMENT, ID is woken` or `at MOMENT, ID is abandoned`, the first two
-//! perhaps `with content TEXT` and with field lines below; then `gives forward`, by the table's first line, or `gives forward
-//! by line N`, `gives reply` with what is stored, used and removed, each with the message below, `gives a wait for ID`,
-//! `gives refusal` with the core's fault, or `gives an end`. The answer is the number of steps.
+//! answered STATUS`, `at MOMENT, ID fails KIND`, `at MOMENT, ID is woken` or `at MOMENT, ID is abandoned`, the first
+//! two perhaps `with content TEXT` and with field lines below; then `gives forward`, by the table's first line, or
+//! `gives forward by line N`, `gives reply` with what is stored, used and removed, each with the message below, `gives
+//! a wait for ID`, `gives refusal` with the core's fault, or `gives an end`. The answer is the number of steps.
 
 use crate::case_file::Case;
 use crate::field_lines::fields_of;

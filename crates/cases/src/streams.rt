@@ -1,9 +1,9 @@
 //! Streams played to readers, and their answers as a text.
 //!
 //! A request is written as its content in brackets, or `none`; a response as its status, its content in brackets, and
-//! `of N` where it announces a length. `continue`, `refused` with the name of a fault and `end` are the other answers, and
-//! `|` stands where the stream ends. A fault, or an `end` before the stream's end, has to be given again behind it and isn't
-//! written again.
+//! `of N` where it announces a length. `continue`, `refused` with the name of a fault and `end` are the other answers,
+//! and `|` stands where the stream ends. A fault, or an `end` before the stream's end, has to be given again behind it
+//! and isn't written again.
 
 use crate::words::{frame_word, push_shown_in_brackets};
 use hx_fields::{Bytes, Field};

@@ -11,14 +11,14 @@ use Rattle.std.proofs.lemmas.Bool.{cases_Bool, eqb-true, eq-eqb, false≢true}
 use Rattle.std.proofs.lemmas.Bool.Decides.{nat_tests}
 use Rattle.std.proofs.lemmas.List.Elements.{All-head, All-tail}
 use Rattle.std.proofs.lemmas.Option.{same_Some}
-use Rattle.proxy_core.specs.declared.exchange.Exchange.{Exchange}
+use Rattle.proxy_core.specs.declared.open.exchange.Exchange.{Exchange}
 use Rattle.std.specs.Prelude.{slice_get}
 use Rattle.proxy_core.specs.Leading.{is_released, ready_ids}
 use Rattle.proxy_core.specs.Waiting.{IsReady}
 use Rattle.proxy_core.specs.Outcomes.{find_exchange}
 use Rattle.std.specs.Prelude.{filter}
 use Rattle.hx_reuse.specs.declared.rule.ReuseRule.{ReuseRule}
-use Rattle.proxy_core.specs.declared.condition.Condition.{Condition}
+use Rattle.proxy_core.specs.declared.steps.condition.Condition.{Condition}
 use Rattle.proxy_core.specs.State.{goes_out, gone_out, sent_out}
 use Rattle.proxy_core.proofs.ExchangeLists.{cond_none, nones, swap, not_both, found-id}
 use Rattle.proxy_core.specs.Arrivals.{arrival_of, on_all, AreApart, IsIndexed}

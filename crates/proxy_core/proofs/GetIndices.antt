@@ -7,7 +7,7 @@ use Rattle.std.specs.BTreeMap.{get, is_at}
 use Rattle.std.specs.BTreeSet.{BTreeSet, contains}
 use Rattle.std.proofs.lemmas.Bool.{cases_Bool, false≢true, eqb-true}
 use Rattle.std.proofs.lemmas.Bool.Decides.{nat_tests}
-use Rattle.proxy_core.specs.declared.get_index.GetIndex.{GetIndex}
+use Rattle.proxy_core.specs.declared.open.get_index.GetIndex.{GetIndex}
 use Rattle.proxy_core.specs.Waiters.{set_has, HasMembers}
 use Rattle.proxy_core.specs.Gets.{gets_in, AreTrim, AreTrimBeside}
 use Rattle.hx_target.specs.declared.keys.Key.{Key}

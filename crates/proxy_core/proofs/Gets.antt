@@ -14,10 +14,10 @@ use Rattle.hx_policy.specs.declared.words.Policy.{Policy}
 use Rattle.hx_reuse.specs.declared.rule.ReuseRule.{ReuseRule}
 use Rattle.hx_target.specs.declared.keys.Key.{Key}
 use Rattle.hx_target.specs.Keys.{same_key}
-use Rattle.proxy_core.specs.declared.condition.Condition.{Condition}
-use Rattle.proxy_core.specs.declared.exchange.Exchange.{Exchange}
-use Rattle.proxy_core.specs.declared.get_index.GetIndex.{GetIndex}
-use Rattle.proxy_core.specs.declared.stage.Stage.TheVariants.{Released}
+use Rattle.proxy_core.specs.declared.steps.condition.Condition.{Condition}
+use Rattle.proxy_core.specs.declared.open.exchange.Exchange.{Exchange}
+use Rattle.proxy_core.specs.declared.open.get_index.GetIndex.{GetIndex}
+use Rattle.proxy_core.specs.declared.open.stage.Stage.TheVariants.{Released}
 use Rattle.proxy_core.specs.Leading.{is_get, goes_alike, may_lead, is_forwarded, waits_for, leads, leader}
 use Rattle.proxy_core.specs.State.{release, overtake, goes_out, gone_out, sent_out}
 use Rattle.proxy_core.specs.Arrivals.{AreApart, Pass, Tells, on_all}

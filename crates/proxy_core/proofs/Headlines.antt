@@ -22,12 +22,12 @@ use Rattle.hx_reuse.proofs.MeaningLemmas.{names_the_least}
 use Rattle.hx_reuse.proofs.ReusableLemmas.{reused_is_allowed}
 use Rattle.hx_status.specs.declared.cause.FailKind.{FailKind}
 use Rattle.hx_status.specs.declared.cause.FailKind.TheVariants.{BadAnswer}
-use Rattle.proxy_core.specs.declared.condition.Condition.{Condition}
-use Rattle.proxy_core.specs.declared.stage.Stage.{Stage}
-use Rattle.proxy_core.specs.declared.stage.Stage.TheVariants.{Forwarded, Waiting, Released}
-use Rattle.proxy_core.specs.declared.exchange.Exchange.{Exchange}
-use Rattle.proxy_core.specs.declared.fallback.Fallback.{Fallback}
-use Rattle.proxy_core.specs.declared.fallback.Fallback.TheVariants.{Sends, Refuses}
+use Rattle.proxy_core.specs.declared.steps.condition.Condition.{Condition}
+use Rattle.proxy_core.specs.declared.open.stage.Stage.{Stage}
+use Rattle.proxy_core.specs.declared.open.stage.Stage.TheVariants.{Forwarded, Waiting, Released}
+use Rattle.proxy_core.specs.declared.open.exchange.Exchange.{Exchange}
+use Rattle.proxy_core.specs.declared.steps.fallback.Fallback.{Fallback}
+use Rattle.proxy_core.specs.declared.steps.fallback.Fallback.TheVariants.{Sends, Refuses}
 use Rattle.proxy_core.specs.declared.fault.CoreFault.{CoreFault}
 use Rattle.proxy_core.specs.declared.fault.CoreFault.TheVariants.{MomentTooLate}
 use Rattle.proxy_core.specs.declared.outcome.Outcome.{Outcome}

@@ -5,8 +5,8 @@ use Rattle.std.proofs.lemmas.Option.{same_Some}
 use Rattle.hx_store.specs.Stored.{Stored}
 use Rattle.hx_store.specs.Shelf.{holds, find_entry, without, promoted, in_front}
 use Rattle.hx_store.proofs.EntryLists.{filter_keeps, take_keeps, find_holds}
-use Rattle.proxy_core.specs.declared.pending.Change.{Change}
-use Rattle.proxy_core.specs.declared.pending.Change.TheVariants.{Keep, Use, Freshen, Remove, Store}
+use Rattle.proxy_core.specs.declared.replies.pending.Change.{Change}
+use Rattle.proxy_core.specs.declared.replies.pending.Change.TheVariants.{Keep, Use, Freshen, Remove, Store}
 use Rattle.proxy_core.specs.State.{NoneFrom, taken, next_of, next_after}
 use Rattle.proxy_core.specs.Pending.{stored_by, entries_by, IsNext, IsNew, IsHeld}
 

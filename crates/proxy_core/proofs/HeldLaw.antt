@@ -13,7 +13,7 @@ use Rattle.hx_store.specs.Shelf.{serials, holds, find_entry, without, in_front}
 use Rattle.hx_store.specs.Recency.{is_the, to_front, recent_after}
 use Rattle.hx_store.proofs.Recency.{held_more, held_at_most, filter_all}
 use Rattle.hx_store.proofs.EntryLists.{find-serial, find_holds, length-without, without_gone, filter_keeps}
-use Rattle.proxy_core.specs.declared.exchange.Exchange.{Exchange}
+use Rattle.proxy_core.specs.declared.open.exchange.Exchange.{Exchange}
 use Rattle.proxy_core.specs.declared.outcome.Outcome.{Outcome}
 use Rattle.proxy_core.specs.declared.event.Event.{Event}
 use Rattle.proxy_core.specs.declared.event.Event.TheVariants.{Arrive, Answer, Fail, Wake, Abandon}

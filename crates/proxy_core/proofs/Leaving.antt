@@ -12,15 +12,15 @@ use Rattle.hx_store.specs.Shelf.{find_entry, holds, without, in_front, promoted}
 use Rattle.hx_status.specs.declared.cause.FailKind.{FailKind}
 use Rattle.hx_validate.specs.Answering.{answers304, freshened_of}
 use Rattle.hx_hop.specs.Answering.{answered_of}
-use Rattle.proxy_core.specs.declared.condition.Condition.{Condition}
-use Rattle.proxy_core.specs.declared.exchange.Exchange.{Exchange}
+use Rattle.proxy_core.specs.declared.steps.condition.Condition.{Condition}
+use Rattle.proxy_core.specs.declared.open.exchange.Exchange.{Exchange}
 use Rattle.proxy_core.specs.declared.event.Event.{Event}
 use Rattle.proxy_core.specs.declared.event.Event.TheVariants.{Answer, Fail, Wake}
-use Rattle.proxy_core.specs.declared.pending.Change.{Change}
-use Rattle.proxy_core.specs.declared.pending.Change.TheVariants.{Keep, Use, Freshen, Remove, Store}
-use Rattle.proxy_core.specs.declared.pending.PendingReply.{PendingReply}
-use Rattle.proxy_core.specs.declared.pending.AfterAnswer.{AfterAnswer}
-use Rattle.proxy_core.specs.declared.pending.AfterAnswer.TheVariants.{Ends, GoesOn}
+use Rattle.proxy_core.specs.declared.replies.pending.Change.{Change}
+use Rattle.proxy_core.specs.declared.replies.pending.Change.TheVariants.{Keep, Use, Freshen, Remove, Store}
+use Rattle.proxy_core.specs.declared.replies.pending.PendingReply.{PendingReply}
+use Rattle.proxy_core.specs.declared.replies.pending.AfterAnswer.{AfterAnswer}
+use Rattle.proxy_core.specs.declared.replies.pending.AfterAnswer.TheVariants.{Ends, GoesOn}
 use Rattle.proxy_core.specs.Validating.{is_validation, is_answered, is_answered_by, asked_about, if_answered, validated, refreshed}
 use Rattle.proxy_core.specs.State.{taken, used_form, used_list, stored_list}
 use Rattle.proxy_core.specs.Pending.{stored_by, used_by, entries_by, Makes, IsPlain, IsRefresh, IsNext, IsHeld, Leaves, AfterLeaves, AfterFits, IsPlainAfter}

@@ -11,19 +11,19 @@ use Rattle.hx_allow.specs.Matching.{verdict_of, policy_of}
 use Rattle.hx_store.specs.Stored.{Stored}
 use Rattle.hx_reuse.specs.Rules.{decision_of}
 use Rattle.hx_reuse.specs.declared.rule.ReuseRule.{ReuseRule}
-use Rattle.proxy_core.specs.declared.condition.Condition.{Condition}
+use Rattle.proxy_core.specs.declared.steps.condition.Condition.{Condition}
 use Rattle.proxy_core.specs.declared.fault.CoreFault.TheVariants.{NotForwarded, NotReady}
 use Rattle.hx_reuse.specs.declared.decision.Decision.{Decision}
 use Rattle.hx_reuse.specs.declared.decision.Decision.TheVariants as decision
 use Rattle.hx_status.specs.declared.cause.FailKind.{FailKind}
 use Rattle.hx_status.specs.declared.cause.FailKind.TheVariants.{BadAnswer}
-use Rattle.proxy_core.specs.declared.stage.Stage.{Stage}
-use Rattle.proxy_core.specs.declared.exchange.Exchange.{Exchange}
+use Rattle.proxy_core.specs.declared.open.stage.Stage.{Stage}
+use Rattle.proxy_core.specs.declared.open.exchange.Exchange.{Exchange}
 use Rattle.proxy_core.specs.declared.fault.CoreFault.{CoreFault}
 use Rattle.proxy_core.specs.Moments.{too_late}
 use Rattle.proxy_core.specs.Leading.{is_forwarded, is_released}
-use Rattle.proxy_core.specs.declared.fallback.Fallback.{Fallback}
-use Rattle.proxy_core.specs.declared.fallback.Fallback.TheVariants.{Sends, Refuses}
+use Rattle.proxy_core.specs.declared.steps.fallback.Fallback.{Fallback}
+use Rattle.proxy_core.specs.declared.steps.fallback.Fallback.TheVariants.{Sends, Refuses}
 use Rattle.proxy_core.specs.declared.outcome.Outcome.{Outcome}
 use Rattle.proxy_core.specs.declared.outcome.Outcome.TheVariants.{Reply, Forward, Waits, Ended}
 use Rattle.proxy_core.specs.declared.event.Event.{Event}

@@ -9,13 +9,13 @@ use Rattle.hx_allow.specs.Matching.{verdict_of, policy_of}
 use Rattle.hx_store.specs.Stored.{Stored}
 use Rattle.hx_reuse.specs.Rules.{decision_of}
 use Rattle.hx_reuse.specs.declared.rule.ReuseRule.{ReuseRule}
-use Rattle.proxy_core.specs.declared.exchange.Exchange.{Exchange}
+use Rattle.proxy_core.specs.declared.open.exchange.Exchange.{Exchange}
 use Rattle.proxy_core.specs.declared.outcome.Outcome.{Outcome}
 use Rattle.proxy_core.specs.declared.outcome.Outcome.TheVariants.{Reply, Forward, Waits, Ended}
 use Rattle.proxy_core.specs.declared.event.Event.{Event}
 use Rattle.proxy_core.specs.declared.event.Event.TheVariants.{Arrive}
 use Rattle.proxy_core.specs.Outcomes.{find_exchange, id_of, fault_of}
-use Rattle.proxy_core.specs.declared.stage.Stage.TheVariants.{Released}
+use Rattle.proxy_core.specs.declared.open.stage.Stage.TheVariants.{Released}
 use Rattle.proxy_core.specs.Leading.{waits_for}
 use Rattle.proxy_core.specs.State.{State, release, overtake, opened, queued, line_of, rule_of, open_after}
 use Rattle.proxy_core.specs.Traces.{Item, begun, left, IsGood}

@@ -13,13 +13,13 @@ use Rattle.std.proofs.lemmas.Map.Keys.{sorted_head, sorted_tail}
 use Rattle.std.proofs.lemmas.Bool.{cases_Bool, eq-eqb, false≢true}
 use Rattle.std.proofs.lemmas.Bool.Decides.{nat_tests}
 use Rattle.std.proofs.lemmas.Option.{same_Some}
-use Rattle.proxy_core.specs.declared.exchange.Exchange.{Exchange}
+use Rattle.proxy_core.specs.declared.open.exchange.Exchange.{Exchange}
 use Rattle.hx_reuse.specs.declared.rule.ReuseRule.{ReuseRule}
 use Rattle.hx_target.specs.declared.keys.Key.{Key}
 use Rattle.hx_target.specs.Keys.{same_key}
-use Rattle.proxy_core.specs.declared.condition.Condition.{Condition}
-use Rattle.proxy_core.specs.declared.released.Released.{Released}
-use Rattle.proxy_core.specs.declared.stage.Stage.TheVariants.{Released as StageReleased}
+use Rattle.proxy_core.specs.declared.steps.condition.Condition.{Condition}
+use Rattle.proxy_core.specs.declared.open.released.Released.{Released}
+use Rattle.proxy_core.specs.declared.open.stage.Stage.TheVariants.{Released as StageReleased}
 use Rattle.proxy_core.specs.State.{release, overtake, goes_out, gone_out, sent_out}
 use Rattle.proxy_core.specs.Leading.{is_released, ready_ids, waits_for}
 use Rattle.proxy_core.specs.Arrivals.{AreApart, WaitersPass, on_all}

@@ -14,12 +14,12 @@ use Rattle.hx_store.specs.Serials.{is_in}
 use Rattle.hx_store.specs.Shelf.{without}
 use Rattle.hx_reuse.specs.Rules.{decision_of}
 use Rattle.hx_status.specs.declared.cause.FailKind.{FailKind}
-use Rattle.proxy_core.specs.declared.exchange.Exchange.{Exchange}
+use Rattle.proxy_core.specs.declared.open.exchange.Exchange.{Exchange}
 use Rattle.proxy_core.specs.declared.outcome.Outcome.{Outcome}
 use Rattle.proxy_core.specs.declared.outcome.Outcome.TheVariants.{Forward}
 use Rattle.proxy_core.specs.declared.event.Event.{Event}
 use Rattle.proxy_core.specs.declared.event.Event.TheVariants.{Arrive, Answer, Fail, Wake}
-use Rattle.proxy_core.specs.declared.pending.PendingReply.{PendingReply}
+use Rattle.proxy_core.specs.declared.replies.pending.PendingReply.{PendingReply}
 use Rattle.proxy_core.specs.declared.fault.CoreFault.{CoreFault}
 use Rattle.proxy_core.specs.Moments.{too_late}
 use Rattle.proxy_core.specs.Storing.{key_invalidated}
@@ -31,7 +31,7 @@ use Rattle.proxy_core.specs.Validating.{condition_at}
 use Rattle.proxy_core.specs.State.{State, Steps, after, taken, entries_after, left_open, invalidated_by, next_after, gone_out, sent_out, woken_out, rule_of, named_by}
 use Rattle.proxy_core.specs.Pending.{stored_by, reply_of, finished, IsPlain, Leaves}
 use Rattle.proxy_core.specs.Waking.{IsWoken}
-use Rattle.proxy_core.specs.declared.waking.AfterWake.TheVariants.{Ends}
+use Rattle.proxy_core.specs.declared.steps.waking.AfterWake.TheVariants.{Ends}
 use Rattle.proxy_core.proofs.Leaving.{fail_leaves, wake_leaves}
 
 taken_rest : (s : ℕ) (rest : List ℕ) (es : List Stored) → without rest (without (s ∷ []) es) ≡ without (s ∷ rest) es

@@ -24,14 +24,14 @@ use Rattle.hx_storable.specs.Storable.{IsFinal, MayBeStored}
 use Rattle.hx_storable.specs.declared.known_facts.Facts.{Facts}
 use Rattle.hx_storable.proofs.StorableLemmas.{is_stored, stored_may_be}
 use Rattle.hx_storable.specs.declared.rule.StoreRule.{StoreRule}
-use Rattle.proxy_core.specs.declared.condition.Condition.{Condition}
-use Rattle.proxy_core.specs.declared.exchange.Exchange.{Exchange}
+use Rattle.proxy_core.specs.declared.steps.condition.Condition.{Condition}
+use Rattle.proxy_core.specs.declared.open.exchange.Exchange.{Exchange}
 use Rattle.proxy_core.specs.declared.outcome.Outcome.{Outcome}
 use Rattle.proxy_core.specs.declared.outcome.Outcome.TheVariants.{Forward}
 use Rattle.proxy_core.specs.declared.event.Event.{Event}
 use Rattle.proxy_core.specs.declared.event.Event.TheVariants.{Arrive, Answer, Fail, Wake, Abandon}
-use Rattle.proxy_core.specs.declared.fallback.Fallback.{Fallback}
-use Rattle.proxy_core.specs.declared.fallback.Fallback.TheVariants.{Sends, Refuses}
+use Rattle.proxy_core.specs.declared.steps.fallback.Fallback.{Fallback}
+use Rattle.proxy_core.specs.declared.steps.fallback.Fallback.TheVariants.{Sends, Refuses}
 use Rattle.proxy_core.specs.Leading.{leader_for}
 use Rattle.proxy_core.specs.Outcomes.{allowed, answered, arrived, failed, fallback_for, find_exchange, forward_text, forwarded_as, id_of, is_error_status, is_only_if_cached, outcome_of, passed, passed_unless, refused, removed_by, revalidated, sent, sent_on, sent_refreshed, stored_serial, unanswered, woken}
 use Rattle.proxy_core.specs.State.{stored_in, used_in, removed_in}

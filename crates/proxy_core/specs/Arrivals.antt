@@ -9,7 +9,7 @@ use Rattle.std.specs.Option.{option_map_or}
 use Rattle.std.specs.Ordering.{nat_cmp}
 use Rattle.std.specs.BTreeMap.{is_at}
 use Rattle.std.specs.Map.{lookup}
-use Rattle.proxy_core.specs.declared.exchange.Exchange.{Exchange}
+use Rattle.proxy_core.specs.declared.open.exchange.Exchange.{Exchange}
 use Rattle.proxy_core.specs.Leading.{waits_for}
 
 -- the arrival of the exchange of an id

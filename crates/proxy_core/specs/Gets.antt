@@ -8,8 +8,8 @@ use Rattle.hx_target.specs.declared.keys.Key.{Key}
 use Rattle.hx_target.specs.Keys.{same_key}
 use Rattle.hx_target.specs.KeyOrder.{key_cmp}
 use Rattle.hx_hop.specs.declared.request_view.Asked.{Asked}
-use Rattle.proxy_core.specs.declared.exchange.Exchange.{Exchange}
-use Rattle.proxy_core.specs.declared.get_index.GetIndex.{GetIndex}
+use Rattle.proxy_core.specs.declared.open.exchange.Exchange.{Exchange}
+use Rattle.proxy_core.specs.declared.open.get_index.GetIndex.{GetIndex}
 use Rattle.proxy_core.specs.Leading.{is_get}
 use Rattle.proxy_core.specs.Waiters.{set_has, HasMembers}
 use Rattle.proxy_core.specs.Arrivals.{Pass}

@@ -8,7 +8,7 @@ use Rattle.std.specs.List.{filter_map}
 use Rattle.hx_allow.specs.Lines.{Table}
 use Rattle.hx_store.specs.Stored.{Stored}
 use Rattle.hx_store.specs.Recency.{Done, is_the, held_of}
-use Rattle.proxy_core.specs.declared.exchange.Exchange.{Exchange}
+use Rattle.proxy_core.specs.declared.open.exchange.Exchange.{Exchange}
 use Rattle.proxy_core.specs.declared.outcome.Outcome.{Outcome}
 use Rattle.proxy_core.specs.declared.event.Event.{Event}
 use Rattle.proxy_core.specs.declared.fault.CoreFault.{CoreFault}

@@ -1,10 +1,10 @@
 -- What stands beside the open exchanges.
 use Rattle.std.specs.Prelude.{ℕ, List, Option}
 use Rattle.hx_target.specs.declared.keys.Key.{Key}
-use Rattle.proxy_core.specs.declared.exchange.Exchange.{Exchange}
-use Rattle.proxy_core.specs.declared.get_index.GetIndex.{GetIndex}
-use Rattle.proxy_core.specs.declared.released.Released.{Released}
-use Rattle.proxy_core.specs.declared.wait_index.WaitIndex.{WaitIndex}
+use Rattle.proxy_core.specs.declared.open.exchange.Exchange.{Exchange}
+use Rattle.proxy_core.specs.declared.open.get_index.GetIndex.{GetIndex}
+use Rattle.proxy_core.specs.declared.open.released.Released.{Released}
+use Rattle.proxy_core.specs.declared.open.wait_index.WaitIndex.{WaitIndex}
 use Rattle.proxy_core.specs.Arrivals.{AreIndexed, Tells}
 use Rattle.proxy_core.specs.Gets.{asks_for, gets_in, AreTrim}
 use Rattle.proxy_core.specs.Releases.{IsSettled}

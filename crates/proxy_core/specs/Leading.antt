@@ -17,9 +17,9 @@ use Rattle.hx_target.specs.Keys.{same_key}
 use Rattle.hx_hop.specs.declared.request_view.Asked.{Asked}
 use Rattle.hx_reuse.specs.declared.rule.ReuseRule.{ReuseRule}
 use Rattle.hx_reuse.specs.declared.rule.ReuseRule.TheVariants.{UriMiss, MustRevalidate, NoMaxStale, PastMaxStale, StaleMaxAge, StaleMinFresh}
-use Rattle.proxy_core.specs.declared.stage.Stage.{Stage}
-use Rattle.proxy_core.specs.declared.stage.Stage.TheVariants.{Forwarded, Waiting, Released}
-use Rattle.proxy_core.specs.declared.exchange.Exchange.{Exchange}
+use Rattle.proxy_core.specs.declared.open.stage.Stage.{Stage}
+use Rattle.proxy_core.specs.declared.open.stage.Stage.TheVariants.{Forwarded, Waiting, Released}
+use Rattle.proxy_core.specs.declared.open.exchange.Exchange.{Exchange}
 
 -- its request is at the origin
 abbrev pub is_forwarded : Stage → Bool

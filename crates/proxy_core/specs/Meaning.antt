@@ -7,7 +7,7 @@ use Rattle.hx_hop.specs.declared.request_view.Asked.{Asked}
 use Rattle.hx_allow.specs.Lines.{Table}
 use Rattle.hx_allow.specs.Matching.{policy_of}
 use Rattle.hx_reuse.specs.Rules.{decision_of}
-use Rattle.proxy_core.specs.declared.exchange.Exchange.{Exchange}
+use Rattle.proxy_core.specs.declared.open.exchange.Exchange.{Exchange}
 use Rattle.proxy_core.specs.declared.event.Event.{Event}
 use Rattle.proxy_core.specs.declared.event.Event.TheVariants.{Arrive}
 use Rattle.proxy_core.specs.Outcomes.{find_exchange, id_of}
@@ -15,7 +15,7 @@ use Rattle.proxy_core.specs.State.{stored_in, rule_of}
 use Rattle.proxy_core.specs.Traces.{Item, begun, left, IsGood}
 use Rattle.proxy_core.specs.Histories.{held_entries, open_exchanges, next_serial, IsGoodHistory}
 use Rattle.proxy_core.specs.Carrying.{NoneJudged}
-use Rattle.proxy_core.specs.declared.stage.Stage.TheVariants.{Forwarded}
+use Rattle.proxy_core.specs.declared.open.stage.Stage.TheVariants.{Forwarded}
 use Rattle.proxy_core.specs.declared.outcome.Outcome.{Outcome}
 use Rattle.proxy_core.specs.declared.outcome.Outcome.TheVariants.{Reply, Forward, Waits, Ended}
 use Rattle.proxy_core.specs.Promises.{goes_forward, ends, is_arrival, times, NoneArrives, asked_by, some_invalidates}

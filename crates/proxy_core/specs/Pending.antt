@@ -9,15 +9,15 @@ use Rattle.hx_target.specs.declared.keys.Key.{Key}
 use Rattle.hx_target.specs.Keys.{same_key}
 use Rattle.hx_store.specs.Stored.{Stored}
 use Rattle.hx_store.specs.Shelf.{holds, find_entry, without, promoted}
-use Rattle.proxy_core.specs.declared.exchange.Exchange.{Exchange}
+use Rattle.proxy_core.specs.declared.open.exchange.Exchange.{Exchange}
 use Rattle.proxy_core.specs.declared.outcome.Outcome.{Outcome}
 use Rattle.proxy_core.specs.declared.outcome.Outcome.TheVariants.{Reply, Forward}
 use Rattle.proxy_core.specs.declared.event.Event.{Event}
-use Rattle.proxy_core.specs.declared.pending.AfterAnswer.{AfterAnswer}
-use Rattle.proxy_core.specs.declared.pending.AfterAnswer.TheVariants.{Ends, GoesOn}
-use Rattle.proxy_core.specs.declared.pending.Change.{Change}
-use Rattle.proxy_core.specs.declared.pending.Change.TheVariants.{Keep, Use, Freshen, Remove, Store}
-use Rattle.proxy_core.specs.declared.pending.PendingReply.{PendingReply}
+use Rattle.proxy_core.specs.declared.replies.pending.AfterAnswer.{AfterAnswer}
+use Rattle.proxy_core.specs.declared.replies.pending.AfterAnswer.TheVariants.{Ends, GoesOn}
+use Rattle.proxy_core.specs.declared.replies.pending.Change.{Change}
+use Rattle.proxy_core.specs.declared.replies.pending.Change.TheVariants.{Keep, Use, Freshen, Remove, Store}
+use Rattle.proxy_core.specs.declared.replies.pending.PendingReply.{PendingReply}
 use Rattle.proxy_core.specs.State.{State, taken, left_open, next_after, entries_after}
 use Rattle.proxy_core.specs.Storing.{made}
 

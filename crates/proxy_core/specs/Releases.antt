@@ -3,8 +3,8 @@
 -- first_released: the number of the first     IsSettled: what is known of them is right
 use Rattle.std.specs.Prelude.{◌≡◌, ℕ, ◌-◌, ◌&&◌, Bool, true, false, nat_le, min, max, List, [], ◌∷◌, Option, Some, None, cond, slice_get}
 use Rattle.std.specs.BTreeSet.{BTreeSet, IsEmpty, btree_set_len}
-use Rattle.proxy_core.specs.declared.exchange.Exchange.{Exchange}
-use Rattle.proxy_core.specs.declared.released.Released.{Released}
+use Rattle.proxy_core.specs.declared.open.exchange.Exchange.{Exchange}
+use Rattle.proxy_core.specs.declared.open.released.Released.{Released}
 use Rattle.proxy_core.specs.Leading.{is_released}
 use Rattle.proxy_core.specs.Arrivals.{Pass}
 

@@ -19,8 +19,8 @@ use Rattle.hx_status.specs.Refusals.{status_of, text_of}
 use Rattle.hx_status.specs.declared.status.Status.{Status}
 use Rattle.hx_status.specs.declared.status.How.TheVariants.{Fwd}
 use Rattle.hx_status.specs.declared.cause.Cause.{Cause}
-use Rattle.proxy_core.specs.declared.exchange.Exchange.{Exchange}
-use Rattle.proxy_core.specs.declared.stored_reply.CacheStatusInfo.{CacheStatusInfo}
+use Rattle.proxy_core.specs.declared.open.exchange.Exchange.{Exchange}
+use Rattle.proxy_core.specs.declared.replies.stored_reply.CacheStatusInfo.{CacheStatusInfo}
 
 abbrev pub line : List ℕ → List ℕ → Field
 line name value = record { name = name; value = value }

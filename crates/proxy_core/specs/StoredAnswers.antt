@@ -23,7 +23,7 @@ use Rattle.hx_store.specs.Stored.{Stored}
 use Rattle.hx_store.specs.Shelf.{serials_of}
 use Rattle.hx_storable.specs.Storable.{IsFinal, IsForTheStore, IsWithinTheWords, IsStorable}
 use Rattle.hx_validate.specs.Validators.{modified_value, tag_value}
-use Rattle.proxy_core.specs.declared.exchange.Exchange.{Exchange}
+use Rattle.proxy_core.specs.declared.open.exchange.Exchange.{Exchange}
 use Rattle.proxy_core.specs.declared.outcome.Outcome.{Outcome}
 use Rattle.proxy_core.specs.declared.event.Event.{Event}
 use Rattle.proxy_core.specs.declared.event.Event.TheVariants.{Arrive, Answer, Fail, Wake, Abandon}

@@ -13,7 +13,7 @@ use Rattle.proxy_core.specs.declared.outcome.Outcome.TheVariants.{Reply, Forward
 use Rattle.proxy_core.specs.declared.event.Event.{Event}
 use Rattle.proxy_core.specs.declared.event.Event.TheVariants.{Arrive, Answer, Fail, Wake, Abandon}
 use Rattle.proxy_core.specs.declared.fault.CoreFault.{CoreFault}
-use Rattle.proxy_core.specs.declared.exchange.Exchange.{Exchange}
+use Rattle.proxy_core.specs.declared.open.exchange.Exchange.{Exchange}
 use Rattle.hx_store.specs.Stored.{Stored}
 use Rattle.proxy_core.specs.Outcomes.{outcome_by, fault_by}
 use Rattle.proxy_core.specs.State.{State, Refuses, after}

@@ -22,8 +22,8 @@ use Rattle.hx_storable.specs.declared.known_facts.Facts.{Facts}
 use Rattle.hx_validate.specs.Validators.{has_validator, conditions_of}
 use Rattle.hx_validate.specs.Answering.{answers304, freshened_of}
 use Rattle.hx_validate.specs.Room.{leaves_room}
-use Rattle.proxy_core.specs.declared.condition.Condition.{Condition}
-use Rattle.proxy_core.specs.declared.exchange.Exchange.{Exchange}
+use Rattle.proxy_core.specs.declared.steps.condition.Condition.{Condition}
+use Rattle.proxy_core.specs.declared.open.exchange.Exchange.{Exchange}
 
 -- a held response that has a validator is asked about (RFC 9111, section 4.3.1)
 abbrev pub condition_on : Stored → Option Condition

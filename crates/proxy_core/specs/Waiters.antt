@@ -4,9 +4,9 @@ use Rattle.std.specs.Option.{option_map_or, ForSome}
 use Rattle.std.specs.Ordering.{nat_cmp}
 use Rattle.std.specs.BTreeMap.{get}
 use Rattle.std.specs.BTreeSet.{BTreeSet, contains, IsEmpty}
-use Rattle.proxy_core.specs.declared.stage.Stage.{Stage}
-use Rattle.proxy_core.specs.declared.stage.Stage.TheVariants.{Waiting}
-use Rattle.proxy_core.specs.declared.wait_index.WaitIndex.{WaitIndex}
+use Rattle.proxy_core.specs.declared.open.stage.Stage.{Stage}
+use Rattle.proxy_core.specs.declared.open.stage.Stage.TheVariants.{Waiting}
+use Rattle.proxy_core.specs.declared.open.wait_index.WaitIndex.{WaitIndex}
 use Rattle.proxy_core.specs.Leading.{waits_for}
 
 abbrev pub set_has : Option (BTreeSet ℕ) → ℕ → Bool

@@ -4,9 +4,9 @@ use Rattle.hx_allow.specs.Lines.{Table}
 use Rattle.hx_store.specs.Stored.{Stored}
 use Rattle.hx_reuse.specs.declared.decision.Decision.{Decision}
 use Rattle.hx_reuse.specs.declared.decision.Decision.TheVariants as decision
-use Rattle.proxy_core.specs.declared.exchange.Exchange.{Exchange}
-use Rattle.proxy_core.specs.declared.waking.AfterWake.{AfterWake}
-use Rattle.proxy_core.specs.declared.waking.AfterWake.TheVariants.{Ends, GoesOut}
+use Rattle.proxy_core.specs.declared.open.exchange.Exchange.{Exchange}
+use Rattle.proxy_core.specs.declared.steps.waking.AfterWake.{AfterWake}
+use Rattle.proxy_core.specs.declared.steps.waking.AfterWake.TheVariants.{Ends, GoesOut}
 use Rattle.proxy_core.specs.Validating.{condition_at}
 use Rattle.proxy_core.specs.Outcomes.{woken, forward_text}
 use Rattle.proxy_core.specs.Pending.{reply_of, IsPlain}

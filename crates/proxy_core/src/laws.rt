@@ -10,6 +10,11 @@ ghost use Rattle.proxy_core.specs.Waiting.{WaitsWhereOneLeads, WaitsNowhereElse,
 ghost use Rattle.proxy_core.specs.StoredAnswers.{RemovesJustThat, StoresNowhereElse, StoresWhereItMay};
 ghost use Rattle.proxy_core.specs.Uncached.{StoresNothingOverIt, SendsNothingOverIt, GoesForwardOverIt};
 
+pub(crate) mod event_cases;
+pub(crate) mod headline_cases;
+pub(crate) mod promise_cases;
+pub(crate) mod worked_cases;
+
 /// After a good trace an exchange is open from its arrival to its end and not else, with the request and the rule of its
 /// arrival.
 pub fn open_from_arrival_to_end()

@@ -12,55 +12,39 @@
 //! `specs/State.antt` what it leaves. Nothing here reads a clock: each step is handed its moment.
 #![tactic(auto)]
 
-mod answering;
-mod arriving;
-mod condition;
+mod core_state;
 mod event;
-mod event_cases;
-mod exchange;
-mod exchanges;
-mod failing;
-mod fallback;
 mod fault;
-mod finishing;
-mod get_index;
-mod headline_cases;
-mod ids;
-mod judging;
 mod laws;
-mod leading;
 mod moments;
-mod origin_answer;
+mod open;
 mod outcome;
-mod pending;
-mod promise_cases;
-mod proxy;
-mod released;
-mod reply_text;
+mod replies;
 mod runs;
-mod sending;
-mod serial_numbers;
-mod stage;
-mod stored_reply;
-mod storing;
-mod validating;
-mod wait_index;
-mod waking;
-mod worked_cases;
+mod steps;
 
-pub use crate::condition::Condition;
+pub use crate::core_state::Core;
 pub use crate::event::Event;
-pub use crate::event_cases::{what_events_are, what_outcomes_are, what_traces_have};
-pub use crate::exchange::Exchange;
-pub use crate::fallback::Fallback;
 pub use crate::fault::CoreFault;
-pub use crate::headline_cases::{
+pub use crate::laws::event_cases::{what_events_are, what_outcomes_are, what_traces_have};
+pub use crate::laws::headline_cases::{
     the_headline_refuses_no_answer, the_headline_refuses_other_names,
     the_headline_refuses_other_requests, the_headline_refuses_other_waits,
     the_headline_refuses_what_may_not_be_sent, the_headline_refuses_what_never_comes,
     the_headline_refuses_what_the_table_forbids, the_headline_refuses_wrong_storing,
 };
-pub use crate::ids::Ids;
+pub use crate::laws::promise_cases::{
+    a_denied_request_leaves_no_trace, an_exchange_goes_twice_and_replies_once,
+    no_run_stops_without_a_fault, what_goes_forward_is_the_request,
+    what_is_invalidated_is_not_sent,
+};
+pub use crate::laws::worked_cases::{
+    answers_are_passed_on_so, faults_and_serials_in_order, statuses_of_errors,
+    stored_responses_are_sent_so, what_a_304_leaves, what_a_step_leaves_open,
+    what_a_step_leaves_stored, what_an_answer_gives, what_an_arrival_gives, what_invalidates,
+    what_is_made_of_an_answer, what_is_sent_after_a_failure, which_304_was_asked_for,
+    which_answers_are_stored, who_waits_for_what_is_stale, who_waits_for_whom,
+};
 pub use crate::laws::{
     a_core_keeps_what_is_held, a_driven_core_keeps_the_promises, a_good_trace_leaves_no_choice,
     a_line_without_cache_touches_no_stored_response, a_plain_line_waits_for_what_is_missing_alone,
@@ -72,20 +56,11 @@ pub use crate::laws::{
     no_other_trace_has_the_headline, open_from_arrival_to_end, overtaken_where_invalidated,
     requests_for_one_target_wait_for_the_first, serials_are_counted,
 };
+pub use crate::open::exchange::Exchange;
+pub use crate::open::ids::Ids;
+pub use crate::open::stage::Stage;
 pub use crate::outcome::{Outcome, Reply, Run};
-pub use crate::promise_cases::{
-    a_denied_request_leaves_no_trace, an_exchange_goes_twice_and_replies_once,
-    no_run_stops_without_a_fault, what_goes_forward_is_the_request,
-    what_is_invalidated_is_not_sent,
-};
-pub use crate::proxy::Core;
-pub use crate::reply_text::refused;
+pub use crate::replies::reply_text::refused;
 pub use crate::runs::run;
-pub use crate::stage::Stage;
-pub use crate::worked_cases::{
-    answers_are_passed_on_so, faults_and_serials_in_order, statuses_of_errors,
-    stored_responses_are_sent_so, what_a_304_leaves, what_a_step_leaves_open,
-    what_a_step_leaves_stored, what_an_answer_gives, what_an_arrival_gives, what_invalidates,
-    what_is_made_of_an_answer, what_is_sent_after_a_failure, which_304_was_asked_for,
-    which_answers_are_stored, who_waits_for_what_is_stale, who_waits_for_whom,
-};
+pub use crate::steps::condition::Condition;
+pub use crate::steps::fallback::Fallback;

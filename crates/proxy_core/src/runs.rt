@@ -5,10 +5,10 @@ ghost use Rattle.proxy_core.specs.Traces.{trace_of};
 ghost use Rattle.proxy_core.specs.Histories.{IsGoodHistory, StopsAt, open_exchanges};
 ghost use Rattle.proxy_core.specs.Headline.{Headline};
 
+use crate::core_state::Core;
 use crate::event::Event;
 use crate::fault::CoreFault;
 use crate::outcome::{Outcome, Run};
-use crate::proxy::Core;
 use hx_allow::Config;
 use hx_store::Shelf;
 use std::alloc::Global;

@@ -1,8 +1,8 @@
 -- What a connection does: by its open exchange, and by its link.
 use Rattle.std.proofs.Common.{◌≡◌, ℕ, refl, Bool, true, false, not, None, Some}
 use Rattle.proxy_engine.specs.Activities.{link_of, has_exchange, forwarded_in}
-use Rattle.proxy_engine.specs.declared.activities.Activity.{Activity}
-use Rattle.proxy_engine.specs.declared.activities.Activity.TheVariants.{Free, Forwarded, Waiting}
+use Rattle.proxy_engine.specs.declared.endpoints.activities.Activity.{Activity}
+use Rattle.proxy_engine.specs.declared.endpoints.activities.Activity.TheVariants.{Free, Forwarded, Waiting}
 
 -- without an open exchange it is free
 pub free_from : (a : Activity) → has_exchange a ≡ false → a ≡ Free

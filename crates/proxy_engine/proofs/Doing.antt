@@ -17,16 +17,16 @@ use Rattle.proxy_core.specs.declared.event.Event.TheVariants as events
 use Rattle.proxy_core.specs.Traces.{Item}
 use Rattle.proxy_script.specs.declared.effect_list.Effect.{Effect}
 use Rattle.proxy_engine.specs.Admitted.{Refusal, IsAdmitted}
-use Rattle.proxy_engine.specs.Story.{Story, with_core}
+use Rattle.proxy_engine.specs.EngineModel.{EngineModel, with_core}
 use Rattle.proxy_engine.specs.Due.{Act, Abandons, Finishes, Wakes, Serves, Gives, Breaks}
 use Rattle.proxy_engine.specs.Acts.{came, after_on, effects_on, next_number, StepsOn, Arrives, Served, Refuses, Closes}
 use Rattle.proxy_engine.specs.Lives.{Step, Took, Worked, Leads, IsEventOf, HasNoEvent, IsTold, Adds, ActsInOneWay, HasOneTrace}
 
--- the same effects, and the same story behind them
-abbrev Same : List Effect → List Effect → Story → Story → Type 0
+-- the same effects, and the same model behind them
+abbrev Same : List Effect → List Effect → EngineModel → EngineModel → Type 0
 Same told more t u = (told ≡ more) × (t ≡ u)
 
-same_by : (told more effects : List Effect) (t u after : Story) → (told ≡ effects) × (t ≡ after) → (more ≡ effects) × (u ≡ after) → Same told more t u
+same_by : (told more effects : List Effect) (t u after : EngineModel) → (told ≡ effects) × (t ≡ after) → (more ≡ effects) × (u ≡ after) → Same told more t u
 same_by told more effects t u after h k = (h.0 ∙ sym k.0, h.1 ∙ sym k.1)
 
 -- a step of the core gives one outcome, and leaves one core
@@ -36,7 +36,7 @@ outcome_once s event o p t u h k = h.outcome_is ∙ sym k.outcome_is
 core_once : (s : CoreState) (event : Event) (o p : Outcome) (t u : CoreState) → Steps s event o t → Steps s event p u → t ≡ u
 core_once s event o p t u h k = h.leaves ∙ (ap (core_after s event) (outcome_once s event o p t u h k) ∙ sym k.leaves)
 
-stepped_once : (s t : Story) (i : ℕ) (to_head : Bool) (event : Event) (before told more : List Effect) (v w : Story) → StepsOn s t i to_head event before told v → StepsOn s t i to_head event before more w → Same told more v w
+stepped_once : (s t : EngineModel) (i : ℕ) (to_head : Bool) (event : Event) (before told more : List Effect) (v w : EngineModel) → StepsOn s t i to_head event before told v → StepsOn s t i to_head event before more w → Same told more v w
 stepped_once s t i to_head event before told more v w h k =
     let outcome : h.outcome ≡ k.outcome = outcome_once s.core event h.outcome k.outcome h.core k.core h.steps k.steps in
     let core : h.core ≡ k.core = core_once s.core event h.outcome k.outcome h.core k.core h.steps k.steps in (
@@ -46,10 +46,10 @@ stepped_once s t i to_head event before told more v w h k =
           ∙ (ap (λ (c : CoreState). after_on i to_head (came s.core.table k.outcome) (with_core t c)) core ∙ sym k.after_is)),
     )
 
-refused_once : (s : Story) (now i : ℕ) (why : Cause) (head : Bool) (told more : List Effect) (t u : Story) → Refuses s now i why head told t → Refuses s now i why head more u → Same told more t u
+refused_once : (s : EngineModel) (now i : ℕ) (why : Cause) (head : Bool) (told more : List Effect) (t u : EngineModel) → Refuses s now i why head told t → Refuses s now i why head more u → Same told more t u
 refused_once s now i why head told more t u h k = (h.told_is ∙ sym k.told_is, h.after_is ∙ sym k.after_is)
 
-closed_once : (s : Story) (i : ℕ) (told more : List Effect) (t u : Story) → Closes s i told t → Closes s i more u → Same told more t u
+closed_once : (s : EngineModel) (i : ℕ) (told more : List Effect) (t u : EngineModel) → Closes s i told t → Closes s i more u → Same told more t u
 closed_once s i told more t u h k = (h.0 ∙ sym k.0, h.1 ∙ sym k.1)
 
 -- where a request is asked in one way
@@ -66,7 +66,7 @@ module _ (asked_once : (request : Request) (r s : Result Asked TargetFault) → 
       let fault : h.0 ≡ k.0 = cc in
       h.2 ∙ (ap (λ (f : TargetFault). record { why = cause.Target f; head = bytes_eq r.method (codes "HEAD") }) fault ∙ sym k.2)
 
-  arrives_once : (s : Story) (now i : ℕ) (r : Request) (a b : Result Asked Refusal) (told more : List Effect) (t u : Story) → IsAdmitted r a → IsAdmitted r b →
+  arrives_once : (s : EngineModel) (now i : ℕ) (r : Request) (a b : Result Asked Refusal) (told more : List Effect) (t u : EngineModel) → IsAdmitted r a → IsAdmitted r b →
       Arrives s now i r a told t → Arrives s now i r b more u → Same told more t u
   arrives_once s now i r (Ok a) (Ok b) told more t u p q h k =
       stepped_once s _ i _ _ [] told more t u h.1 (subst (λ (x : Asked). Arrives s now i r (Ok x) more u) (sym (one_request r a b p q)) k).1
@@ -75,7 +75,7 @@ module _ (asked_once : (request : Request) (r s : Result Asked TargetFault) → 
   arrives_once s now i r (Err a) (Err b) told more t u p q h k =
       refused_once s now i a.why a.head told more t u h (subst (λ (x : Refusal). Refuses s now i x.why x.head more u) (sym (one_refusal r a b p q)) k)
 
-  served_once : (s : Story) (now i : ℕ) (wish : Next Request) (told more : List Effect) (t u : Story) → Served s now i wish told t → Served s now i wish more u → Same told more t u
+  served_once : (s : EngineModel) (now i : ℕ) (action : Next Request) (told more : List Effect) (t u : EngineModel) → Served s now i action told t → Served s now i action more u → Same told more t u
   served_once s now i next.More told more t u h k = absurd h
   served_once s now i next.NeedsContinue told more t u h k = (h.0 ∙ sym k.0, h.1 ∙ sym k.1)
   served_once s now i (next.Message r) told more t u h k = arrives_once s now i r h.0 k.0 told more t u h.1 k.1 h.2 k.2
@@ -96,14 +96,14 @@ module _ (asked_once : (request : Request) (r s : Result Asked TargetFault) → 
   acts_in_one_way s now (Finishes j (Gives r)) told more t u h k = stepped_once s _ _ _ _ _ told more t u h.1 k.1
   acts_in_one_way s now (Finishes j (Breaks kind)) told more t u h k = stepped_once s _ _ _ _ _ told more t u h k
   acts_in_one_way s now (Wakes i) told more t u h k = stepped_once s _ _ _ _ _ told more t u h.1 k.1
-  acts_in_one_way s now (Serves i wish) told more t u h k = served_once s now i wish told more t u h k
+  acts_in_one_way s now (Serves i action) told more t u h k = served_once s now i action told more t u h k
 
-  leads_once : (s : Story) (step : Step) (t u : Story) → Leads s step t → Leads s step u → t ≡ u
+  leads_once : (s : EngineModel) (step : Step) (t u : EngineModel) → Leads s step t → Leads s step u → t ≡ u
   leads_once s (Took h) t u l m = l.1 ∙ sym m.1
   leads_once s (Worked now act told) t u l m = (acts_in_one_way s now act told told t u l.1 m.1).1
 
   -- an act asks the core one thing, or nothing
-  event_once : (s : Story) (now : ℕ) (act : Act) (e f : Event) → IsEventOf s now act e → IsEventOf s now act f → e ≡ f
+  event_once : (s : EngineModel) (now : ℕ) (act : Act) (e f : Event) → IsEventOf s now act e → IsEventOf s now act f → e ≡ f
   event_once s now (Abandons i l) e f h k = h ∙ sym k
   event_once s now (Finishes j (Gives r)) e f h k = h ∙ sym k
   event_once s now (Finishes j (Breaks kind)) e f h k = h ∙ sym k
@@ -114,7 +114,7 @@ module _ (asked_once : (request : Request) (r s : Result Asked TargetFault) → 
   event_once s now (Serves i (next.Refused fault)) e f h k = absurd h
   event_once s now (Serves i next.End) e f h k = absurd h
 
-  event_or_none : {P : Type 0} (s : Story) (now : ℕ) (act : Act) (e : Event) → IsEventOf s now act e → HasNoEvent act → P
+  event_or_none : {P : Type 0} (s : EngineModel) (now : ℕ) (act : Act) (e : Event) → IsEventOf s now act e → HasNoEvent act → P
   event_or_none {P} s now (Abandons i l) e h k = absurd k
   event_or_none {P} s now (Finishes j finish) e h k = absurd k
   event_or_none {P} s now (Wakes i) e h k = absurd k
@@ -124,14 +124,14 @@ module _ (asked_once : (request : Request) (r s : Result Asked TargetFault) → 
   event_or_none {P} s now (Serves i (next.Refused fault)) e h k = absurd h
   event_or_none {P} s now (Serves i next.End) e h k = absurd h
 
-  item_once : (table : Table) (s : Story) (now : ℕ) (act : Act) (i j : Item) (told : List Effect) (t : Story) → IsTold table s now act i told t → IsTold table s now act j told t → i ≡ j
+  item_once : (table : Table) (s : EngineModel) (now : ℕ) (act : Act) (i j : Item) (told : List Effect) (t : EngineModel) → IsTold table s now act i told t → IsTold table s now act j told t → i ≡ j
   item_once table s now act i j told t h k =
       let event : i.event ≡ j.event = event_once s now act i.event j.event h.event_is k.event_is in
       let steps : Steps s.core i.event j.outcome t.core = subst (λ (e : Event). Steps s.core e j.outcome t.core) (sym event) k.steps in
       let outcome : i.outcome ≡ j.outcome = outcome_once s.core i.event i.outcome j.outcome t.core t.core h.steps steps in
       ap (λ (e : Event). record { event = e; outcome = i.outcome }) event ∙ ap (λ (o : Outcome). record { event = j.event; outcome = o }) outcome
 
-  adds_once : (table : Table) (s : Story) (step : Step) (t : Story) (past trace other : List Item) → Adds table s step t past trace → Adds table s step t past other → trace ≡ other
+  adds_once : (table : Table) (s : EngineModel) (step : Step) (t : EngineModel) (past trace other : List Item) → Adds table s step t past trace → Adds table s step t past other → trace ≡ other
   adds_once table s (Took h) t past trace other l m = l ∙ sym m
   adds_once table s (Worked now act told) t past trace other (inl l) (inl m) = l.1 ∙ (ap (λ (i : Item). i ∷ past) (item_once table s now act l.0 m.0 told t l.2 m.2) ∙ sym m.1)
   adds_once table s (Worked now act told) t past trace other (inl l) (inr m) = event_or_none s now act l.0.event l.2.event_is m.1
@@ -142,9 +142,9 @@ module _ (asked_once : (request : Request) (r s : Result Asked TargetFault) → 
   has_one_trace table s [] t u trace other h k = (h.0 ∙ sym k.0, h.1 ∙ sym k.1)
   has_one_trace table s (step ∷ steps) t u trace other h k =
       let was = has_one_trace table s steps h.0 k.0 h.1 k.1 h.2 k.2 in
-      let leads : Leads h.0 step u = subst (λ (v : Story). Leads v step u) (sym was.0) k.3 in
+      let leads : Leads h.0 step u = subst (λ (v : EngineModel). Leads v step u) (sym was.0) k.3 in
       let here : t ≡ u = leads_once h.0 step t u h.3 leads in
       let adds : Adds table h.0 step t h.1 other =
-      subst (λ (v : Story). Adds table h.0 step v h.1 other) (sym here)
-      (subst (λ (past : List Item). Adds table h.0 step u past other) (sym was.1) (subst (λ (v : Story). Adds table v step u k.1 other) (sym was.0) k.4)) in
+      subst (λ (v : EngineModel). Adds table h.0 step v h.1 other) (sym here)
+      (subst (λ (past : List Item). Adds table h.0 step u past other) (sym was.1) (subst (λ (v : EngineModel). Adds table v step u k.1 other) (sym was.0) k.4)) in
       (here, adds_once table h.0 step t h.1 trace other h.4 adds)

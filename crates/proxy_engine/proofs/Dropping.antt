@@ -1,5 +1,5 @@
 -- An act drops one link at most, and tells it.
-use Rattle.proxy_engine.specs.declared.activities.Activity.TheVariants.{Free}
+use Rattle.proxy_engine.specs.declared.endpoints.activities.Activity.TheVariants.{Free}
 use Rattle.std.proofs.Common.{◌≡◌, ◌⊎◌, inl, inr, ℕ, zero, suc, ◌+◌, ◌-◌, ◌<◌, ◌≤◌, List, [], ◌∷◌, ◌++◌, length, get_or, set, refl, sym, ap, ◌∙◌, subst, arith, Bool, true, false, cond, ◌||◌, Some, is_some, Result, Ok, Err, None}
 use Rattle.hx_framing.specs.declared.messages.Request.{Request}
 use Rattle.hx_framing.specs.declared.fault.FrameFault.TheVariants as frame
@@ -13,7 +13,7 @@ use Rattle.proxy_script.specs.declared.effect_list.Effect.{Effect}
 use Rattle.proxy_script.specs.declared.effect_list.Effect.TheVariants as effects
 use Rattle.proxy_engine.specs.Admitted.{Refusal}
 use Rattle.proxy_engine.specs.Happenings.{Accepts, Sends, Hears, Ends, Leaves, Shuts, Fails}
-use Rattle.proxy_engine.specs.Story.{Story, LinkStory, no_link, opened, link_at, heard_by, shut, failed_by, with_core, with_connection}
+use Rattle.proxy_engine.specs.EngineModel.{EngineModel, LinkModel, no_link, opened, link_at, heard_by, shut, failed_by, with_core, with_connection}
 use Rattle.proxy_engine.specs.Due.{Abandons, Finishes, Wakes, Serves, Gives, Breaks}
 use Rattle.proxy_engine.specs.Acts.{Came, Replies, Forwards, Nothing, came, effects_on, next_number, after_on, freed, dropping, StepsOn, Served, Arrives, Refuses, Closes, Queues, doing}
 use Rattle.proxy_engine.specs.Drops.{DropsNone, OnlyFirstDrops, ActsAreShort, ActsTellDrops, TakesDropNone}
@@ -44,23 +44,23 @@ short_of told said e h = subst IsShort (sym e) (let few = h.0 in omega (arith, f
 short_behind : (told said : List Effect) (l : ℕ) → told ≡ effects.Drop l ∷ said → IsPlain said → IsShort told
 short_behind told said l e h = subst IsShort (sym e) (let few = h.0 in omega (arith, few), h.1)
 
-stepped_short : (s t : Story) (i l : ℕ) (to_head : Bool) (event : Event) (told : List Effect) (after : Story) → StepsOn s t i to_head event (effects.Drop l ∷ []) told after → IsShort told
+stepped_short : (s t : EngineModel) (i l : ℕ) (to_head : Bool) (event : Event) (told : List Effect) (after : EngineModel) → StepsOn s t i to_head event (effects.Drop l ∷ []) told after → IsShort told
 stepped_short s t i l to_head event told after h = short_behind told _ l h.told_is (on_plain i (next_number s) (came s.core.table h.outcome))
 
-plain_short : (s t : Story) (i : ℕ) (to_head : Bool) (event : Event) (told : List Effect) (after : Story) → StepsOn s t i to_head event [] told after → IsShort told
+plain_short : (s t : EngineModel) (i : ℕ) (to_head : Bool) (event : Event) (told : List Effect) (after : EngineModel) → StepsOn s t i to_head event [] told after → IsShort told
 plain_short s t i to_head event told after h = short_of told _ h.told_is (on_plain i (next_number s) (came s.core.table h.outcome))
 
-refused_short : (s : Story) (now i : ℕ) (why : Cause) (head : Bool) (told : List Effect) (after : Story) → Refuses s now i why head told after → IsShort told
+refused_short : (s : EngineModel) (now i : ℕ) (why : Cause) (head : Bool) (told : List Effect) (after : EngineModel) → Refuses s now i why head told after → IsShort told
 refused_short s now i why head told after h = short_of told _ h.told_is (omega arith, (refl, (refl, tt)))
 
-closed_short : (s : Story) (i : ℕ) (told : List Effect) (after : Story) → Closes s i told after → IsShort told
+closed_short : (s : EngineModel) (i : ℕ) (told : List Effect) (after : EngineModel) → Closes s i told after → IsShort told
 closed_short s i told after h = short_of told _ h.0 (omega arith, (refl, tt))
 
-arrived_short : (s : Story) (now i : ℕ) (r : Request) (judged : Result Asked Refusal) (told : List Effect) (after : Story) → Arrives s now i r judged told after → IsShort told
+arrived_short : (s : EngineModel) (now i : ℕ) (r : Request) (judged : Result Asked Refusal) (told : List Effect) (after : EngineModel) → Arrives s now i r judged told after → IsShort told
 arrived_short s now i r (Ok asked) told after h = short_of told _ h.1.told_is (on_plain i (next_number s) (came s.core.table h.1.outcome))
 arrived_short s now i r (Err refusal) told after h = refused_short s now i _ _ told after h
 
-served_short : (s : Story) (now i : ℕ) (w : Next Request) (told : List Effect) (after : Story) → Served s now i w told after → IsShort told
+served_short : (s : EngineModel) (now i : ℕ) (w : Next Request) (told : List Effect) (after : EngineModel) → Served s now i w told after → IsShort told
 served_short s now i next.More told after h = absurd h
 served_short s now i next.NeedsContinue told after h = short_of told _ h.0 (omega arith, (refl, tt))
 served_short s now i (next.Message r) told after h = arrived_short s now i r h.0 told after h.2
@@ -86,10 +86,10 @@ acts_are_short s now (Serves i w) told after h = served_short s now i w told aft
 
 -- ---- what is told of a link that is dropped
 
-abbrev IsDropped : List LinkStory → ℕ → Type 0
+abbrev IsDropped : List LinkModel → ℕ → Type 0
 IsDropped ks j = (j < length ks) × ((get_or ks j no_link).dropped ≡ true)
 
-dropped_set : (ks : List LinkStory) (i : ℕ) (y : LinkStory) (j : ℕ) → IsDropped (set ks i y) j → (j ≡ i) ⊎ IsDropped ks j
+dropped_set : (ks : List LinkModel) (i : ℕ) (y : LinkModel) (j : ℕ) → IsDropped (set ks i y) j → (j ≡ i) ⊎ IsDropped ks j
 dropped_set [] i y j h = inr h
 dropped_set (k ∷ ks) zero y zero h = inl refl
 dropped_set (k ∷ ks) zero y (suc j) h = inr h
@@ -100,25 +100,25 @@ dropped_set (k ∷ ks) (suc i) y (suc j) h = by_rest (dropped_set ks i y j (let 
     by_rest (inl e) = inl (ap suc e)
     by_rest (inr d) = inr (let below = d.0 in omega (arith, below), d.1)
 
-dropped_push : (ks : List LinkStory) (y : LinkStory) (j : ℕ) → y.dropped ≡ false → IsDropped (ks ++ y ∷ []) j → IsDropped ks j
+dropped_push : (ks : List LinkModel) (y : LinkModel) (j : ℕ) → y.dropped ≡ false → IsDropped (ks ++ y ∷ []) j → IsDropped ks j
 dropped_push [] y zero e h = let both : true ≡ false = sym h.1 ∙ e in absurd (cc)
 dropped_push [] y (suc j) e h = let below = h.0 in absurd (omega (arith, below))
 dropped_push (k ∷ ks) y zero e h = (omega arith, h.1)
 dropped_push (k ∷ ks) y (suc j) e h = let d = dropped_push ks y j e (let below = h.0 in omega (arith, below), h.1) in (let below = d.0 in omega (arith, below), d.1)
 
-dropped_on : (i : ℕ) (to_head : Bool) (q : Came) (s : Story) (j : ℕ) → IsDropped (after_on i to_head q s).links j → IsDropped s.links j
+dropped_on : (i : ℕ) (to_head : Bool) (q : Came) (s : EngineModel) (j : ℕ) → IsDropped (after_on i to_head q s).links j → IsDropped s.links j
 dropped_on i to_head (Replies bytes close) s j h = h
 dropped_on i to_head (Forwards address bytes) s j h = dropped_push s.links (opened s.core.table.max_body to_head i) j refl h
 dropped_on i to_head Queues s j h = h
 dropped_on i to_head Nothing s j h = h
 
-dropped_equal : (s t : Story) (j : ℕ) → s ≡ t → IsDropped s.links j → IsDropped t.links j
-dropped_equal s t j e h = subst (λ (u : Story). IsDropped u.links j) e h
+dropped_equal : (s t : EngineModel) (j : ℕ) → s ≡ t → IsDropped s.links j → IsDropped t.links j
+dropped_equal s t j e h = subst (λ (u : EngineModel). IsDropped u.links j) e h
 
-abbrev IsTold : Story → List Effect → ℕ → Type 0
+abbrev IsTold : EngineModel → List Effect → ℕ → Type 0
 IsTold s told j = IsDropped s.links j ⊎ ((rest : List Effect) × (told ≡ effects.Drop (s.first + j) ∷ rest))
 
-stepped_told : (s : Story) (k c i : ℕ) (to_head : Bool) (event : Event) (told : List Effect) (after : Story) (j : ℕ) → StepsOn s (freed s k c) i to_head event (effects.Drop (s.first + k) ∷ []) told after →
+stepped_told : (s : EngineModel) (k c i : ℕ) (to_head : Bool) (event : Event) (told : List Effect) (after : EngineModel) (j : ℕ) → StepsOn s (freed s k c) i to_head event (effects.Drop (s.first + k) ∷ []) told after →
     IsDropped after.links j → IsTold s told j
 stepped_told s k c i to_head event told after j h d =
     by_place (dropped_set s.links k (dropping (link_at s k)) j (dropped_on i to_head (came s.core.table h.outcome) (with_core (freed s k c) h.core) j (dropped_equal after _ j h.after_is d)))
@@ -127,15 +127,15 @@ stepped_told s k c i to_head event told after j h d =
     by_place (inl e) = inr (_, h.told_is ∙ ap (λ n. effects.Drop (s.first + n) ∷ effects_on i (next_number s) (came s.core.table h.outcome)) (sym e))
     by_place (inr before) = inl before
 
-plain_told : (s : Story) (i : ℕ) (to_head : Bool) (event : Event) (told : List Effect) (after : Story) (j : ℕ) → StepsOn s (with_connection s i (doing Free)) i to_head event [] told after → IsDropped after.links j → IsDropped s.links j
+plain_told : (s : EngineModel) (i : ℕ) (to_head : Bool) (event : Event) (told : List Effect) (after : EngineModel) (j : ℕ) → StepsOn s (with_connection s i (doing Free)) i to_head event [] told after → IsDropped after.links j → IsDropped s.links j
 plain_told s i to_head event told after j h d =
     dropped_on i to_head (came s.core.table h.outcome) (with_core (with_connection s i (doing Free)) h.core) j (dropped_equal after _ j h.after_is d)
 
-arrived_told : (s : Story) (now i : ℕ) (r : Request) (judged : Result Asked Refusal) (told : List Effect) (after : Story) (j : ℕ) → Arrives s now i r judged told after → IsDropped after.links j → IsDropped s.links j
+arrived_told : (s : EngineModel) (now i : ℕ) (r : Request) (judged : Result Asked Refusal) (told : List Effect) (after : EngineModel) (j : ℕ) → Arrives s now i r judged told after → IsDropped after.links j → IsDropped s.links j
 arrived_told s now i r (Ok asked) told after j h d = dropped_on i _ (came s.core.table h.1.outcome) _ j (dropped_equal after _ j h.1.after_is d)
 arrived_told s now i r (Err refusal) told after j h d = dropped_equal after _ j h.after_is d
 
-served_told : (s : Story) (now i : ℕ) (w : Next Request) (told : List Effect) (after : Story) (j : ℕ) → Served s now i w told after → IsDropped after.links j → IsDropped s.links j
+served_told : (s : EngineModel) (now i : ℕ) (w : Next Request) (told : List Effect) (after : EngineModel) (j : ℕ) → Served s now i w told after → IsDropped after.links j → IsDropped s.links j
 served_told s now i next.More told after j h d = absurd h
 served_told s now i next.NeedsContinue told after j h d = dropped_equal after _ j h.1 d
 served_told s now i (next.Message r) told after j h d = arrived_told s now i r h.0 told after j h.2 d
@@ -161,14 +161,14 @@ acts_tell_drops s now (Serves i w) told after j h below d = inl (served_told s n
 
 -- ---- what happens drops no link
 
-same_set : (ks : List LinkStory) (i : ℕ) (y : LinkStory) (j : ℕ) → y.dropped ≡ (get_or ks i no_link).dropped → (get_or (set ks i y) j no_link).dropped ≡ (get_or ks j no_link).dropped
+same_set : (ks : List LinkModel) (i : ℕ) (y : LinkModel) (j : ℕ) → y.dropped ≡ (get_or ks i no_link).dropped → (get_or (set ks i y) j no_link).dropped ≡ (get_or ks j no_link).dropped
 same_set [] i y j e = refl
 same_set (k ∷ ks) zero y zero e = e
 same_set (k ∷ ks) zero y (suc j) e = refl
 same_set (k ∷ ks) (suc i) y zero e = refl
 same_set (k ∷ ks) (suc i) y (suc j) e = same_set ks i y j e
 
-same_by : (b : Bool) (k l : LinkStory) → l.dropped ≡ k.dropped → (cond b k l).dropped ≡ k.dropped
+same_by : (b : Bool) (k l : LinkModel) → l.dropped ≡ k.dropped → (cond b k l).dropped ≡ k.dropped
 same_by true k l e = refl
 same_by false k l e = e
 

@@ -8,22 +8,22 @@ use Rattle.hx_reuse.specs.Rules.{decision_of}
 use Rattle.hx_status.specs.declared.cause.FailKind.{FailKind}
 use Rattle.hx_store.specs.Stored.{Stored}
 use Rattle.hx_target.specs.declared.keys.Key.{Key}
-use Rattle.proxy_core.specs.declared.exchange.Exchange.{Exchange}
+use Rattle.proxy_core.specs.declared.open.exchange.Exchange.{Exchange}
 use Rattle.proxy_core.specs.declared.event.Event.TheVariants as events
 use Rattle.proxy_core.specs.declared.outcome.Outcome.{Outcome}
 use Rattle.proxy_core.specs.declared.outcome.Outcome.TheVariants as outcomes
-use Rattle.proxy_core.specs.declared.fallback.Fallback.{Fallback}
-use Rattle.proxy_core.specs.declared.fallback.Fallback.TheVariants.{Sends, Refuses}
+use Rattle.proxy_core.specs.declared.steps.fallback.Fallback.{Fallback}
+use Rattle.proxy_core.specs.declared.steps.fallback.Fallback.TheVariants.{Sends, Refuses}
 use Rattle.proxy_core.specs.Outcomes.{find_exchange, outcome_of, failed, fallback_for}
 use Rattle.proxy_core.specs.Leading.{is_forwarded}
 use Rattle.proxy_core.specs.Validating.{condition_at}
 use Rattle.proxy_core.specs.State.{State as CoreState, Steps, open_after, closed, left_open, goes_out, woken_out, rule_of, named_by, invalidated_by}
 use Rattle.proxy_core.proofs.Waits.{is_wait, late_no_wait}
-use Rattle.proxy_engine.specs.declared.lookahead.Lookahead.TheVariants.{Due}
+use Rattle.proxy_engine.specs.declared.endpoints.lookahead.Lookahead.TheVariants.{Due}
 use Rattle.proxy_engine.specs.Due.{Finish, Gives, Breaks}
 use Rattle.proxy_engine.specs.State.{finish_seen, finish_at}
-use Rattle.proxy_engine.specs.Wishes.{IsFinishedBy, gives, goes_forward, outcome_load}
-use Rattle.proxy_engine.specs.declared.ends.Link.{Link}
+use Rattle.proxy_engine.specs.Actions.{IsFinishedBy, gives, goes_forward, outcome_load}
+use Rattle.proxy_engine.specs.declared.endpoints.ends.Link.{Link}
 
 -- a link that shows a response
 pub given_seen : (k : Link) (m : Response) → k.reader.ahead ≡ Due (next.Message m) → finish_at (Some k) ≡ Some (Gives m)

@@ -5,7 +5,7 @@ use Rattle.std.proofs.lemmas.Bool.{cases_lt, cases_order}
 use Rattle.std.proofs.lemmas.List.{get_or-take, length-take-le}
 use Rattle.std.proofs.lemmas.List.Edits.{length-insert, get_or-insert_below, get_or-insert_at, get_or-insert_above, get_or-remove_below, get_or-remove_above, length-remove}
 use Rattle.std.proofs.lemmas.List.Sorted.{IsPermutation-insert, IsPermutation-sym, Contains-permutation}
-use Rattle.proxy_engine.specs.Places.{Falls, IsBehind, IsLeast}
+use Rattle.proxy_engine.specs.ReadyList.{Falls, IsBehind, IsLeast}
 
 pub falls_none : (xs : List ℕ) → xs ≡ [] → Falls xs
 falls_none xs e = subst Falls (sym e) record { falls = λ i j l m. absurd (omega (arith, m)) }

@@ -16,8 +16,8 @@ use Rattle.proxy_core.specs.declared.event.Event.{Event}
 use Rattle.proxy_core.specs.declared.event.Event.TheVariants as events
 use Rattle.proxy_core.specs.ReadAnswers.{IsRead, IsReadEvent}
 use Rattle.proxy_core.specs.Traces.{Item}
-use Rattle.proxy_engine.specs.Story.{Story, ConnStory, LinkStory, connection_at, link_at}
-use Rattle.proxy_engine.specs.Due.{Act, Abandons, Finishes, Wakes, Serves, Gives, Breaks, IsDueFirst, FinishBy, WishBy, finish_of, is_busy, wish_of}
+use Rattle.proxy_engine.specs.EngineModel.{EngineModel, ConnectionModel, LinkModel, connection_at, link_at}
+use Rattle.proxy_engine.specs.Due.{Act, Abandons, Finishes, Wakes, Serves, Gives, Breaks, IsDueFirst, FinishBy, ActionBy, finish_of, is_busy, action_of}
 use Rattle.proxy_engine.specs.Lives.{Took, Worked, IsEventOf}
 use Rattle.proxy_engine.specs.FinalAnswers.{ActsAreSpelled, AnswersAreFinal, AnswersAreRead, HasFinalStatus, SpellsAnswer, SpellsRequest}
 
@@ -50,24 +50,24 @@ finished p r (next.Message m) kind h e = subst (λ (q : Response). IsAnswer p q)
     same : r ≡ m
     same = cc
 
-stood : (k : LinkStory) (r : Response) (dropped : Bool) → k.dropped ≡ dropped → FinishBy dropped k (Some (Gives r)) → SpellsAnswer k r
+stood : (k : LinkModel) (r : Response) (dropped : Bool) → k.dropped ≡ dropped → FinishBy dropped k (Some (Gives r)) → SpellsAnswer k r
 stood k r true is h = absurd cc
 stood k r false is h =
     let answer = finished k.progress r h.0 k.failed h.1 h.2 in
     record { still = is; none_given = answer.0; rest = answer.1.0; reads = answer.1.1 }
 
-wished : (r : Request) (a : Next Request) → Some (next.Message r) ≡ wish_of a → next.Message r ≡ a
-wished r next.More e = absurd cc
-wished r next.NeedsContinue e = absurd cc
-wished r (next.Message m) e = cc
-wished r (next.Refused f) e = absurd cc
-wished r next.End e = absurd cc
+action_is : (r : Request) (a : Next Request) → Some (next.Message r) ≡ action_of a → next.Message r ≡ a
+action_is r next.More e = absurd cc
+action_is r next.NeedsContinue e = absurd cc
+action_is r (next.Message m) e = cc
+action_is r (next.Refused f) e = absurd cc
+action_is r next.End e = absurd cc
 
-wanted : (c : ConnStory) (r : Request) (busy : Bool) → is_busy c.gone c.closed c.activity ≡ busy → WishBy busy c (Some (next.Message r)) → SpellsRequest c r
+wanted : (c : ConnectionModel) (r : Request) (busy : Bool) → is_busy c.gone c.closed c.activity ≡ busy → ActionBy busy c (Some (next.Message r)) → SpellsRequest c r
 wanted c r true is h = absurd cc
 wanted c r false is h =
     let answer = h.1 in
-    let read = next_spelled r answer.reading (wished r h.0 h.2 ∙ answer.answer_is) in
+    let read = next_spelled r answer.reading (action_is r h.0 h.2 ∙ answer.answer_is) in
     record {
       free = is;
       behind = answer.rest;
@@ -88,10 +88,10 @@ acts_are_spelled s (Serves i next.NeedsContinue) due = tt
 acts_are_spelled s (Serves i (next.Refused fault)) due = tt
 acts_are_spelled s (Serves i next.End) due = tt
 
-read_of : (k : LinkStory) (r : Response) → SpellsAnswer k r → IsRead r
+read_of : (k : LinkModel) (r : Response) → SpellsAnswer k r → IsRead r
 read_of k r is = record { max_body = k.progress.max_body; to_head = k.progress.to_head; ended = k.progress.ended; bytes = k.progress.stream; rest = is.rest; reads = is.reads }
 
-event_read : (s : Story) (now : ℕ) (act : Act) (event : Event) → IsDueFirst s (Some act) → IsEventOf s now act event → IsReadEvent event
+event_read : (s : EngineModel) (now : ℕ) (act : Act) (event : Event) → IsDueFirst s (Some act) → IsEventOf s now act event → IsReadEvent event
 event_read s now (Abandons i l) event due is = subst IsReadEvent (sym is) tt
 event_read s now (Finishes j (Gives r)) event due is = subst IsReadEvent (sym is) (read_of (link_at s j) r (acts_are_spelled s (Finishes j (Gives r)) due))
 event_read s now (Finishes j (Breaks kind)) event due is = subst IsReadEvent (sym is) tt

@@ -3,15 +3,15 @@ use Rattle.std.proofs.Common.{◌≡◌, ℕ, ◌<◌, List, length, get_or, sym
 use Rattle.std.specs.Ordering.{nat_cmp}
 use Rattle.std.specs.BTreeMap.{BTreeMap, get}
 use Rattle.std.proofs.lemmas.List.{get_or-map}
-use Rattle.proxy_engine.specs.Story.{ConnStory, no_connection}
+use Rattle.proxy_engine.specs.EngineModel.{ConnectionModel, no_connection}
 use Rattle.proxy_engine.specs.Due.{IsFirst, Lost}
-use Rattle.proxy_engine.specs.State.{Both, ConnStands, NoneLost, Found, gone_at}
+use Rattle.proxy_engine.specs.State.{Both, ConnectionRepresents, NoneLost, Found, gone_at}
 use Rattle.proxy_engine.specs.Activities.{link_of, has_exchange}
-use Rattle.proxy_engine.specs.Wiring.{activity_at, activity_of, activities_of}
-use Rattle.proxy_engine.specs.Places.{listed, AllBelow}
+use Rattle.proxy_engine.specs.Pairing.{activity_at, activity_of, activities_of}
+use Rattle.proxy_engine.specs.ReadyList.{listed, AllBelow}
 use Rattle.proxy_engine.specs.Marked.{may_be_lost, NoneBelow, NoneAtAll, lost_at, ShownThere}
-use Rattle.proxy_engine.specs.declared.activities.Activity.TheVariants.{Free}
-use Rattle.proxy_engine.specs.declared.ends.Connection.{Connection}
+use Rattle.proxy_engine.specs.declared.endpoints.activities.Activity.TheVariants.{Free}
+use Rattle.proxy_engine.specs.declared.endpoints.ends.Connection.{Connection}
 use Rattle.proxy_engine.proofs.Keeping.{listed_length, listed_at, seen_at, inside}
 use Rattle.proxy_engine.proofs.Shown.{lost, lost_link}
 use Rattle.proxy_engine.proofs.Searching.{found_first, none_first, some_from}
@@ -22,10 +22,10 @@ abbrev pub LostThere : BTreeMap ℕ Connection → List ℕ → ℕ × Option �
 LostThere m places p = (lost_at (get nat_cmp m p.0) ≡ Some p.1) × NoneBelow may_be_lost m p.0 × Contains places p.0
 
 module _ (m : BTreeMap ℕ Connection) (n : ℕ) (places : List ℕ) (below : AllBelow n places) (xs : List (Option Connection)) (view : listed m n ≡ xs) where
-  pub lost_first : (r : Option (ℕ × Option ℕ)) → IfNone r (NoneAtAll may_be_lost m) → IfSome r (LostThere m places) → (ss : List ConnStory) → Both ConnStands xs ss → IsFirst Lost no_connection ss r
-  lost_first None none some ss both = none_first ConnStands Lost may_be_lost no_connection m n unlost unlost_over none ss (subst (λ ys. Both ConnStands ys ss) (sym view) both)
+  pub lost_first : (r : Option (ℕ × Option ℕ)) → IfNone r (NoneAtAll may_be_lost m) → IfSome r (LostThere m places) → (ss : List ConnectionModel) → Both ConnectionRepresents xs ss → IsFirst Lost no_connection ss r
+  lost_first None none some ss both = none_first ConnectionRepresents Lost may_be_lost no_connection m n unlost unlost_over none ss (subst (λ ys. Both ConnectionRepresents ys ss) (sym view) both)
   lost_first (Some p) none some ss both =
-      found_first ConnStands Lost may_be_lost no_connection m n unlost unlost_over p.0 p.1 (below p.0 some.2) (λ s h. lost (get nat_cmp m p.0) s p.1 h some.0) some.1 ss (subst (λ ys. Both ConnStands ys ss) (sym view) both)
+      found_first ConnectionRepresents Lost may_be_lost no_connection m n unlost unlost_over p.0 p.1 (below p.0 some.2) (λ s h. lost (get nat_cmp m p.0) s p.1 h some.0) some.1 ss (subst (λ ys. Both ConnectionRepresents ys ss) (sym view) both)
 
   none_by : NoneAtAll may_be_lost m → NoneLost xs
   none_by h i c e =

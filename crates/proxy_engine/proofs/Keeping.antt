@@ -12,7 +12,7 @@ use Rattle.std.proofs.lemmas.List.{ext_get_or, get_or-set_same, get_or-set_other
 use Rattle.std.proofs.lemmas.List.FromFn.{length-map-range_with_len, get_or-map-range_with_len, map-range_with_len_more}
 use Rattle.std.proofs.Math.ListN.{length-set}
 use borrow.Follows.Closed.{read_of}
-use Rattle.proxy_engine.specs.Places.{listed}
+use Rattle.proxy_engine.specs.ReadyList.{listed}
 
 -- a query finds its place and no other
 pub here_at : (p k : ℕ) → k ≡ p → is_at (nat_cmp p) k ≡ true

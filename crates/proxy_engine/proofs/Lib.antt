@@ -11,10 +11,10 @@ pub mod Marking
 pub mod Finding
 pub mod Once
 pub mod Ending
-pub mod Wishing
+pub mod Acting
 pub mod Spending
 pub mod Stepping
-pub mod Wires
+pub mod Pairs
 pub mod Ordering
 pub mod Living
 pub mod Doing

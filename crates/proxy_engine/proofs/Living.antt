@@ -15,7 +15,7 @@ use Rattle.proxy_core.proofs.Driven.{promises_of_a_driven_core}
 use Rattle.proxy_script.specs.declared.effect_list.Effect.{Effect}
 use Rattle.proxy_engine.specs.Admitted.{Refusal, IsAdmitted}
 use Rattle.proxy_engine.specs.Happenings.{Said, Accepts as Accepted, Sends, Hears, Ends, Leaves, Shuts, Fails}
-use Rattle.proxy_engine.specs.Story.{Story, heard, with_core}
+use Rattle.proxy_engine.specs.EngineModel.{EngineModel, heard, with_core}
 use Rattle.proxy_engine.specs.Due.{Act, Abandons, Finishes, Wakes, Serves, Gives, Breaks}
 use Rattle.proxy_engine.specs.Acts.{Came, Replies, Forwards, Nothing, came, after_on, effects_on, next_number, StepsOn, Does, Arrives, Served, Refuses as IsRefused, Closes as IsClosed, Queues}
 use Rattle.proxy_engine.specs.State.{begun}
@@ -23,21 +23,21 @@ use Rattle.proxy_engine.specs.Lives.{Step, Took, Worked, Leads, Lives, place_of,
 
 module _ (table : Table) where
   -- an act is one step of the core, or none
-  abbrev Goes : Story → ℕ → Act → List Effect → Story → Type 0
+  abbrev Goes : EngineModel → ℕ → Act → List Effect → EngineModel → Type 0
   Goes s now act told after =
       ((item : Item) × IsTold table s now act item told after) ⊎ ((after.core ≡ s.core) × HasNoEvent act × IsOwn now (place_of s act) told)
 
-  core_after : (i : ℕ) (to_head : Bool) (q : Came) (s : Story) → (after_on i to_head q s).core ≡ s.core
+  core_after : (i : ℕ) (to_head : Bool) (q : Came) (s : EngineModel) → (after_on i to_head q s).core ≡ s.core
   core_after i to_head (Replies bytes close) s = refl
   core_after i to_head (Forwards address bytes) s = refl
   core_after i to_head Queues s = refl
   core_after i to_head Nothing s = refl
 
-  pub step_told : (now : ℕ) (act : Act) (s t : Story) (to_head : Bool) (event : Event) (told : List Effect) (after : Story) → s.core.table ≡ table → IsEventOf s now act event
+  pub step_told : (now : ℕ) (act : Act) (s t : EngineModel) (to_head : Bool) (event : Event) (told : List Effect) (after : EngineModel) → s.core.table ≡ table → IsEventOf s now act event
       → StepsOn s t (place_of s act) to_head event (drops_of s act) told after → (item : Item) × IsTold table s now act item told after
   step_told now act s t to_head event told after config is h =
       let item : Item = record { event = event; outcome = h.outcome } in
-      let core : after.core ≡ h.core = ap (λ (u : Story). u.core) h.after_is ∙ core_after (place_of s act) to_head (came s.core.table h.outcome) (with_core t h.core) in
+      let core : after.core ≡ h.core = ap (λ (u : EngineModel). u.core) h.after_is ∙ core_after (place_of s act) to_head (came s.core.table h.outcome) (with_core t h.core) in
       let is_told : IsTold table s now act item told after = record {
         event_is = is;
         steps = subst (λ (u : CoreState). Steps s.core event h.outcome u) (sym core) h.steps;
@@ -45,23 +45,23 @@ module _ (table : Table) where
       } in
       (item, is_told)
 
-  stepped : (now : ℕ) (act : Act) (s t : Story) (to_head : Bool) (event : Event) (told : List Effect) (after : Story) → s.core.table ≡ table → IsEventOf s now act event
+  stepped : (now : ℕ) (act : Act) (s t : EngineModel) (to_head : Bool) (event : Event) (told : List Effect) (after : EngineModel) → s.core.table ≡ table → IsEventOf s now act event
       → StepsOn s t (place_of s act) to_head event (drops_of s act) told after → Goes s now act told after
   stepped now act s t to_head event told after config is h = inl (step_told now act s t to_head event told after config is h)
 
-  refused : (now : ℕ) (s : Story) (i : ℕ) (wish : Next Request) (why : Cause) (head : Bool) (told : List Effect) (after : Story) → HasNoEvent (Serves i wish) → IsRefused s now i why head told after → Goes s now (Serves i wish) told after
-  refused now s i wish why head told after none h = inr (ap (λ (u : Story). u.core) h.after_is, none, Refuses why head h.told_is)
+  refused : (now : ℕ) (s : EngineModel) (i : ℕ) (action : Next Request) (why : Cause) (head : Bool) (told : List Effect) (after : EngineModel) → HasNoEvent (Serves i action) → IsRefused s now i why head told after → Goes s now (Serves i action) told after
+  refused now s i action why head told after none h = inr (ap (λ (u : EngineModel). u.core) h.after_is, none, Refuses why head h.told_is)
 
-  shut : (now : ℕ) (s : Story) (i : ℕ) (wish : Next Request) (told : List Effect) (after : Story) → HasNoEvent (Serves i wish) → IsClosed s i told after → Goes s now (Serves i wish) told after
-  shut now s i wish told after none h = inr (ap (λ (u : Story). u.core) h.1, none, Closes h.0)
+  shut : (now : ℕ) (s : EngineModel) (i : ℕ) (action : Next Request) (told : List Effect) (after : EngineModel) → HasNoEvent (Serves i action) → IsClosed s i told after → Goes s now (Serves i action) told after
+  shut now s i action told after none h = inr (ap (λ (u : EngineModel). u.core) h.1, none, Closes h.0)
 
-  arrives : (now : ℕ) (s : Story) (i : ℕ) (r : Request) (judged : Result Asked Refusal) (told : List Effect) (after : Story) → s.core.table ≡ table → IsAdmitted r judged → Arrives s now i r judged told after → Goes s now (Serves i (next.Message r)) told after
+  arrives : (now : ℕ) (s : EngineModel) (i : ℕ) (r : Request) (judged : Result Asked Refusal) (told : List Effect) (after : EngineModel) → s.core.table ≡ table → IsAdmitted r judged → Arrives s now i r judged told after → Goes s now (Serves i (next.Message r)) told after
   arrives now s i r (Ok asked) told after config a h = stepped now (Serves i (next.Message r)) s _ _ _ told after config (asked, a, refl) h.1
   arrives now s i r (Err refusal) told after config a h = refused now s i (next.Message r) _ _ told after (refusal, a) h
 
-  serves : (now : ℕ) (s : Story) (i : ℕ) (wish : Next Request) (told : List Effect) (after : Story) → s.core.table ≡ table → Served s now i wish told after → Goes s now (Serves i wish) told after
+  serves : (now : ℕ) (s : EngineModel) (i : ℕ) (action : Next Request) (told : List Effect) (after : EngineModel) → s.core.table ≡ table → Served s now i action told after → Goes s now (Serves i action) told after
   serves now s i next.More told after config h = absurd h
-  serves now s i next.NeedsContinue told after config h = inr (ap (λ (u : Story). u.core) h.1, tt, Continues h.0)
+  serves now s i next.NeedsContinue told after config h = inr (ap (λ (u : EngineModel). u.core) h.1, tt, Continues h.0)
   serves now s i (next.Message r) told after config h = arrives now s i r h.0 told after config h.1 h.2
   serves now s i (next.Refused frame.Truncated) told after config h = shut now s i (next.Refused frame.Truncated) told after tt h
   serves now s i (next.Refused frame.Head) told after config h = refused now s i (next.Refused frame.Head) _ _ told after tt h
@@ -75,14 +75,14 @@ module _ (table : Table) where
   serves now s i (next.Refused frame.Status) told after config h = refused now s i (next.Refused frame.Status) _ _ told after tt h
   serves now s i next.End told after config h = shut now s i next.End told after tt h
 
-  acts : (now : ℕ) (act : Act) (s : Story) (told : List Effect) (after : Story) → s.core.table ≡ table → Does s now act told after → Goes s now act told after
+  acts : (now : ℕ) (act : Act) (s : EngineModel) (told : List Effect) (after : EngineModel) → s.core.table ≡ table → Does s now act told after → Goes s now act told after
   acts now (Abandons i l) s told after config h = stepped now (Abandons i l) s _ _ _ told after config refl h
   acts now (Finishes j (Gives r)) s told after config h = stepped now (Finishes j (Gives r)) s _ _ _ told after config refl h.1
   acts now (Finishes j (Breaks kind)) s told after config h = stepped now (Finishes j (Breaks kind)) s _ _ _ told after config refl h
   acts now (Wakes i) s told after config h = stepped now (Wakes i) s _ _ _ told after config refl h.1
-  acts now (Serves i wish) s told after config h = serves now s i wish told after config h
+  acts now (Serves i action) s told after config h = serves now s i action told after config h
 
-heard_core : (s : Story) (h : Said) → (heard s h).core ≡ s.core
+heard_core : (s : EngineModel) (h : Said) → (heard s h).core ≡ s.core
 heard_core s (Accepted n) = refl
 heard_core s (Sends n bytes) = refl
 heard_core s (Hears l bytes) = refl
@@ -91,15 +91,15 @@ heard_core s (Leaves n) = refl
 heard_core s (Shuts l) = refl
 heard_core s (Fails l kind) = refl
 
-module _ (table : Table) (limit first : ℕ) (begin : Story) where
+module _ (table : Table) (limit first : ℕ) (begin : EngineModel) where
   -- the core's steps so far, as they were told
-  pub record Runs (steps : List Step) (t : Story) : Type 0 where
+  pub record Runs (steps : List Step) (t : EngineModel) : Type 0 where
     pub trace : List Item
     pub has_run : HasRun table limit first trace t.core
     pub config : t.core.table ≡ table
     pub tells : Tells table begin steps t trace
 
-  worked : (steps : List Step) (now : ℕ) (act : Act) (told : List Effect) (s t : Story) → Leads s (Worked now act told) t → (run : Runs steps s) → Goes table s now act told t → Runs (Worked now act told ∷ steps) t
+  worked : (steps : List Step) (now : ℕ) (act : Act) (told : List Effect) (s t : EngineModel) → Leads s (Worked now act told) t → (run : Runs steps s) → Goes table s now act told t → Runs (Worked now act told ∷ steps) t
   worked steps now act told s t leads run (inl h) = record {
     trace = h.0 ∷ run.trace;
     has_run = (s.core, run.has_run, h.1.steps);
@@ -113,9 +113,9 @@ module _ (table : Table) (limit first : ℕ) (begin : Story) where
     tells = (s, run.trace, run.tells, leads, inr (refl, h.1, h.2));
   }
 
-  step_on : (steps : List Step) (step : Step) (s t : Story) → Leads s step t → Runs steps s → Runs (step ∷ steps) t
+  step_on : (steps : List Step) (step : Step) (s t : EngineModel) → Leads s step t → Runs steps s → Runs (step ∷ steps) t
   step_on steps (Took h) s t l run =
-      let same : t.core ≡ s.core = ap (λ (u : Story). u.core) l.1 ∙ heard_core s h in
+      let same : t.core ≡ s.core = ap (λ (u : EngineModel). u.core) l.1 ∙ heard_core s h in
       record {
         trace = run.trace;
         has_run = subst (λ (u : CoreState). HasRun table limit first run.trace u) (sym same) run.has_run;
@@ -124,9 +124,9 @@ module _ (table : Table) (limit first : ℕ) (begin : Story) where
       }
   step_on steps (Worked now act told) s t l run = worked steps now act told s t l run (acts table now act s told t run.config l.1)
 
-  pub lives : begin.core ≡ core_begun table limit first → (steps : List Step) (t : Story) → Lives begin steps t → Runs steps t
+  pub lives : begin.core ≡ core_begun table limit first → (steps : List Step) (t : EngineModel) → Lives begin steps t → Runs steps t
   lives e [] t h =
-      let core : t.core ≡ core_begun table limit first = ap (λ (u : Story). u.core) h ∙ e in
+      let core : t.core ≡ core_begun table limit first = ap (λ (u : EngineModel). u.core) h ∙ e in
       record { trace = []; has_run = core; config = ap (λ (u : CoreState). u.table) core; tells = (h, refl) }
   lives e (step ∷ steps) t h = step_on steps step h.0 t h.2 (lives e steps h.0 h.1)
 

@@ -11,21 +11,21 @@ use Rattle.hx_framing.specs.declared.messages.Next.{Next}
 use Rattle.hx_framing.specs.declared.messages.Next.TheVariants as next
 use Rattle.hx_status.specs.declared.cause.FailKind.{FailKind}
 use Rattle.proxy_engine.specs.Activities.{link_of, has_exchange}
-use Rattle.proxy_engine.specs.declared.lookahead.Lookahead.{Lookahead}
-use Rattle.proxy_engine.specs.declared.lookahead.Lookahead.TheVariants.{Unknown, Quiet, Due}
+use Rattle.proxy_engine.specs.declared.endpoints.lookahead.Lookahead.{Lookahead}
+use Rattle.proxy_engine.specs.declared.endpoints.lookahead.Lookahead.TheVariants.{Unknown, Quiet, Due}
 use Rattle.proxy_engine.specs.Lookahead.{Shows, is_due, may_show}
-use Rattle.proxy_engine.specs.Story.{ConnStory, LinkStory}
-use Rattle.proxy_engine.specs.Due.{Breaks, Lost, Stood, Wanted, WishBy, FinishBy, is_busy}
-use Rattle.proxy_engine.specs.State.{ConnStands, LinkStands, wish_seen}
-use Rattle.proxy_engine.specs.Places.{Kept, Falls, AllBelow, IsLeast, IsMarked}
+use Rattle.proxy_engine.specs.EngineModel.{ConnectionModel, LinkModel}
+use Rattle.proxy_engine.specs.Due.{Breaks, Lost, Stood, Wanted, ActionBy, FinishBy, is_busy}
+use Rattle.proxy_engine.specs.State.{ConnectionRepresents, LinkRepresents, action_seen}
+use Rattle.proxy_engine.specs.ReadyList.{Kept, Falls, AllBelow, IsLeast, IsMarked}
 use Rattle.proxy_engine.specs.Held.{GrowsConnection, GrowsLink}
 use Rattle.proxy_engine.specs.Marked.{EndList, may_be_lost, may_want, may_stand, Alike, AtEach, NoneBelow, NoneAtAll, lost_at}
-use Rattle.proxy_engine.specs.declared.activities.Activity.{Activity}
-use Rattle.proxy_engine.specs.declared.ends.Connection.{Connection}
-use Rattle.proxy_engine.specs.declared.ends.Link.{Link}
+use Rattle.proxy_engine.specs.declared.endpoints.activities.Activity.{Activity}
+use Rattle.proxy_engine.specs.declared.endpoints.ends.Connection.{Connection}
+use Rattle.proxy_engine.specs.declared.endpoints.ends.Link.{Link}
 use Rattle.proxy_engine.proofs.Keeping.{fits}
 use Rattle.proxy_engine.proofs.Falling.{falls_none}
-use Rattle.proxy_engine.proofs.Shown.{stood, wanted, wanted_busy, finish_by, wish_by}
+use Rattle.proxy_engine.proofs.Shown.{stood, wanted, wanted_busy, finish_by, action_by}
 
 pub some_same : {B : Type 0} {a b : B} → Some a ≡ Some b → a ≡ b
 some_same h = cc
@@ -267,34 +267,34 @@ settled (Due b) a shows e = e
 
 -- ---- what has no flag
 
-pub unlost : (c : Connection) (s : ConnStory) → may_be_lost c ≡ false → ConnStands (Some c) s → Lost s None
+pub unlost : (c : Connection) (s : ConnectionModel) → may_be_lost c ≡ false → ConnectionRepresents (Some c) s → Lost s None
 unlost c s e h = ap (λ (b : Bool). cond b (Some (link_of s.activity)) None) (sym e ∙ (ap (λ (b : Bool). b && has_exchange c.activity) h.gone ∙ ap (λ (a : Activity). s.gone && has_exchange a) h.activity))
 
-pub unlost_over : (s : ConnStory) → ConnStands None s → Lost s None
+pub unlost_over : (s : ConnectionModel) → ConnectionRepresents None s → Lost s None
 unlost_over s h = by_gone s.gone ∙ ap (λ (a : Activity). cond (s.gone && has_exchange a) (Some (link_of s.activity)) None) (sym h.1)
   where
     by_gone : (b : Bool) → None ≡ cond (b && false) (Some (link_of s.activity)) None
     by_gone true = refl
     by_gone false = refl
 
-pub unwanted : (c : Connection) (s : ConnStory) → may_want c ≡ false → ConnStands (Some c) s → Wanted s None
+pub unwanted : (c : Connection) (s : ConnectionModel) → may_want c ≡ false → ConnectionRepresents (Some c) s → Wanted s None
 unwanted c s e h = by_busy (is_busy c.gone false c.activity) refl e
   where
     by_busy : (b : Bool) → is_busy c.gone false c.activity ≡ b → not b && may_show c.reader.ahead ≡ false → Wanted s None
-    by_busy true busy e = subst (λ o. Wanted s o) (ap (λ (b : Bool). cond b None (wish_seen c.reader.ahead)) busy) (wanted_busy c s busy h)
+    by_busy true busy e = subst (λ o. Wanted s o) (ap (λ (b : Bool). cond b None (action_seen c.reader.ahead)) busy) (wanted_busy c s busy h)
     by_busy false idle e =
         let shows = quiet_shows c.reader.ahead e in
-        subst (λ o. Wanted s o) (ap (λ (b : Bool). cond b None (wish_seen c.reader.ahead)) idle ∙ wish_by c.reader.ahead next.More shows) (wanted c s next.More idle h shows)
+        subst (λ o. Wanted s o) (ap (λ (b : Bool). cond b None (action_seen c.reader.ahead)) idle ∙ action_by c.reader.ahead next.More shows) (wanted c s next.More idle h shows)
 
-pub unwanted_over : (s : ConnStory) → ConnStands None s → Wanted s None
-unwanted_over s h = subst (λ (b : Bool). WishBy b s None) (sym (by_over s.gone s.closed h.0)) refl
+pub unwanted_over : (s : ConnectionModel) → ConnectionRepresents None s → Wanted s None
+unwanted_over s h = subst (λ (b : Bool). ActionBy b s None) (sym (by_over s.gone s.closed h.0)) refl
   where
     by_over : (gone closed : Bool) → gone || closed ≡ true → is_busy gone closed s.activity ≡ true
     by_over true closed e = refl
     by_over false true e = refl
     by_over false false e = absurd (cc)
 
-pub unstood : (k : Link) (s : LinkStory) → may_stand k ≡ false → LinkStands (Some k) s → Stood s None
+pub unstood : (k : Link) (s : LinkModel) → may_stand k ≡ false → LinkRepresents (Some k) s → Stood s None
 unstood k s e h =
     let none = no_failure (may_show k.reader.ahead) k.failed e in
     let shows = quiet_shows k.reader.ahead none.0 in
@@ -305,7 +305,7 @@ unstood k s e h =
     no_failure false None e = (refl, refl)
     no_failure false (Some kind) e = absurd cc
 
-pub unstood_over : (s : LinkStory) → LinkStands None s → Stood s None
+pub unstood_over : (s : LinkModel) → LinkRepresents None s → Stood s None
 unstood_over s h = subst (λ (b : Bool). FinishBy b s None) (sym h) refl
 
 -- the link that was read of a gone connection

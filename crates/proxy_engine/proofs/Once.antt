@@ -5,8 +5,8 @@ use Rattle.hx_framing.specs.declared.messages.Request.{Request}
 use Rattle.hx_framing.specs.declared.messages.Next.{Next}
 use Rattle.hx_framing.proofs.RequestOnce.{answered_once_lem as requests_once}
 use Rattle.hx_framing.proofs.ResponseOnce.{answered_once_lem as responses_once}
-use Rattle.proxy_engine.specs.Story.{Story, ConnStory, LinkStory, no_connection, no_link}
-use Rattle.proxy_engine.specs.Due.{Act, Abandons, Finishes, Wakes, Serves, Finish, IsFirst, IsDueFirst, Lost, Stood, FinishBy, Wanted, WishBy, wish_of, finish_of, is_busy}
+use Rattle.proxy_engine.specs.EngineModel.{EngineModel, ConnectionModel, LinkModel, no_connection, no_link}
+use Rattle.proxy_engine.specs.Due.{Act, Abandons, Finishes, Wakes, Serves, Finish, IsFirst, IsDueFirst, Lost, Stood, FinishBy, Wanted, ActionBy, action_of, finish_of, is_busy}
 
 none_some : {B : Type 0} {b : B} {C : Type 0} → ◌≡◌ {A = Option B} None (Some b) → C
 none_some h = cc
@@ -28,33 +28,33 @@ first_once {A} {B} R d xs (Some p) (Some q) once h k = by_order (cases_lt p.0 q.
         let what : p.1 ≡ q.1 = some_same (once (get_or xs q.0 d) (Some p.1) (Some q.1) (subst (λ n. R (get_or xs n d) (Some p.1)) place h.1) k.1) in
         ap (λ n. Some (n, p.1)) place ∙ ap (λ b. Some (q.0, b)) what
 
-lost_once : (x : ConnStory) (o p : Option (Option ℕ)) → Lost x o → Lost x p → o ≡ p
+lost_once : (x : ConnectionModel) (o p : Option (Option ℕ)) → Lost x o → Lost x p → o ≡ p
 lost_once x o p h k = h ∙ sym k
 
-stood_by : (b : Bool) (x : LinkStory) (o p : Option Finish) → FinishBy b x o → FinishBy b x p → o ≡ p
+stood_by : (b : Bool) (x : LinkModel) (o p : Option Finish) → FinishBy b x o → FinishBy b x p → o ≡ p
 stood_by true x o p h k = h ∙ sym k
 stood_by false x o p h k = h.2 ∙ (ap (λ a. finish_of a x.failed) (responses_once x.progress h.0 k.0 h.1 k.1) ∙ sym k.2)
 
-pub stood_once : (x : LinkStory) (o p : Option Finish) → Stood x o → Stood x p → o ≡ p
+pub stood_once : (x : LinkModel) (o p : Option Finish) → Stood x o → Stood x p → o ≡ p
 stood_once x o p h k = stood_by x.dropped x o p h k
 
-wanted_by : (b : Bool) (x : ConnStory) (o p : Option (Next Request)) → WishBy b x o → WishBy b x p → o ≡ p
+wanted_by : (b : Bool) (x : ConnectionModel) (o p : Option (Next Request)) → ActionBy b x o → ActionBy b x p → o ≡ p
 wanted_by true x o p h k = h ∙ sym k
-wanted_by false x o p h k = h.2 ∙ (ap wish_of (requests_once x.progress h.0 k.0 h.1 k.1) ∙ sym k.2)
+wanted_by false x o p h k = h.2 ∙ (ap action_of (requests_once x.progress h.0 k.0 h.1 k.1) ∙ sym k.2)
 
-wanted_once : (x : ConnStory) (o p : Option (Next Request)) → Wanted x o → Wanted x p → o ≡ p
+wanted_once : (x : ConnectionModel) (o p : Option (Next Request)) → Wanted x o → Wanted x p → o ≡ p
 wanted_once x o p h k = wanted_by (is_busy x.gone x.closed x.activity) x o p h k
 
-pub lost_same : (s : Story) (a b : Option (ℕ × Option ℕ)) → IsFirst Lost no_connection s.connections a → IsFirst Lost no_connection s.connections b → a ≡ b
+pub lost_same : (s : EngineModel) (a b : Option (ℕ × Option ℕ)) → IsFirst Lost no_connection s.connections a → IsFirst Lost no_connection s.connections b → a ≡ b
 lost_same s a b h k = first_once Lost no_connection s.connections a b lost_once h k
 
-pub stood_same : (s : Story) (a b : Option (ℕ × Finish)) → IsFirst Stood no_link s.links a → IsFirst Stood no_link s.links b → a ≡ b
+pub stood_same : (s : EngineModel) (a b : Option (ℕ × Finish)) → IsFirst Stood no_link s.links a → IsFirst Stood no_link s.links b → a ≡ b
 stood_same s a b h k = first_once Stood no_link s.links a b stood_once h k
 
-wanted_same : (s : Story) (a b : Option (ℕ × Next Request)) → IsFirst Wanted no_connection s.connections a → IsFirst Wanted no_connection s.connections b → a ≡ b
+wanted_same : (s : EngineModel) (a b : Option (ℕ × Next Request)) → IsFirst Wanted no_connection s.connections a → IsFirst Wanted no_connection s.connections b → a ≡ b
 wanted_same s a b h k = first_once Wanted no_connection s.connections a b wanted_once h k
 
-pub due_first_once : (s : Story) (a b : Option Act) → IsDueFirst s a → IsDueFirst s b → a ≡ b
+pub due_first_once : (s : EngineModel) (a b : Option Act) → IsDueFirst s a → IsDueFirst s b → a ≡ b
 due_first_once s None None h k = refl
 due_first_once s None (Some (Abandons i l)) h k = none_some (lost_same s None (Some (i, l)) h.0 k)
 due_first_once s None (Some (Finishes j f)) h k = none_some (stood_same s None (Some (j, f)) h.1 k.1)

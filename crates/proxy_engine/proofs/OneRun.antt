@@ -4,7 +4,7 @@ use Rattle.std.proofs.lemmas.Option.{same_Some}
 use Rattle.hx_framing.specs.declared.messages.Next.TheVariants as next
 use Rattle.proxy_core.specs.declared.event.Event.{Event}
 use Rattle.proxy_core.specs.Traces.{Item}
-use Rattle.proxy_engine.specs.Story.{Story}
+use Rattle.proxy_engine.specs.EngineModel.{EngineModel}
 use Rattle.proxy_engine.specs.Due.{Act, Abandons, Finishes, Wakes, Serves, Gives, Breaks, IsDueFirst}
 use Rattle.proxy_engine.specs.Acts.{Does}
 use Rattle.proxy_engine.specs.Lives.{Took, Worked, Adds, IsEventOf, ActsInOneWay, HasOneTrace}
@@ -19,7 +19,7 @@ no_other_effects once one_way table limit first now begin last other past act to
     let a = run.tells in
     let b = second.tells in
     let same : a.0 ≡ b.0 = (once table begin past a.0 b.0 a.1 b.1 a.2 b.2).0 in
-    let does = subst (λ (s : Story). Does s now act told last) same a.3.1 in
+    let does = subst (λ (s : EngineModel). Does s now act told last) same a.3.1 in
     differ (one_way b.0 now act told more last other does b.3.1).0
 
 pub no_other_act : HasOneTrace → NoOtherAct
@@ -27,10 +27,10 @@ no_other_act once table limit first now then begin last other past act instead t
     let a = run.tells in
     let b = second.tells in
     let same : a.0 ≡ b.0 = (once table begin past a.0 b.0 a.1 b.1 a.2 b.2).0 in
-    let due = subst (λ (s : Story). IsDueFirst s (Some act)) same a.3.0 in
+    let due = subst (λ (s : EngineModel). IsDueFirst s (Some act)) same a.3.0 in
     differ (some_act (due_first_once b.0 (Some act) (Some instead) due b.3.0))
 
-at_its_moment : (s : Story) (now then : ℕ) (act : Act) (event : Event) → IsEventOf s now act event → moment_of event ≡ Some then → now ≡ then
+at_its_moment : (s : EngineModel) (now then : ℕ) (act : Act) (event : Event) → IsEventOf s now act event → moment_of event ≡ Some then → now ≡ then
 at_its_moment s now then (Abandons i l) event is at = let never : None ≡ Some then = sym (ap moment_of is) ∙ at in absurd (cc)
 at_its_moment s now then (Finishes j (Gives r)) event is at = same_Some now then (sym (ap moment_of is) ∙ at)
 at_its_moment s now then (Finishes j (Breaks kind)) event is at = same_Some now then (sym (ap moment_of is) ∙ at)

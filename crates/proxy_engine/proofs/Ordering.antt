@@ -1,4 +1,4 @@
--- Stories keep their order, and effects name ends that are unshut.
+-- Models keep their order, and effects name ends that are unshut.
 use Rattle.std.proofs.Common.{◌≡◌, ◌⊎◌, inl, inr, ℕ, zero, suc, ◌+◌, ◌-◌, ◌<◌, List, [], ◌∷◌, ◌++◌, length, get_or, set, refl, sym, ap, ◌∙◌, subst, arith, Bool, true, false, ◌||◌, ◌&&◌, cond, Option, None, Some, is_some, map, Result, Ok, Err}
 use Rattle.std.proofs.lemmas.List.{append-nil, map-set, get_or-set_same}
 use Rattle.std.proofs.Math.ListN.{get_or-append, length-map, length-set}
@@ -12,7 +12,7 @@ use Rattle.hx_hop.specs.declared.request_view.Asked.{Asked}
 use Rattle.proxy_engine.specs.Admitted.{Refusal}
 use Rattle.hx_status.specs.declared.cause.Cause.{Cause}
 use Rattle.hx_target.specs.declared.keys.Key.{Key}
-use Rattle.proxy_core.specs.declared.exchange.Exchange.{Exchange}
+use Rattle.proxy_core.specs.declared.open.exchange.Exchange.{Exchange}
 use Rattle.proxy_core.specs.declared.event.Event.TheVariants as events
 use Rattle.proxy_core.specs.declared.outcome.Outcome.{Outcome}
 use Rattle.proxy_core.specs.declared.outcome.Outcome.TheVariants as outcomes
@@ -26,26 +26,26 @@ use Rattle.proxy_core.proofs.Waits.{ready_by}
 use Rattle.proxy_script.specs.declared.effect_list.Effect.{Effect}
 use Rattle.proxy_script.specs.declared.effect_list.Effect.TheVariants as effects
 use Rattle.proxy_engine.specs.Happenings.{Accepts, Sends, Hears, Ends, Leaves, Shuts, Fails}
-use Rattle.proxy_engine.specs.Story.{Story, ConnStory, LinkStory, no_connection, no_link, accepted, opened, connection_at, link_at, with_connection, with_core, heard}
-use Rattle.proxy_engine.specs.Due.{Abandons, Finishes, Wakes, Serves, Finish, Gives, Breaks, FinishBy, WishBy, is_busy, IsDueFirst}
+use Rattle.proxy_engine.specs.EngineModel.{EngineModel, ConnectionModel, LinkModel, no_connection, no_link, accepted, opened, connection_at, link_at, with_connection, with_core, heard}
+use Rattle.proxy_engine.specs.Due.{Abandons, Finishes, Wakes, Serves, Finish, Gives, Breaks, FinishBy, ActionBy, is_busy, IsDueFirst}
 use Rattle.proxy_engine.specs.Acts.{Does, Served, Finished, Woken, Arrives, Refuses, Closes, Replies, came, asks_head, effects_on, after_on, freed, doing, closing, dropping, passing, next_number}
 use Rattle.proxy_engine.specs.Activities.{link_of, has_exchange}
-use Rattle.proxy_engine.specs.Wiring.{Wired, activity_at, at}
+use Rattle.proxy_engine.specs.Pairing.{Paired, activity_at, at}
 use Rattle.proxy_engine.specs.Orderly.{IsOrderly, IsOpen, Drops, NamesOpen, activity_told, owner_told, BeginsOrderly, TakesInOrder, ActsInOrder}
-use Rattle.proxy_engine.specs.declared.activities.Activity.{Activity}
-use Rattle.proxy_engine.specs.declared.activities.Activity.TheVariants.{Free, Forwarded, Waiting}
+use Rattle.proxy_engine.specs.declared.endpoints.activities.Activity.{Activity}
+use Rattle.proxy_engine.specs.declared.endpoints.activities.Activity.TheVariants.{Free, Forwarded, Waiting}
 use Rattle.proxy_engine.proofs.ActivityCases.{free_from, open_from, forwarded_from, waiting_from}
 use Rattle.proxy_engine.proofs.Shown.{lost_by}
 use Rattle.proxy_engine.proofs.Ending.{Remains, Renews, renewed, remains, woken_remains}
-use Rattle.proxy_engine.proofs.Wires.{within, has_place, waits_inside, some_out, ready_waits, wired_more, wired_freed, wired_unqueued, wired_opened, wired_queued, wired_left, wired_again, wired_roused}
+use Rattle.proxy_engine.proofs.Pairs.{within, has_place, waits_inside, some_out, ready_waits, paired_more, paired_freed, paired_unqueued, paired_opened, paired_queued, paired_left, paired_again, paired_awake}
 
 -- what stands at a place of either list
-doing_here : (cs : List ConnStory) (i : ℕ) → activity_at (map activity_told cs) i ≡ (get_or cs i no_connection).activity
+doing_here : (cs : List ConnectionModel) (i : ℕ) → activity_at (map activity_told cs) i ≡ (get_or cs i no_connection).activity
 doing_here [] i = refl
 doing_here (c ∷ cs) zero = refl
 doing_here (c ∷ cs) (suc i) = doing_here cs i
 
-owners_here : (ks : List LinkStory) (j : ℕ) → at (map owner_told ks) j ≡ owner_told (get_or ks j no_link)
+owners_here : (ks : List LinkModel) (j : ℕ) → at (map owner_told ks) j ≡ owner_told (get_or ks j no_link)
 owners_here [] j = refl
 owners_here (k ∷ ks) zero = refl
 owners_here (k ∷ ks) (suc j) = owners_here ks j
@@ -68,74 +68,74 @@ map_more f [] y = refl
 map_more f (x ∷ xs) y = ap (λ ys. f x ∷ ys) (map_more f xs y)
 
 -- a connection that is closed has no unshut exchange
-abbrev IsFree : ConnStory → Type 0
+abbrev IsFree : ConnectionModel → Type 0
 IsFree c = c.closed ≡ true → c.activity ≡ Free
 
-abbrev AllFree : List ConnStory → Type 0
+abbrev AllFree : List ConnectionModel → Type 0
 AllFree cs = (i : ℕ) → IsFree (get_or cs i no_connection)
 
-free_set : (cs : List ConnStory) (i : ℕ) (y : ConnStory) → IsFree y → AllFree cs → AllFree (set cs i y)
+free_set : (cs : List ConnectionModel) (i : ℕ) (y : ConnectionModel) → IsFree y → AllFree cs → AllFree (set cs i y)
 free_set cs i y fine h k = by_case (at_set cs i y k no_connection)
   where
     by_case : (get_or (set cs i y) k no_connection ≡ y) ⊎ (get_or (set cs i y) k no_connection ≡ get_or cs k no_connection) → IsFree (get_or (set cs i y) k no_connection)
-    by_case (inl e) = subst (λ (c : ConnStory). IsFree c) (sym e) fine
-    by_case (inr e) = subst (λ (c : ConnStory). IsFree c) (sym e) (h k)
+    by_case (inl e) = subst (λ (c : ConnectionModel). IsFree c) (sym e) fine
+    by_case (inr e) = subst (λ (c : ConnectionModel). IsFree c) (sym e) (h k)
 
-free_more : (cs : List ConnStory) (y : ConnStory) → IsFree y → AllFree cs → AllFree (cs ++ y ∷ [])
+free_more : (cs : List ConnectionModel) (y : ConnectionModel) → IsFree y → AllFree cs → AllFree (cs ++ y ∷ [])
 free_more cs y fine h k = by_case (at_pushed cs y k no_connection)
   where
     by_case : (get_or (cs ++ y ∷ []) k no_connection ≡ y) ⊎ (get_or (cs ++ y ∷ []) k no_connection ≡ get_or cs k no_connection) → IsFree (get_or (cs ++ y ∷ []) k no_connection)
-    by_case (inl e) = subst (λ (c : ConnStory). IsFree c) (sym e) fine
-    by_case (inr e) = subst (λ (c : ConnStory). IsFree c) (sym e) (h k)
+    by_case (inl e) = subst (λ (c : ConnectionModel). IsFree c) (sym e) fine
+    by_case (inr e) = subst (λ (c : ConnectionModel). IsFree c) (sym e) (h k)
 
-abbrev Order : List ConnStory → List LinkStory → List Exchange → Type 0
-Order cs ks xs = Wired (map activity_told cs) (map owner_told ks) xs × AllFree cs
+abbrev Order : List ConnectionModel → List LinkModel → List Exchange → Type 0
+Order cs ks xs = Paired (map activity_told cs) (map owner_told ks) xs × AllFree cs
 
-order_of : (s : Story) → IsOrderly s → Order s.connections s.links s.core.exchanges
-order_of s h = (h.wired, h.free)
+order_of : (s : EngineModel) → IsOrderly s → Order s.connections s.links s.core.exchanges
+order_of s h = (h.paired, h.free)
 
-orderly : (s : Story) → Order s.connections s.links s.core.exchanges → IsOrderly s
-orderly s h = record { wired = h.0; free = h.1 }
+orderly : (s : EngineModel) → Order s.connections s.links s.core.exchanges → IsOrderly s
+orderly s h = record { paired = h.0; free = h.1 }
 
 -- a connection or a link that changes and names the same
-connection_changed : (cs : List ConnStory) (ks : List LinkStory) (xs : List Exchange) (i : ℕ) (y : ConnStory) → y.activity ≡ (get_or cs i no_connection).activity → IsFree y → Order cs ks xs → Order (set cs i y) ks xs
+connection_changed : (cs : List ConnectionModel) (ks : List LinkModel) (xs : List Exchange) (i : ℕ) (y : ConnectionModel) → y.activity ≡ (get_or cs i no_connection).activity → IsFree y → Order cs ks xs → Order (set cs i y) ks xs
 connection_changed cs ks xs i y same fine h =
-    (subst (λ (ds : List Activity). Wired ds (map owner_told ks) xs) (sym (map-set_same activity_told cs i y no_connection same)) h.0, free_set cs i y fine h.1)
+    (subst (λ (ds : List Activity). Paired ds (map owner_told ks) xs) (sym (map-set_same activity_told cs i y no_connection same)) h.0, free_set cs i y fine h.1)
 
-link_changed : (cs : List ConnStory) (ks : List LinkStory) (xs : List Exchange) (j : ℕ) (y : LinkStory) → owner_told y ≡ owner_told (get_or ks j no_link) → Order cs ks xs → Order cs (set ks j y) xs
+link_changed : (cs : List ConnectionModel) (ks : List LinkModel) (xs : List Exchange) (j : ℕ) (y : LinkModel) → owner_told y ≡ owner_told (get_or ks j no_link) → Order cs ks xs → Order cs (set ks j y) xs
 link_changed cs ks xs j y same h =
-    (subst (λ (os : List (Option ℕ)). Wired (map activity_told cs) os xs) (sym (map-set_same owner_told ks j y no_link same)) h.0, h.1)
+    (subst (λ (os : List (Option ℕ)). Paired (map activity_told cs) os xs) (sym (map-set_same owner_told ks j y no_link same)) h.0, h.1)
 
-doing_by : (b : Bool) (c d : ConnStory) → d.activity ≡ c.activity → (cond b c d).activity ≡ c.activity
+doing_by : (b : Bool) (c d : ConnectionModel) → d.activity ≡ c.activity → (cond b c d).activity ≡ c.activity
 doing_by true c d e = refl
 doing_by false c d e = e
 
-closed_by : (b : Bool) (c d : ConnStory) → d.closed ≡ c.closed → (cond b c d).closed ≡ c.closed
+closed_by : (b : Bool) (c d : ConnectionModel) → d.closed ≡ c.closed → (cond b c d).closed ≡ c.closed
 closed_by true c d e = refl
 closed_by false c d e = e
 
-owner_by : (b : Bool) (k d : LinkStory) → owner_told d ≡ owner_told k → owner_told (cond b k d) ≡ owner_told k
+owner_by : (b : Bool) (k d : LinkModel) → owner_told d ≡ owner_told k → owner_told (cond b k d) ≡ owner_told k
 owner_by true k d e = refl
 owner_by false k d e = e
 
-marked : (s : Story) (i : ℕ) (b : Bool) (d : ConnStory) → d.activity ≡ (connection_at s i).activity → d.closed ≡ (connection_at s i).closed → IsOrderly s
+marked : (s : EngineModel) (i : ℕ) (b : Bool) (d : ConnectionModel) → d.activity ≡ (connection_at s i).activity → d.closed ≡ (connection_at s i).closed → IsOrderly s
     → Order (set s.connections i (cond b (connection_at s i) d)) s.links s.core.exchanges
 marked s i b d l k h =
     let c = connection_at s i in
     connection_changed s.connections s.links s.core.exchanges i (cond b c d) (doing_by b c d l) (λ e. doing_by b c d l ∙ h.free i (sym (closed_by b c d k) ∙ e)) (order_of s h)
 
-marked_link : (s : Story) (j : ℕ) (b : Bool) (d : LinkStory) → owner_told d ≡ owner_told (link_at s j) → IsOrderly s → Order s.connections (set s.links j (cond b (link_at s j) d)) s.core.exchanges
+marked_link : (s : EngineModel) (j : ℕ) (b : Bool) (d : LinkModel) → owner_told d ≡ owner_told (link_at s j) → IsOrderly s → Order s.connections (set s.links j (cond b (link_at s j) d)) s.core.exchanges
 marked_link s j b d e h = link_changed s.connections s.links s.core.exchanges j (cond b (link_at s j) d) (owner_by b (link_at s j) d e) (order_of s h)
 
 pub begins_orderly : BeginsOrderly
 begins_orderly core first none = record {
-  wired = subst (λ (xs : List Exchange). Wired [] [] xs) (sym none) record { owned = λ i j e. cc; linked = λ i j e. cc; opened = λ i. refl; numbered = refl };
+  paired = subst (λ (xs : List Exchange). Paired [] [] xs) (sym none) record { owned = λ i j e. cc; linked = λ i j e. cc; opened = λ i. refl; numbered = refl };
   free = λ i e. refl;
 }
 
 pub takes_in_order : TakesInOrder
 takes_in_order s (Accepts n) h = record {
-  wired = subst (λ (ds : List Activity). Wired ds (map owner_told s.links) s.core.exchanges) (sym (map_more activity_told s.connections (accepted s.core.table.max_body))) (wired_more (map activity_told s.connections) (map owner_told s.links) s.core.exchanges h.wired);
+  paired = subst (λ (ds : List Activity). Paired ds (map owner_told s.links) s.core.exchanges) (sym (map_more activity_told s.connections (accepted s.core.table.max_body))) (paired_more (map activity_told s.connections) (map owner_told s.links) s.core.exchanges h.paired);
   free = free_more s.connections (accepted s.core.table.max_body) (λ e. refl) h.free;
 }
 takes_in_order s (Sends n bytes) h = orderly (heard s (Sends n bytes)) (let c = connection_at s (n - 1) in marked s (n - 1) (c.gone || (c.closed || c.progress.ended)) (record c { progress = fed c.progress bytes }) refl refl h)
@@ -147,48 +147,48 @@ takes_in_order s (Fails l kind) h = orderly (heard s (Fails l kind)) (let k = li
 
 -- ---- acts
 
-freed_order : (cs : List ConnStory) (ks : List LinkStory) (xs : List Exchange) (i j : ℕ) (c : ConnStory) (k : LinkStory) → link_of (activity_at (map activity_told cs) i) ≡ Some j → Order cs ks xs → Order (set cs i (doing Free c)) (set ks j (dropping k)) (closed (i + 1) xs)
+freed_order : (cs : List ConnectionModel) (ks : List LinkModel) (xs : List Exchange) (i j : ℕ) (c : ConnectionModel) (k : LinkModel) → link_of (activity_at (map activity_told cs) i) ≡ Some j → Order cs ks xs → Order (set cs i (doing Free c)) (set ks j (dropping k)) (closed (i + 1) xs)
 freed_order cs ks xs i j c k here h = (
-  subst (λ (ds : List Activity). Wired ds (map owner_told (set ks j (dropping k))) (closed (i + 1) xs)) (sym (map-set activity_told cs i (doing Free c)))
-      (subst (λ (os : List (Option ℕ)). Wired (set (map activity_told cs) i Free) os (closed (i + 1) xs)) (sym (map-set owner_told ks j (dropping k))) (wired_freed (map activity_told cs) (map owner_told ks) xs i j here h.0)),
+  subst (λ (ds : List Activity). Paired ds (map owner_told (set ks j (dropping k))) (closed (i + 1) xs)) (sym (map-set activity_told cs i (doing Free c)))
+      (subst (λ (os : List (Option ℕ)). Paired (set (map activity_told cs) i Free) os (closed (i + 1) xs)) (sym (map-set owner_told ks j (dropping k))) (paired_freed (map activity_told cs) (map owner_told ks) xs i j here h.0)),
   free_set cs i (doing Free c) (λ e. refl) h.1,
 )
 
 -- the exchanges that an invalidation marks stay open
-left_order : (cs : List ConnStory) (ks : List LinkStory) (xs : List Exchange) (key : Option Key) (id : ℕ) → Order cs ks (closed id xs) → Order cs ks (left_open key id xs)
-left_order cs ks xs key id h = (wired_left (map activity_told cs) (map owner_told ks) xs key id h.0, h.1)
+left_order : (cs : List ConnectionModel) (ks : List LinkModel) (xs : List Exchange) (key : Option Key) (id : ℕ) → Order cs ks (closed id xs) → Order cs ks (left_open key id xs)
+left_order cs ks xs key id h = (paired_left (map activity_told cs) (map owner_told ks) xs key id h.0, h.1)
 
-closing_order : (cs : List ConnStory) (ks : List LinkStory) (xs : List Exchange) (i : ℕ) (close : Bool) → (get_or cs i no_connection).activity ≡ Free → Order cs ks xs → Order (set cs i (closing close (get_or cs i no_connection))) ks xs
+closing_order : (cs : List ConnectionModel) (ks : List LinkModel) (xs : List Exchange) (i : ℕ) (close : Bool) → (get_or cs i no_connection).activity ≡ Free → Order cs ks xs → Order (set cs i (closing close (get_or cs i no_connection))) ks xs
 closing_order cs ks xs i close none h = connection_changed cs ks xs i (closing close (get_or cs i no_connection)) refl (λ e. none) h
 
-opened_order : (cs : List ConnStory) (ks : List LinkStory) (xs : List Exchange) (x : Exchange) (i max_body : ℕ) (to_head : Bool) → i < length cs → (get_or cs i no_connection).activity ≡ Free → (get_or cs i no_connection).closed ≡ false → x.id ≡ i + 1 → is_forwarded x.stage ≡ true → Order cs ks xs
+opened_order : (cs : List ConnectionModel) (ks : List LinkModel) (xs : List Exchange) (x : Exchange) (i max_body : ℕ) (to_head : Bool) → i < length cs → (get_or cs i no_connection).activity ≡ Free → (get_or cs i no_connection).closed ≡ false → x.id ≡ i + 1 → is_forwarded x.stage ≡ true → Order cs ks xs
     → Order (set cs i (doing (Forwarded (length ks)) (get_or cs i no_connection))) (ks ++ opened max_body to_head i ∷ []) (xs ++ x ∷ [])
 opened_order cs ks xs x i max_body to_head here none unshut id staged h =
     let y = doing (Forwarded (length ks)) (get_or cs i no_connection) in
     let size : length (map owner_told ks) ≡ length ks = length-map ks owner_told in
     let most : length (map activity_told cs) ≡ length cs = length-map cs activity_told in
-    let opens = wired_opened (map activity_told cs) (map owner_told ks) xs x i (omega (arith, here, most)) (doing_here cs i ∙ none) id staged h.0 in
-    let sized = subst (λ (n : ℕ). Wired (set (map activity_told cs) i (Forwarded n)) (map owner_told ks ++ Some i ∷ []) (xs ++ x ∷ [])) size opens in (
-      subst (λ (ds : List Activity). Wired ds (map owner_told (ks ++ opened max_body to_head i ∷ [])) (xs ++ x ∷ [])) (sym (map-set activity_told cs i y))
-          (subst (λ (os : List (Option ℕ)). Wired (set (map activity_told cs) i (Forwarded (length ks))) os (xs ++ x ∷ [])) (sym (map_more owner_told ks (opened max_body to_head i))) sized),
+    let opens = paired_opened (map activity_told cs) (map owner_told ks) xs x i (omega (arith, here, most)) (doing_here cs i ∙ none) id staged h.0 in
+    let sized = subst (λ (n : ℕ). Paired (set (map activity_told cs) i (Forwarded n)) (map owner_told ks ++ Some i ∷ []) (xs ++ x ∷ [])) size opens in (
+      subst (λ (ds : List Activity). Paired ds (map owner_told (ks ++ opened max_body to_head i ∷ [])) (xs ++ x ∷ [])) (sym (map-set activity_told cs i y))
+          (subst (λ (os : List (Option ℕ)). Paired (set (map activity_told cs) i (Forwarded (length ks))) os (xs ++ x ∷ [])) (sym (map_more owner_told ks (opened max_body to_head i))) sized),
       free_set cs i y (λ e. let shut = sym unshut ∙ e in cc) h.1,
     )
 
 -- the request of the connection at i waits
-queued_order : (cs : List ConnStory) (ks : List LinkStory) (xs : List Exchange) (x : Exchange) (i : ℕ) → i < length cs → (get_or cs i no_connection).activity ≡ Free → (get_or cs i no_connection).closed ≡ false → x.id ≡ i + 1 → is_forwarded x.stage ≡ false → Order cs ks xs
+queued_order : (cs : List ConnectionModel) (ks : List LinkModel) (xs : List Exchange) (x : Exchange) (i : ℕ) → i < length cs → (get_or cs i no_connection).activity ≡ Free → (get_or cs i no_connection).closed ≡ false → x.id ≡ i + 1 → is_forwarded x.stage ≡ false → Order cs ks xs
     → Order (set cs i (doing Waiting (get_or cs i no_connection))) ks (xs ++ x ∷ [])
 queued_order cs ks xs x i here none unshut id staged h =
     let y = doing Waiting (get_or cs i no_connection) in
     let most : length (map activity_told cs) ≡ length cs = length-map cs activity_told in (
-      subst (λ (ds : List Activity). Wired ds (map owner_told ks) (xs ++ x ∷ [])) (sym (map-set activity_told cs i y))
-          (wired_queued (map activity_told cs) (map owner_told ks) xs x i (omega (arith, here, most)) (doing_here cs i ∙ none) id staged h.0),
+      subst (λ (ds : List Activity). Paired ds (map owner_told ks) (xs ++ x ∷ [])) (sym (map-set activity_told cs i y))
+          (paired_queued (map activity_told cs) (map owner_told ks) xs x i (omega (arith, here, most)) (doing_here cs i ∙ none) id staged h.0),
       free_set cs i y (λ e. let shut = sym unshut ∙ e in cc) h.1,
     )
 
 -- the exchange of one that waited ends
-unqueued_order : (cs : List ConnStory) (ks : List LinkStory) (xs : List Exchange) (i : ℕ) (c : ConnStory) → activity_at (map activity_told cs) i ≡ Waiting → Order cs ks xs → Order (set cs i (doing Free c)) ks (closed (i + 1) xs)
+unqueued_order : (cs : List ConnectionModel) (ks : List LinkModel) (xs : List Exchange) (i : ℕ) (c : ConnectionModel) → activity_at (map activity_told cs) i ≡ Waiting → Order cs ks xs → Order (set cs i (doing Free c)) ks (closed (i + 1) xs)
 unqueued_order cs ks xs i c here h = (
-  subst (λ (ds : List Activity). Wired ds (map owner_told ks) (closed (i + 1) xs)) (sym (map-set activity_told cs i (doing Free c))) (wired_unqueued (map activity_told cs) (map owner_told ks) xs i here h.0),
+  subst (λ (ds : List Activity). Paired ds (map owner_told ks) (closed (i + 1) xs)) (sym (map-set activity_told cs i (doing Free c))) (paired_unqueued (map activity_told cs) (map owner_told ks) xs i here h.0),
   free_set cs i (doing Free c) (λ e. refl) h.1,
 )
 
@@ -197,40 +197,40 @@ or_true true c e = refl
 or_true false c e = e
 
 -- the connection at i, in a list that has it, is closed
-shut_there : (cs : List ConnStory) (i : ℕ) (c : ConnStory) (close : Bool) → i < length cs → close ≡ true → (get_or (set cs i (closing close c)) i no_connection).closed ≡ true
-shut_there cs i c close here e = ap (λ (c : ConnStory). c.closed) (get_or-set_same cs i (closing close c) no_connection here) ∙ or_true c.closed close e
+shut_there : (cs : List ConnectionModel) (i : ℕ) (c : ConnectionModel) (close : Bool) → i < length cs → close ≡ true → (get_or (set cs i (closing close c)) i no_connection).closed ≡ true
+shut_there cs i c close here e = ap (λ (c : ConnectionModel). c.closed) (get_or-set_same cs i (closing close c) no_connection here) ∙ or_true c.closed close e
 
-names_reply : (s after : Story) (i n : ℕ) (bytes : List ℕ) (close : Bool) → IsOpen s (i + 1) → (close ≡ true → (connection_at after i).closed ≡ true) → NamesOpen s after (effects_on i n (Replies bytes close))
+names_reply : (s after : EngineModel) (i n : ℕ) (bytes : List ℕ) (close : Bool) → IsOpen s (i + 1) → (close ≡ true → (connection_at after i).closed ≡ true) → NamesOpen s after (effects_on i n (Replies bytes close))
 names_reply s after i n bytes true unshut shut = (unshut, (unshut, (i, refl, shut refl), refl))
 names_reply s after i n bytes false unshut shut = (unshut, tt)
 
-both_moved : (s now after : Story) (told said : List Effect) → after ≡ now → told ≡ said → IsOrderly now → NamesOpen s now said → IsOrderly after × NamesOpen s after told
+both_moved : (s now after : EngineModel) (told said : List Effect) → after ≡ now → told ≡ said → IsOrderly now → NamesOpen s now said → IsOrderly after × NamesOpen s after told
 both_moved s now after told said a t h names =
-    (subst (λ (x : Story). IsOrderly x) (sym a) h, subst (λ (x : Story). NamesOpen s x told) (sym a) (subst (λ (es : List Effect). NamesOpen s now es) (sym t) names))
+    (subst (λ (x : EngineModel). IsOrderly x) (sym a) h, subst (λ (x : EngineModel). NamesOpen s x told) (sym a) (subst (λ (es : List Effect). NamesOpen s now es) (sym t) names))
 
 -- the connection at i has a new link for its exchange
-again_order : (cs : List ConnStory) (ks : List LinkStory) (xs : List Exchange) (i j max_body : ℕ) (g : Exchange → Exchange) → Renews g → (to_head : Bool) (c : ConnStory) (k : LinkStory) → link_of (activity_at (map activity_told cs) i) ≡ Some j → c.closed ≡ false → is_some (find_exchange (i + 1) xs) ≡ true → Order cs ks xs
+again_order : (cs : List ConnectionModel) (ks : List LinkModel) (xs : List Exchange) (i j max_body : ℕ) (g : Exchange → Exchange) → Renews g → (to_head : Bool) (c : ConnectionModel) (k : LinkModel) → link_of (activity_at (map activity_told cs) i) ≡ Some j → c.closed ≡ false → is_some (find_exchange (i + 1) xs) ≡ true → Order cs ks xs
     → Order (set (set cs i (doing Free c)) i (doing (Forwarded (length (set ks j (dropping k)))) (get_or (set cs i (doing Free c)) i no_connection))) (set ks j (dropping k) ++ opened max_body to_head i ∷ []) (map (renewed (i + 1) g) xs)
 again_order cs ks xs i j max_body g r to_head c k here unshut there h = (
-  subst (λ (ds : List Activity). Wired ds (map owner_told (free ++ opened max_body to_head i ∷ [])) ys) (sym wires)
-      (subst (λ (os : List (Option ℕ)). Wired (set (set (map activity_told cs) i Free) i (Forwarded (length free))) os ys) (sym owners) sized),
+  subst (λ (ds : List Activity). Paired ds (map owner_told (free ++ opened max_body to_head i ∷ [])) ys) (sym pairing)
+      (subst (λ (os : List (Option ℕ)). Paired (set (set (map activity_told cs) i Free) i (Forwarded (length free))) os ys) (sym owners) sized),
   free_set (set cs i (doing Free c)) i y (λ e. let shut = sym (still ∙ unshut) ∙ e in cc) (free_set cs i (doing Free c) (λ e. refl) h.1),
 )
   where
     ys : List Exchange
     ys = map (renewed (i + 1) g) xs
 
-    free : List LinkStory
+    free : List LinkModel
     free = set ks j (dropping k)
 
-    y : ConnStory
+    y : ConnectionModel
     y = doing (Forwarded (length free)) (get_or (set cs i (doing Free c)) i no_connection)
 
     inside : i < length cs
     inside = subst (λ n. i < n) (length-map cs activity_told) (has_place (map activity_told cs) i j here)
 
     still : y.closed ≡ c.closed
-    still = ap (λ (d : ConnStory). d.closed) (get_or-set_same cs i (doing Free c) no_connection inside)
+    still = ap (λ (d : ConnectionModel). d.closed) (get_or-set_same cs i (doing Free c) no_connection inside)
 
     dropped : map owner_told free ≡ set (map owner_told ks) j None
     dropped = map-set owner_told ks j (dropping k)
@@ -238,53 +238,53 @@ again_order cs ks xs i j max_body g r to_head c k here unshut there h = (
     size : length (set (map owner_told ks) j None) ≡ length free
     size = sym (ap length dropped) ∙ length-map free owner_told
 
-    sized : Wired (set (set (map activity_told cs) i Free) i (Forwarded (length free))) (set (map owner_told ks) j None ++ Some i ∷ []) ys
-    sized = subst (λ (n : ℕ). Wired (set (set (map activity_told cs) i Free) i (Forwarded n)) (set (map owner_told ks) j None ++ Some i ∷ []) ys) size
-        (wired_again (map activity_told cs) (map owner_told ks) xs i j g r here there h.0)
+    sized : Paired (set (set (map activity_told cs) i Free) i (Forwarded (length free))) (set (map owner_told ks) j None ++ Some i ∷ []) ys
+    sized = subst (λ (n : ℕ). Paired (set (set (map activity_told cs) i Free) i (Forwarded n)) (set (map owner_told ks) j None ++ Some i ∷ []) ys) size
+        (paired_again (map activity_told cs) (map owner_told ks) xs i j g r here there h.0)
 
-    wires : map activity_told (set (set cs i (doing Free c)) i y) ≡ set (set (map activity_told cs) i Free) i (Forwarded (length free))
-    wires = map-set activity_told (set cs i (doing Free c)) i y ∙ ap (λ (ds : List Activity). set ds i (Forwarded (length free))) (map-set activity_told cs i (doing Free c))
+    pairing : map activity_told (set (set cs i (doing Free c)) i y) ≡ set (set (map activity_told cs) i Free) i (Forwarded (length free))
+    pairing = map-set activity_told (set cs i (doing Free c)) i y ∙ ap (λ (ds : List Activity). set ds i (Forwarded (length free))) (map-set activity_told cs i (doing Free c))
 
     owners : map owner_told (free ++ opened max_body to_head i ∷ []) ≡ set (map owner_told ks) j None ++ Some i ∷ []
     owners = map_more owner_told free (opened max_body to_head i) ∙ ap (λ (os : List (Option ℕ)). os ++ Some i ∷ []) dropped
 
 -- the connection at i, whose request waited, has a link for its exchange
-roused_order : (cs : List ConnStory) (ks : List LinkStory) (xs : List Exchange) (i max_body : ℕ) (g : Exchange → Exchange) → Renews g → (to_head : Bool) (c : ConnStory) → activity_at (map activity_told cs) i ≡ Waiting → c.closed ≡ false → is_some (find_exchange (i + 1) xs) ≡ true → Order cs ks xs
+awake_order : (cs : List ConnectionModel) (ks : List LinkModel) (xs : List Exchange) (i max_body : ℕ) (g : Exchange → Exchange) → Renews g → (to_head : Bool) (c : ConnectionModel) → activity_at (map activity_told cs) i ≡ Waiting → c.closed ≡ false → is_some (find_exchange (i + 1) xs) ≡ true → Order cs ks xs
     → Order (set (set cs i (doing Free c)) i (doing (Forwarded (length ks)) (get_or (set cs i (doing Free c)) i no_connection))) (ks ++ opened max_body to_head i ∷ []) (map (renewed (i + 1) g) xs)
-roused_order cs ks xs i max_body g r to_head c here unshut there h = (
-  subst (λ (ds : List Activity). Wired ds (map owner_told (ks ++ opened max_body to_head i ∷ [])) ys) (sym wires)
-      (subst (λ (os : List (Option ℕ)). Wired (set (set (map activity_told cs) i Free) i (Forwarded (length ks))) os ys) (sym (map_more owner_told ks (opened max_body to_head i))) sized),
+awake_order cs ks xs i max_body g r to_head c here unshut there h = (
+  subst (λ (ds : List Activity). Paired ds (map owner_told (ks ++ opened max_body to_head i ∷ [])) ys) (sym pairing)
+      (subst (λ (os : List (Option ℕ)). Paired (set (set (map activity_told cs) i Free) i (Forwarded (length ks))) os ys) (sym (map_more owner_told ks (opened max_body to_head i))) sized),
   free_set (set cs i (doing Free c)) i y (λ e. let shut = sym (still ∙ unshut) ∙ e in cc) (free_set cs i (doing Free c) (λ e. refl) h.1),
 )
   where
     ys : List Exchange
     ys = map (renewed (i + 1) g) xs
 
-    y : ConnStory
+    y : ConnectionModel
     y = doing (Forwarded (length ks)) (get_or (set cs i (doing Free c)) i no_connection)
 
     inside : i < length cs
     inside = subst (λ n. i < n) (length-map cs activity_told) (waits_inside (map activity_told cs) i here)
 
     still : y.closed ≡ c.closed
-    still = ap (λ (d : ConnStory). d.closed) (get_or-set_same cs i (doing Free c) no_connection inside)
+    still = ap (λ (d : ConnectionModel). d.closed) (get_or-set_same cs i (doing Free c) no_connection inside)
 
-    sized : Wired (set (set (map activity_told cs) i Free) i (Forwarded (length ks))) (map owner_told ks ++ Some i ∷ []) ys
-    sized = subst (λ (n : ℕ). Wired (set (set (map activity_told cs) i Free) i (Forwarded n)) (map owner_told ks ++ Some i ∷ []) ys) (length-map ks owner_told)
-        (wired_roused (map activity_told cs) (map owner_told ks) xs i g r here there h.0)
+    sized : Paired (set (set (map activity_told cs) i Free) i (Forwarded (length ks))) (map owner_told ks ++ Some i ∷ []) ys
+    sized = subst (λ (n : ℕ). Paired (set (set (map activity_told cs) i Free) i (Forwarded n)) (map owner_told ks ++ Some i ∷ []) ys) (length-map ks owner_told)
+        (paired_awake (map activity_told cs) (map owner_told ks) xs i g r here there h.0)
 
-    wires : map activity_told (set (set cs i (doing Free c)) i y) ≡ set (set (map activity_told cs) i Free) i (Forwarded (length ks))
-    wires = map-set activity_told (set cs i (doing Free c)) i y ∙ ap (λ (ds : List Activity). set ds i (Forwarded (length ks))) (map-set activity_told cs i (doing Free c))
+    pairing : map activity_told (set (set cs i (doing Free c)) i y) ≡ set (set (map activity_told cs) i Free) i (Forwarded (length ks))
+    pairing = map-set activity_told (set cs i (doing Free c)) i y ∙ ap (λ (ds : List Activity). set ds i (Forwarded (length ks))) (map-set activity_told cs i (doing Free c))
 
-finished_order : (s : Story) (i j : ℕ) (o : Outcome) (core : CoreState) (to_head : Bool) (told : List Effect) (after : Story) → IsOrderly s → j < length s.links → link_of (activity_at (map activity_told s.connections) i) ≡ Some j → (link_at s j).dropped ≡ false → IsOpen s (i + 1) → (connection_at s i).closed ≡ false
+finished_order : (s : EngineModel) (i j : ℕ) (o : Outcome) (core : CoreState) (to_head : Bool) (told : List Effect) (after : EngineModel) → IsOrderly s → j < length s.links → link_of (activity_at (map activity_told s.connections) i) ≡ Some j → (link_at s j).dropped ≡ false → IsOpen s (i + 1) → (connection_at s i).closed ≡ false
     → is_some (find_exchange (i + 1) s.core.exchanges) ≡ true → Remains o (i + 1) s.core.exchanges core.exchanges → told ≡ effects.Drop (s.first + j) ∷ effects_on i (next_number s) (came s.core.table o) → after ≡ after_on i to_head (came s.core.table o) (with_core (freed s j i) core)
     → IsOrderly after × NamesOpen s after told
 finished_order s i j o core to_head told after h within_links here link_open unshut unclosed there left told_is after_is = by_outcome o left told_is after_is
   where
-    cs : List ConnStory
+    cs : List ConnectionModel
     cs = set s.connections i (doing Free (connection_at s i))
 
-    ks : List LinkStory
+    ks : List LinkModel
     ks = set s.links j (dropping (link_at s j))
 
     inside : i < length s.connections
@@ -294,19 +294,19 @@ finished_order s i j o core to_head told after h within_links here link_open uns
     inside_now = subst (λ n. i < n) (sym (length-set s.connections i (doing Free (connection_at s i)))) inside
 
     none : (get_or cs i no_connection).activity ≡ Free
-    none = ap (λ (c : ConnStory). c.activity) (get_or-set_same s.connections i (doing Free (connection_at s i)) no_connection inside)
+    none = ap (λ (c : ConnectionModel). c.activity) (get_or-set_same s.connections i (doing Free (connection_at s i)) no_connection inside)
 
-    base : Story
+    base : EngineModel
     base = with_core (freed s j i) core
 
     free : (key : Option Key) → core.exchanges ≡ left_open key (i + 1) s.core.exchanges → Order cs ks core.exchanges
     free key xs = subst (λ (xs : List Exchange). Order cs ks xs) (sym xs) (left_order cs ks s.core.exchanges key (i + 1) (freed_order s.connections s.links s.core.exchanges i j (connection_at s i) (link_at s j) here (order_of s h)))
 
-    drops : (t : Story) (more : List LinkStory) → t.links ≡ ks ++ more → Drops s t (s.first + j)
+    drops : (t : EngineModel) (more : List LinkModel) → t.links ≡ ks ++ more → Drops s t (s.first + j)
     drops t more e =
         let first_of : get_or (ks ++ more) j no_link ≡ get_or ks j no_link = get_or-append ks more no_link j (subst (λ n. j < n) (sym (length-set s.links j (dropping (link_at s j)))) within_links) in
-        let link : link_at t j ≡ dropping (link_at s j) = ap (λ (ls : List LinkStory). get_or ls j no_link) e ∙ (first_of ∙ get_or-set_same s.links j (dropping (link_at s j)) no_link within_links) in
-        record { place = j; number = refl; still = link_open; dropped = ap (λ (k : LinkStory). k.dropped) link }
+        let link : link_at t j ≡ dropping (link_at s j) = ap (λ (ls : List LinkModel). get_or ls j no_link) e ∙ (first_of ∙ get_or-set_same s.links j (dropping (link_at s j)) no_link within_links) in
+        record { place = j; number = refl; still = link_open; dropped = ap (λ (k : LinkModel). k.dropped) link }
 
     by_outcome : (o : Outcome) → Remains o (i + 1) s.core.exchanges core.exchanges → told ≡ effects.Drop (s.first + j) ∷ effects_on i (next_number s) (came s.core.table o) → after ≡ after_on i to_head (came s.core.table o) base → IsOrderly after × NamesOpen s after told
     by_outcome (outcomes.Reply r) left told_is after_is =
@@ -342,11 +342,11 @@ owner_is : (b : Bool) (n : ℕ) → b ≡ false → ◌≡◌ {A = Option ℕ} (
 owner_is true n e = cc
 owner_is false n e = refl
 
-stands_open : (b : Bool) (k : LinkStory) (f : Finish) → FinishBy b k (Some f) → b ≡ false
+stands_open : (b : Bool) (k : LinkModel) (f : Finish) → FinishBy b k (Some f) → b ≡ false
 stands_open true k f h = cc
 stands_open false k f h = refl
 
-not_busy : (b : Bool) (c : ConnStory) (w : Next Request) → WishBy b c (Some w) → b ≡ false
+not_busy : (b : Bool) (c : ConnectionModel) (w : Next Request) → ActionBy b c (Some w) → b ≡ false
 not_busy true c w h = cc
 not_busy false c w h = refl
 
@@ -356,7 +356,7 @@ busy_parts false true a e = cc
 busy_parts false false a e = (refl, refl, free_from a e)
 
 -- the exchange on the link at j is finished
-finishes_order : (s : Story) (now j : ℕ) (f : Finish) (told : List Effect) (after : Story) → IsOrderly s → IsDueFirst s (Some (Finishes j f)) → Finished s now j (link_at s j).connection f told after → IsOrderly after × NamesOpen s after told
+finishes_order : (s : EngineModel) (now j : ℕ) (f : Finish) (told : List Effect) (after : EngineModel) → IsOrderly s → IsDueFirst s (Some (Finishes j f)) → Finished s now j (link_at s j).connection f told after → IsOrderly after × NamesOpen s after told
 finishes_order s now j f told after h due done = by_finish f done
   where
     i : ℕ
@@ -369,7 +369,7 @@ finishes_order s now j f told after h due done = by_finish f done
     link_open = stands_open (link_at s j).dropped (link_at s j) f due.1.1
 
     here : link_of (activity_at (map activity_told s.connections) i) ≡ Some j
-    here = h.wired.linked i j (owners_here s.links j ∙ owner_is (link_at s j).dropped i link_open)
+    here = h.paired.linked i j (owners_here s.links j ∙ owner_is (link_at s j).dropped i link_open)
 
     linked_here : link_of (connection_at s i).activity ≡ Some j
     linked_here = sym (ap link_of (doing_here s.connections i)) ∙ here
@@ -384,7 +384,7 @@ finishes_order s now j f told after h due done = by_finish f done
     unshut = record { place = i; number = refl; closed = unclosed; gone = gone_by (connection_at s i).gone (has_exchange (connection_at s i).activity) (link_of (connection_at s i).activity) (due.0 i inside) (open_from (connection_at s i).activity j linked_here) }
 
     is_there : is_some (find_exchange (i + 1) xs) ≡ true
-    is_there = some_out (find_exchange (i + 1) xs) true (h.wired.opened i ∙ forwarded_from (activity_at (map activity_told s.connections) i) j here)
+    is_there = some_out (find_exchange (i + 1) xs) true (h.paired.opened i ∙ forwarded_from (activity_at (map activity_told s.connections) i) j here)
 
     by_finish : (f : Finish) → Finished s now j i f told after → IsOrderly after × NamesOpen s after told
     by_finish (Gives r) d =
@@ -395,10 +395,10 @@ finishes_order s now j f told after h due done = by_finish f done
         (remains s.core d.core now (i + 1) (Breaks kind) d.outcome is_there d.steps) d.told_is d.after_is
 
 -- the exchange of the connection at i is abandoned, and its link
-abandons_order : (s : Story) (now i l : ℕ) (told : List Effect) (after : Story) → IsOrderly s → link_of (connection_at s i).activity ≡ Some l → Does s now (Abandons i (Some l)) told after → IsOrderly after × NamesOpen s after told
+abandons_order : (s : EngineModel) (now i l : ℕ) (told : List Effect) (after : EngineModel) → IsOrderly s → link_of (connection_at s i).activity ≡ Some l → Does s now (Abandons i (Some l)) told after → IsOrderly after × NamesOpen s after told
 abandons_order s now i l told after h linked_here done =
     let here : link_of (activity_at (map activity_told s.connections) i) ≡ Some l = ap link_of (doing_here s.connections i) ∙ linked_here in
-    let owner : at (map owner_told s.links) l ≡ Some i = h.wired.owned i l here in
+    let owner : at (map owner_told s.links) l ≡ Some i = h.paired.owned i l here in
     let link_open : (link_at s l).dropped ≡ false = dropped_of (link_at s l).dropped (link_at s l).connection i (sym (owners_here s.links l) ∙ owner) in
     let inside : l < length s.links = subst (λ n. l < n) (length-map s.links owner_told) (within (map owner_told s.links) l i owner) in
     let cs = set s.connections i (doing Free (connection_at s i)) in
@@ -411,10 +411,10 @@ abandons_order s now i l told after h linked_here done =
     (done.after_is ∙ ap (λ (o : Outcome). after_on i false (came s.core.table o) behind) ended)
     (done.told_is ∙ ap (λ (o : Outcome). effects.Drop (s.first + l) ∷ effects_on i (next_number s) (came s.core.table o)) ended)
     (orderly behind free)
-    (record { place = l; number = refl; still = link_open; dropped = ap (λ (k : LinkStory). k.dropped) (get_or-set_same s.links l (dropping (link_at s l)) no_link inside) }, tt)
+    (record { place = l; number = refl; still = link_open; dropped = ap (λ (k : LinkModel). k.dropped) (get_or-set_same s.links l (dropping (link_at s l)) no_link inside) }, tt)
 
 -- or its request waits
-gives_up_order : (s : Story) (now i : ℕ) (told : List Effect) (after : Story) → IsOrderly s → (connection_at s i).activity ≡ Waiting → Does s now (Abandons i None) told after → IsOrderly after × NamesOpen s after told
+gives_up_order : (s : EngineModel) (now i : ℕ) (told : List Effect) (after : EngineModel) → IsOrderly s → (connection_at s i).activity ≡ Waiting → Does s now (Abandons i None) told after → IsOrderly after × NamesOpen s after told
 gives_up_order s now i told after h waiting done =
     let here : activity_at (map activity_told s.connections) i ≡ Waiting = doing_here s.connections i ∙ waiting in
     let cs = set s.connections i (doing Free (connection_at s i)) in
@@ -428,7 +428,7 @@ gives_up_order s now i told after h waiting done =
     (orderly behind free) tt
 
 -- the request of the connection at i, which waited, is judged anew
-wakes_order : (s : Story) (now i : ℕ) (told : List Effect) (after : Story) → IsOrderly s → IsDueFirst s (Some (Wakes i)) → Woken s now i told after → IsOrderly after × NamesOpen s after told
+wakes_order : (s : EngineModel) (now i : ℕ) (told : List Effect) (after : EngineModel) → IsOrderly s → IsDueFirst s (Some (Wakes i)) → Woken s now i told after → IsOrderly after × NamesOpen s after told
 wakes_order s now i told after h due d = by_outcome d.1.outcome (woken_remains s.core d.1.core now (i + 1) d.1.outcome is_there d.1.steps) d.1.told_is d.1.after_is
   where
     xs : List Exchange
@@ -438,7 +438,7 @@ wakes_order s now i told after h due d = by_outcome d.1.outcome (woken_remains s
     ready = ready_by xs now (i + 1) d.1.steps.allowed
 
     here : activity_at (map activity_told s.connections) i ≡ Waiting
-    here = ready_waits (map activity_told s.connections) (map owner_told s.links) xs i ready h.wired
+    here = ready_waits (map activity_told s.connections) (map owner_told s.links) xs i ready h.paired
 
     waiting : (connection_at s i).activity ≡ Waiting
     waiting = sym (doing_here s.connections i) ∙ here
@@ -459,16 +459,16 @@ wakes_order s now i told after h due d = by_outcome d.1.outcome (woken_remains s
     unshut : IsOpen s (i + 1)
     unshut = record { place = i; number = refl; closed = unclosed; gone = gone_by (connection_at s i).gone (has_exchange (connection_at s i).activity) (link_of (connection_at s i).activity) (due.0 i inside) (ap has_exchange waiting) }
 
-    cs : List ConnStory
+    cs : List ConnectionModel
     cs = set s.connections i (doing Free (connection_at s i))
 
     inside_now : i < length cs
     inside_now = subst (λ n. i < n) (sym (length-set s.connections i (doing Free (connection_at s i)))) inside
 
     none : (get_or cs i no_connection).activity ≡ Free
-    none = ap (λ (c : ConnStory). c.activity) (get_or-set_same s.connections i (doing Free (connection_at s i)) no_connection inside)
+    none = ap (λ (c : ConnectionModel). c.activity) (get_or-set_same s.connections i (doing Free (connection_at s i)) no_connection inside)
 
-    base : Story
+    base : EngineModel
     base = with_core (with_connection s i (doing Free)) d.1.core
 
     to_head : Bool
@@ -486,28 +486,28 @@ wakes_order s now i told after h due d = by_outcome d.1.outcome (woken_remains s
     by_outcome (outcomes.Forward line bytes) left told_is after_is =
         let behind = after_on i to_head (came s.core.table (outcomes.Forward line bytes)) base in
         both_moved s behind after told (effects_on i (next_number s) (came s.core.table (outcomes.Forward line bytes))) after_is told_is
-        (orderly behind (subst (λ (es : List Exchange). Order behind.connections behind.links es) (sym left.2) (roused_order s.connections s.links xs i d.1.core.table.max_body left.0 left.1 to_head (connection_at s i) here unclosed is_there (order_of s h))))
+        (orderly behind (subst (λ (es : List Exchange). Order behind.connections behind.links es) (sym left.2) (awake_order s.connections s.links xs i d.1.core.table.max_body left.0 left.1 to_head (connection_at s i) here unclosed is_there (order_of s h))))
         (refl, tt)
     by_outcome (outcomes.Waits leader) left told_is after_is = absurd left
     by_outcome outcomes.Ended left told_is after_is =
         both_moved s base after told [] after_is told_is (orderly base (free left.0 left.1)) tt
 
 -- a request arrived on the connection at i
-arrived_order : (s : Story) (now i : ℕ) (m : Next Request) (asked : Asked) (o : Outcome) (core : CoreState) (to_head : Bool) (told : List Effect) (after : Story) → IsOrderly s → i < length s.connections → IsOpen s (i + 1) → (connection_at s i).closed ≡ false → (connection_at s i).activity ≡ Free
+arrived_order : (s : EngineModel) (now i : ℕ) (m : Next Request) (asked : Asked) (o : Outcome) (core : CoreState) (to_head : Bool) (told : List Effect) (after : EngineModel) → IsOrderly s → i < length s.connections → IsOpen s (i + 1) → (connection_at s i).closed ≡ false → (connection_at s i).activity ≡ Free
     → Steps s.core (events.Arrive now (i + 1) asked) o core → told ≡ effects_on i (next_number s) (came s.core.table o) → after ≡ after_on i to_head (came s.core.table o) (with_core (with_connection s i (passing m)) core) → IsOrderly after × NamesOpen s after told
 arrived_order s now i m asked o core to_head told after h inside unshut unclosed none steps told_is after_is = by_outcome o steps told_is after_is
   where
-    cs : List ConnStory
+    cs : List ConnectionModel
     cs = set s.connections i (passing m (connection_at s i))
 
     here : get_or cs i no_connection ≡ passing m (connection_at s i)
     here = get_or-set_same s.connections i (passing m (connection_at s i)) no_connection inside
 
     none_now : (get_or cs i no_connection).activity ≡ Free
-    none_now = ap (λ (c : ConnStory). c.activity) here ∙ none
+    none_now = ap (λ (c : ConnectionModel). c.activity) here ∙ none
 
     unclosed_now : (get_or cs i no_connection).closed ≡ false
-    unclosed_now = ap (λ (c : ConnStory). c.closed) here ∙ unclosed
+    unclosed_now = ap (λ (c : ConnectionModel). c.closed) here ∙ unclosed
 
     inside_now : i < length cs
     inside_now = subst (λ n. i < n) (sym (length-set s.connections i (passing m (connection_at s i)))) inside
@@ -515,7 +515,7 @@ arrived_order s now i m asked o core to_head told after h inside unshut unclosed
     passed : Order cs s.links s.core.exchanges
     passed = connection_changed s.connections s.links s.core.exchanges i (passing m (connection_at s i)) refl (λ e. none) (order_of s h)
 
-    base : Story
+    base : EngineModel
     base = with_core (with_connection s i (passing m)) core
 
     by_outcome : (o : Outcome) → Steps s.core (events.Arrive now (i + 1) asked) o core → told ≡ effects_on i (next_number s) (came s.core.table o) → after ≡ after_on i to_head (came s.core.table o) base → IsOrderly after × NamesOpen s after told
@@ -542,15 +542,15 @@ arrived_order s now i m asked o core to_head told after h inside unshut unclosed
         both_moved s base after told [] after_is told_is (orderly base (subst (λ (xs : List Exchange). Order cs s.links xs) (sym same) passed)) tt
 
 -- the connection at i is closed, behind an answer of the proxy or without one
-shuts_order : (s : Story) (i : ℕ) (told said : List Effect) (after : Story) → IsOrderly s → i < length s.connections → (connection_at s i).activity ≡ Free → told ≡ said → after ≡ with_connection s i (closing true)
-    → ((t : Story) → (connection_at t i).closed ≡ true → NamesOpen s t said) → IsOrderly after × NamesOpen s after told
+shuts_order : (s : EngineModel) (i : ℕ) (told said : List Effect) (after : EngineModel) → IsOrderly s → i < length s.connections → (connection_at s i).activity ≡ Free → told ≡ said → after ≡ with_connection s i (closing true)
+    → ((t : EngineModel) → (connection_at t i).closed ≡ true → NamesOpen s t said) → IsOrderly after × NamesOpen s after told
 shuts_order s i told said after h inside none told_is after_is names =
     let now = with_connection s i (closing true) in
     both_moved s now after told said after_is told_is (orderly now (closing_order s.connections s.links s.core.exchanges i true none (order_of s h)))
     (names now (shut_there s.connections i (connection_at s i) true inside refl))
 
-serves_order : (s : Story) (now i : ℕ) (w : Next Request) (told : List Effect) (after : Story) → IsOrderly s → IsDueFirst s (Some (Serves i w)) → Served s now i w told after → IsOrderly after × NamesOpen s after told
-serves_order s now i w told after h due done = by_wish w done
+serves_order : (s : EngineModel) (now i : ℕ) (w : Next Request) (told : List Effect) (after : EngineModel) → IsOrderly s → IsDueFirst s (Some (Serves i w)) → Served s now i w told after → IsOrderly after × NamesOpen s after told
+serves_order s now i w told after h due done = by_action w done
   where
     parts : ((connection_at s i).gone ≡ false) × ((connection_at s i).closed ≡ false) × ((connection_at s i).activity ≡ Free)
     parts = busy_parts (connection_at s i).gone (connection_at s i).closed (connection_at s i).activity (not_busy (is_busy (connection_at s i).gone (connection_at s i).closed (connection_at s i).activity) (connection_at s i) w due.3.1)
@@ -571,24 +571,24 @@ serves_order s now i w told after h due done = by_wish w done
     arrives r (Ok asked) d = arrived_order s now i (next.Message r) asked d.1.outcome d.1.core (is_head asked) told after h inside unshut parts.1 parts.2 d.1.steps d.1.told_is d.1.after_is
     arrives r (Err fault) d = refuses _ _ d
 
-    by_wish : (w : Next Request) → Served s now i w told after → IsOrderly after × NamesOpen s after told
-    by_wish next.More d = absurd d
-    by_wish next.NeedsContinue d =
+    by_action : (w : Next Request) → Served s now i w told after → IsOrderly after × NamesOpen s after told
+    by_action next.More d = absurd d
+    by_action next.NeedsContinue d =
         let going = with_connection s i (passing next.NeedsContinue) in
         both_moved s going after told _ d.1 d.0
         (orderly going (connection_changed s.connections s.links s.core.exchanges i (passing next.NeedsContinue (connection_at s i)) refl (λ e. parts.2) (order_of s h))) (unshut, tt)
-    by_wish (next.Message r) d = arrives r d.0 d.2
-    by_wish (next.Refused frame.Truncated) d = closes d
-    by_wish (next.Refused frame.Head) d = refuses _ _ d
-    by_wish (next.Refused frame.Version) d = refuses _ _ d
-    by_wish (next.Refused frame.BothLengths) d = refuses _ _ d
-    by_wish (next.Refused frame.Length) d = refuses _ _ d
-    by_wish (next.Refused frame.Coding) d = refuses _ _ d
-    by_wish (next.Refused frame.Chunk) d = refuses _ _ d
-    by_wish (next.Refused frame.TooLarge) d = refuses _ _ d
-    by_wish (next.Refused frame.Expect) d = refuses _ _ d
-    by_wish (next.Refused frame.Status) d = refuses _ _ d
-    by_wish next.End d = closes d
+    by_action (next.Message r) d = arrives r d.0 d.2
+    by_action (next.Refused frame.Truncated) d = closes d
+    by_action (next.Refused frame.Head) d = refuses _ _ d
+    by_action (next.Refused frame.Version) d = refuses _ _ d
+    by_action (next.Refused frame.BothLengths) d = refuses _ _ d
+    by_action (next.Refused frame.Length) d = refuses _ _ d
+    by_action (next.Refused frame.Coding) d = refuses _ _ d
+    by_action (next.Refused frame.Chunk) d = refuses _ _ d
+    by_action (next.Refused frame.TooLarge) d = refuses _ _ d
+    by_action (next.Refused frame.Expect) d = refuses _ _ d
+    by_action (next.Refused frame.Status) d = refuses _ _ d
+    by_action next.End d = closes d
 
 pub acts_in_order : ActsInOrder
 acts_in_order s now (Abandons i (Some l)) told after h due done =

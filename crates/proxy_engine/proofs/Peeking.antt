@@ -12,14 +12,14 @@ use Rattle.hx_framing.specs.RequestReading.{Reads}
 use Rattle.hx_framing.specs.RequestStream.{StreamSpells, Answers as RequestAnswers}
 use Rattle.hx_framing.specs.ResponseState.{State, StandsFor, KeepsBy}
 use Rattle.hx_framing.specs.ResponseStream.{Answers as ResponseAnswers}
-use Rattle.proxy_engine.specs.declared.lookahead.Lookahead.{Lookahead}
-use Rattle.proxy_engine.specs.declared.lookahead.Lookahead.TheVariants.{Unknown, Quiet, Due}
-use Rattle.proxy_engine.specs.declared.peeked.Peeked.{Peeked}
+use Rattle.proxy_engine.specs.declared.endpoints.lookahead.Lookahead.{Lookahead}
+use Rattle.proxy_engine.specs.declared.endpoints.lookahead.Lookahead.TheVariants.{Unknown, Quiet, Due}
+use Rattle.proxy_engine.specs.declared.endpoints.peeked.Peeked.{Peeked}
 use Rattle.proxy_engine.specs.Lookahead.{Shows}
-use Rattle.proxy_engine.specs.Peeked.{StandsBy, Stands}
+use Rattle.proxy_engine.specs.Peeked.{StandsBy, Represents}
 
 -- what is shown is the answer of each stream that it stands for
-pub answers_shown : {S M : Type 0} (StandsFor : S → Progress M → Type 0) (Answers : Progress M → Next M → Type 0) (w : Peeked S M) (p : Progress M) (a : Next M) → Stands StandsFor Answers w p → Shows w.ahead a → Answers p a
+pub answers_shown : {S M : Type 0} (StandsFor : S → Progress M → Type 0) (Answers : Progress M → Next M → Type 0) (w : Peeked S M) (p : Progress M) (a : Next M) → Represents StandsFor Answers w p → Shows w.ahead a → Answers p a
 answers_shown {S} {M} StandsFor Answers w p a h s = shown w.ahead h s
   where
     shown : (l : Lookahead M) → StandsBy StandsFor Answers w.inner l p → Shows l a → Answers p a

@@ -12,18 +12,18 @@ use Rattle.std.proofs.lemmas.Bool.{cases_eq, cases_order}
 use Rattle.hx_status.specs.declared.cause.FailKind.{FailKind}
 use Rattle.proxy_core.specs.State.{State as CoreState}
 use Rattle.proxy_engine.specs.Activities.{has_exchange}
-use Rattle.proxy_engine.specs.Story.{Story, ConnStory, LinkStory, keeps_answer}
-use Rattle.proxy_engine.specs.State.{State, Both, ConnStands, LinkStands, Stands, state}
+use Rattle.proxy_engine.specs.EngineModel.{EngineModel, ConnectionModel, LinkModel, keeps_answer}
+use Rattle.proxy_engine.specs.State.{State, Both, ConnectionRepresents, LinkRepresents, Represents, state}
 use Rattle.proxy_engine.specs.Happenings.{said}
 use Rattle.proxy_engine.specs.Room.{Finds}
 use Rattle.proxy_script.specs.declared.happening.Happening.{Happening}
-use Rattle.proxy_engine.specs.Places.{listed}
+use Rattle.proxy_engine.specs.ReadyList.{listed}
 use Rattle.proxy_engine.specs.Held.{held, flagged, connection_is_open, connection_reads, link_failed, link_reads}
 use Rattle.proxy_engine.specs.Reading.{places_with, is_open, is_read, has_failed, link_end}
-use Rattle.proxy_engine.specs.declared.activities.Activity.{Activity}
-use Rattle.proxy_engine.specs.declared.ends.Connection.{Connection}
-use Rattle.proxy_engine.specs.declared.ends.Link.{Link}
-use Rattle.proxy_engine.specs.declared.happening.End.{End}
+use Rattle.proxy_engine.specs.declared.endpoints.activities.Activity.{Activity}
+use Rattle.proxy_engine.specs.declared.endpoints.ends.Connection.{Connection}
+use Rattle.proxy_engine.specs.declared.endpoints.ends.Link.{Link}
+use Rattle.proxy_engine.specs.declared.work.End.{End}
 use Rattle.proxy_engine.proofs.Keeping.{here_at, elsewhere}
 
 -- the keys ascend from a
@@ -105,7 +105,7 @@ held_listed flag m n ordered =
     let same : n ≡ 0 + n = omega arith in
     ap (λ (k : ℕ). held flag k m.entries) same ∙ held_range flag (get nat_cmp m) n m.entries 0 (ascends 0 m.entries (from_zero m.entries) ordered) (λ q l. refl)
 
--- in the story, where the flags agree
+-- in the model, where the flags agree
 both_places : {A B : Type 0} (R : A → B → Type 0) (f : A → Bool) (g : B → Bool) → ((x : A) (y : B) → R x y → f x ≡ g y) → (xs : List A) (ys : List B) → Both R xs ys → (i : ℕ) → places_with f i xs ≡ places_with g i ys
 both_places R f g agree [] [] h i = refl
 both_places R f g agree [] (y ∷ ys) h i = absurd h
@@ -114,7 +114,7 @@ both_places R f g agree (x ∷ xs) (y ∷ ys) h i =
     ap (λ (b : Bool). cond b (i ∷ places_with f (i + 1) xs) (places_with f (i + 1) xs)) (agree x y h.0)
     ∙ ap (λ (ns : List ℕ). cond (g y) (i ∷ ns) ns) (both_places R f g agree xs ys h.1 (i + 1))
 
-open_same : (o : Option Connection) (s : ConnStory) → ConnStands o s → flagged connection_is_open o ≡ is_open s
+open_same : (o : Option Connection) (s : ConnectionModel) → ConnectionRepresents o s → flagged connection_is_open o ≡ is_open s
 open_same None s h = sym (ap not h.0)
 open_same (Some c) s h = by_gone c.gone s.gone s.closed h.gone h.still
   where
@@ -124,7 +124,7 @@ open_same (Some c) s h = by_gone c.gone s.gone s.closed h.gone h.still
     by_gone false true closed e still = absurd cc
     by_gone false false closed e still = sym (ap not still)
 
-read_same : (o : Option Connection) (s : ConnStory) → ConnStands o s → flagged connection_reads o ≡ is_read s
+read_same : (o : Option Connection) (s : ConnectionModel) → ConnectionRepresents o s → flagged connection_reads o ≡ is_read s
 read_same None s h = over s.gone s.closed s.progress.ended (has_exchange s.activity) h.0
   where
     over : (gone closed ended linked : Bool) → gone || closed ≡ true → false ≡ not (gone || (closed || ended)) && not linked
@@ -143,11 +143,11 @@ read_same (Some c) s h =
     here false false true linked e = refl
     here false false false linked e = refl
 
-failed_same : (o : Option Link) (s : LinkStory) → LinkStands o s → flagged link_failed o ≡ has_failed s
+failed_same : (o : Option Link) (s : LinkModel) → LinkRepresents o s → flagged link_failed o ≡ has_failed s
 failed_same None s h = sym (ap (λ (b : Bool). not b && is_some s.failed) h)
 failed_same (Some k) s h = ap (λ (o : Option FailKind). is_some o) h.failed ∙ sym (ap (λ (b : Bool). not b && is_some s.failed) h.still)
 
-answer_same : (o : Option Link) (s : LinkStory) → LinkStands o s → flagged link_reads o ≡ keeps_answer s
+answer_same : (o : Option Link) (s : LinkModel) → LinkRepresents o s → flagged link_reads o ≡ keeps_answer s
 answer_same None s h = sym (ap (λ (b : Bool). not (b || (is_some s.failed || s.progress.ended))) h)
 answer_same (Some k) s h =
     ap (λ (o : Option FailKind). not (is_some o) && not k.ended) h.failed
@@ -159,19 +159,19 @@ answer_same (Some k) s h =
     both_not true b = refl
     both_not false b = refl
 
-module _ (xs : List (Option Connection)) (ss : List ConnStory) (both : Both ConnStands xs ss) where
+module _ (xs : List (Option Connection)) (ss : List ConnectionModel) (both : Both ConnectionRepresents xs ss) where
   pub open_places : places_with (flagged connection_is_open) 0 xs ≡ places_with is_open 0 ss
-  open_places = both_places ConnStands (flagged connection_is_open) is_open open_same xs ss both 0
+  open_places = both_places ConnectionRepresents (flagged connection_is_open) is_open open_same xs ss both 0
 
   pub read_places : places_with (flagged connection_reads) 0 xs ≡ places_with is_read 0 ss
-  read_places = both_places ConnStands (flagged connection_reads) is_read read_same xs ss both 0
+  read_places = both_places ConnectionRepresents (flagged connection_reads) is_read read_same xs ss both 0
 
-module _ (xs : List (Option Link)) (ss : List LinkStory) (both : Both LinkStands xs ss) where
+module _ (xs : List (Option Link)) (ss : List LinkModel) (both : Both LinkRepresents xs ss) where
   pub failed_places : places_with (flagged link_failed) 0 xs ≡ places_with has_failed 0 ss
-  failed_places = both_places LinkStands (flagged link_failed) has_failed failed_same xs ss both 0
+  failed_places = both_places LinkRepresents (flagged link_failed) has_failed failed_same xs ss both 0
 
   pub answer_places : places_with (flagged link_reads) 0 xs ≡ places_with keeps_answer 0 ss
-  answer_places = both_places LinkStands (flagged link_reads) keeps_answer answer_same xs ss both 0
+  answer_places = both_places LinkRepresents (flagged link_reads) keeps_answer answer_same xs ss both 0
 
 -- nothing is beyond the end
 pub beyond : {A : Type 0} (xs : List (Option A)) (i : ℕ) → length xs ≤ i → get_or xs i None ≡ None
@@ -187,8 +187,8 @@ by_place m k i here others q = elim (cases_eq q i) [
 ]
 
 -- the links with a flag, by their numbers
-pub links_told : (flag : LinkStory → Bool) (cs : List (Option Connection)) (ks : List (Option Link)) (core : CoreState) (first : ℕ) (s : Story) → Stands (state cs ks core first) s → (before told : List End) → before ≡ []
-    → ((ss : List LinkStory) → Both LinkStands ks ss → first + length ss ≤ 2 ^ 64 → told ≡ before ++ map (link_end first) (places_with flag 0 ss)) → told ≡ map (link_end s.first) (places_with flag 0 s.links)
+pub links_told : (flag : LinkModel → Bool) (cs : List (Option Connection)) (ks : List (Option Link)) (core : CoreState) (first : ℕ) (s : EngineModel) → Represents (state cs ks core first) s → (before told : List End) → before ≡ []
+    → ((ss : List LinkModel) → Both LinkRepresents ks ss → first + length ss ≤ 2 ^ 64 → told ≡ before ++ map (link_end first) (places_with flag 0 ss)) → told ≡ map (link_end s.first) (places_with flag 0 s.links)
 links_told flag cs ks core first s h before told none is =
     let fits : first + length s.links ≤ 2 ^ 64 = subst (λ (n : ℕ). n + length s.links ≤ 2 ^ 64) (sym h.first) h.numbers in
     is s.links h.links fits ∙ (ap (λ (es : List End). es ++ map (link_end first) (places_with flag 0 s.links)) none ∙ ap (λ (n : ℕ). map (link_end n) (places_with flag 0 s.links)) h.first)

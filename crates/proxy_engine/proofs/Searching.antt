@@ -6,7 +6,7 @@ use Rattle.std.proofs.lemmas.List.Sums.{sum_by-cons, sum_by-set}
 use Rattle.std.proofs.Math.Seq.{map-set_same}
 use Rattle.proxy_engine.specs.Due.{IsFirst}
 use Rattle.proxy_engine.specs.State.{Both}
-use Rattle.proxy_engine.specs.Places.{listed}
+use Rattle.proxy_engine.specs.ReadyList.{listed}
 use Rattle.proxy_engine.specs.Marked.{Alike, AtEach, NoneBelow, NoneAtAll}
 use Rattle.proxy_engine.proofs.Parts.{both_length, both_at}
 use Rattle.proxy_engine.proofs.Keeping.{listed_length, listed_at}

@@ -4,23 +4,23 @@ use Rattle.hx_framing.specs.declared.messages.Request.{Request}
 use Rattle.hx_framing.specs.declared.messages.Response.{Response}
 use Rattle.hx_framing.specs.declared.messages.Next.{Next}
 use Rattle.hx_framing.specs.declared.messages.Next.TheVariants as next
-use Rattle.proxy_engine.specs.declared.lookahead.Lookahead.{Lookahead}
-use Rattle.proxy_engine.specs.declared.lookahead.Lookahead.TheVariants.{Unknown, Quiet, Due}
+use Rattle.proxy_engine.specs.declared.endpoints.lookahead.Lookahead.{Lookahead}
+use Rattle.proxy_engine.specs.declared.endpoints.lookahead.Lookahead.TheVariants.{Unknown, Quiet, Due}
 use Rattle.proxy_engine.specs.Lookahead.{Shows, is_due}
 use Rattle.hx_framing.specs.RequestState.{StandsFor as RequestStandsFor}
 use Rattle.hx_framing.specs.RequestStream.{Answers as RequestAnswers}
 use Rattle.hx_framing.specs.ResponseState.{StandsFor as ResponseStandsFor}
 use Rattle.hx_framing.specs.ResponseStream.{Answers as ResponseAnswers}
 use Rattle.proxy_engine.proofs.Peeking.{answers_shown}
-use Rattle.proxy_engine.specs.Story.{LinkStory, ConnStory}
-use Rattle.proxy_engine.specs.Due.{Stood, FinishBy, Wanted, WishBy, finish_of, wish_of, is_busy}
-use Rattle.proxy_engine.specs.State.{LinkStands, ConnStands, finish_seen, finish_at, wish_seen, wish_at, gone_at}
+use Rattle.proxy_engine.specs.EngineModel.{LinkModel, ConnectionModel}
+use Rattle.proxy_engine.specs.Due.{Stood, FinishBy, Wanted, ActionBy, finish_of, action_of, is_busy}
+use Rattle.proxy_engine.specs.State.{LinkRepresents, ConnectionRepresents, finish_seen, finish_at, action_seen, action_at, gone_at}
 use Rattle.proxy_engine.specs.Activities.{link_of, has_exchange}
-use Rattle.proxy_engine.specs.Wiring.{activity_of}
+use Rattle.proxy_engine.specs.Pairing.{activity_of}
 use Rattle.proxy_engine.specs.Marked.{lost_at}
-use Rattle.proxy_engine.specs.declared.activities.Activity.{Activity}
-use Rattle.proxy_engine.specs.declared.ends.Connection.{Connection}
-use Rattle.proxy_engine.specs.declared.ends.Link.{Link}
+use Rattle.proxy_engine.specs.declared.endpoints.activities.Activity.{Activity}
+use Rattle.proxy_engine.specs.declared.endpoints.ends.Connection.{Connection}
+use Rattle.proxy_engine.specs.declared.endpoints.ends.Link.{Link}
 use Rattle.hx_status.specs.declared.cause.FailKind.{FailKind}
 
 -- whether something is shown
@@ -36,27 +36,27 @@ finish_variant (Due (next.Refused f)) k = refl
 finish_variant (Due next.End) k = refl
 finish_variant (Due (next.Message m)) k = refl
 
-pub wish_variant : (l : Lookahead Request) → is_due l ≡ is_some (wish_seen l)
-wish_variant Unknown = refl
-wish_variant Quiet = refl
-wish_variant (Due next.More) = refl
-wish_variant (Due next.NeedsContinue) = refl
-wish_variant (Due (next.Refused f)) = refl
-wish_variant (Due next.End) = refl
-wish_variant (Due (next.Message m)) = refl
+pub action_variant : (l : Lookahead Request) → is_due l ≡ is_some (action_seen l)
+action_variant Unknown = refl
+action_variant Quiet = refl
+action_variant (Due next.More) = refl
+action_variant (Due next.NeedsContinue) = refl
+action_variant (Due (next.Refused f)) = refl
+action_variant (Due next.End) = refl
+action_variant (Due (next.Message m)) = refl
 
 pub finish_by : (l : Lookahead Response) (k : Option FailKind) (a : Next Response) → Shows l a → finish_seen l k ≡ finish_of a k
 finish_by Unknown k a s = absurd s
 finish_by Quiet k a s = ap (λ (a : Next Response). finish_of a k) (sym s)
 finish_by (Due b) k a s = ap (λ (a : Next Response). finish_of a k) (sym s)
 
-pub wish_by : (l : Lookahead Request) (a : Next Request) → Shows l a → wish_seen l ≡ wish_of a
-wish_by Unknown a s = absurd s
-wish_by Quiet a s = ap (λ (a : Next Request). wish_of a) (sym s)
-wish_by (Due b) a s = ap (λ (a : Next Request). wish_of a) (sym s)
+pub action_by : (l : Lookahead Request) (a : Next Request) → Shows l a → action_seen l ≡ action_of a
+action_by Unknown a s = absurd s
+action_by Quiet a s = ap (λ (a : Next Request). action_of a) (sym s)
+action_by (Due b) a s = ap (λ (a : Next Request). action_of a) (sym s)
 
 -- a link that was looked at
-pub stood : (k : Link) (s : LinkStory) (a : Next Response) → LinkStands (Some k) s → Shows k.reader.ahead a → Stood s (finish_at (Some k))
+pub stood : (k : Link) (s : LinkModel) (a : Next Response) → LinkRepresents (Some k) s → Shows k.reader.ahead a → Stood s (finish_at (Some k))
 stood k s a h shows =
     subst (λ (b : Bool). FinishBy b s (finish_at (Some k))) (sym h.still) (
       a,
@@ -64,20 +64,20 @@ stood k s a h shows =
       finish_by k.reader.ahead k.failed a shows ∙ ap (finish_of a) h.failed,
     )
 
-busy_same : (c : Connection) (s : ConnStory) → ConnStands (Some c) s → is_busy c.gone false c.activity ≡ is_busy s.gone s.closed s.activity
+busy_same : (c : Connection) (s : ConnectionModel) → ConnectionRepresents (Some c) s → is_busy c.gone false c.activity ≡ is_busy s.gone s.closed s.activity
 busy_same c s h = ap (λ (b : Bool). is_busy b false c.activity) h.gone ∙ (ap (λ (b : Bool). is_busy s.gone b c.activity) (sym h.still) ∙ ap (λ (a : Activity). is_busy s.gone s.closed a) h.activity)
 
-pub wanted : (c : Connection) (s : ConnStory) (a : Next Request) → is_busy c.gone false c.activity ≡ false → ConnStands (Some c) s → Shows c.reader.ahead a → Wanted s (wish_at (Some c))
+pub wanted : (c : Connection) (s : ConnectionModel) (a : Next Request) → is_busy c.gone false c.activity ≡ false → ConnectionRepresents (Some c) s → Shows c.reader.ahead a → Wanted s (action_at (Some c))
 wanted c s a idle h shows =
-    subst (λ (b : Bool). WishBy b s (wish_at (Some c))) (sym idle ∙ busy_same c s h) (
+    subst (λ (b : Bool). ActionBy b s (action_at (Some c))) (sym idle ∙ busy_same c s h) (
       a,
       answers_shown RequestStandsFor RequestAnswers c.reader s.progress a h.reader shows,
-      ap (λ (b : Bool). cond b None (wish_seen c.reader.ahead)) idle ∙ wish_by c.reader.ahead a shows,
+      ap (λ (b : Bool). cond b None (action_seen c.reader.ahead)) idle ∙ action_by c.reader.ahead a shows,
     )
 
-pub wanted_busy : (c : Connection) (s : ConnStory) → is_busy c.gone false c.activity ≡ true → ConnStands (Some c) s → Wanted s (wish_at (Some c))
+pub wanted_busy : (c : Connection) (s : ConnectionModel) → is_busy c.gone false c.activity ≡ true → ConnectionRepresents (Some c) s → Wanted s (action_at (Some c))
 wanted_busy c s busy h =
-    subst (λ (b : Bool). WishBy b s (wish_at (Some c))) (sym busy ∙ busy_same c s h) (ap (λ (b : Bool). cond b None (wish_seen c.reader.ahead)) busy)
+    subst (λ (b : Bool). ActionBy b s (action_at (Some c))) (sym busy ∙ busy_same c s h) (ap (λ (b : Bool). cond b None (action_seen c.reader.ahead)) busy)
 
 -- it isn't gone, and no exchange is open
 pub idle : (gone : Bool) (a : Activity) → gone ≡ false → has_exchange a ≡ false → is_busy gone false a ≡ false
@@ -88,7 +88,7 @@ none_from None h = refl
 none_from (Some a) h = cc
 
 -- a connection that is gone with an open exchange, or not
-pub lost : (c : Option Connection) (s : ConnStory) (l : Option ℕ) → ConnStands c s → lost_at c ≡ Some l → Some l ≡ cond (s.gone && has_exchange s.activity) (Some (link_of s.activity)) None
+pub lost : (c : Option Connection) (s : ConnectionModel) (l : Option ℕ) → ConnectionRepresents c s → lost_at c ≡ Some l → Some l ≡ cond (s.gone && has_exchange s.activity) (Some (link_of s.activity)) None
 lost None s l h e = absurd (cc)
 lost (Some c) s l h e =
     sym e ∙ (ap (λ (b : Bool). cond (b && has_exchange c.activity) (Some (link_of c.activity)) None) h.gone ∙ ap (λ (a : Activity). cond (s.gone && has_exchange a) (Some (link_of a)) None) h.activity)

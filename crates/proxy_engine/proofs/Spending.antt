@@ -3,19 +3,19 @@ use Rattle.std.proofs.Common.{◌≡◌, ◌≢◌, ◌⊎◌, inl, inr, ℕ, �
 use Rattle.std.specs.Ordering.{nat_cmp}
 use Rattle.std.specs.BTreeMap.{BTreeMap, get}
 use Rattle.std.proofs.lemmas.Bool.{cases_lt, leb-false}
-use Rattle.proxy_engine.specs.Story.{Story, no_connection, no_link}
+use Rattle.proxy_engine.specs.EngineModel.{EngineModel, no_connection, no_link}
 use Rattle.proxy_engine.specs.Due.{Abandons, Finishes, Wakes, Serves, Finish, Gives, Breaks, IsFirst, IsDueFirst, Lost, Stood, next_ready}
 use Rattle.proxy_engine.specs.Acts.{MayForward, next_number}
-use Rattle.proxy_engine.specs.State.{State, Stands, LinkStands}
+use Rattle.proxy_engine.specs.State.{State, Represents, LinkRepresents}
 use Rattle.proxy_engine.specs.Spent.{HasThere, is_unknown, link_unknown, StopsAt, TellsSpent, HidesNoWake, HidesNoAnswer}
-use Rattle.proxy_engine.specs.Wishes.{EndFault}
-use Rattle.proxy_engine.specs.Places.{listed, AllBelow}
+use Rattle.proxy_engine.specs.Actions.{EndFault}
+use Rattle.proxy_engine.specs.ReadyList.{listed, AllBelow}
 use Rattle.proxy_engine.specs.Marked.{NoneBelow, may_stand}
-use Rattle.proxy_engine.specs.declared.lookahead.Lookahead.{Lookahead}
-use Rattle.proxy_engine.specs.declared.lookahead.Lookahead.TheVariants.{Unknown, Quiet, Due}
-use Rattle.proxy_engine.specs.declared.ends.Link.{Link}
-use Rattle.proxy_engine.specs.declared.happening.EngineFault.{EngineFault}
-use Rattle.proxy_engine.specs.declared.happening.EngineFault.TheVariants.{OutOfMemory}
+use Rattle.proxy_engine.specs.declared.endpoints.lookahead.Lookahead.{Lookahead}
+use Rattle.proxy_engine.specs.declared.endpoints.lookahead.Lookahead.TheVariants.{Unknown, Quiet, Due}
+use Rattle.proxy_engine.specs.declared.endpoints.ends.Link.{Link}
+use Rattle.proxy_engine.specs.declared.work.EngineFault.{EngineFault}
+use Rattle.proxy_engine.specs.declared.work.EngineFault.TheVariants.{OutOfMemory}
 use Rattle.proxy_engine.proofs.Parts.{both_length}
 use Rattle.proxy_engine.proofs.Keeping.{listed_at}
 use Rattle.proxy_engine.proofs.Searching.{before_none}
@@ -36,25 +36,25 @@ err_at a b h = ap (λ e. Err e) same
     same = cc
 
 -- where a number is left, no more is to be said
-pub number_left : (e new : State) (s : Story) → Stands e s → e.first + length e.links < 2 ^ 64 → TellsSpent s new
+pub number_left : (e new : State) (s : EngineModel) → Represents e s → e.first + length e.links < 2 ^ 64 → TellsSpent s new
 number_left e new s h left act due may seen =
-    let same = both_length LinkStands e.links s.links h.links in
+    let same = both_length LinkRepresents e.links s.links h.links in
     let first_is : e.first ≡ s.first = h.first in
     omega (arith, left, same)
 
 -- the client with an exchange that is gone comes first, for which no link is needed
-pub lost_first : (e : State) (s : Story) (i : ℕ) (l : Option ℕ) → IsFirst Lost no_connection s.connections (Some (i, l)) → TellsSpent s e
+pub lost_first : (e : State) (s : EngineModel) (i : ℕ) (l : Option ℕ) → IsFirst Lost no_connection s.connections (Some (i, l)) → TellsSpent s e
 lost_first e s i l first act due may seen = absurd (subst MayForward (some_same (due_first_once s (Some act) (Some (Abandons i l)) due first)) may)
 
 -- a request that arrives is judged first
-pub served_unseen : (e : State) (s : Story) → IsFirst Lost no_connection s.connections None → IsFirst Stood no_link s.links None → next_ready s.core ≡ None → TellsSpent s e
+pub served_unseen : (e : State) (s : EngineModel) → IsFirst Lost no_connection s.connections None → IsFirst Stood no_link s.links None → next_ready s.core ≡ None → TellsSpent s e
 served_unseen e s lost stood ready (Abandons i l) due may seen = absurd may
 served_unseen e s lost stood ready (Finishes j f) due may seen = absurd (none_some (stood_same s None (Some (j, f)) stood due.1))
 served_unseen e s lost stood ready (Wakes i) due may seen = absurd (none_some (sym ready ∙ due.2))
-served_unseen e s lost stood ready (Serves i wish) due may seen = absurd seen
+served_unseen e s lost stood ready (Serves i action) due may seen = absurd seen
 
 -- the look stopped at a link of which nothing is known, at the one on which the first answer stands or before it
-pub look_stopped : (e : State) (s : Story) → StopsAt e.links → Stands e s → TellsSpent s e
+pub look_stopped : (e : State) (s : EngineModel) → StopsAt e.links → Represents e s → TellsSpent s e
 look_stopped e s stops h (Abandons i l) due may seen = absurd may
 look_stopped e s stops h (Finishes j f) due may seen = by_place (cases_lt j stops.place)
   where
@@ -62,16 +62,16 @@ look_stopped e s stops h (Finishes j f) due may seen = by_place (cases_lt j stop
     by_place (inl less) = absurd (none_some (stood_once (get_or s.links j no_link) None (Some f) (stops.before s.links h.links j less) due.1.1))
     by_place (inr no_less) = absurd (seen stops.place no_less stops.unknown)
 look_stopped e s stops h (Wakes i) due may seen = absurd (seen stops.place stops.unknown)
-look_stopped e s stops h (Serves i wish) due may seen = absurd seen
+look_stopped e s stops h (Serves i action) due may seen = absurd seen
 
 -- the exchange wasn't finished for want of memory
-end_memory : (e new : State) (s : Story) (j : ℕ) (f : Finish) → Stands e s → EndFault (nat_le (2 ^ 64) (e.first + length e.links)) f OutOfMemory → IsDueFirst s (Some (Finishes j f)) → TellsSpent s new
+end_memory : (e new : State) (s : EngineModel) (j : ℕ) (f : Finish) → Represents e s → EndFault (nat_le (2 ^ 64) (e.first + length e.links)) f OutOfMemory → IsDueFirst s (Some (Finishes j f)) → TellsSpent s new
 end_memory e new s j (Gives r) h fault first =
     let few = leb-false (2 ^ 64) (e.first + length e.links) fault in
     number_left e new s h (omega (arith, few))
 end_memory e new s j (Breaks kind) h fault first = λ act due may seen. absurd (subst MayForward (some_same (due_first_once s (Some act) (Some (Finishes j (Breaks kind))) due first)) may)
 
-pub end_told : {A : Type 0} (e new : State) (s : Story) (j : ℕ) (f : Finish) (fault : EngineFault) → Stands e s → EndFault (nat_le (2 ^ 64) (e.first + length e.links)) f fault
+pub end_told : {A : Type 0} (e new : State) (s : EngineModel) (j : ℕ) (f : Finish) (fault : EngineFault) → Represents e s → EndFault (nat_le (2 ^ 64) (e.first + length e.links)) f fault
     → ◌≡◌ {A = Result A EngineFault} (Err fault) (Err OutOfMemory) → IsDueFirst s (Some (Finishes j f)) → TellsSpent s new
 end_told e new s j f fault h told memory first = end_memory e new s j f h (subst (λ (g : EngineFault). EndFault (nat_le (2 ^ 64) (e.first + length e.links)) f g) same told) first
   where
@@ -85,7 +85,7 @@ stops_at m n places below h =
     let within : h.0 < n = below h.0 h.3 in record {
       place = h.0;
       unknown = subst (HasThere link_unknown) (sym (listed_at m n h.0 None within)) h.1;
-      before = before_none LinkStands Stood may_stand no_link m n unstood unstood_over h.0 within h.2;
+      before = before_none LinkRepresents Stood may_stand no_link m n unstood unstood_over h.0 within h.2;
     }
 
 -- ---- what isn't so

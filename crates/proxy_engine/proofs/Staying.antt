@@ -13,11 +13,11 @@ use Rattle.proxy_core.specs.State.{State as CoreState}
 use Rattle.proxy_core.specs.declared.event.Event.{Event}
 use Rattle.proxy_script.specs.declared.effect_list.Effect.{Effect}
 use Rattle.proxy_engine.specs.Happenings.{Accepts, Sends, Hears, Ends, Leaves, Shuts, Fails}
-use Rattle.proxy_engine.specs.Story.{Story, ConnStory, LinkStory, no_connection, no_link, accepted, opened, connection_at, with_connection, with_link, with_core, sent, ended, left, heard_by, shut, failed_by}
+use Rattle.proxy_engine.specs.EngineModel.{EngineModel, ConnectionModel, LinkModel, no_connection, no_link, accepted, opened, connection_at, with_connection, with_link, with_core, sent, ended, left, heard_by, shut, failed_by}
 use Rattle.proxy_engine.specs.Due.{Abandons, Finishes, Wakes, Serves, Gives, Breaks}
 use Rattle.proxy_engine.specs.Acts.{Came, Replies, Forwards, Nothing, Served, Arrives, StepsOn, came, after_on, freed, doing, closing, dropping, passing, with_opened, Queues}
 use Rattle.proxy_engine.specs.Orderly.{Stays, TakesStay, ActsStay}
-use Rattle.proxy_engine.specs.declared.activities.Activity.TheVariants.{Free, Forwarded, Waiting}
+use Rattle.proxy_engine.specs.declared.endpoints.activities.Activity.TheVariants.{Free, Forwarded, Waiting}
 
 stays_set : {A : Type 0} (P : A → Type 0) (d : A) (xs : List A) (i : ℕ) (y : A) (k : ℕ) → (P (get_or xs i d) → P y) → P (get_or xs k d) → P (get_or (set xs i y) k d)
 stays_set P d [] i y k keep e = e
@@ -31,20 +31,20 @@ stays_push P d [] y k l e = absurd (omega (arith, l))
 stays_push P d (x ∷ xs) y zero l e = e
 stays_push P d (x ∷ xs) y (suc k) l e = stays_push P d xs y k (omega (arith, l)) e
 
-abbrev IsShut : ConnStory → Type 0
+abbrev IsShut : ConnectionModel → Type 0
 IsShut c = c.closed ≡ true
 
-abbrev IsGone : ConnStory → Type 0
+abbrev IsGone : ConnectionModel → Type 0
 IsGone c = c.gone ≡ true
 
-abbrev IsDropped : LinkStory → Type 0
+abbrev IsDropped : LinkModel → Type 0
 IsDropped k = k.dropped ≡ true
 
 -- the same lists, under another core or none
-stays_here : (s : Story) (core : CoreState) → Stays s (with_core s core)
+stays_here : (s : EngineModel) (core : CoreState) → Stays s (with_core s core)
 stays_here s core = record { closed = λ i l e. e; gone = λ i l e. e; dropped = λ j l e. e; connections = omega arith; links = omega arith; first = refl }
 
-stays_on : (r s t : Story) → Stays r s → Stays s t → Stays r t
+stays_on : (r s t : EngineModel) → Stays r s → Stays s t → Stays r t
 stays_on r s t f g = record {
   closed = λ i l e. g.closed i (omega (arith, l, f.connections)) (f.closed i l e);
   gone = λ i l e. g.gone i (omega (arith, l, f.connections)) (f.gone i l e);
@@ -54,7 +54,7 @@ stays_on r s t f g = record {
   first = g.first ∙ f.first;
 }
 
-stays_connection : (s : Story) (i : ℕ) (f : ConnStory → ConnStory) → ((c : ConnStory) → IsShut c → IsShut (f c)) → ((c : ConnStory) → IsGone c → IsGone (f c)) → Stays s (with_connection s i f)
+stays_connection : (s : EngineModel) (i : ℕ) (f : ConnectionModel → ConnectionModel) → ((c : ConnectionModel) → IsShut c → IsShut (f c)) → ((c : ConnectionModel) → IsGone c → IsGone (f c)) → Stays s (with_connection s i f)
 stays_connection s i f shuts goes = record {
   closed = λ k l e. stays_set IsShut no_connection s.connections i (f (connection_at s i)) k (shuts (connection_at s i)) e;
   gone = λ k l e. stays_set IsGone no_connection s.connections i (f (connection_at s i)) k (goes (connection_at s i)) e;
@@ -64,7 +64,7 @@ stays_connection s i f shuts goes = record {
   first = refl;
 }
 
-stays_link : (s : Story) (j : ℕ) (f : LinkStory → LinkStory) → ((k : LinkStory) → IsDropped k → IsDropped (f k)) → Stays s (with_link s j f)
+stays_link : (s : EngineModel) (j : ℕ) (f : LinkModel → LinkModel) → ((k : LinkModel) → IsDropped k → IsDropped (f k)) → Stays s (with_link s j f)
 stays_link s j f drops = record {
   closed = λ k l e. e;
   gone = λ k l e. e;
@@ -74,15 +74,15 @@ stays_link s j f drops = record {
   first = refl;
 }
 
-shut_by : (b : Bool) (c d : ConnStory) → d.closed ≡ c.closed → IsShut c → IsShut (cond b c d)
+shut_by : (b : Bool) (c d : ConnectionModel) → d.closed ≡ c.closed → IsShut c → IsShut (cond b c d)
 shut_by true c d e h = h
 shut_by false c d e h = e ∙ h
 
-gone_by : (b : Bool) (c d : ConnStory) → (IsGone c → IsGone d) → IsGone c → IsGone (cond b c d)
+gone_by : (b : Bool) (c d : ConnectionModel) → (IsGone c → IsGone d) → IsGone c → IsGone (cond b c d)
 gone_by true c d e h = h
 gone_by false c d e h = e h
 
-dropped_by : (b : Bool) (k d : LinkStory) → d.dropped ≡ k.dropped → IsDropped k → IsDropped (cond b k d)
+dropped_by : (b : Bool) (k d : LinkModel) → d.dropped ≡ k.dropped → IsDropped k → IsDropped (cond b k d)
 dropped_by true k d e h = h
 dropped_by false k d e h = e ∙ h
 
@@ -108,10 +108,10 @@ shut_or : (b c : Bool) → b ≡ true → (b || c) ≡ true
 shut_or true c e = refl
 shut_or false c e = cc
 
-stays_closing : (s : Story) (i : ℕ) (close : Bool) → Stays s (with_connection s i (closing close))
+stays_closing : (s : EngineModel) (i : ℕ) (close : Bool) → Stays s (with_connection s i (closing close))
 stays_closing s i close = stays_connection s i (closing close) (λ c e. shut_or c.closed close e) (λ c e. e)
 
-stays_opened : (s : Story) (i : ℕ) (to_head : Bool) → Stays s (with_opened s i to_head)
+stays_opened : (s : EngineModel) (i : ℕ) (to_head : Bool) → Stays s (with_opened s i to_head)
 stays_opened s i to_head =
     let y = doing (Forwarded (length s.links)) (connection_at s i) in
     record {
@@ -123,32 +123,32 @@ stays_opened s i to_head =
       first = refl;
     }
 
-stays_after : (s : Story) (i : ℕ) (to_head : Bool) (o : Came) → Stays s (after_on i to_head o s)
+stays_after : (s : EngineModel) (i : ℕ) (to_head : Bool) (o : Came) → Stays s (after_on i to_head o s)
 stays_after s i to_head (Replies bytes close) = stays_closing s i close
 stays_after s i to_head (Forwards address bytes) = stays_opened s i to_head
 stays_after s i to_head Queues = stays_connection s i (doing Waiting) (λ c e. e) (λ c e. e)
 stays_after s i to_head Nothing = stays_here s s.core
 
-stays_freed : (s : Story) (j i : ℕ) → Stays s (freed s j i)
+stays_freed : (s : EngineModel) (j i : ℕ) → Stays s (freed s j i)
 stays_freed s j i = stays_on s (with_link s j dropping) (freed s j i) (stays_link s j dropping (λ k e. refl)) (stays_connection (with_link s j dropping) i (doing Free) (λ c e. e) (λ c e. e))
 
-stays_equal : (s t after : Story) → after ≡ t → Stays s t → Stays s after
-stays_equal s t after e h = subst (λ (x : Story). Stays s x) (sym e) h
+stays_equal : (s t after : EngineModel) → after ≡ t → Stays s t → Stays s after
+stays_equal s t after e h = subst (λ (x : EngineModel). Stays s x) (sym e) h
 
-stays_stepped : (s t : Story) (i : ℕ) (to_head : Bool) (event : Event) (before told : List Effect) (after : Story) → Stays s t → StepsOn s t i to_head event before told after → Stays s after
+stays_stepped : (s t : EngineModel) (i : ℕ) (to_head : Bool) (event : Event) (before told : List Effect) (after : EngineModel) → Stays s t → StepsOn s t i to_head event before told after → Stays s after
 stays_stepped s t i to_head event before told after h d =
     let now = with_core t d.core in
     stays_equal s (after_on i to_head (came s.core.table d.outcome) now) after d.after_is
     (stays_on s t (after_on i to_head (came s.core.table d.outcome) now) h (stays_on t now (after_on i to_head (came s.core.table d.outcome) now) (stays_here t d.core) (stays_after now i to_head (came s.core.table d.outcome))))
 
-stays_passed : (s : Story) (i : ℕ) (m : Next Request) → Stays s (with_connection s i (passing m))
+stays_passed : (s : EngineModel) (i : ℕ) (m : Next Request) → Stays s (with_connection s i (passing m))
 stays_passed s i m = stays_connection s i (passing m) (λ c e. e) (λ c e. e)
 
-stays_arrived : (s : Story) (now i : ℕ) (r : Request) (judged : Result Asked Refusal) (told : List Effect) (after : Story) → Arrives s now i r judged told after → Stays s after
+stays_arrived : (s : EngineModel) (now i : ℕ) (r : Request) (judged : Result Asked Refusal) (told : List Effect) (after : EngineModel) → Arrives s now i r judged told after → Stays s after
 stays_arrived s now i r (Ok asked) told after d = stays_stepped s (with_connection s i (passing (next.Message r))) i _ _ _ told after (stays_passed s i (next.Message r)) d.1
 stays_arrived s now i r (Err fault) told after d = stays_equal s _ after d.after_is (stays_closing s i true)
 
-stays_served : (s : Story) (now i : ℕ) (w : Next Request) (told : List Effect) (after : Story) → Served s now i w told after → Stays s after
+stays_served : (s : EngineModel) (now i : ℕ) (w : Next Request) (told : List Effect) (after : EngineModel) → Served s now i w told after → Stays s after
 stays_served s now i next.More told after d = absurd d
 stays_served s now i next.NeedsContinue told after d = stays_equal s _ after d.1 (stays_passed s i next.NeedsContinue)
 stays_served s now i (next.Message r) told after d = stays_arrived s now i r d.0 told after d.2

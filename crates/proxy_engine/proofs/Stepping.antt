@@ -7,7 +7,7 @@ use Rattle.proxy_engine.specs.Admitted.{IsAdmitted}
 use Rattle.hx_allow.specs.Lines.{Table}
 use Rattle.hx_store.specs.Stored.{Stored}
 use Rattle.proxy_core.specs.Outcomes.{outcome_of, find_exchange}
-use Rattle.proxy_core.specs.declared.exchange.Exchange.{Exchange}
+use Rattle.proxy_core.specs.declared.open.exchange.Exchange.{Exchange}
 use Rattle.proxy_core.specs.declared.event.Event.{Event}
 use Rattle.proxy_core.specs.Replies.{is_head}
 use Rattle.proxy_core.specs.State.{State as CoreState, Steps}
@@ -18,33 +18,33 @@ use Rattle.proxy_script.specs.declared.effect_list.Effect.{Effect}
 use Rattle.proxy_script.specs.declared.effect_list.Effect.TheVariants as effects
 use Rattle.hx_framing.specs.declared.messages.Response.{Response}
 use Rattle.hx_status.specs.declared.cause.FailKind.{FailKind}
-use Rattle.proxy_engine.specs.declared.lookahead.Lookahead.{Lookahead}
-use Rattle.proxy_engine.specs.declared.lookahead.Lookahead.TheVariants.{Unknown, Quiet, Due}
-use Rattle.proxy_engine.specs.declared.activities.Activity.TheVariants.{Free}
-use Rattle.proxy_engine.specs.Story.{Story, link_at, with_connection, with_core}
+use Rattle.proxy_engine.specs.declared.endpoints.lookahead.Lookahead.{Lookahead}
+use Rattle.proxy_engine.specs.declared.endpoints.lookahead.Lookahead.TheVariants.{Unknown, Quiet, Due}
+use Rattle.proxy_engine.specs.declared.endpoints.activities.Activity.TheVariants.{Free}
+use Rattle.proxy_engine.specs.EngineModel.{EngineModel, link_at, with_connection, with_core}
 use Rattle.proxy_engine.specs.Due.{Abandons, Finish, Gives, Breaks, Finishes, Wakes, Serves, IsDueFirst}
 use Rattle.proxy_engine.specs.Acts.{Came, StepsOn, Finished, asks_head, came, came_at, doing, passing, freed, effects_on, after_on, next_number}
-use Rattle.proxy_engine.specs.State.{LinkStands, Stands, state, finish_seen, finish_at, finish_load, link_load, Done, Failed}
-use Rattle.proxy_engine.specs.Wishes.{gives, IsFinishedBy, EndFault}
-use Rattle.proxy_engine.specs.declared.happening.EngineFault.TheVariants.{OutOfMemory, Spent}
-use Rattle.proxy_engine.specs.declared.ends.Connection.{Connection}
-use Rattle.proxy_engine.specs.declared.ends.Link.{Link}
+use Rattle.proxy_engine.specs.State.{LinkRepresents, Represents, state, finish_seen, finish_at, finish_load, link_load, Done, Failed}
+use Rattle.proxy_engine.specs.Actions.{gives, IsFinishedBy, EndFault}
+use Rattle.proxy_engine.specs.declared.work.EngineFault.TheVariants.{OutOfMemory, Spent}
+use Rattle.proxy_engine.specs.declared.endpoints.ends.Connection.{Connection}
+use Rattle.proxy_engine.specs.declared.endpoints.ends.Link.{Link}
 use Rattle.proxy_engine.proofs.Parts.{both_length}
 use Rattle.proxy_engine.proofs.Changes.{changed_core}
 
 -- a request has arrived
-pub arrived_done : (s : Story) (cs1 cs2 : List (Option Connection)) (ks1 ks2 : List (Option Link)) (core core1 : CoreState) (first now i max_body : ℕ) (r : Request) (asked : Asked) (o : Outcome) (address : List ℕ) (to_head : Bool) (told : List Effect)
+pub arrived_done : (s : EngineModel) (cs1 cs2 : List (Option Connection)) (ks1 ks2 : List (Option Link)) (core core1 : CoreState) (first now i max_body : ℕ) (r : Request) (asked : Asked) (o : Outcome) (address : List ℕ) (to_head : Bool) (told : List Effect)
     → IsAdmitted r (Ok asked) → Steps core (events.Arrive now (i + 1) asked) o core1 → first + length ks1 < 2 ^ 64
     → came_at address o ≡ came core.table o → max_body ≡ core.table.max_body → to_head ≡ is_head asked
     → told ≡ effects_on i (first + length ks1) (came_at address o)
-    → ((t : Story) (k : CoreState) → k.table.max_body ≡ max_body → Stands (state cs1 ks1 k first) t → Stands (state cs2 ks2 k first) (after_on i to_head (came_at address o) t))
-    → Stands (state cs1 ks1 core first) (with_connection s i (passing (next.Message r))) → Done s now (Serves i (next.Message r)) told (state cs2 ks2 core1 first)
-arrived_done s cs1 cs2 ks1 ks2 core core1 first now i max_body r asked o address to_head told is_asked steps small way most head tells applies before =
+    → ((t : EngineModel) (k : CoreState) → k.table.max_body ≡ max_body → Represents (state cs1 ks1 k first) t → Represents (state cs2 ks2 k first) (after_on i to_head (came_at address o) t))
+    → Represents (state cs1 ks1 core first) (with_connection s i (passing (next.Message r))) → Done s now (Serves i (next.Message r)) told (state cs2 ks2 core1 first)
+arrived_done s cs1 cs2 ks1 ks2 core core1 first now i max_body r asked o address to_head told is_asked steps small upstream most head tells applies before =
     let passed = with_connection s i (passing (next.Message r)) in
     let core_is : core ≡ s.core = before.core in
-    let stepped : Stands (state cs1 ks1 core1 first) (with_core passed core1) = changed_core cs1 ks1 core first core1 passed before in
-    let coming : came_at address o ≡ came s.core.table o = way ∙ ap (λ (k : CoreState). came k.table o) core_is in
-    let links : length ks1 ≡ length s.links = both_length LinkStands ks1 s.links before.links in
+    let stepped : Represents (state cs1 ks1 core1 first) (with_core passed core1) = changed_core cs1 ks1 core first core1 passed before in
+    let coming : came_at address o ≡ came s.core.table o = upstream ∙ ap (λ (k : CoreState). came k.table o) core_is in
+    let links : length ks1 ≡ length s.links = both_length LinkRepresents ks1 s.links before.links in
     let first_is : first ≡ s.first = before.first in
     let number : first + length ks1 ≡ next_number s = omega (arith, links, first_is) in
     let most_after : core1.table.max_body ≡ max_body = ap (λ (k : CoreState). k.table.max_body) steps.leaves ∙ sym most in
@@ -65,8 +65,8 @@ arrived_done s cs1 cs2 ks1 ks2 core core1 first now i max_body r asked o address
           },
         ),
       );
-      stands = subst (λ (b : Bool). Stands (state cs2 ks2 core1 first) (after_on i b (came s.core.table o) (with_core passed core1))) head
-          (subst (λ (q : Came). Stands (state cs2 ks2 core1 first) (after_on i to_head q (with_core passed core1))) coming done);
+      stands = subst (λ (b : Bool). Represents (state cs2 ks2 core1 first) (after_on i b (came s.core.table o) (with_core passed core1))) head
+          (subst (λ (q : Came). Represents (state cs2 ks2 core1 first) (after_on i to_head q (with_core passed core1))) coming done);
     }
 
 abandoned_by : (table : Table) (es : List Stored) (xs : List Exchange) (x : Option Exchange) (next : Option ℕ) (id : ℕ) → outcome_of table es xs x next (events.Abandon id) ≡ outcomes.Ended
@@ -74,8 +74,8 @@ abandoned_by table es xs None next id = refl
 abandoned_by table es xs (Some x) next id = refl
 
 -- a link whose connection is gone is dropped
-pub abandoned_done : (s : Story) (cs1 : List (Option Connection)) (ks1 : List (Option Link)) (core core1 : CoreState) (first now i l : ℕ) (o : Outcome) (told : List Effect) → Steps core (events.Abandon (i + 1)) o core1
-    → told ≡ effects.Drop (first + l) ∷ [] → first ≡ s.first → core ≡ s.core → Stands (state cs1 ks1 core first) (freed s l i) → Done s now (Abandons i (Some l)) told (state cs1 ks1 core1 first)
+pub abandoned_done : (s : EngineModel) (cs1 : List (Option Connection)) (ks1 : List (Option Link)) (core core1 : CoreState) (first now i l : ℕ) (o : Outcome) (told : List Effect) → Steps core (events.Abandon (i + 1)) o core1
+    → told ≡ effects.Drop (first + l) ∷ [] → first ≡ s.first → core ≡ s.core → Represents (state cs1 ks1 core first) (freed s l i) → Done s now (Abandons i (Some l)) told (state cs1 ks1 core1 first)
 abandoned_done s cs1 ks1 core core1 first now i l o told steps is first_is core_is h =
     let ends : o ≡ outcomes.Ended = steps.outcome_is ∙ abandoned_by core.table core.entries core.exchanges (find_exchange (i + 1) core.exchanges) core.next (i + 1) in
     record {
@@ -87,12 +87,12 @@ abandoned_done s cs1 ks1 core core1 first now i l o told steps is first_is core_
         told_is = is ∙ (ap (λ n. effects.Drop (n + l) ∷ []) first_is ∙ sym (ap (λ (q : Outcome). effects.Drop (s.first + l) ∷ effects_on i (next_number s) (came s.core.table q)) ends));
         after_is = refl;
       };
-      stands = subst (λ (q : Outcome). Stands (state cs1 ks1 core1 first) (after_on i false (came s.core.table q) (with_core (freed s l i) core1))) (sym ends) (changed_core cs1 ks1 core first core1 (freed s l i) h);
+      stands = subst (λ (q : Outcome). Represents (state cs1 ks1 core1 first) (after_on i false (came s.core.table q) (with_core (freed s l i) core1))) (sym ends) (changed_core cs1 ks1 core first core1 (freed s l i) h);
     }
 
 -- one whose request waits has no link
-pub given_up_done : (s : Story) (cs1 : List (Option Connection)) (ks1 : List (Option Link)) (core core1 : CoreState) (first now i : ℕ) (o : Outcome) (told : List Effect) → Steps core (events.Abandon (i + 1)) o core1
-    → told ≡ [] → core ≡ s.core → Stands (state cs1 ks1 core first) (with_connection s i (doing Free)) → Done s now (Abandons i None) told (state cs1 ks1 core1 first)
+pub given_up_done : (s : EngineModel) (cs1 : List (Option Connection)) (ks1 : List (Option Link)) (core core1 : CoreState) (first now i : ℕ) (o : Outcome) (told : List Effect) → Steps core (events.Abandon (i + 1)) o core1
+    → told ≡ [] → core ≡ s.core → Represents (state cs1 ks1 core first) (with_connection s i (doing Free)) → Done s now (Abandons i None) told (state cs1 ks1 core1 first)
 given_up_done s cs1 ks1 core core1 first now i o told steps is core_is h =
     let ends : o ≡ outcomes.Ended = steps.outcome_is ∙ abandoned_by core.table core.entries core.exchanges (find_exchange (i + 1) core.exchanges) core.next (i + 1) in
     let free = with_connection s i (doing Free) in
@@ -105,23 +105,23 @@ given_up_done s cs1 ks1 core core1 first now i o told steps is core_is h =
         told_is = is ∙ sym (ap (λ (q : Outcome). effects_on i (next_number s) (came s.core.table q)) ends);
         after_is = refl;
       };
-      stands = subst (λ (q : Outcome). Stands (state cs1 ks1 core1 first) (after_on i false (came s.core.table q) (with_core free core1))) (sym ends) (changed_core cs1 ks1 core first core1 free h);
+      stands = subst (λ (q : Outcome). Represents (state cs1 ks1 core1 first) (after_on i false (came s.core.table q) (with_core free core1))) (sym ends) (changed_core cs1 ks1 core first core1 free h);
     }
 
 -- a request that waited was judged anew
-pub woken_done : (s : Story) (cs1 cs2 : List (Option Connection)) (ks1 ks2 : List (Option Link)) (core core1 : CoreState) (first now i max_body : ℕ) (o : Outcome) (address : List ℕ) (to_head : Bool) (told : List Effect)
+pub woken_done : (s : EngineModel) (cs1 cs2 : List (Option Connection)) (ks1 ks2 : List (Option Link)) (core core1 : CoreState) (first now i max_body : ℕ) (o : Outcome) (address : List ℕ) (to_head : Bool) (told : List Effect)
     → Steps core (events.Wake now (i + 1)) o core1 → first + length ks1 < 2 ^ 64
     → came_at address o ≡ came core.table o → max_body ≡ core.table.max_body → to_head ≡ asks_head (find_exchange (i + 1) core.exchanges)
     → told ≡ effects_on i (first + length ks1) (came_at address o)
-    → ((t : Story) (k : CoreState) → k.table.max_body ≡ max_body → Stands (state cs1 ks1 k first) t → Stands (state cs2 ks2 k first) (after_on i to_head (came_at address o) t))
-    → Stands (state cs1 ks1 core first) (with_connection s i (doing Free)) → Done s now (Wakes i) told (state cs2 ks2 core1 first)
-woken_done s cs1 cs2 ks1 ks2 core core1 first now i max_body o address to_head told steps small way most head tells applies before =
+    → ((t : EngineModel) (k : CoreState) → k.table.max_body ≡ max_body → Represents (state cs1 ks1 k first) t → Represents (state cs2 ks2 k first) (after_on i to_head (came_at address o) t))
+    → Represents (state cs1 ks1 core first) (with_connection s i (doing Free)) → Done s now (Wakes i) told (state cs2 ks2 core1 first)
+woken_done s cs1 cs2 ks1 ks2 core core1 first now i max_body o address to_head told steps small upstream most head tells applies before =
     let free = with_connection s i (doing Free) in
     let core_is : core ≡ s.core = before.core in
-    let stepped : Stands (state cs1 ks1 core1 first) (with_core free core1) = changed_core cs1 ks1 core first core1 free before in
-    let coming : came_at address o ≡ came s.core.table o = way ∙ ap (λ (k : CoreState). came k.table o) core_is in
+    let stepped : Represents (state cs1 ks1 core1 first) (with_core free core1) = changed_core cs1 ks1 core first core1 free before in
+    let coming : came_at address o ≡ came s.core.table o = upstream ∙ ap (λ (k : CoreState). came k.table o) core_is in
     let heads : to_head ≡ asks_head (find_exchange (i + 1) s.core.exchanges) = head ∙ ap (λ (k : CoreState). asks_head (find_exchange (i + 1) k.exchanges)) core_is in
-    let links : length ks1 ≡ length s.links = both_length LinkStands ks1 s.links before.links in
+    let links : length ks1 ≡ length s.links = both_length LinkRepresents ks1 s.links before.links in
     let first_is : first ≡ s.first = before.first in
     let number : first + length ks1 ≡ next_number s = omega (arith, links, first_is) in
     let most_after : core1.table.max_body ≡ max_body = ap (λ (k : CoreState). k.table.max_body) steps.leaves ∙ sym most in
@@ -138,12 +138,12 @@ woken_done s cs1 cs2 ks1 ks2 core core1 first now i max_body o address to_head t
           after_is = refl;
         },
       );
-      stands = subst (λ (b : Bool). Stands (state cs2 ks2 core1 first) (after_on i b (came s.core.table o) (with_core free core1))) heads
-          (subst (λ (q : Came). Stands (state cs2 ks2 core1 first) (after_on i to_head q (with_core free core1))) coming done);
+      stands = subst (λ (b : Bool). Represents (state cs2 ks2 core1 first) (after_on i b (came s.core.table o) (with_core free core1))) heads
+          (subst (λ (q : Came). Represents (state cs2 ks2 core1 first) (after_on i to_head q (with_core free core1))) coming done);
     }
 
 -- what stands on a link, where it goes
-finished_steps : (s : Story) (core core1 : CoreState) (first now i j : ℕ) (event : Event) (o : Outcome) (to_head : Bool) (told : List Effect) → Steps core event o core1 → told ≡ effects.Drop (first + j) ∷ effects_on i (next_number s) (came core.table o)
+finished_steps : (s : EngineModel) (core core1 : CoreState) (first now i j : ℕ) (event : Event) (o : Outcome) (to_head : Bool) (told : List Effect) → Steps core event o core1 → told ≡ effects.Drop (first + j) ∷ effects_on i (next_number s) (came core.table o)
     → first ≡ s.first → core ≡ s.core → StepsOn s (freed s j i) i to_head event (effects.Drop (s.first + j) ∷ []) told (after_on i to_head (came s.core.table o) (with_core (freed s j i) core1))
 finished_steps s core core1 first now i j event o to_head told steps is first_is core_is = record {
   outcome = o;
@@ -153,7 +153,7 @@ finished_steps s core core1 first now i j event o to_head told steps is first_is
   after_is = refl;
 }
 
-finished_by : (s : Story) (core core1 : CoreState) (first now i j : ℕ) (f : Finish) (o : Outcome) (told : List Effect) → (gives f ≡ true → next_number s < 2 ^ 64)
+finished_by : (s : EngineModel) (core core1 : CoreState) (first now i j : ℕ) (f : Finish) (o : Outcome) (told : List Effect) → (gives f ≡ true → next_number s < 2 ^ 64)
     → IsFinishedBy core now (i + 1) f o core1 → told ≡ effects.Drop (first + j) ∷ effects_on i (next_number s) (came core.table o) → first ≡ s.first → core ≡ s.core
     → Finished s now j i f told (after_on i (asks_head (find_exchange (i + 1) s.core.exchanges)) (came s.core.table o) (with_core (freed s j i) core1))
 finished_by s core core1 first now i j (Gives r) o told left steps is first_is core_is =
@@ -166,21 +166,21 @@ ends_table core core1 now id (Gives r) o h = ap (λ (k : CoreState). k.table) h.
 ends_table core core1 now id (Breaks kind) o h = ap (λ (k : CoreState). k.table) h.leaves
 
 -- an exchange was finished, or goes forward once more
-pub finished_done : (s : Story) (cs1 cs2 : List (Option Connection)) (ks1 ks2 : List (Option Link)) (core core1 : CoreState) (first now i j max_body : ℕ) (f : Finish) (o : Outcome) (address : List ℕ) (to_head : Bool) (told : List Effect)
+pub finished_done : (s : EngineModel) (cs1 cs2 : List (Option Connection)) (ks1 ks2 : List (Option Link)) (core core1 : CoreState) (first now i j max_body : ℕ) (f : Finish) (o : Outcome) (address : List ℕ) (to_head : Bool) (told : List Effect)
     → is_some (find_exchange (i + 1) core.exchanges) ≡ true → (gives f ≡ true → next_number s < 2 ^ 64) → IsFinishedBy core now (i + 1) f o core1 → came_at address o ≡ came core.table o → max_body ≡ core.table.max_body
     → to_head ≡ asks_head (find_exchange (i + 1) core.exchanges) → first + length ks1 ≡ next_number s → told ≡ effects.Drop (first + j) ∷ effects_on i (first + length ks1) (came_at address o) → first ≡ s.first → core ≡ s.core → i ≡ (link_at s j).connection
-    → Stands (state cs1 ks1 core first) (freed s j i) → ((t : Story) (k : CoreState) → k.table.max_body ≡ max_body → Stands (state cs1 ks1 k first) t → Stands (state cs2 ks2 k first) (after_on i to_head (came_at address o) t))
+    → Represents (state cs1 ks1 core first) (freed s j i) → ((t : EngineModel) (k : CoreState) → k.table.max_body ≡ max_body → Represents (state cs1 ks1 k first) t → Represents (state cs2 ks2 k first) (after_on i to_head (came_at address o) t))
     → Done s now (Finishes j f) told (state cs2 ks2 core1 first)
-finished_done s cs1 cs2 ks1 ks2 core core1 first now i j max_body f o address to_head told there left steps way most head number is first_is core_is owner gone applies =
+finished_done s cs1 cs2 ks1 ks2 core core1 first now i j max_body f o address to_head told there left steps upstream most head number is first_is core_is owner gone applies =
     let behind = with_core (freed s j i) core1 in
     let tells : told ≡ effects.Drop (first + j) ∷ effects_on i (next_number s) (came core.table o) =
-    is ∙ (ap (λ n. effects.Drop (first + j) ∷ effects_on i n (came_at address o)) number ∙ ap (λ (q : Came). effects.Drop (first + j) ∷ effects_on i (next_number s) q) way) in
+    is ∙ (ap (λ n. effects.Drop (first + j) ∷ effects_on i n (came_at address o)) number ∙ ap (λ (q : Came). effects.Drop (first + j) ∷ effects_on i (next_number s) q) upstream) in
     let most_after : core1.table.max_body ≡ max_body = ap (λ (t : Table). t.max_body) (ends_table core core1 now (i + 1) f o steps) ∙ sym most in
     let stepped = applies behind core1 most_after (changed_core cs1 ks1 core first core1 (freed s j i) gone) in
-    let told_way : Stands (state cs2 ks2 core1 first) (after_on i to_head (came s.core.table o) behind) =
-    subst (λ (q : Came). Stands (state cs2 ks2 core1 first) (after_on i to_head q behind)) (way ∙ ap (λ (k : CoreState). came k.table o) core_is) stepped in
-    let told_head : Stands (state cs2 ks2 core1 first) (after_on i (asks_head (find_exchange (i + 1) s.core.exchanges)) (came s.core.table o) behind) =
-    subst (λ (b : Bool). Stands (state cs2 ks2 core1 first) (after_on i b (came s.core.table o) behind)) (head ∙ ap (λ (k : CoreState). asks_head (find_exchange (i + 1) k.exchanges)) core_is) told_way in
+    let told_way : Represents (state cs2 ks2 core1 first) (after_on i to_head (came s.core.table o) behind) =
+    subst (λ (q : Came). Represents (state cs2 ks2 core1 first) (after_on i to_head q behind)) (upstream ∙ ap (λ (k : CoreState). came k.table o) core_is) stepped in
+    let told_head : Represents (state cs2 ks2 core1 first) (after_on i (asks_head (find_exchange (i + 1) s.core.exchanges)) (came s.core.table o) behind) =
+    subst (λ (b : Bool). Represents (state cs2 ks2 core1 first) (after_on i b (came s.core.table o) behind)) (head ∙ ap (λ (k : CoreState). asks_head (find_exchange (i + 1) k.exchanges)) core_is) told_way in
     let after = after_on i (asks_head (find_exchange (i + 1) s.core.exchanges)) (came s.core.table o) behind in
     record {
       after = after;
@@ -189,7 +189,7 @@ finished_done s cs1 cs2 ks1 ks2 core core1 first now i j max_body f o address to
     }
 
 -- an exchange that isn't finished, since no number is left
-pub spent_failed : (s : Story) (j : ℕ) (f : Finish) → gives f ≡ true → 2 ^ 64 ≤ next_number s → IsDueFirst s (Some (Finishes j f)) → Failed s Spent
+pub spent_failed : (s : EngineModel) (j : ℕ) (f : Finish) → gives f ≡ true → 2 ^ 64 ≤ next_number s → IsDueFirst s (Some (Finishes j f)) → Failed s Spent
 spent_failed s j (Gives r) may many due = (Finishes j (Gives r), due, tt, many)
 spent_failed s j (Breaks kind) may many due = absurd (cc)
 

@@ -3,8 +3,8 @@
 -- link_of: the link on which it went forward     has_exchange: its exchange is open
 -- forwarded_in: whether the request of its open exchange is at the origin
 use Rattle.std.specs.Prelude.{ℕ, Bool, true, false, Option, None, Some}
-use Rattle.proxy_engine.specs.declared.activities.Activity.{Activity}
-use Rattle.proxy_engine.specs.declared.activities.Activity.TheVariants.{Free, Forwarded, Waiting}
+use Rattle.proxy_engine.specs.declared.endpoints.activities.Activity.{Activity}
+use Rattle.proxy_engine.specs.declared.endpoints.activities.Activity.TheVariants.{Free, Forwarded, Waiting}
 
 -- the place of the link on which the request went forward
 abbrev pub link_of : Activity → Option ℕ

@@ -1,8 +1,9 @@
--- What each act does: its effects, and the story behind it.
+-- What each act does: its effects, and the model behind it.
 --
--- Came: an outcome of the core, on a connection     effects_on, after_on: its effects there, and the story behind it
+-- Came: an outcome of the core, on a connection     effects_on, after_on: its effects there, and the model behind it
 -- Does: an act was done                             MayForward: an act that may need a link
-use Rattle.std.specs.Prelude.{◌≤◌, ◌≡◌, ℕ, ◌+◌, ◌<◌, ◌^◌, List, [], ◌∷◌, ◌++◌, length, Bool, true, false, ◌||◌, Option, None, Some, if◌then◌else◌, slice_set, codes, Result, Ok, Err, unwrap_or}
+use Rattle.std.specs.Prelude.{◌≤◌, ◌≡◌, ℕ, ◌+◌, ◌<◌, ◌^◌, List, [], ◌∷◌, ◌++◌, length, Bool, true, false, ◌||◌, Option}
+use Rattle.std.specs.Prelude.{None, Some, if◌then◌else◌, slice_set, codes, Result, Ok, Err, unwrap_or}
 use Rattle.hx_framing.specs.declared.messages.Request.{Request}
 use Rattle.hx_framing.specs.declared.fault.FrameFault.TheVariants as frame
 use Rattle.hx_framing.specs.declared.messages.Next.{Next}
@@ -16,7 +17,7 @@ use Rattle.hx_status.specs.declared.cause.Cause.TheVariants as cause
 use Rattle.hx_hop.specs.Moments.{date_text_of}
 use Rattle.proxy_core.specs.Replies.{refused_text, is_head}
 use Rattle.proxy_core.specs.Outcomes.{find_exchange}
-use Rattle.proxy_core.specs.declared.exchange.Exchange.{Exchange}
+use Rattle.proxy_core.specs.declared.open.exchange.Exchange.{Exchange}
 use Rattle.proxy_core.specs.State.{State as CoreState, Steps}
 use Rattle.proxy_core.specs.declared.outcome.Outcome.{Outcome}
 use Rattle.proxy_core.specs.declared.outcome.Outcome.TheVariants as outcomes
@@ -25,10 +26,11 @@ use Rattle.proxy_core.specs.declared.event.Event.TheVariants as events
 use Rattle.proxy_script.specs.declared.effect_list.Effect.{Effect}
 use Rattle.proxy_script.specs.declared.effect_list.Effect.TheVariants as effects
 use Rattle.proxy_engine.specs.Admitted.{Refusal, IsAdmitted}
-use Rattle.proxy_engine.specs.Story.{Story, ConnStory, LinkStory, opened, connection_at, link_at, with_connection, with_link, with_core}
+use Rattle.proxy_engine.specs.EngineModel.{EngineModel, ConnectionModel, LinkModel, opened, connection_at, link_at}
+use Rattle.proxy_engine.specs.EngineModel.{with_connection, with_link, with_core}
 use Rattle.proxy_engine.specs.Due.{Finish, Gives, Breaks, Act, Abandons, Finishes, Wakes, Serves}
-use Rattle.proxy_engine.specs.declared.activities.Activity.{Activity}
-use Rattle.proxy_engine.specs.declared.activities.Activity.TheVariants.{Free, Forwarded, Waiting}
+use Rattle.proxy_engine.specs.declared.endpoints.activities.Activity.{Activity}
+use Rattle.proxy_engine.specs.declared.endpoints.activities.Activity.TheVariants.{Free, Forwarded, Waiting}
 
 -- an answer to the client, a request to the origin at an address, a request that waits, or nothing
 pub data Came : Type 0 where
@@ -59,24 +61,24 @@ came table (outcomes.Forward line bytes) = Forwards (address_of table line) byte
 came table (outcomes.Waits leader) = Queues
 came table outcomes.Ended = Nothing
 
-abbrev pub closing : Bool → ConnStory → ConnStory
+abbrev pub closing : Bool → ConnectionModel → ConnectionModel
 closing close c = record c { closed = c.closed || close }
 
-abbrev pub doing : Activity → ConnStory → ConnStory
+abbrev pub doing : Activity → ConnectionModel → ConnectionModel
 doing activity c = record c { activity = activity }
 
-abbrev pub passing : Next Request → ConnStory → ConnStory
+abbrev pub passing : Next Request → ConnectionModel → ConnectionModel
 passing a c = record c { progress = moved c.progress a }
 
-abbrev pub dropping : LinkStory → LinkStory
+abbrev pub dropping : LinkModel → LinkModel
 dropping k = record k { dropped = true }
 
 -- the link at j is dropped, and the connection at i is free
-abbrev pub freed : Story → ℕ → ℕ → Story
+abbrev pub freed : EngineModel → ℕ → ℕ → EngineModel
 freed s j i = with_connection (with_link s j dropping) i (doing Free)
 
 -- the exchange of the connection at i ends: its link is dropped, if it has one
-abbrev pub freed_by : Story → Option ℕ → ℕ → Story
+abbrev pub freed_by : EngineModel → Option ℕ → ℕ → EngineModel
 freed_by s (Some j) i = freed s j i
 freed_by s None i = with_connection s i (doing Free)
 
@@ -86,7 +88,7 @@ drops_on first (Some l) = effects.Drop (first + l) ∷ []
 drops_on first None = []
 
 -- a link is opened for the connection at i; it answers a HEAD or not
-abbrev pub with_opened : Story → ℕ → Bool → Story
+abbrev pub with_opened : EngineModel → ℕ → Bool → EngineModel
 with_opened s i to_head = record {
   connections = slice_set s.connections i (doing (Forwarded (length s.links)) (connection_at s i));
   links = s.links ++ opened s.core.table.max_body to_head i ∷ [];
@@ -101,24 +103,26 @@ asks_head (Some x) = is_head x.asked
 
 -- for the connection at i; the next link has this number
 abbrev pub effects_on : ℕ → ℕ → Came → List Effect
-effects_on i number (Replies bytes close) = effects.Client (i + 1) bytes ∷ (if close then effects.Close (i + 1) ∷ [] else [])
+effects_on i number (Replies bytes close) =
+    effects.Client (i + 1) bytes ∷ (if close then effects.Close (i + 1) ∷ [] else [])
 effects_on i number (Forwards address bytes) = effects.Forward number address bytes ∷ []
 effects_on i number Queues = []
 effects_on i number Nothing = []
 
-abbrev pub after_on : ℕ → Bool → Came → Story → Story
+abbrev pub after_on : ℕ → Bool → Came → EngineModel → EngineModel
 after_on i to_head (Replies bytes close) s = with_connection s i (closing close)
 after_on i to_head (Forwards address bytes) s = with_opened s i to_head
 after_on i to_head Queues s = with_connection s i (doing Waiting)
 after_on i to_head Nothing s = s
 
 -- the number of the next link
-abbrev pub next_number : Story → ℕ
+abbrev pub next_number : EngineModel → ℕ
 next_number s = s.first + length s.links
 
--- The core was stepped by this event, on the connection at i; before that the story was t, with s's core and links.
+-- The core was stepped by this event, on the connection at i; before that the model was t, with s's core and links.
 -- Links that it opens answer a HEAD or not; the effects `before` come first.
-pub record StepsOn (s t : Story) (i : ℕ) (to_head : Bool) (event : Event) (before told : List Effect) (after : Story) : Type 0 where
+pub record StepsOn (s t : EngineModel) (i : ℕ) (to_head : Bool) (event : Event) (before told : List Effect)
+    (after : EngineModel) : Type 0 where
   pub outcome : Outcome
   pub core : CoreState
   pub steps : Steps s.core event outcome core
@@ -130,21 +134,24 @@ abbrev pub continue_text : List ℕ
 continue_text = codes "HTTP/1.1 100 Continue\r\n\r\n"
 
 -- the proxy answers by itself, and closes
-pub record Refuses (s : Story) (now i : ℕ) (why : Cause) (head : Bool) (told : List Effect) (after : Story) : Type 0 where
-  pub told_is : told ≡ effects.Client (i + 1) (refused_text (date_text_of now) why true head) ∷ effects.Close (i + 1) ∷ []
+pub record Refuses (s : EngineModel) (now i : ℕ) (why : Cause) (head : Bool) (told : List Effect)
+    (after : EngineModel) : Type 0 where
+  pub told_is : told ≡ effects.Client (i + 1) (refused_text (date_text_of now) why true head) ∷ effects.Close (i + 1)
+      ∷ []
   pub after_is : after ≡ with_connection s i (closing true)
 
-abbrev pub Closes : Story → ℕ → List Effect → Story → Type 0
+abbrev pub Closes : EngineModel → ℕ → List Effect → EngineModel → Type 0
 Closes s i told after = (told ≡ effects.Close (i + 1) ∷ []) × (after ≡ with_connection s i (closing true))
 
 -- a request arrives at the core, or is refused
-abbrev pub Arrives : Story → ℕ → ℕ → Request → Result Asked Refusal → List Effect → Story → Type 0
+abbrev pub Arrives : EngineModel → ℕ → ℕ → Request → Result Asked Refusal → List Effect → EngineModel → Type 0
 Arrives s now i r (Ok asked) told after =
-    (next_number s < 2 ^ 64) × StepsOn s (with_connection s i (passing (next.Message r))) i (is_head asked) (events.Arrive now (i + 1) asked) [] told after
+    (next_number s < 2 ^ 64) × StepsOn s (with_connection s i (passing (next.Message r))) i (is_head asked)
+    (events.Arrive now (i + 1) asked) [] told after
 Arrives s now i r (Err refusal) told after = Refuses s now i refusal.why refusal.head told after
 
 -- what a client's stream asks for is done
-abbrev pub Served : Story → ℕ → ℕ → Next Request → List Effect → Story → Type 0
+abbrev pub Served : EngineModel → ℕ → ℕ → Next Request → List Effect → EngineModel → Type 0
 Served s now i next.More told after = ⊥
 Served s now i next.NeedsContinue told after =
     (told ≡ effects.Client (i + 1) continue_text ∷ []) × (after ≡ with_connection s i (passing next.NeedsContinue))
@@ -153,7 +160,8 @@ Served s now i (next.Message r) told after =
 Served s now i (next.Refused frame.Truncated) told after = Closes s i told after
 Served s now i (next.Refused frame.Head) told after = Refuses s now i (cause.Frame frame.Head) false told after
 Served s now i (next.Refused frame.Version) told after = Refuses s now i (cause.Frame frame.Version) false told after
-Served s now i (next.Refused frame.BothLengths) told after = Refuses s now i (cause.Frame frame.BothLengths) false told after
+Served s now i (next.Refused frame.BothLengths) told after =
+    Refuses s now i (cause.Frame frame.BothLengths) false told after
 Served s now i (next.Refused frame.Length) told after = Refuses s now i (cause.Frame frame.Length) false told after
 Served s now i (next.Refused frame.Coding) told after = Refuses s now i (cause.Frame frame.Coding) false told after
 Served s now i (next.Refused frame.Chunk) told after = Refuses s now i (cause.Frame frame.Chunk) false told after
@@ -163,23 +171,27 @@ Served s now i (next.Refused frame.Status) told after = Refuses s now i (cause.F
 Served s now i next.End told after = Closes s i told after
 
 -- the exchange on the link at j, of the connection at i, is finished
-abbrev pub Finished : Story → ℕ → ℕ → ℕ → Finish → List Effect → Story → Type 0
+abbrev pub Finished : EngineModel → ℕ → ℕ → ℕ → Finish → List Effect → EngineModel → Type 0
 Finished s now j i (Gives r) told after =
-    (next_number s < 2 ^ 64) × StepsOn s (freed s j i) i (asks_head (find_exchange (i + 1) s.core.exchanges)) (events.Answer now (i + 1) r) (effects.Drop (s.first + j) ∷ []) told after
+    (next_number s < 2 ^ 64) × StepsOn s (freed s j i) i (asks_head (find_exchange (i + 1) s.core.exchanges))
+    (events.Answer now (i + 1) r) (effects.Drop (s.first + j) ∷ []) told after
 Finished s now j i (Breaks kind) told after =
-    StepsOn s (freed s j i) i (asks_head (find_exchange (i + 1) s.core.exchanges)) (events.Fail now (i + 1) kind) (effects.Drop (s.first + j) ∷ []) told after
+    StepsOn s (freed s j i) i (asks_head (find_exchange (i + 1) s.core.exchanges)) (events.Fail now (i + 1) kind)
+    (effects.Drop (s.first + j) ∷ []) told after
 
 -- the request of the connection at i waited, and is judged anew
-abbrev pub Woken : Story → ℕ → ℕ → List Effect → Story → Type 0
+abbrev pub Woken : EngineModel → ℕ → ℕ → List Effect → EngineModel → Type 0
 Woken s now i told after =
-    (next_number s < 2 ^ 64) × StepsOn s (with_connection s i (doing Free)) i (asks_head (find_exchange (i + 1) s.core.exchanges)) (events.Wake now (i + 1)) [] told after
+    (next_number s < 2 ^ 64) × StepsOn s (with_connection s i (doing Free)) i
+    (asks_head (find_exchange (i + 1) s.core.exchanges)) (events.Wake now (i + 1)) [] told after
 
 -- an act was done, with these effects
-abbrev pub Does : Story → ℕ → Act → List Effect → Story → Type 0
-Does s now (Abandons i l) told after = StepsOn s (freed_by s l i) i false (events.Abandon (i + 1)) (drops_on s.first l) told after
+abbrev pub Does : EngineModel → ℕ → Act → List Effect → EngineModel → Type 0
+Does s now (Abandons i l) told after =
+    StepsOn s (freed_by s l i) i false (events.Abandon (i + 1)) (drops_on s.first l) told after
 Does s now (Finishes j finish) told after = Finished s now j (link_at s j).connection finish told after
 Does s now (Wakes i) told after = Woken s now i told after
-Does s now (Serves i wish) told after = Served s now i wish told after
+Does s now (Serves i action) told after = Served s now i action told after
 
 -- an arrival, an answer or a wake, which may go forward
 abbrev pub MayForward : Act → Type 0

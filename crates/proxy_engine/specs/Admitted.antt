@@ -18,4 +18,5 @@ pub record Refusal : Type 0 where
 abbrev pub IsAdmitted : Request → Result Asked Refusal → Type 0
 IsAdmitted r (Ok asked) = IsAsked r (Ok asked)
 IsAdmitted r (Err refusal) =
-    (fault : TargetFault) × IsAsked r (Err fault) × (refusal ≡ record { why = cause.Target fault; head = bytes_eq r.method (codes "HEAD") })
+    (fault : TargetFault) × IsAsked r (Err fault)
+    × (refusal ≡ record { why = cause.Target fault; head = bytes_eq r.method (codes "HEAD") })

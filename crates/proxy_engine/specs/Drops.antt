@@ -7,7 +7,7 @@ use Rattle.std.specs.List.{AllByRecursion}
 use Rattle.proxy_script.specs.declared.effect_list.Effect.{Effect}
 use Rattle.proxy_script.specs.declared.effect_list.Effect.TheVariants as effects
 use Rattle.proxy_engine.specs.Happenings.{Said}
-use Rattle.proxy_engine.specs.Story.{Story, link_at, heard}
+use Rattle.proxy_engine.specs.EngineModel.{EngineModel, link_at, heard}
 use Rattle.proxy_engine.specs.Due.{Act}
 use Rattle.proxy_engine.specs.Acts.{Does}
 
@@ -26,13 +26,18 @@ OnlyFirstDrops [] = Unit {0}
 OnlyFirstDrops (e ∷ told) = DropsNone told
 
 abbrev pub ActsAreShort : Type 0
-ActsAreShort = (s : Story) (now : ℕ) (act : Act) (told : List Effect) (after : Story) → Does s now act told after → (length told ≤ 3) × OnlyFirstDrops told
+ActsAreShort =
+    (s : EngineModel) (now : ℕ) (act : Act) (told : List Effect) (after : EngineModel) → Does s now act told after
+    → (length told ≤ 3) × OnlyFirstDrops told
 
 -- a link that is dropped behind an act was dropped before it, or the act tells that
 abbrev pub ActsTellDrops : Type 0
-ActsTellDrops = (s : Story) (now : ℕ) (act : Act) (told : List Effect) (after : Story) (j : ℕ) → Does s now act told after → j < length after.links → (link_at after j).dropped ≡ true →
-    ((j < length s.links) × ((link_at s j).dropped ≡ true)) ⊎ ((rest : List Effect) × (told ≡ effects.Drop (s.first + j) ∷ rest))
+ActsTellDrops =
+    (s : EngineModel) (now : ℕ) (act : Act) (told : List Effect) (after : EngineModel) (j : ℕ)
+    → Does s now act told after → j < length after.links → (link_at after j).dropped ≡ true →
+    ((j < length s.links) × ((link_at s j).dropped ≡ true))
+    ⊎ ((rest : List Effect) × (told ≡ effects.Drop (s.first + j) ∷ rest))
 
 -- what happens drops no link
 abbrev pub TakesDropNone : Type 0
-TakesDropNone = (s : Story) (h : Said) (j : ℕ) → (link_at (heard s h) j).dropped ≡ (link_at s j).dropped
+TakesDropNone = (s : EngineModel) (h : Said) (j : ℕ) → (link_at (heard s h) j).dropped ≡ (link_at s j).dropped

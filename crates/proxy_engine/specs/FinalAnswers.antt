@@ -1,5 +1,5 @@
--- What an engine hands to its core as an answer was read from an origin's stream, and so has a final status (RFC 9110, section 15):
--- interim responses end no exchange.
+-- What an engine hands to its core as an answer was read from an origin's stream, and so has a final status (RFC 9110,
+-- section 15): interim responses end no exchange.
 --
 -- SpellsAnswer, SpellsRequest: what a link's and a connection's stream spells next     IsSpelled: what an act is about
 -- HasFinalStatus: of an answer     ActsAreSpelled, AnswersAreRead, AnswersAreFinal: the statements
@@ -17,19 +17,21 @@ use Rattle.proxy_core.specs.declared.event.Event.{Event}
 use Rattle.proxy_core.specs.declared.event.Event.TheVariants as events
 use Rattle.proxy_core.specs.ReadAnswers.{IsReadEvent}
 use Rattle.proxy_core.specs.Traces.{Item}
-use Rattle.proxy_engine.specs.Story.{Story, ConnStory, LinkStory, connection_at, link_at}
+use Rattle.proxy_engine.specs.EngineModel.{EngineModel, ConnectionModel, LinkModel, connection_at, link_at}
 use Rattle.proxy_engine.specs.Due.{Act, Abandons, Finishes, Wakes, Serves, Gives, Breaks, IsDueFirst, is_busy}
 use Rattle.proxy_engine.specs.Lives.{Step, Tells}
 
 -- the link isn't dropped, and this is the response that its stream spells: none was given of it
-pub record SpellsAnswer (k : LinkStory) (response : Response) : Type 0 where
+pub record SpellsAnswer (k : LinkModel) (response : Response) : Type 0 where
   pub still : k.dropped ≡ false
   pub none_given : k.progress.given ≡ []
   pub rest : List ℕ
-  pub reads : ReadsResponse k.progress.max_body k.progress.to_head k.progress.ended k.progress.stream (Spelled response rest)
+  pub reads : ReadsResponse k.progress.max_body k.progress.to_head k.progress.ended k.progress.stream
+      (Spelled response rest)
 
--- the connection is open and has no open exchange, and this is the request that its stream spells behind those that were given of it
-pub record SpellsRequest (c : ConnStory) (request : Request) : Type 0 where
+-- the connection is open and has no open exchange, and this is the request that its stream spells behind those that
+-- were given of it
+pub record SpellsRequest (c : ConnectionModel) (request : Request) : Type 0 where
   pub free : is_busy c.gone c.closed c.activity ≡ false
   pub behind : List ℕ
   pub given : StreamSpells c.progress.max_body c.progress.stream c.progress.given behind
@@ -37,7 +39,7 @@ pub record SpellsRequest (c : ConnStory) (request : Request) : Type 0 where
   pub reads : ReadsRequest c.progress.max_body c.progress.ended c.progress.told behind (Spelled request rest)
 
 -- the message that an act is about is what the stream of its own end spells next
-abbrev pub IsSpelled : Story → Act → Type 0
+abbrev pub IsSpelled : EngineModel → Act → Type 0
 IsSpelled s (Abandons i l) = Unit {0}
 IsSpelled s (Finishes j (Gives response)) = SpellsAnswer (link_at s j) response
 IsSpelled s (Finishes j (Breaks kind)) = Unit {0}
@@ -58,12 +60,13 @@ HasFinalStatus (events.Abandon id) = Unit {0}
 
 -- whatever act is due
 abbrev pub ActsAreSpelled : Type 0
-ActsAreSpelled = (s : Story) (act : Act) → IsDueFirst s (Some act) → IsSpelled s act
+ActsAreSpelled = (s : EngineModel) (act : Act) → IsDueFirst s (Some act) → IsSpelled s act
 
--- from whatever story steps lead on, so is each event that their acts ask the core about
+-- from whatever model steps lead on, so is each event that their acts ask the core about
 abbrev pub AnswersAre : (Event → Type 0) → Type 0
 AnswersAre Is =
-    (table : Table) (begin last : Story) (steps : List Step) (trace : List Item) → Tells table begin steps last trace →
+    (table : Table) (begin last : EngineModel) (steps : List Step) (trace : List Item)
+    → Tells table begin steps last trace →
     AllByRecursion (λ item. Is item.event) trace
 
 abbrev pub AnswersAreRead : Type 0

@@ -1,11 +1,12 @@
 -- What is asked of the ends that are kept, one after another.
 --
 -- held: the places below a count at which something has the flag     GrowsConnection, GrowsLink: room was made
-use Rattle.std.specs.Prelude.{◌≡◌, ℕ, List, [], ◌∷◌, Bool, false, ◌&&◌, not, nat_lt, is_some, Option, None, Some, if◌then◌else◌}
+use Rattle.std.specs.Prelude.{◌≡◌, ℕ, List, [], ◌∷◌, Bool, false, ◌&&◌, not, nat_lt, is_some, Option, None, Some}
+use Rattle.std.specs.Prelude.{if◌then◌else◌}
 use Rattle.proxy_engine.specs.Activities.{has_exchange}
 use Rattle.proxy_engine.specs.Marked.{LooksLikeConnection, LooksLikeLink}
-use Rattle.proxy_engine.specs.declared.ends.Connection.{Connection}
-use Rattle.proxy_engine.specs.declared.ends.Link.{Link}
+use Rattle.proxy_engine.specs.declared.endpoints.ends.Connection.{Connection}
+use Rattle.proxy_engine.specs.declared.endpoints.ends.Link.{Link}
 
 abbrev pub connection_is_open : Connection → Bool
 connection_is_open c = not c.gone
@@ -28,7 +29,7 @@ abbrev pub flagged : {A : Type 0} → (A → Bool) → Option A → Bool
 flagged flag None = false
 flagged flag (Some x) = flag x
 
--- it stands for the same stories, and as much is known of it
+-- it represents the same models, and as much is known of it
 pub record GrowsConnection (old new : Connection) : Type 0 where
   pub alike : LooksLikeConnection old new
   pub ahead : new.reader.ahead ≡ old.reader.ahead

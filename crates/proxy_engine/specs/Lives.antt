@@ -21,7 +21,7 @@ use Rattle.proxy_script.specs.declared.effect_list.Effect.{Effect}
 use Rattle.proxy_script.specs.declared.effect_list.Effect.TheVariants as effects
 use Rattle.proxy_engine.specs.Admitted.{Refusal, IsAdmitted}
 use Rattle.proxy_engine.specs.Happenings.{Said}
-use Rattle.proxy_engine.specs.Story.{Story, link_at, heard, fault_of}
+use Rattle.proxy_engine.specs.EngineModel.{EngineModel, link_at, heard, fault_of}
 use Rattle.proxy_engine.specs.Due.{Act, Abandons, Finishes, Wakes, Serves, Gives, Breaks, IsDueFirst}
 use Rattle.proxy_engine.specs.Acts.{drops_on, Does, came, effects_on, continue_text, next_number}
 use Rattle.proxy_engine.specs.State.{begun}
@@ -31,15 +31,15 @@ pub data Step : Type 0 where
   Took : (happening : Said) → Step
   Worked : (now : ℕ) (act : Act) (told : List Effect) → Step
 
--- a step leads from one story to another: the act was the first that was due
-abbrev pub Leads : Story → Step → Story → Type 0
+-- a step leads from one model to another: the act was the first that was due
+abbrev pub Leads : EngineModel → Step → EngineModel → Type 0
 Leads s (Took h) t = (fault_of s h ≡ None) × (t ≡ heard s h)
 Leads s (Worked now act told) t = IsDueFirst s (Some act) × Does s now act told t
 
 -- these steps lead from s to t, the latest first
-abbrev pub Lives : Story → List Step → Story → Type 0
+abbrev pub Lives : EngineModel → List Step → EngineModel → Type 0
 Lives s [] t = t ≡ s
-Lives s (step ∷ past) t = (before : Story) × Lives s past before × Leads before step t
+Lives s (step ∷ past) t = (before : EngineModel) × Lives s past before × Leads before step t
 
 -- their effects in order
 abbrev pub told_of : List Step → List Effect
@@ -48,27 +48,28 @@ told_of (Took h ∷ past) = told_of past
 told_of (Worked now act told ∷ past) = told_of past ++ told
 
 -- the place of the connection that an act is about
-abbrev pub place_of : Story → Act → ℕ
+abbrev pub place_of : EngineModel → Act → ℕ
 place_of s (Abandons i l) = i
 place_of s (Finishes j finish) = (link_at s j).connection
 place_of s (Wakes i) = i
-place_of s (Serves i wish) = i
+place_of s (Serves i action) = i
 
 -- the link on which its exchange stood is dropped, if it had one
-abbrev pub drops_of : Story → Act → List Effect
+abbrev pub drops_of : EngineModel → Act → List Effect
 drops_of s (Abandons i l) = drops_on s.first l
 drops_of s (Finishes j finish) = effects.Drop (s.first + j) ∷ []
 drops_of s (Wakes i) = []
-drops_of s (Serves i wish) = []
+drops_of s (Serves i action) = []
 
--- The event that an act asks the core about at a moment: the client's going away, the response that the origin's stream spells, the
--- failure, the wake, or the request that the client's stream spells.
-abbrev pub IsEventOf : Story → ℕ → Act → Event → Type 0
+-- The event that an act asks the core about at a moment: the client's going away, the response that the origin's stream
+-- spells, the failure, the wake, or the request that the client's stream spells.
+abbrev pub IsEventOf : EngineModel → ℕ → Act → Event → Type 0
 IsEventOf s now (Abandons i l) event = event ≡ events.Abandon (i + 1)
 IsEventOf s now (Finishes j (Gives r)) event = event ≡ events.Answer now ((link_at s j).connection + 1) r
 IsEventOf s now (Finishes j (Breaks kind)) event = event ≡ events.Fail now ((link_at s j).connection + 1) kind
 IsEventOf s now (Wakes i) event = event ≡ events.Wake now (i + 1)
-IsEventOf s now (Serves i (next.Message r)) event = (asked : Asked) × IsAdmitted r (Ok asked) × (event ≡ events.Arrive now (i + 1) asked)
+IsEventOf s now (Serves i (next.Message r)) event =
+    (asked : Asked) × IsAdmitted r (Ok asked) × (event ≡ events.Arrive now (i + 1) asked)
 IsEventOf s now (Serves i next.More) event = ⊥
 IsEventOf s now (Serves i next.NeedsContinue) event = ⊥
 IsEventOf s now (Serves i (next.Refused fault)) event = ⊥
@@ -85,48 +86,61 @@ HasNoEvent (Serves i next.NeedsContinue) = Unit {0}
 HasNoEvent (Serves i (next.Refused fault)) = Unit {0}
 HasNoEvent (Serves i next.End) = Unit {0}
 
--- An item of the core, which an act in this story did at this moment: its event is the act's, the core took the step, its link is
--- dropped, and then come the effects on its connection. What goes forward names the number of the next link.
-pub record IsTold (table : Table) (s : Story) (now : ℕ) (act : Act) (item : Item) (told : List Effect) (after : Story) : Type 0 where
+-- An item of the core, which an act in this model did at this moment: its event is the act's, the core took the step,
+-- its link is dropped, and then come the effects on its connection. What goes forward names the number of the next
+-- link.
+pub record IsTold (table : Table) (s : EngineModel) (now : ℕ) (act : Act) (item : Item) (told : List Effect)
+    (after : EngineModel) : Type 0 where
   pub event_is : IsEventOf s now act item.event
   pub steps : Steps s.core item.event item.outcome after.core
   pub told_is : told ≡ drops_of s act ++ effects_on (place_of s act) (next_number s) (came table item.outcome)
 
--- effects without a step of the core, on the connection at a place: a continue, the proxy's answer to what is no request, or a
--- close
+-- effects without a step of the core, on the connection at a place: a continue, the proxy's answer to what is no
+-- request, or a close
 pub data IsOwn (now place : ℕ) (told : List Effect) : Type 0 where
   Continues : told ≡ effects.Client (place + 1) continue_text ∷ [] → IsOwn now place told
-  Refuses : (why : Cause) (head : Bool) → told ≡ effects.Client (place + 1) (refused_text (date_text_of now) why true head) ∷ effects.Close (place + 1) ∷ [] → IsOwn now place told
+  Refuses : (why : Cause) (head : Bool) → told
+      ≡ effects.Client (place + 1) (refused_text (date_text_of now) why true head) ∷ effects.Close (place + 1) ∷ []
+      → IsOwn now place told
   Closes : told ≡ effects.Close (place + 1) ∷ [] → IsOwn now place told
 
--- a step from this story to the next did the next item of the trace, or no step of the core
-abbrev pub Adds : Table → Story → Step → Story → List Item → List Item → Type 0
+-- a step from this model to the next did the next item of the trace, or no step of the core
+abbrev pub Adds : Table → EngineModel → Step → EngineModel → List Item → List Item → Type 0
 Adds table s (Took h) after past trace = trace ≡ past
 Adds table s (Worked now act told) after past trace =
-    ((item : Item) × (trace ≡ item ∷ past) × IsTold table s now act item told after) ⊎ ((trace ≡ past) × HasNoEvent act × IsOwn now (place_of s act) told)
+    ((item : Item) × (trace ≡ item ∷ past) × IsTold table s now act item told after)
+    ⊎ ((trace ≡ past) × HasNoEvent act × IsOwn now (place_of s act) told)
 
 -- the steps that lead from s to t did the items of the trace, in order, and told them
-abbrev pub Tells : Table → Story → List Step → Story → List Item → Type 0
+abbrev pub Tells : Table → EngineModel → List Step → EngineModel → List Item → Type 0
 Tells table s [] t trace = (t ≡ s) × (trace ≡ [])
 Tells table s (step ∷ steps) t trace =
-    (before : Story) × (past : List Item) × Tells table s steps before past × Leads before step t × Adds table before step t past trace
+    (before : EngineModel) × (past : List Item) × Tells table s steps before past × Leads before step t
+    × Adds table before step t past trace
 
--- From a story whose core has begun, the steps of the core are a good run, with all that a good run keeps: its events are those
--- that the acts ask about, one after another, and what they gave was told.
-pub record IsRun (table : Table) (limit first : ℕ) (begin : Story) (steps : List Step) (last : Story) : Type 0 where
+-- From a model whose core has begun, the steps of the core are a good run, with all that a good run keeps: its events
+-- are those that the acts ask about, one after another, and what they gave was told.
+pub record IsRun (table : Table) (limit first : ℕ) (begin : EngineModel) (steps : List Step)
+    (last : EngineModel) : Type 0 where
   pub trace : List Item
   pub keeps : KeepsThePromises table limit first trace last.core
   pub tells : Tells table begin steps last trace
 
--- an act has one story behind it, and its effects
+-- an act has one model behind it, and its effects
 abbrev pub ActsInOneWay : Type 0
-ActsInOneWay = (s : Story) (now : ℕ) (act : Act) (told more : List Effect) (t u : Story) → Does s now act told t → Does s now act more u → (told ≡ more) × (t ≡ u)
+ActsInOneWay =
+    (s : EngineModel) (now : ℕ) (act : Act) (told more : List Effect) (t u : EngineModel) → Does s now act told t
+    → Does s now act more u → (told ≡ more) × (t ≡ u)
 
--- the same steps from the same story have one trace, and lead to one story
+-- the same steps from the same model have one trace, and lead to one model
 abbrev pub HasOneTrace : Type 0
-HasOneTrace = (table : Table) (s : Story) (steps : List Step) (t u : Story) (trace other : List Item) → Tells table s steps t trace → Tells table s steps u other → (t ≡ u) × (trace ≡ other)
+HasOneTrace =
+    (table : Table) (s : EngineModel) (steps : List Step) (t u : EngineModel) (trace other : List Item)
+    → Tells table s steps t trace → Tells table s steps u other → (t ≡ u) × (trace ≡ other)
 
 -- whatever an engine lives through, the steps of its core are a good run
 abbrev pub LivesAreRuns : Type 0
 LivesAreRuns =
-    (table : Table) (limit first link : ℕ) (steps : List Step) (t : Story) → Lives (begun (core_begun table limit first) link) steps t → IsRun table limit first (begun (core_begun table limit first) link) steps t
+    (table : Table) (limit first link : ℕ) (steps : List Step) (t : EngineModel)
+    → Lives (begun (core_begun table limit first) link) steps t
+    → IsRun table limit first (begun (core_begun table limit first) link) steps t

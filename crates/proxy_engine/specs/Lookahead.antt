@@ -2,8 +2,8 @@
 use Rattle.std.specs.Prelude.{◌≡◌, ℕ, Bool, true, false}
 use Rattle.hx_framing.specs.declared.messages.Next.{Next}
 use Rattle.hx_framing.specs.declared.messages.Next.TheVariants as next
-use Rattle.proxy_engine.specs.declared.lookahead.Lookahead.{Lookahead}
-use Rattle.proxy_engine.specs.declared.lookahead.Lookahead.TheVariants.{Unknown, Quiet, Due}
+use Rattle.proxy_engine.specs.declared.endpoints.lookahead.Lookahead.{Lookahead}
+use Rattle.proxy_engine.specs.declared.endpoints.lookahead.Lookahead.TheVariants.{Unknown, Quiet, Due}
 
 -- the next answer is this
 abbrev pub Shows : {M : Type 0} → Lookahead M → Next M → Type 0
@@ -40,7 +40,8 @@ may_show Unknown = true
 may_show Quiet = false
 may_show (Due a) = is_due (Due a)
 
--- 1 where something may stand there, since the reader wasn't asked or has answered: counted among the acts still to come
+-- 1 where something may stand there, since the reader wasn't asked or has answered: counted among the acts still to
+-- come
 abbrev pub unsettled : {M : Type 0} → Lookahead M → ℕ
 unsettled Unknown = 1
 unsettled Quiet = 0

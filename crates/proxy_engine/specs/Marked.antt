@@ -4,18 +4,21 @@
 -- may_be_lost, may_want, may_stand: something may be due there
 -- LooksLikeConnection, LooksLikeLink, AtEach: what a look leaves
 -- NoneBelow, NoneAtAll: nothing may be due          lost_at, StandsThere, WantsThere: something is
-use Rattle.std.specs.Prelude.{◌≡◌, ℕ, ◌<◌, ◌≤◌, List, Bool, true, false, ◌&&◌, ◌||◌, not, Option, None, Some, is_some, if◌then◌else◌}
+use Rattle.std.specs.Prelude.{◌≡◌, ℕ, ◌<◌, ◌≤◌, List, Bool, true, false, ◌&&◌, ◌||◌, not, Option, None, Some, is_some}
+use Rattle.std.specs.Prelude.{if◌then◌else◌}
 use Rattle.std.specs.Ordering.{nat_cmp}
 use Rattle.std.specs.BTreeMap.{BTreeMap, get}
 use Rattle.proxy_engine.specs.Activities.{link_of, has_exchange}
 use Rattle.proxy_engine.specs.Lookahead.{may_show}
-use Rattle.proxy_engine.specs.Story.{ConnStory, LinkStory}
+use Rattle.proxy_engine.specs.EngineModel.{ConnectionModel, LinkModel}
 use Rattle.proxy_engine.specs.Due.{is_busy, Stood, Wanted}
-use Rattle.proxy_engine.specs.State.{ConnStands, LinkStands, finish_at, wish_at, connection_load, link_load}
-use Rattle.proxy_engine.specs.declared.ends.Connection.{Connection}
-use Rattle.proxy_engine.specs.declared.ends.Link.{Link}
+use Rattle.proxy_engine.specs.State.{ConnectionRepresents, LinkRepresents, finish_at, action_at, connection_load}
+use Rattle.proxy_engine.specs.State.{link_load}
+use Rattle.proxy_engine.specs.declared.endpoints.ends.Connection.{Connection}
+use Rattle.proxy_engine.specs.declared.endpoints.ends.Link.{Link}
 
--- what is kept of each end in the order of their numbers: nothing of one that is over; and whether there is room for one more
+-- what is kept of each end in the order of their numbers: nothing of one that is over; and whether there is room for
+-- one more
 pub record EndList (A : Type 0) : Type 0 where
   pub items : List (Option A)
   pub has_room : Bool
@@ -32,15 +35,15 @@ may_want c = not (is_busy c.gone false c.activity) && may_show c.reader.ahead
 abbrev pub may_stand : Link → Bool
 may_stand k = may_show k.reader.ahead || is_some k.failed
 
--- after a look: it stands for the same stories, and no more is to come
+-- after a look: it represents the same models, and no more is to come
 pub record LooksLikeConnection (old new : Connection) : Type 0 where
-  pub stands : (s : ConnStory) → ConnStands (Some old) s → ConnStands (Some new) s
+  pub stands : (s : ConnectionModel) → ConnectionRepresents (Some old) s → ConnectionRepresents (Some new) s
   pub gone : new.gone ≡ old.gone
   pub activity : new.activity ≡ old.activity
   pub load : connection_load (Some new) ≤ connection_load (Some old)
 
 pub record LooksLikeLink (old new : Link) : Type 0 where
-  pub stands : (s : LinkStory) → LinkStands (Some old) s → LinkStands (Some new) s
+  pub stands : (s : LinkModel) → LinkRepresents (Some old) s → LinkRepresents (Some new) s
   pub connection : new.connection ≡ old.connection
   pub load : link_load (Some new) ≤ link_load (Some old)
 
@@ -69,11 +72,12 @@ lost_at None = None
 lost_at (Some c) = if may_be_lost c then Some (link_of c.activity) else None
 
 -- a look has found something, and that is what is due there
-abbrev pub ShownThere : {A B C : Type 0} → (Option A → B → Type 0) → (B → Option C → Type 0) → (Option A → Option C) → Option A → Type 0
+abbrev pub ShownThere : {A B C : Type 0} → (Option A → B → Type 0) → (B → Option C → Type 0) → (Option A → Option C)
+    → Option A → Type 0
 ShownThere {A} {B} R P seen o = (is_some (seen o) ≡ true) × ((s : B) → R o s → P s (seen o))
 
 abbrev pub StandsThere : Option Link → Type 0
-StandsThere k = ShownThere LinkStands Stood finish_at k
+StandsThere k = ShownThere LinkRepresents Stood finish_at k
 
 abbrev pub WantsThere : Option Connection → Type 0
-WantsThere c = ShownThere ConnStands Wanted wish_at c
+WantsThere c = ShownThere ConnectionRepresents Wanted action_at c

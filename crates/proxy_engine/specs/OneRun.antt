@@ -1,4 +1,5 @@
--- What a run refuses: what the steps of an engine didn't do. So `IsRun` is met by what was done, and by nothing beside it.
+-- What a run refuses: what the steps of an engine didn't do. So `IsRun` is met by what was done, and by nothing beside
+-- it.
 --
 -- moment_of: of an event     acts_in: how many acts are among steps
 -- NoOtherEffects and what follows it: the statements
@@ -9,7 +10,7 @@ use Rattle.proxy_core.specs.declared.event.Event.TheVariants as events
 use Rattle.proxy_core.specs.Traces.{Item}
 use Rattle.proxy_script.specs.declared.effect_list.Effect.{Effect}
 use Rattle.proxy_engine.specs.Happenings.{Said}
-use Rattle.proxy_engine.specs.Story.{Story, fault_of}
+use Rattle.proxy_engine.specs.EngineModel.{EngineModel, fault_of}
 use Rattle.proxy_engine.specs.Due.{Act}
 use Rattle.proxy_engine.specs.Lives.{Step, Took, Worked, Tells, IsTold, IsRun}
 
@@ -27,28 +28,38 @@ acts_in (Worked now act told ∷ past) = acts_in past + 1
 
 -- effects that the act didn't tell: one more, one less, another end, other bytes, another order
 abbrev pub NoOtherEffects : Type 0
-NoOtherEffects = (table : Table) (limit first now : ℕ) (begin last other : Story) (past : List Step) (act : Act) (told more : List Effect) →
-    IsRun table limit first begin (Worked now act told ∷ past) last → told ≢ more → IsRun table limit first begin (Worked now act more ∷ past) other → ⊥
+NoOtherEffects =
+    (table : Table) (limit first now : ℕ) (begin last other : EngineModel) (past : List Step) (act : Act)
+    (told more : List Effect) →
+    IsRun table limit first begin (Worked now act told ∷ past) last → told ≢ more
+    → IsRun table limit first begin (Worked now act more ∷ past) other → ⊥
 
 -- an act that wasn't the first due, at whatever moment it is said to be done
 abbrev pub NoOtherAct : Type 0
-NoOtherAct = (table : Table) (limit first now then : ℕ) (begin last other : Story) (past : List Step) (act instead : Act) (told more : List Effect) →
-    IsRun table limit first begin (Worked now act told ∷ past) last → act ≢ instead → IsRun table limit first begin (Worked then instead more ∷ past) other → ⊥
+NoOtherAct =
+    (table : Table) (limit first now then : ℕ) (begin last other : EngineModel) (past : List Step) (act instead : Act)
+    (told more : List Effect) →
+    IsRun table limit first begin (Worked now act told ∷ past) last → act ≢ instead
+    → IsRun table limit first begin (Worked then instead more ∷ past) other → ⊥
 
 -- a step of the core at another moment than that of its act
 abbrev pub NoOtherMoment : Type 0
-NoOtherMoment = (table : Table) (s after : Story) (now then : ℕ) (act : Act) (item : Item) (told : List Effect) →
+NoOtherMoment = (table : Table) (s after : EngineModel) (now then : ℕ) (act : Act) (item : Item) (told : List Effect) →
     IsTold table s now act item told after → moment_of item.event ≡ Some then → now ≢ then → ⊥
 
 -- a happening that the engine doesn't take: of an end that isn't there
 abbrev pub NothingUntaken : Type 0
-NothingUntaken = (table : Table) (limit first : ℕ) (begin last : Story) (past : List Step) (happening : Said) →
-    IsRun table limit first begin (Took happening ∷ past) last → ((s : Story) → fault_of s happening ≢ None) → ⊥
+NothingUntaken = (table : Table) (limit first : ℕ) (begin last : EngineModel) (past : List Step) (happening : Said) →
+    IsRun table limit first begin (Took happening ∷ past) last → ((s : EngineModel) → fault_of s happening ≢ None) → ⊥
 
 -- items that no act did: there are no more than acts
 abbrev pub NoMoreItems : Type 0
-NoMoreItems = (table : Table) (begin last : Story) (steps : List Step) (trace : List Item) → Tells table begin steps last trace → length trace ≤ acts_in steps
+NoMoreItems =
+    (table : Table) (begin last : EngineModel) (steps : List Step) (trace : List Item)
+    → Tells table begin steps last trace → length trace ≤ acts_in steps
 
 -- and none where nothing was done
 abbrev pub NothingUndone : Type 0
-NothingUndone = (table : Table) (begin last : Story) (item : Item) (past : List Item) → Tells table begin [] last (item ∷ past) → ⊥
+NothingUndone =
+    (table : Table) (begin last : EngineModel) (item : Item) (past : List Item)
+    → Tells table begin [] last (item ∷ past) → ⊥

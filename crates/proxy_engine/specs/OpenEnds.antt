@@ -4,7 +4,7 @@
 use Rattle.std.specs.Prelude.{ℕ}
 use Rattle.proxy_core.specs.State.{State as CoreState}
 use Rattle.proxy_engine.specs.State.{State, state, load_of}
-use Rattle.proxy_engine.specs.declared.open_ends.Ends.{Ends}
+use Rattle.proxy_engine.specs.declared.endpoints.open_ends.Ends.{Ends}
 
 abbrev pub state_of : Ends → CoreState → State
 state_of ends core = state ends.connections.items ends.links.items core ends.first_link

@@ -1,13 +1,14 @@
 -- Which happenings find their memory.
 --
--- HasSpare, IsRoomy, IsRoomyLink: so many bytes of an end do     Finds: a happening does     HasRoom: the next one of an end does
+-- HasSpare, IsRoomy, IsRoomyLink: so many bytes of an end do      Finds: a happening does
+-- HasRoom: the next one of an end does
 use Rattle.std.specs.Prelude.{◌≡◌, ℕ, ◌-◌, ◌+◌, ◌≤◌, ◌^◌, ◌⊎◌, length, true, Option, None, Some, slice_index_or}
 use Rattle.proxy_engine.specs.Happenings.{Said, Accepts, Sends, Hears, Ends, Leaves, Shuts, Fails}
 use Rattle.proxy_engine.specs.State.{State}
-use Rattle.proxy_engine.specs.declared.ends.Connection.{Connection}
-use Rattle.proxy_engine.specs.declared.ends.Link.{Link}
-use Rattle.proxy_engine.specs.declared.happening.End.{End}
-use Rattle.proxy_engine.specs.declared.happening.End.TheVariants as ends
+use Rattle.proxy_engine.specs.declared.endpoints.ends.Connection.{Connection}
+use Rattle.proxy_engine.specs.declared.endpoints.ends.Link.{Link}
+use Rattle.proxy_engine.specs.declared.work.End.{End}
+use Rattle.proxy_engine.specs.declared.work.End.TheVariants as ends
 
 -- nothing is kept of an end that is over
 abbrev pub HasSpare : {A : Type 0} → (A → ℕ) → Option A → ℕ → Type 0

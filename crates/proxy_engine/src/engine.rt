@@ -1,16 +1,16 @@
 //! The engine: connections of clients, links to origins, and the core between them.
 ghost use Rattle.std.specs.Prelude.{◌≡◌, ◌≢◌, ◌<◌, ◌≤◌, ◌-◌, nat_lt, [], IfOk, IfErr, OnOk, OnErr, Some, Err, true};
-ghost use Rattle.proxy_engine.specs.Story.{Story, connection_at, keeps};
+ghost use Rattle.proxy_engine.specs.EngineModel.{EngineModel, connection_at, keeps};
 ghost use Rattle.proxy_engine.specs.Happenings.{said, takes_memory};
 ghost use Rattle.proxy_engine.specs.Reading.{ends_read, failed_links, open_count, next_connection, IsBetween};
 ghost use Rattle.proxy_engine.specs.Room.{Finds, HasRoom};
-ghost use Rattle.proxy_engine.specs.State.{State, Stands, Takes, TakeFault, begun};
+ghost use Rattle.proxy_engine.specs.State.{State, Represents, Takes, TakeFault, begun};
 
-use crate::connections::Connections;
-use crate::happening::{End, EngineFault};
-use crate::links::Links;
-use crate::open_ends::Ends;
+use crate::endpoints::connections::Connections;
+use crate::endpoints::links::Links;
+use crate::endpoints::open_ends::Ends;
 use crate::takes;
+use crate::work::{End, EngineFault};
 use hx_allow::Config;
 use hx_store::Shelf;
 use proxy_core::Core;
@@ -20,7 +20,7 @@ use std::marker::Model;
 
 /// The proxy without sockets. It is told what happens, and asked for what is to be done.
 ///
-/// Contracts see its `State`, and speak of the stories that it stands for: the streams as they came, the messages
+/// Contracts see its `State`, and speak of the models that it represents: the streams as they came, the messages
 /// that were used of them, and what was done.
 pub struct Engine<S: Shelf> {
     pub(crate) ends: Ends,
@@ -36,13 +36,19 @@ impl<S: Shelf + Drop> Drop for Engine<S> {
 
 impl<S: Shelf> Model for Engine<S> {
     ghost use Rattle.proxy_engine.specs.State.{State, state};
-    ghost use Rattle.proxy_engine.specs.Wiring.{IsWired};
+    ghost use Rattle.proxy_engine.specs.Pairing.{IsPaired};
 
     ghost Value = { State };
 
-    ghost view = { λ e. record { connections = e.ends.connections.items; links = e.ends.links.items; core = e.core; first = e.ends.first_link; room = e.ends.connections.has_room } };
+    ghost view = { λ e. record {
+      connections = e.ends.connections.items;
+      links = e.ends.links.items;
+      core = e.core;
+      first = e.ends.first_link;
+      room = e.ends.connections.has_room;
+    } };
 
-    ghost invariant = { λ e. IsWired (state e.ends.connections.items e.ends.links.items e.core e.ends.first_link) };
+    ghost invariant = { λ e. IsPaired (state e.ends.connections.items e.ends.links.items e.core e.ends.first_link) };
 }
 
 impl<S: Shelf> Engine<S> {
@@ -50,7 +56,14 @@ impl<S: Shelf> Engine<S> {
     /// stored responses begin at `first_serial`, 1 or more, numbers of links at `first_link`.
     pub fn new(alloc: Global, config: Config, shelf: S, first_serial: u64, first_link: u64) -> Self
         requires { S.entries shelf ≡ [] }
-        ensures { Stands result (begun (record { table = config; limit = S.limit shelf; entries = []; exchanges = []; next = Some first_serial }) first_link) }
+        ensures { Represents result (begun
+            (record {
+              table = config;
+              limit = S.limit shelf;
+              entries = [];
+              exchanges = [];
+              next = Some first_serial;
+            }) first_link) }
     {
         Engine {
             ends: Ends {
@@ -65,11 +78,13 @@ impl<S: Shelf> Engine<S> {
 
     /// Takes what happened. An `Err` changes nothing, and says want of memory only where no other refusal stands.
     pub fn take(&mut self, alloc: Global, happening: Happening<'_>) -> Result<(), EngineFault>
-        ensures ok { OnOk result ((s : Story) → Stands self.old s → Takes s (said happening.entry) self.new) }
-        ensures fault { IfErr result (λ fault. (s : Story) → Stands self.old s → TakeFault s (said happening.entry) fault) }
+        ensures ok { OnOk result ((s : EngineModel) → Represents self.old s → Takes s (said happening.entry) self.new) }
+        ensures fault { IfErr result (λ fault. (s : EngineModel) → Represents self.old s
+            → TakeFault s (said happening.entry) fault) }
         // Only connections and bytes take memory, and bytes only of an end that is still read.
         ensures memory { result ≡ Err EngineFault.OutOfMemory → takes_memory (said happening.entry) ≡ true }
-        ensures kept { result ≡ Err EngineFault.OutOfMemory → (s : Story) → Stands self.old s → keeps s (said happening.entry) ≡ true }
+        ensures kept { result ≡ Err EngineFault.OutOfMemory → (s : EngineModel) → Represents self.old s
+            → keeps s (said happening.entry) ≡ true }
         ensures reserved { Finds self.old (said happening.entry) → result ≢ Err EngineFault.OutOfMemory }
         ensures unchanged { OnErr result (self.new ≡ self.old) }
     {
@@ -97,11 +112,11 @@ impl<S: Shelf> Engine<S> {
         }
     }
 
-    /// Makes room, so that the next `take` of that end finds its memory: of an accept for the listener, of at most 4,096
-    /// bytes for another end. An `Err` changes nothing.
+    /// Makes room, so that the next `take` of that end finds its memory: of an accept for the listener, of at most
+    /// 4,096 bytes for another end. An `Err` changes nothing.
     pub fn reserve(&mut self, alloc: Global, end: End) -> Result<(), AllocError>
         ensures ok { OnOk result (HasRoom self.new end) }
-        ensures stands { (s : Story) → Stands self.old s → Stands self.new s }
+        ensures stands { (s : EngineModel) → Represents self.old s → Represents self.new s }
         ensures err { OnErr result (self.new ≡ self.old) }
     {
         match end {
@@ -121,30 +136,30 @@ impl<S: Shelf> Engine<S> {
 
     /// The number of the next connection, if one is left.
     pub fn next_connection(&self) -> Option<u64>
-        ensures { (s : Story) → Stands self.now s → result ≡ next_connection s }
+        ensures { (s : EngineModel) → Represents self.now s → result ≡ next_connection s }
     {
         self.ends.connections.next_number()
     }
 
     /// How many connections are open: neither closed nor gone.
     pub fn open_connections(&self) -> usize
-        ensures { (s : Story) → Stands self.now s → result ≡ open_count s }
+        ensures { (s : EngineModel) → Represents self.now s → result ≡ open_count s }
     {
         self.ends.connections.open_count()
     }
 
     /// Whether fewer connections than this are open. They aren't counted one by one unless as many may be.
     pub fn has_fewer_connections(&self, most: usize) -> bool
-        ensures { (s : Story) → Stands self.now s → result ≡ nat_lt (open_count s) most }
+        ensures { (s : EngineModel) → Represents self.now s → result ≡ nat_lt (open_count s) most }
     {
         self.ends.connections.are_fewer_open(most)
     }
 
-    /// Whether a client is between two requests: it is open, has no open exchange, its input hasn't ended, and each byte that it
-    /// has sent belongs to a request that was used. So nothing is lost where it is taken as gone, and its stream goes on under
-    /// another number.
+    /// Whether a client is between two requests: it is open, has no open exchange, its input hasn't ended, and each
+    /// byte that it has sent belongs to a request that was used. So nothing is lost where it is taken as gone, and its
+    /// stream goes on under another number.
     pub fn is_between_requests(&self, n: u64) -> bool
-        ensures { (s : Story) → Stands self.now s → result ≡ true → IsBetween (connection_at s (n - 1)) }
+        ensures { (s : EngineModel) → Represents self.now s → result ≡ true → IsBetween (connection_at s (n - 1)) }
     {
         self.ends.connections.is_between(n.saturating_sub(1))
     }
@@ -152,7 +167,7 @@ impl<S: Shelf> Engine<S> {
     /// The ends from which bytes may come: each link that isn't dropped, failed or shut, then each open client without
     /// an exchange whose input hasn't ended. Its only error is want of memory.
     pub fn readable_ends(&self, alloc: Global) -> Result<Vec<End>, AllocError>
-        ensures { IfOk result (λ ends. (s : Story) → Stands self.now s → ends.items ≡ ends_read s) }
+        ensures { IfOk result (λ ends. (s : EngineModel) → Represents self.now s → ends.items ≡ ends_read s) }
     {
         let mut ends = Vec::new(alloc);
         self.ends
@@ -164,7 +179,7 @@ impl<S: Shelf> Engine<S> {
 
     /// The links that have failed and aren't dropped. Its only error is want of memory.
     pub fn failed_links(&self, alloc: Global) -> Result<Vec<End>, AllocError>
-        ensures { IfOk result (λ ends. (s : Story) → Stands self.now s → ends.items ≡ failed_links s) }
+        ensures { IfOk result (λ ends. (s : EngineModel) → Represents self.now s → ends.items ≡ failed_links s) }
     {
         let mut ends = Vec::new(alloc);
         self.ends

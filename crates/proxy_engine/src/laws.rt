@@ -1,6 +1,6 @@
 //! Laws on the definitions that the contracts cite.
 ghost use Rattle.std.specs.Prelude.{◌≡◌, Option};
-ghost use Rattle.proxy_engine.specs.Story.{Story};
+ghost use Rattle.proxy_engine.specs.EngineModel.{EngineModel};
 ghost use Rattle.proxy_engine.specs.Due.{Act, IsDueFirst};
 ghost use Rattle.proxy_engine.specs.Drops.{ActsAreShort, ActsTellDrops, TakesDropNone};
 ghost use Rattle.proxy_engine.specs.Lives.{ActsInOneWay, HasOneTrace, LivesAreRuns};
@@ -8,16 +8,19 @@ ghost use Rattle.proxy_engine.specs.FinalAnswers.{ActsAreSpelled, AnswersAreFina
 ghost use Rattle.proxy_engine.specs.Spent.{HidesNoAnswer, HidesNoWake};
 ghost use Rattle.proxy_engine.specs.Orderly.{BeginsOrderly, TakesInOrder, ActsInOrder, TakesStay, ActsStay};
 
+pub(crate) mod model_cases;
+pub(crate) mod run_laws;
+
 use hx_framing::laws::response_laws::what_is_read_is_final;
 use hx_hop::a_request_is_asked_in_one_way;
 
 /// One act is due first, or none is: so `work` has no choice.
 pub fn due_once()
-    ensures { (s : Story) → (a b : Option Act) → IsDueFirst s a → IsDueFirst s b → a ≡ b }
+    ensures { (s : EngineModel) → (a b : Option Act) → IsDueFirst s a → IsDueFirst s b → a ≡ b }
 {}
 
-/// No effect names a connection behind its close, or one that is gone; a link that ends is dropped once. It holds of each
-/// story that an engine lives through, from one whose core has no open exchange on.
+/// No effect names a connection behind its close, or one that is gone; a link that ends is dropped once. It holds of
+/// each model that an engine lives through, from one whose core has no open exchange on.
 pub fn effects_name_open_ends()
     ensures first { BeginsOrderly }
     ensures takes { TakesInOrder }
@@ -41,7 +44,7 @@ pub fn each_drop_is_told()
     ensures takes { TakesDropNone }
 {}
 
-/// An act that is done has one story behind it, and its effects.
+/// An act that is done has one model behind it, and its effects.
 pub fn an_act_is_done_in_one_way()
     ensures { ActsInOneWay }
 {
@@ -55,18 +58,18 @@ pub fn a_life_has_one_trace()
     a_request_is_asked_in_one_way();
 }
 
-/// Whatever takes happenings and does what is due, from an engine to which nothing has happened on: the steps of its core are
-/// a good run over what is held by the count, with the headline. Its events are the requests that the clients' streams spell,
-/// the responses that the origins' streams spell, the failures and the clients that went away, each at its moment, and its
-/// effects are the texts of what the steps gave, in order. So whatever drives an engine, a script or sockets, has the promises of
-/// `proxy_core::run`.
+/// Whatever takes happenings and does what is due, from an engine to which nothing has happened on: the steps of its
+/// core are a good run over what is held by the count, with the headline. Its events are the requests that the clients'
+/// streams spell, the responses that the origins' streams spell, the failures and the clients that went away, each at
+/// its moment, and its effects are the texts of what the steps gave, in order. So whatever drives an engine, a script
+/// or sockets, has the promises of `proxy_core::run`.
 pub fn lives_are_runs()
     ensures { LivesAreRuns }
 {}
 
-/// The answer that an act hands to the core is the response that the stream of its own link spells, and the request that of its own
-/// connection behind those that were served. So whatever an engine lives through, each answer in its trace is one that a stream spells
-/// as a response, and has a final status, from 200 to 599.
+/// The answer that an act hands to the core is the response that the stream of its own link spells, and the request
+/// that of its own connection behind those that were served. So whatever an engine lives through, each answer in its
+/// trace is one that a stream spells as a response, and has a final status, from 200 to 599.
 pub fn answers_are_final()
     ensures spelled { ActsAreSpelled }
     ensures read { AnswersAreRead }
@@ -75,8 +78,9 @@ pub fn answers_are_final()
     what_is_read_is_final();
 }
 
-/// Where a waiting request or an answer is the first that is due, the links that come before it are known, and no number is left for one
-/// more link, `work` doesn't say that memory is wanting: `TellsSpent`, which it ensures then, is false of such a state.
+/// Where a waiting request or an answer is the first that is due, the links that come before it are known, and no
+/// number is left for one more link, `work` doesn't say that memory is wanting: `TellsSpent`, which it ensures then, is
+/// false of such a state.
 pub fn memory_hides_no_lack_of_numbers()
     ensures wakes { HidesNoWake }
     ensures answers { HidesNoAnswer }

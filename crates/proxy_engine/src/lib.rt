@@ -1,50 +1,31 @@
 //! The proxy over connections and links: it takes what happens, and does what is due, one act after another.
 //!
-//! `specs/Story.antt` says what an engine has lived through, `specs/Due.antt` which act is due first, and
-//! `specs/Acts.antt` what each act does.
-//! Its readers are asked ahead: what one answers is kept until it is used. `specs/Peeked.antt` says for which streams such a
-//! reader stands. Nothing here opens a socket.
+//! `specs/EngineModel.antt` says what an engine has lived through, `specs/Due.antt` which act is due first, and
+//! `specs/Acts.antt` what each act does. Its readers are asked ahead: what one answers is kept until it is used.
+//! `specs/Peeked.antt` says for which streams such a reader stands. Nothing here opens a socket.
 #![tactic(auto)]
 
-mod activities;
-mod acts;
-mod connections;
-mod endpoint;
-mod ends;
+mod endpoints;
 mod engine;
-mod finds;
-mod finishing;
-mod happening;
 mod laws;
-mod links;
-mod lookahead;
-mod marks;
-mod open_ends;
-mod outcomes;
-mod peeked;
-mod places;
-mod readers;
 mod reading;
-mod run_laws;
-mod serving;
-mod story_cases;
+mod steps;
 mod takes;
-mod waking;
-mod wishes;
+mod work;
 
+pub use crate::endpoints::lookahead::Lookahead;
+pub use crate::endpoints::peeked::Peeked;
+pub use crate::endpoints::readers::Reader;
 pub use crate::engine::Engine;
-pub use crate::happening::{End, EngineFault, Work};
+pub use crate::laws::model_cases::{
+    what_acts_tell, what_happenings_add, what_is_due_by_its_words, what_steps_told,
+    which_happenings_are_taken,
+};
+pub use crate::laws::run_laws::a_run_refuses_what_was_not_done;
 pub use crate::laws::{
     a_life_has_one_trace, an_act_has_three_effects_at_most, an_act_is_done_in_one_way,
     answers_are_final, due_once, each_drop_is_told, effects_name_open_ends, lives_are_runs,
     memory_hides_no_lack_of_numbers, what_ends_stays_ended,
 };
-pub use crate::lookahead::Lookahead;
-pub use crate::peeked::Peeked;
-pub use crate::readers::Reader;
-pub use crate::run_laws::a_run_refuses_what_was_not_done;
-pub use crate::story_cases::{
-    what_acts_tell, what_happenings_add, what_is_due_by_its_words, what_steps_told,
-    which_happenings_are_taken,
-};
+pub use crate::work::{End, EngineFault, Work};
 pub use proxy_script::Happening;

@@ -4,15 +4,15 @@ ghost use Rattle.std.specs.Ordering.{nat_cmp};
 ghost use Rattle.std.specs.BTreeMap.{get};
 ghost use Rattle.proxy_engine.specs.Held.{flagged, connection_reads, connection_is_open, link_reads, link_failed};
 ghost use Rattle.proxy_engine.specs.Marked.{AtEach};
-ghost use Rattle.proxy_engine.specs.Places.{listed};
+ghost use Rattle.proxy_engine.specs.ReadyList.{listed};
 ghost use Rattle.proxy_engine.specs.Reading.{places_with, client_end, link_end, IsBetween};
 ghost use Rattle.proxy_engine.specs.State.{ConnHolds};
-ghost use Rattle.proxy_engine.specs.Story.{ConnStory};
+ghost use Rattle.proxy_engine.specs.EngineModel.{ConnectionModel};
 ghost use Rattle.proxy_engine.specs.Room.{HasSpare, piece};
 
-use crate::endpoint::Endpoint;
-use crate::ends::{Connection, Link};
-use crate::happening::End;
+use crate::endpoints::endpoint::Endpoint;
+use crate::endpoints::ends::{Connection, Link};
+use crate::work::End;
 use std::alloc::{AllocError, Global};
 use std::collections::BTreeMap;
 
@@ -28,7 +28,7 @@ fn reads(connection: &Connection) -> bool
 
 /// Whether the client is between two requests.
 pub(crate) fn is_between(connection: &Connection) -> bool
-    ensures { (c : ConnStory) → ConnHolds connection.now c → result ≡ true → IsBetween c }
+    ensures { (c : ConnectionModel) → ConnHolds connection.now c → result ≡ true → IsBetween c }
 {
     reads(connection) && connection.reader.is_between_requests()
 }
@@ -53,8 +53,8 @@ pub(crate) fn open_count(ends: &BTreeMap<u64, Connection>, count: u64) -> usize
     open
 }
 
-/// Whether fewer than this of the connections at places below a count aren't gone. They are counted only where there are as many
-/// ends, without the one at the count, where the next connection will be.
+/// Whether fewer than this of the connections at places below a count aren't gone. They are counted only where there
+/// are as many ends, without the one at the count, where the next connection will be.
 pub(crate) fn are_fewer_open(ends: &BTreeMap<u64, Connection>, count: u64, most: usize) -> bool
     ensures { result ≡ nat_lt (length (places_with (flagged connection_is_open) 0 (listed ends.now count))) most }
 {
@@ -71,7 +71,8 @@ pub(crate) fn push_clients(
     count: u64,
     list: &mut Vec<End>,
 ) -> Result<(), AllocError>
-    ensures { OnOk result (list.new.items ≡ list.old.items ++ map client_end (places_with (flagged connection_reads) 0 (listed ends.now count))) }
+    ensures { OnOk result (list.new.items ≡ list.old.items
+        ++ map client_end (places_with (flagged connection_reads) 0 (listed ends.now count))) }
 {
     for (i, connection) in ends {
         if *i < count && reads(connection) {
@@ -88,7 +89,8 @@ pub(crate) fn push_links(
     first: u64,
     list: &mut Vec<End>,
 ) -> Result<(), AllocError>
-    ensures { OnOk result (first + count ≤ 2 ^ 64 → list.new.items ≡ list.old.items ++ map (link_end first) (places_with (flagged link_reads) 0 (listed ends.now count))) }
+    ensures { OnOk result (first + count ≤ 2 ^ 64 → list.new.items ≡ list.old.items
+        ++ map (link_end first) (places_with (flagged link_reads) 0 (listed ends.now count))) }
 {
     for (j, link) in ends {
         if *j < count && answers(link) {
@@ -105,7 +107,8 @@ pub(crate) fn push_failed(
     first: u64,
     list: &mut Vec<End>,
 ) -> Result<(), AllocError>
-    ensures { OnOk result (first + count ≤ 2 ^ 64 → list.new.items ≡ list.old.items ++ map (link_end first) (places_with (flagged link_failed) 0 (listed ends.now count))) }
+    ensures { OnOk result (first + count ≤ 2 ^ 64 → list.new.items ≡ list.old.items
+        ++ map (link_end first) (places_with (flagged link_failed) 0 (listed ends.now count))) }
 {
     for (j, link) in ends {
         if *j < count && link.failed.is_some() {

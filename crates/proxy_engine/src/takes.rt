@@ -1,19 +1,22 @@
 //! Taking what happened. Each refusal changes nothing.
-ghost use Rattle.std.specs.Prelude.{◌≡◌, ◌≢◌, ℕ, ◌+◌, ◌-◌, ◌<◌, ◌≤◌, ◌&&◌, ◌||◌, nat_lt, nat_le, ◌==◌, ◌++◌, ◌∷◌, [], vec_len, vec_capacity, List, length, true, false, is_some, IsOk, IfOk, IfErr, OnOk, OnErr, Option, Some, None, Err, MatchOption, slice_index_or};
+ghost use Rattle.std.specs.Prelude.{◌≡◌, ◌≢◌, ℕ, ◌+◌, ◌-◌, ◌<◌, ◌≤◌, ◌&&◌, ◌||◌, nat_lt, nat_le, ◌==◌, ◌++◌, ◌∷◌, []};
+ghost use Rattle.std.specs.Prelude.{vec_len, vec_capacity, List, length, true, false, is_some, IsOk, IfOk, IfErr, OnOk};
+ghost use Rattle.std.specs.Prelude.{OnErr, Option, Some, None, Err, MatchOption, slice_index_or};
 ghost use Rattle.proxy_core.specs.State.{State as CoreState};
 ghost use Rattle.proxy_engine.specs.Happenings.{Accepts, Sends, Hears, Ends, Leaves, Shuts, Fails};
-ghost use Rattle.proxy_engine.specs.Story.{Story, ConnStory, LinkStory, sent, ended, left, heard_by, shut, failed_by, keeps};
+ghost use Rattle.proxy_engine.specs.EngineModel.{EngineModel, ConnectionModel, LinkModel, sent, ended, left, heard_by};
+ghost use Rattle.proxy_engine.specs.EngineModel.{shut, failed_by, keeps};
 ghost use Rattle.proxy_engine.specs.Activities.{has_exchange};
-ghost use Rattle.proxy_engine.specs.Wiring.{owner_of, activities_of, owners_of};
+ghost use Rattle.proxy_engine.specs.Pairing.{owner_of, activities_of, owners_of};
 ghost use Rattle.proxy_engine.specs.Room.{IsRoomy, IsRoomyLink};
-ghost use Rattle.proxy_engine.specs.State.{Stands, ConnStands, LinkStands, state, Takes, TakeFault};
+ghost use Rattle.proxy_engine.specs.State.{Represents, ConnectionRepresents, LinkRepresents, state, Takes, TakeFault};
 
-use crate::activities::Activity;
-use crate::connections::Connections;
-use crate::ends::{Connection, Link};
-use crate::happening::EngineFault;
-use crate::links::Links;
-use crate::peeked::Peeked;
+use crate::endpoints::activities::Activity;
+use crate::endpoints::connections::Connections;
+use crate::endpoints::ends::{Connection, Link};
+use crate::endpoints::links::Links;
+use crate::endpoints::peeked::Peeked;
+use crate::work::EngineFault;
 use hx_framing::RequestReader;
 use hx_status::FailKind;
 use std::alloc::{AllocError, Global};
@@ -21,7 +24,8 @@ use std::alloc::{AllocError, Global};
 /// Where the connection of this number stands.
 fn connection_place(connections: &Connections, n: u64) -> Option<u64>
     ensures { MatchOption result (nat_lt 0 n && nat_le n (length connections.now.items) ≡ false)
-        (λ i. (nat_lt 0 n && nat_le n (length connections.now.items) ≡ true) × (i ≡ n - 1) × (i < length connections.now.items)) }
+        (λ i. (nat_lt 0 n && nat_le n (length connections.now.items) ≡ true) × (i ≡ n - 1)
+        × (i < length connections.now.items)) }
 {
     if 0 < n && n <= connections.len() {
         Some(n - 1)
@@ -33,7 +37,8 @@ fn connection_place(connections: &Connections, n: u64) -> Option<u64>
 /// Where the link of this number stands.
 fn link_place(links: &Links, first: u64, l: u64) -> Option<u64>
     ensures { MatchOption result (nat_le first l && nat_lt (l - first) (length links.now.items) ≡ false)
-        (λ j. (nat_le first l && nat_lt (l - first) (length links.now.items) ≡ true) × (j ≡ l - first) × (j < length links.now.items)) }
+        (λ j. (nat_le first l && nat_lt (l - first) (length links.now.items) ≡ true) × (j ≡ l - first)
+        × (j < length links.now.items)) }
 {
     if first <= l && l - first < links.len() {
         Some(l - first)
@@ -43,7 +48,8 @@ fn link_place(links: &Links, first: u64, l: u64) -> Option<u64>
 }
 
 fn send(connection: &mut Connection, bytes: &[u8]) -> Result<(), AllocError>
-    ensures stands { OnOk result ((s : ConnStory) → ConnStands (Some connection.old) s → ConnStands (Some connection.new) (sent bytes.now s)) }
+    ensures stands { OnOk result ((s : ConnectionModel) → ConnectionRepresents (Some connection.old) s
+        → ConnectionRepresents (Some connection.new) (sent bytes.now s)) }
     ensures err { OnErr result (connection.new ≡ connection.old) }
     ensures kept { OnErr result (connection.old.gone || connection.old.ended ≡ false) }
     ensures reserved { length bytes.now ≤ connection.old.reader.inner.spare → IsOk result }
@@ -56,7 +62,8 @@ fn send(connection: &mut Connection, bytes: &[u8]) -> Result<(), AllocError>
 }
 
 fn hear(link: &mut Link, bytes: &[u8]) -> Result<(), AllocError>
-    ensures stands { OnOk result ((s : LinkStory) → LinkStands (Some link.old) s → LinkStands (Some link.new) (heard_by bytes.now s)) }
+    ensures stands { OnOk result ((s : LinkModel) → LinkRepresents (Some link.old) s
+        → LinkRepresents (Some link.new) (heard_by bytes.now s)) }
     ensures err { OnErr result (link.new ≡ link.old) }
     ensures kept { OnErr result (is_some link.old.failed || link.old.ended ≡ false) }
     ensures reserved { length bytes.now ≤ link.old.reader.inner.spare → IsOk result }
@@ -69,7 +76,8 @@ fn hear(link: &mut Link, bytes: &[u8]) -> Result<(), AllocError>
 }
 
 fn end(connection: &mut Connection)
-    ensures stands { (s : ConnStory) → ConnStands (Some connection.old) s → ConnStands (Some connection.new) (ended s) }
+    ensures stands { (s : ConnectionModel) → ConnectionRepresents (Some connection.old) s
+        → ConnectionRepresents (Some connection.new) (ended s) }
     ensures activity { connection.new.activity ≡ connection.old.activity }
 {
     if !connection.gone {
@@ -80,14 +88,15 @@ fn end(connection: &mut Connection)
 
 /// A client with an open exchange goes away.
 fn lose(connection: &mut Connection)
-    ensures stands { has_exchange connection.old.activity ≡ true → (s : ConnStory) → ConnStands (Some connection.old) s → ConnStands (Some connection.new) (left s) }
+    ensures stands { has_exchange connection.old.activity ≡ true → (s : ConnectionModel)
+        → ConnectionRepresents (Some connection.old) s → ConnectionRepresents (Some connection.new) (left s) }
     ensures activity { connection.new.activity ≡ connection.old.activity }
 {
     connection.gone = true;
 }
 
 fn close_link(link: &mut Link)
-    ensures stands { (s : LinkStory) → LinkStands (Some link.old) s → LinkStands (Some link.new) (shut s) }
+    ensures stands { (s : LinkModel) → LinkRepresents (Some link.old) s → LinkRepresents (Some link.new) (shut s) }
     ensures connection { link.new.connection ≡ link.old.connection }
 {
     if link.failed.is_none() {
@@ -97,7 +106,8 @@ fn close_link(link: &mut Link)
 }
 
 fn fail_link(link: &mut Link, kind: FailKind)
-    ensures stands { (s : LinkStory) → LinkStands (Some link.old) s → LinkStands (Some link.new) (failed_by kind s) }
+    ensures stands { (s : LinkModel) → LinkRepresents (Some link.old) s
+        → LinkRepresents (Some link.new) (failed_by kind s) }
     ensures connection { link.new.connection ≡ link.old.connection }
 {
     if link.failed.is_none() {
@@ -118,10 +128,13 @@ pub(crate) fn accept(
     max_body: u64,
     n: u64,
 ) -> Result<(), EngineFault>
-    ensures ok { OnOk result ((s : Story) → (links : List (Option Link)) → (core : CoreState) → (first : ℕ) → core.table.max_body ≡ max_body → Stands (state connections.old.items links core first) s
+    ensures ok { OnOk result ((s : EngineModel) → (links : List (Option Link)) → (core : CoreState) → (first : ℕ)
+        → core.table.max_body ≡ max_body → Represents (state connections.old.items links core first) s
         → Takes s (Accepts n) (state connections.new.items links core first)) }
-    ensures fault { IfErr result (λ e. (s : Story) → (links : List (Option Link)) → (core : CoreState) → (first : ℕ) → Stands (state connections.old.items links core first) s → TakeFault s (Accepts n) e) }
-    ensures activities { OnOk result (activities_of connections.new.items ≡ activities_of connections.old.items ++ Activity.Free ∷ []) }
+    ensures fault { IfErr result (λ e. (s : EngineModel) → (links : List (Option Link)) → (core : CoreState)
+        → (first : ℕ) → Represents (state connections.old.items links core first) s → TakeFault s (Accepts n) e) }
+    ensures activities { OnOk result
+        (activities_of connections.new.items ≡ activities_of connections.old.items ++ Activity.Free ∷ []) }
     ensures reserved { connections.old.has_room ≡ true → result ≢ Err EngineFault.OutOfMemory }
     ensures err { OnErr result (connections.new ≡ connections.old) }
 {
@@ -142,11 +155,17 @@ pub(crate) fn accept(
 }
 
 pub(crate) fn client(connections: &mut Connections, n: u64, bytes: &[u8]) -> Result<(), EngineFault>
-    ensures ok { OnOk result ((s : Story) → (links : List (Option Link)) → (core : CoreState) → (first : ℕ) → Stands (state connections.old.items links core first) s
+    ensures ok { OnOk result ((s : EngineModel) → (links : List (Option Link)) → (core : CoreState) → (first : ℕ)
+        → Represents (state connections.old.items links core first) s
         → Takes s (Sends n bytes.now) (state connections.new.items links core first)) }
-    ensures fault { IfErr result (λ e. (s : Story) → (links : List (Option Link)) → (core : CoreState) → (first : ℕ) → Stands (state connections.old.items links core first) s → TakeFault s (Sends n bytes.now) e) }
-    ensures kept { result ≡ Err EngineFault.OutOfMemory → (s : Story) → (links : List (Option Link)) → (core : CoreState) → (first : ℕ) → Stands (state connections.old.items links core first) s → keeps s (Sends n bytes.now) ≡ true }
-    ensures reserved { IsRoomy (slice_index_or connections.old.items (n - 1) None) (length bytes.now) → result ≢ Err EngineFault.OutOfMemory }
+    ensures fault { IfErr result (λ e. (s : EngineModel) → (links : List (Option Link)) → (core : CoreState)
+        → (first : ℕ) → Represents (state connections.old.items links core first) s
+        → TakeFault s (Sends n bytes.now) e) }
+    ensures kept { result ≡ Err EngineFault.OutOfMemory → (s : EngineModel) → (links : List (Option Link))
+        → (core : CoreState) → (first : ℕ) → Represents (state connections.old.items links core first) s
+        → keeps s (Sends n bytes.now) ≡ true }
+    ensures reserved { IsRoomy (slice_index_or connections.old.items (n - 1) None) (length bytes.now)
+        → result ≢ Err EngineFault.OutOfMemory }
     ensures activities { activities_of connections.new.items ≡ activities_of connections.old.items }
     ensures err { OnErr result (connections.new ≡ connections.old) }
 {
@@ -163,9 +182,11 @@ pub(crate) fn client(connections: &mut Connections, n: u64, bytes: &[u8]) -> Res
 }
 
 pub(crate) fn finish_client(connections: &mut Connections, n: u64) -> Result<(), EngineFault>
-    ensures ok { OnOk result ((s : Story) → (links : List (Option Link)) → (core : CoreState) → (first : ℕ) → Stands (state connections.old.items links core first) s
+    ensures ok { OnOk result ((s : EngineModel) → (links : List (Option Link)) → (core : CoreState) → (first : ℕ)
+        → Represents (state connections.old.items links core first) s
         → Takes s (Ends n) (state connections.new.items links core first)) }
-    ensures fault { IfErr result (λ e. (s : Story) → (links : List (Option Link)) → (core : CoreState) → (first : ℕ) → Stands (state connections.old.items links core first) s → TakeFault s (Ends n) e) }
+    ensures fault { IfErr result (λ e. (s : EngineModel) → (links : List (Option Link)) → (core : CoreState)
+        → (first : ℕ) → Represents (state connections.old.items links core first) s → TakeFault s (Ends n) e) }
     ensures memory { IfErr result (λ e. e ≡ EngineFault.NotAccepted) }
     ensures activities { activities_of connections.new.items ≡ activities_of connections.old.items }
     ensures err { OnErr result (connections.new ≡ connections.old) }
@@ -180,9 +201,11 @@ pub(crate) fn finish_client(connections: &mut Connections, n: u64) -> Result<(),
 }
 
 pub(crate) fn lose_client(connections: &mut Connections, n: u64) -> Result<(), EngineFault>
-    ensures ok { OnOk result ((s : Story) → (links : List (Option Link)) → (core : CoreState) → (first : ℕ) → Stands (state connections.old.items links core first) s
+    ensures ok { OnOk result ((s : EngineModel) → (links : List (Option Link)) → (core : CoreState) → (first : ℕ)
+        → Represents (state connections.old.items links core first) s
         → Takes s (Leaves n) (state connections.new.items links core first)) }
-    ensures fault { IfErr result (λ e. (s : Story) → (links : List (Option Link)) → (core : CoreState) → (first : ℕ) → Stands (state connections.old.items links core first) s → TakeFault s (Leaves n) e) }
+    ensures fault { IfErr result (λ e. (s : EngineModel) → (links : List (Option Link)) → (core : CoreState)
+        → (first : ℕ) → Represents (state connections.old.items links core first) s → TakeFault s (Leaves n) e) }
     ensures memory { IfErr result (λ e. e ≡ EngineFault.NotAccepted) }
     ensures activities { activities_of connections.new.items ≡ activities_of connections.old.items }
     ensures err { OnErr result (connections.new ≡ connections.old) }
@@ -199,11 +222,16 @@ pub(crate) fn lose_client(connections: &mut Connections, n: u64) -> Result<(), E
 }
 
 pub(crate) fn answer(links: &mut Links, first: u64, l: u64, bytes: &[u8]) -> Result<(), EngineFault>
-    ensures ok { OnOk result ((s : Story) → (connections : List (Option Connection)) → (core : CoreState) → Stands (state connections links.old.items core first) s
+    ensures ok { OnOk result ((s : EngineModel) → (connections : List (Option Connection)) → (core : CoreState)
+        → Represents (state connections links.old.items core first) s
         → Takes s (Hears l bytes.now) (state connections links.new.items core first)) }
-    ensures fault { IfErr result (λ e. (s : Story) → (connections : List (Option Connection)) → (core : CoreState) → Stands (state connections links.old.items core first) s → TakeFault s (Hears l bytes.now) e) }
-    ensures kept { result ≡ Err EngineFault.OutOfMemory → (s : Story) → (connections : List (Option Connection)) → (core : CoreState) → Stands (state connections links.old.items core first) s → keeps s (Hears l bytes.now) ≡ true }
-    ensures reserved { IsRoomyLink (slice_index_or links.old.items (l - first) None) (length bytes.now) → result ≢ Err EngineFault.OutOfMemory }
+    ensures fault { IfErr result (λ e. (s : EngineModel) → (connections : List (Option Connection)) → (core : CoreState)
+        → Represents (state connections links.old.items core first) s → TakeFault s (Hears l bytes.now) e) }
+    ensures kept { result ≡ Err EngineFault.OutOfMemory → (s : EngineModel) → (connections : List (Option Connection))
+        → (core : CoreState) → Represents (state connections links.old.items core first) s → keeps s (Hears l bytes.now)
+        ≡ true }
+    ensures reserved { IsRoomyLink (slice_index_or links.old.items (l - first) None) (length bytes.now)
+        → result ≢ Err EngineFault.OutOfMemory }
     ensures owners { owners_of links.new.items ≡ owners_of links.old.items }
     ensures err { OnErr result (links.new.items ≡ links.old.items) }
 {
@@ -220,9 +248,11 @@ pub(crate) fn answer(links: &mut Links, first: u64, l: u64, bytes: &[u8]) -> Res
 }
 
 pub(crate) fn shut_link(links: &mut Links, first: u64, l: u64) -> Result<(), EngineFault>
-    ensures ok { OnOk result ((s : Story) → (connections : List (Option Connection)) → (core : CoreState) → Stands (state connections links.old.items core first) s
+    ensures ok { OnOk result ((s : EngineModel) → (connections : List (Option Connection)) → (core : CoreState)
+        → Represents (state connections links.old.items core first) s
         → Takes s (Shuts l) (state connections links.new.items core first)) }
-    ensures fault { IfErr result (λ e. (s : Story) → (connections : List (Option Connection)) → (core : CoreState) → Stands (state connections links.old.items core first) s → TakeFault s (Shuts l) e) }
+    ensures fault { IfErr result (λ e. (s : EngineModel) → (connections : List (Option Connection)) → (core : CoreState)
+        → Represents (state connections links.old.items core first) s → TakeFault s (Shuts l) e) }
     ensures memory { IfErr result (λ e. e ≡ EngineFault.WrongNumber) }
     ensures owners { owners_of links.new.items ≡ owners_of links.old.items }
     ensures err { OnErr result (links.new.items ≡ links.old.items) }
@@ -242,9 +272,11 @@ pub(crate) fn break_link(
     l: u64,
     kind: FailKind,
 ) -> Result<(), EngineFault>
-    ensures ok { OnOk result ((s : Story) → (connections : List (Option Connection)) → (core : CoreState) → Stands (state connections links.old.items core first) s
+    ensures ok { OnOk result ((s : EngineModel) → (connections : List (Option Connection)) → (core : CoreState)
+        → Represents (state connections links.old.items core first) s
         → Takes s (Fails l kind) (state connections links.new.items core first)) }
-    ensures fault { IfErr result (λ e. (s : Story) → (connections : List (Option Connection)) → (core : CoreState) → Stands (state connections links.old.items core first) s → TakeFault s (Fails l kind) e) }
+    ensures fault { IfErr result (λ e. (s : EngineModel) → (connections : List (Option Connection)) → (core : CoreState)
+        → Represents (state connections links.old.items core first) s → TakeFault s (Fails l kind) e) }
     ensures memory { IfErr result (λ e. e ≡ EngineFault.WrongNumber) }
     ensures owners { owners_of links.new.items ≡ owners_of links.old.items }
     ensures err { OnErr result (links.new.items ≡ links.old.items) }

@@ -8,7 +8,7 @@ use Rattle.hx_framing.specs.Progress.{Progress}
 use Rattle.hx_framing.specs.RequestState.{State, StandsFor}
 use Rattle.hx_framing.specs.RequestStream.{Answers}
 use Rattle.proxy_log.specs.Asked.{IsKept}
-use Rattle.proxy_log.specs.Hearing.{AskFor, after, HasRead, HasReadOn, HasReadSome, is_last}
+use Rattle.proxy_log.specs.Hearing.{AskFor, after, HasRead, HasReadOn, HasReadSome, is_last, is_refusal}
 use Rattle.proxy_log.specs.declared.asked.Question.{Question}
 
 pub AskFor-append : (rs : List Request) (qs : List Question) (rs' : List Request) (qs' : List Question) → AskFor rs qs → AskFor rs' qs' → AskFor (rs ++ rs') (qs ++ qs')
@@ -40,7 +40,7 @@ read_further p rs rs' told told' r1 r2 q0 q1 q2 b0 b1 b2 first second = record {
   has_begun = λ was. second.has_begun (first.has_begun was);
 }
 
-or_is_some : (a : Option Question) (q : Question) (b : Option Question) → b ≡ option_or a (Some q) → IsSome b
+pub or_is_some : (a : Option Question) (q : Question) (b : Option Question) → b ≡ option_or a (Some q) → IsSome b
 or_is_some None q b is = subst (λ (o : Option Question). IsSome o) (sym is) refl
 or_is_some (Some x) q b is = subst (λ (o : Option Question). IsSome o) (sym is) refl
 
@@ -79,15 +79,18 @@ continue_read p q reader before questions begun_before begun stands same is = re
 }
 
 -- nothing further
-pub last_read : (p : Progress Request) (answer : Next Request) (reader : State) (before questions : List Question) (begun_before begun : Option Question)
-    → StandsFor reader p → Answers p answer → is_last answer ≡ true → questions ≡ before → (IsSome begun_before → IsSome begun) → HasReadOn p reader before questions begun_before begun
-last_read p answer reader before questions begun_before begun stands answers last same begins = record {
+pub last_read : (p : Progress Request) (answer : Next Request) (reader : State) (before questions : List Question) (begun_before begun : Option Question) (over : Bool)
+    → StandsFor reader p → Answers p answer → is_last answer ≡ true → questions ≡ before → (IsSome begun_before → IsSome begun)
+    → over ≡ is_refusal answer → (is_refusal answer ≡ true → IsSome begun) → HasReadOn p reader before questions begun_before begun over
+last_read p answer reader before questions begun_before begun over stands answers last same begins is_over refused = record {
   requests = [];
   told = p.told;
   read = none_read p p.told reader before questions begun_before begun stands same (λ was told. begins (was told));
   answer = answer;
   answers = subst (λ (given : List Request). Answers (record p { given = given }) answer) (sym (append-nil p.given)) answers;
   last = last;
+  stops = is_over;
+  refused = refused;
 }
 
 pub then_one : (p : Progress Request) (r1 r2 : State) (q0 q1 q2 : List Question) (b0 b1 b2 : Option Question)
@@ -100,10 +103,10 @@ then_one p r1 r2 q0 q1 q2 b0 b1 b2 first next =
       read = read_further p first.requests second.requests first.told second.told r1 r2 q0 q1 q2 b0 b1 b2 first.read second.read;
     }
 
-pub then_last : (p : Progress Request) (r1 r2 : State) (q0 q1 q2 : List Question) (b0 b1 b2 : Option Question)
-    → HasReadSome p r1 q0 q1 b0 b1 → ((p' : Progress Request) → StandsFor r1 p' → HasReadOn p' r2 q1 q2 b1 b2) → HasReadOn p r2 q0 q2 b0 b2
-then_last p r1 r2 q0 q1 q2 b0 b1 b2 first next =
-    let second : HasReadOn (after p first.requests first.told) r2 q1 q2 b1 b2 = next (after p first.requests first.told) first.read.stands in
+pub then_last : (p : Progress Request) (r1 r2 : State) (q0 q1 q2 : List Question) (b0 b1 b2 : Option Question) (over : Bool)
+    → HasReadSome p r1 q0 q1 b0 b1 → ((p' : Progress Request) → StandsFor r1 p' → HasReadOn p' r2 q1 q2 b1 b2 over) → HasReadOn p r2 q0 q2 b0 b2 over
+then_last p r1 r2 q0 q1 q2 b0 b1 b2 over first next =
+    let second : HasReadOn (after p first.requests first.told) r2 q1 q2 b1 b2 over = next (after p first.requests first.told) first.read.stands in
     record {
       requests = first.requests ++ second.requests;
       told = second.told;
@@ -111,6 +114,8 @@ then_last p r1 r2 q0 q1 q2 b0 b1 b2 first next =
       answer = second.answer;
       answers = subst (λ (given : List Request). Answers (record p { given = given; told = second.told }) second.answer) (append_assoc p.given first.requests second.requests) second.answers;
       last = second.last;
+      stops = second.stops;
+      refused = second.refused;
     }
 
 -- what holds of a place, and of none

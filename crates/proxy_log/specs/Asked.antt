@@ -4,7 +4,8 @@
 -- Asks: what a request asks for
 -- request_line: method and target of the line with which a head begins that is no request
 -- next_question, begun_behind: what the next reply answers, and whether what has begun is still to be answered
-use Rattle.std.specs.Prelude.{◌≡◌, ℕ, ◌==◌, not, Bool, ◌&&◌, nat_eq, nat_lt, if◌then◌else◌, List, [], ◌∷◌, ◌++◌, length, slice_index, codes, decimal, Option, Some, None, unwrap_or, Result, Ok, Err}
+use Rattle.std.specs.Prelude.{◌≡◌, ℕ, ◌==◌, not, Bool, ◌&&◌, nat_eq, nat_lt, if◌then◌else◌, List, [], ◌∷◌, ◌++◌, length}
+use Rattle.std.specs.Prelude.{slice_index, codes, decimal, Option, Some, None, unwrap_or, Result, Ok, Err}
 use Rattle.std.specs.Option.{option_map, option_and_then}
 use Rattle.std.specs.List.{starts_with, list_all}
 use Rattle.std.specs.Char.{is_ascii_digit}
@@ -76,7 +77,8 @@ is_target text = not (length text == 0) && list_all is_target_byte text
 -- request-line = method SP request-target SP HTTP-version (RFC 9112, section 3)
 abbrev pub parts_of : List ℕ → Option (List ℕ × List ℕ)
 parts_of line =
-    option_and_then (λ m. option_and_then (λ t. if is_token m.0 && is_target t.0 && is_version t.1 then Some (m.0, t.0) else None) (cut_at 32 m.1))
+    option_and_then (λ m. option_and_then
+    (λ t. if is_token m.0 && is_target t.0 && is_version t.1 then Some (m.0, t.0) else None) (cut_at 32 m.1))
     (cut_at 32 line)
 
 -- the request line with which a head begins, where that line is whole and has no fault

@@ -1,9 +1,11 @@
--- What is kept of a client's stream: for each request that it spells one question, in their order (RFC 9112, section 9.3.2).
+-- What is kept of a client's stream: for each request that it spells one question, in their order (RFC 9112, section
+-- 9.3.2).
 --
 -- AskFor: questions of requests
 -- after: a stream of which these requests were given
 -- HasRead: requests were given, and what they ask for is kept
 -- HasReadSome, HasReadOn: some were, or all: no further request has come whole
+-- is_refusal: the stream itself is refused there, so nothing behind is heard
 use Rattle.std.specs.Prelude.{◌≡◌, Bool, true, false, List, [], ◌∷◌, ◌++◌, Option, IsSome}
 use Rattle.hx_framing.specs.declared.messages.Request.{Request}
 use Rattle.hx_framing.specs.declared.messages.Next.{Next}
@@ -25,9 +27,10 @@ AskFor (r ∷ rs) (q ∷ qs) = Asks r q × AskFor rs qs
 abbrev pub after : Progress Request → List Request → Bool → Progress Request
 after p requests told = record p { given = p.given ++ requests; told = told }
 
--- of a stream that has come so far these requests were given, and what they ask for is kept behind what was asked before;
--- a request whose continue was given has begun
-pub record HasRead (p : Progress Request) (requests : List Request) (told : Bool) (reader : State) (before questions : List Question) (begun_before begun : Option Question) : Type 0 where
+-- of a stream that has come so far these requests were given, and what they ask for is kept behind what was asked
+-- before; a request whose continue was given has begun
+pub record HasRead (p : Progress Request) (requests : List Request) (told : Bool) (reader : State)
+    (before questions : List Question) (begun_before begun : Option Question) : Type 0 where
   pub stands : StandsFor reader (after p requests told)
   pub asked : List Question
   pub asks : AskFor requests asked
@@ -35,7 +38,8 @@ pub record HasRead (p : Progress Request) (requests : List Request) (told : Bool
   pub has_begun : (p.told ≡ true → IsSome begun_before) → told ≡ true → IsSome begun
 
 -- some were given
-pub record HasReadSome (p : Progress Request) (reader : State) (before questions : List Question) (begun_before begun : Option Question) : Type 0 where
+pub record HasReadSome (p : Progress Request) (reader : State) (before questions : List Question)
+    (begun_before begun : Option Question) : Type 0 where
   pub requests : List Request
   pub told : Bool
   pub read : HasRead p requests told reader before questions begun_before begun
@@ -48,11 +52,24 @@ is_last (next.Message m) = false
 is_last (next.Refused f) = true
 is_last next.End = true
 
--- what has come was read as far as requests stand there whole
-pub record HasReadOn (p : Progress Request) (reader : State) (before questions : List Question) (begun_before begun : Option Question) : Type 0 where
+abbrev pub is_refusal : Next Request → Bool
+is_refusal next.More = false
+is_refusal next.NeedsContinue = false
+is_refusal (next.Message m) = false
+is_refusal (next.Refused f) = true
+is_refusal next.End = false
+
+-- what has come was read as far as requests stand there whole; nothing more is heard exactly behind a refusal, and what
+-- was refused has begun
+pub record HasReadOn
+    (p : Progress Request) (reader : State) (before questions : List Question) (begun_before begun : Option Question)
+    (over : Bool)
+    : Type 0 where
   pub requests : List Request
   pub told : Bool
   pub read : HasRead p requests told reader before questions begun_before begun
   pub answer : Next Request
   pub answers : Answers (after p requests told) answer
   pub last : is_last answer ≡ true
+  pub stops : over ≡ is_refusal answer
+  pub refused : is_refusal answer ≡ true → IsSome begun

@@ -1,12 +1,14 @@
--- What a reply tells of itself: its status (RFC 9112, section 4), what the proxy says of how it came by it, in the last line of
--- Cache-Status (RFC 9211, section 2) or of Refusal, and its content. Nothing behind the empty line is read for the first two.
+-- What a reply tells of itself: its status (RFC 9112, section 4), what the proxy says of how it came by it, in the last
+-- line of Cache-Status (RFC 9211, section 2) or of Refusal, and its content. Nothing behind the empty line is read for
+-- the first two.
 --
 -- whole_lines: the lines of a text
 -- head_of: the lines of a head, and the content behind it
 -- last_value, own_reason: what the proxy's line says
 -- status_of: the status of the first line
 -- told_of: status, reason and content
-use Rattle.std.specs.Prelude.{ℕ, ◌+◌, ◌-◌, ◌*◌, ◌==◌, nat_eq, nat_lt, ◌&&◌, if◌then◌else◌, List, [], ◌∷◌, length, take, drop, codes, Option, Some, None, unwrap_or}
+use Rattle.std.specs.Prelude.{ℕ, ◌+◌, ◌-◌, ◌*◌, ◌==◌, nat_eq, nat_lt, ◌&&◌, if◌then◌else◌, List, [], ◌∷◌, length, take}
+use Rattle.std.specs.Prelude.{drop, codes, Option, Some, None, unwrap_or}
 use Rattle.std.specs.Option.{option_map, option_and_then, option_or}
 use Rattle.std.specs.List.{starts_with}
 use Rattle.std.specs.Char.{is_ascii_digit}
@@ -24,7 +26,8 @@ abbrev pub whole_lines : List ℕ → List (List ℕ × List ℕ)
 whole_lines [] = []
 whole_lines (b ∷ bs) = if b == 10 then ([], bs) ∷ whole_lines bs else in_first b (whole_lines bs)
 
--- the lines in front of the first empty one, and what stands behind that: a head and the content (RFC 9112, section 2.1)
+-- the lines in front of the first empty one, and what stands behind that: a head and the content (RFC 9112, section
+-- 2.1)
 abbrev pub head_of : List (List ℕ × List ℕ) → Option (List (List ℕ) × List ℕ)
 head_of [] = None
 head_of (l ∷ ls) = if is_empty_line l.0 then Some ([], l.1) else option_map (λ h. (l.0 ∷ h.0, h.1)) (head_of ls)
@@ -53,7 +56,8 @@ own_reason lines = reason_of (last_value (codes "Cache-Status: ") lines) (last_v
 -- the number that three digits spell
 abbrev pub number_of : List ℕ → Option ℕ
 number_of (a ∷ b ∷ c ∷ []) =
-    if is_ascii_digit a && is_ascii_digit b && is_ascii_digit c then Some (100 * (a - 48) + 10 * (b - 48) + (c - 48)) else None
+    if is_ascii_digit a && is_ascii_digit b
+    && is_ascii_digit c then Some (100 * (a - 48) + 10 * (b - 48) + (c - 48)) else None
 number_of digits = None
 
 -- status-line = HTTP-version SP status-code SP [ reason-phrase ], and a version has eight bytes (RFC 9112, section 4)

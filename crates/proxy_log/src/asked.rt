@@ -1,6 +1,6 @@
 //! What a client asked for, read from its bytes a second time.
 ghost use Rattle.std.specs.Prelude.{◌≡◌, ◌≤◌, ◌<◌, [], length, drop, IfOk, IfSome};
-ghost use Rattle.std.specs.Prelude.{MatchOption, OnOk, None, Some, false, true};
+ghost use Rattle.std.specs.Prelude.{MatchOption, IsOk, OnErr, OnOk, None, Some, false, true};
 ghost use Rattle.std.specs.Option.{option_or};
 ghost use Rattle.hx_framing.specs.declared.messages.Request.{Request};
 ghost use Rattle.hx_framing.specs.Progress.{Progress, fed, start};
@@ -28,7 +28,7 @@ pub struct Asked {
     head: Vec<u8>,
     /// What is asked for by a request whose head has come, and whose content hasn't, or that is refused.
     begun: Option<Question>,
-    /// What follows can't be read: a piece was lost for want of memory, or a request was refused.
+    /// Nothing more is heard: a piece was lost for want of memory, or a request was refused.
     over: bool,
 }
 
@@ -121,26 +121,30 @@ impl Asked {
         }
     }
 
-    /// Takes the next piece of the stream.
-    pub fn hear(&mut self, alloc: Global, piece: &[u8])
-        ensures heard { self.new.over ≡ false → (p : Progress Request) → StandsFor self.old.reader p → p.ended ≡ false
-            → HasReadOn (fed p piece.now) self.new.reader self.old.questions.items self.new.questions.items
-            self.old.begun self.new.begun }
-        ensures over { self.old.over ≡ true → self.new ≡ self.old }
+    /// Takes the next piece of the stream. Behind a refusal, or where memory was wanting, it hears no more; its only
+    /// error is that want, at the call that gave up.
+    pub fn hear(&mut self, alloc: Global, piece: &[u8]) -> Result<(), AllocError>
+        ensures heard { OnOk result (self.old.over ≡ false → (p : Progress Request) → StandsFor self.old.reader p
+            → p.ended ≡ false → HasReadOn (fed p piece.now) self.new.reader self.old.questions.items
+            self.new.questions.items self.old.begun self.new.begun self.new.over) }
+        ensures gave_up { OnErr result (self.new.over ≡ true) }
+        ensures over { self.old.over ≡ true → (self.new ≡ self.old) × IsOk result }
     {
         if self.over {
-            return;
+            return Ok(());
         }
-        if self.take(alloc, piece).is_err() {
+        let taken = self.take(alloc, piece);
+        if taken.is_err() {
             self.over = true;
         }
+        taken
     }
 
     /// Keeps what the requests ask for that are whole with this piece, and what has come of the next head.
     fn take(&mut self, alloc: Global, piece: &[u8]) -> Result<(), AllocError>
-        ensures { OnOk result ((p : Progress Request) → StandsFor self.old.reader p → p.ended ≡ false
-            → HasReadOn (fed p piece.now) self.new.reader self.old.questions.items self.new.questions.items
-            self.old.begun self.new.begun) }
+        ensures { OnOk result (self.old.over ≡ false → (p : Progress Request) → StandsFor self.old.reader p
+            → p.ended ≡ false → HasReadOn (fed p piece.now) self.new.reader self.old.questions.items
+            self.new.questions.items self.old.begun self.new.begun self.new.over) }
     {
         self.reader.feed(piece)?;
         if self.head.is_empty() {
@@ -175,6 +179,7 @@ impl Asked {
         ensures kept { OnOk result (IsKept request.now self.old.questions.items self.new.questions.items) }
         ensures none_begun { OnOk result (self.new.begun ≡ None) }
         ensures reader { self.new.reader ≡ self.old.reader }
+        ensures over { self.new.over ≡ self.old.over }
     {
         self.questions.push_back(question_of(alloc, request)?)?;
         self.begun = None;
@@ -192,19 +197,22 @@ impl Asked {
         self.begin(alloc, head)
     }
 
-    /// Reads one request, or a continue. Answers from where on the text is a head that isn't whole, or nothing where no further
-    /// request is whole.
+    /// Reads one request, or a continue. Answers from where on the text is a head that isn't whole, or nothing where no
+    /// further request is whole.
     fn read_one(
         &mut self,
         alloc: Global,
         text: &[u8],
         from: usize,
     ) -> Result<Option<usize>, AllocError>
-        ensures read { IfOk result (λ place. (p : Progress Request) → StandsFor self.old.reader p → MatchOption place
+        ensures read { IfOk result (λ place. self.old.over ≡ false → (p : Progress Request)
+            → StandsFor self.old.reader p
+            → MatchOption place
             (HasReadOn p self.new.reader self.old.questions.items self.new.questions.items
-            self.old.begun self.new.begun)
+            self.old.begun self.new.begun self.new.over)
             (λ at. HasReadSome p self.new.reader self.old.questions.items self.new.questions.items
             self.old.begun self.new.begun)) }
+        ensures goes_on { IfOk result (λ place. IfSome place (λ at. self.new.over ≡ self.old.over)) }
         ensures less { IfOk result (λ place. IfSome place (λ at. weight self.new.reader < weight self.old.reader)) }
     {
         match self.reader.next(alloc)? {
@@ -234,12 +242,12 @@ impl Asked {
         }
     }
 
-    /// Reads on. The text begins with a head, unless a content is to come, and ends where the stream does. Answers from where on
-    /// it is a head that isn't whole.
+    /// Reads on. The text begins with a head, unless a content is to come, and ends where the stream does. Answers from
+    /// where on it is a head that isn't whole.
     fn read_on(&mut self, alloc: Global, text: &[u8]) -> Result<usize, AllocError>
-        ensures read { OnOk result ((p : Progress Request) → StandsFor self.old.reader p
+        ensures read { OnOk result (self.old.over ≡ false → (p : Progress Request) → StandsFor self.old.reader p
             → HasReadOn p self.new.reader self.old.questions.items self.new.questions.items
-            self.old.begun self.new.begun) }
+            self.old.begun self.new.begun self.new.over) }
         ensures within { IfOk result (λ from. from ≤ length text.now) }
     {
         let mut from = 0usize;
@@ -255,8 +263,8 @@ impl Asked {
         Ok(rest.min(text.len()))
     }
 
-    /// What the next reply answers: the replies of a connection are in the order of its requests, and only the last of these is
-    /// refused before it is whole.
+    /// What the next reply answers: the replies of a connection are in the order of its requests, and only the last of
+    /// these is refused before it is whole.
     pub fn next_question(&mut self, alloc: Global) -> Question
         ensures asked { result ≡ next_question self.old.questions.items self.old.begun }
         ensures left { self.new.questions.items ≡ drop 1 self.old.questions.items }

@@ -1,7 +1,7 @@
 //! Lines of a log: what a client asked for, what it was told, and the text of both.
 //!
-//! What a line says is read again from the bytes that came and went, by the readers of `hx_framing` and `hx_target`: so nothing
-//! that serves has to know of a log. Its text is in `specs/Line.antt`. Nothing here writes a file.
+//! What a line says is read again from the bytes that came and went, by the readers of `hx_framing` and `hx_target`: so
+//! nothing that serves has to know of a log. Its text is in `specs/Line.antt`. Nothing here writes a file.
 #![tactic(auto)]
 
 mod about;

@@ -1,6 +1,8 @@
 //! A line of the log, and its text.
-ghost use Rattle.std.specs.Prelude.{◌≡◌, ◌<◌, ◌++◌, codes, decimal, false, IfOk, OnOk, IsTrue};
+ghost use Rattle.std.specs.Prelude.{◌≡◌, ◌+◌, ◌<◌, ◌≤◌, ◌++◌, codes, decimal, false, length, take, vec_capacity};
+ghost use Rattle.std.specs.Prelude.{IfOk, OnErr, OnOk, IsTrue};
 ghost use Rattle.proxy_log.specs.Line.{is_shown, hex_digit, shown_byte, shown_text, word_text, line_text};
+ghost use Rattle.proxy_log.specs.Line.{front_text, told_text, end_text};
 ghost use Rattle.proxy_log.specs.Seconds.{seconds_text};
 
 use crate::seconds::push_seconds;
@@ -17,7 +19,8 @@ pub struct Line {
     pub client: Bytes,
     /// The request's method; empty where none could be read.
     pub method: Bytes,
-    /// The target URI (RFC 9110, section 7.1), or the target as it came where it is none; empty where none could be read.
+    /// The target URI (RFC 9110, section 7.1), or the target as it came where it is none; empty where none could be
+    /// read.
     pub target: Bytes,
     pub status: u16,
     /// The bytes of content that were sent.
@@ -46,7 +49,10 @@ fn hex_digit(d: u8) -> u8
 }
 
 fn push_byte(text: &mut Vec<u8>, blanks: bool, b: u8) -> Result<(), AllocError>
-    ensures { OnOk result (text.new.items ≡ text.old.items ++ shown_byte blanks b) }
+    ensures ok { OnOk result (text.new.items ≡ text.old.items ++ shown_byte blanks b) }
+    ensures full { OnErr result (vec_capacity text.old < length text.old.items + length (shown_byte blanks b)) }
+    ensures capacity { vec_capacity text.old ≤ vec_capacity text.new }
+    ensures front { take (length text.old.items) text.new.items ≡ text.old.items }
 {
     if is_shown(blanks, b) {
         return text.extend_from_slice(&[b]);
@@ -67,7 +73,10 @@ fn are_shown(blanks: bool, bytes: &[u8]) -> bool
 }
 
 fn push_shown(text: &mut Vec<u8>, blanks: bool, bytes: &[u8]) -> Result<(), AllocError>
-    ensures { OnOk result (text.new.items ≡ text.old.items ++ shown_text blanks bytes.now) }
+    ensures ok { OnOk result (text.new.items ≡ text.old.items ++ shown_text blanks bytes.now) }
+    ensures full { OnErr result (vec_capacity text.old < length text.old.items + length (shown_text blanks bytes.now)) }
+    ensures capacity { vec_capacity text.old ≤ vec_capacity text.new }
+    ensures front { take (length text.old.items) text.new.items ≡ text.old.items }
 {
     // Nearly all words are such ones, and are copied at once.
     if are_shown(blanks, bytes) {
@@ -80,7 +89,11 @@ fn push_shown(text: &mut Vec<u8>, blanks: bool, bytes: &[u8]) -> Result<(), Allo
 }
 
 fn push_word(text: &mut Vec<u8>, bytes: &[u8]) -> Result<(), AllocError>
-    ensures { OnOk result (text.new.items ≡ text.old.items ++ (word_text bytes.now ++ codes " ")) }
+    ensures ok { OnOk result (text.new.items ≡ text.old.items ++ (word_text bytes.now ++ codes " ")) }
+    ensures full { OnErr result (vec_capacity text.old < length text.old.items + length
+        (word_text bytes.now ++ codes " ")) }
+    ensures capacity { vec_capacity text.old ≤ vec_capacity text.new }
+    ensures front { take (length text.old.items) text.new.items ≡ text.old.items }
 {
     if bytes.is_empty() {
         return text.extend_from_slice(b"- ");
@@ -90,14 +103,21 @@ fn push_word(text: &mut Vec<u8>, bytes: &[u8]) -> Result<(), AllocError>
 }
 
 fn push_time(text: &mut Vec<u8>, milliseconds: u64) -> Result<(), AllocError>
-    ensures { OnOk result (text.new.items ≡ text.old.items ++ (seconds_text milliseconds ++ codes " ")) }
+    ensures ok { OnOk result (text.new.items ≡ text.old.items ++ (seconds_text milliseconds ++ codes " ")) }
+    ensures full { OnErr result (vec_capacity text.old < length text.old.items + length
+        (seconds_text milliseconds ++ codes " ")) }
+    ensures capacity { vec_capacity text.old ≤ vec_capacity text.new }
+    ensures front { take (length text.old.items) text.new.items ≡ text.old.items }
 {
     push_seconds(text, milliseconds)?;
     text.extend_from_slice(b" ")
 }
 
 fn push_number(text: &mut Vec<u8>, n: u64) -> Result<(), AllocError>
-    ensures { OnOk result (text.new.items ≡ text.old.items ++ (decimal n ++ codes " ")) }
+    ensures ok { OnOk result (text.new.items ≡ text.old.items ++ (decimal n ++ codes " ")) }
+    ensures full { OnErr result (vec_capacity text.old < length text.old.items + length (decimal n ++ codes " ")) }
+    ensures capacity { vec_capacity text.old ≤ vec_capacity text.new }
+    ensures front { take (length text.old.items) text.new.items ≡ text.old.items }
 {
     let mut digits = Buffer::new();
     text.extend_from_slice(digits.format(n).as_bytes())?;
@@ -106,7 +126,11 @@ fn push_number(text: &mut Vec<u8>, n: u64) -> Result<(), AllocError>
 
 /// The last word, and the end of the line.
 fn push_last(text: &mut Vec<u8>, bytes: &[u8]) -> Result<(), AllocError>
-    ensures { OnOk result (text.new.items ≡ text.old.items ++ (word_text bytes.now ++ codes "\n")) }
+    ensures ok { OnOk result (text.new.items ≡ text.old.items ++ (word_text bytes.now ++ codes "\n")) }
+    ensures full { OnErr result (vec_capacity text.old < length text.old.items + length
+        (word_text bytes.now ++ codes "\n")) }
+    ensures capacity { vec_capacity text.old ≤ vec_capacity text.new }
+    ensures front { take (length text.old.items) text.new.items ≡ text.old.items }
 {
     if bytes.is_empty() {
         return text.extend_from_slice(b"-\n");
@@ -115,20 +139,74 @@ fn push_last(text: &mut Vec<u8>, bytes: &[u8]) -> Result<(), AllocError>
     text.extend_from_slice(b"\n")
 }
 
+/// Who asked for what, and when.
+#[tactic(auto, unfolding(crate::specs::Line::front_text))]
+fn push_front(text: &mut Vec<u8>, line: &Line) -> Result<(), AllocError>
+    ensures ok { OnOk result (text.new.items ≡ text.old.items ++ front_text line.now) }
+    ensures full { OnErr result (vec_capacity text.old < length text.old.items + length (front_text line.now)) }
+    ensures capacity { vec_capacity text.old ≤ vec_capacity text.new }
+    ensures front { take (length text.old.items) text.new.items ≡ text.old.items }
+{
+    push_time(text, line.moment)?;
+    push_word(text, line.client.as_slice())?;
+    push_word(text, line.method.as_slice())?;
+    push_word(text, line.target.as_slice())
+}
+
+/// What it was told.
+#[tactic(auto, unfolding(crate::specs::Line::told_text))]
+fn push_told(text: &mut Vec<u8>, line: &Line) -> Result<(), AllocError>
+    ensures ok { OnOk result (text.new.items ≡ text.old.items ++ told_text line.now) }
+    ensures full { OnErr result (vec_capacity text.old < length text.old.items + length (told_text line.now)) }
+    ensures capacity { vec_capacity text.old ≤ vec_capacity text.new }
+    ensures front { take (length text.old.items) text.new.items ≡ text.old.items }
+{
+    push_number(text, u64::from(line.status))?;
+    push_number(text, line.length)?;
+    push_shown(text, true, line.reason.as_slice())?;
+    text.extend_from_slice(b" ")
+}
+
+/// How long that took, and which origin was asked.
+#[tactic(auto, unfolding(crate::specs::Line::end_text))]
+fn push_end(text: &mut Vec<u8>, line: &Line) -> Result<(), AllocError>
+    ensures ok { OnOk result (text.new.items ≡ text.old.items ++ end_text line.now) }
+    ensures full { OnErr result (vec_capacity text.old < length text.old.items + length (end_text line.now)) }
+    ensures capacity { vec_capacity text.old ≤ vec_capacity text.new }
+    ensures front { take (length text.old.items) text.new.items ≡ text.old.items }
+{
+    push_time(text, line.took)?;
+    push_last(text, line.origin.as_slice())
+}
+
+fn push_parts(text: &mut Vec<u8>, line: &Line) -> Result<(), AllocError>
+    ensures ok { OnOk result (text.new.items ≡ text.old.items
+        ++ (front_text line.now ++ (told_text line.now ++ end_text line.now))) }
+    ensures full { OnErr result (vec_capacity text.old < length text.old.items + length
+        (front_text line.now ++ (told_text line.now ++ end_text line.now))) }
+    ensures capacity { vec_capacity text.old ≤ vec_capacity text.new }
+    ensures front { take (length text.old.items) text.new.items ≡ text.old.items }
+{
+    push_front(text, line)?;
+    push_told(text, line)?;
+    push_end(text, line)
+}
+
+/// Adds the text of a line, with its LF. Its only error is want of memory, where there is no room for the text.
+pub(crate) fn push_line(text: &mut Vec<u8>, line: &Line) -> Result<(), AllocError>
+    ensures ok { OnOk result (text.new.items ≡ text.old.items ++ line_text line.now) }
+    ensures full { OnErr result (vec_capacity text.old < length text.old.items + length (line_text line.now)) }
+    ensures capacity { vec_capacity text.old ≤ vec_capacity text.new }
+    ensures front { take (length text.old.items) text.new.items ≡ text.old.items }
+{
+    push_parts(text, line)
+}
+
 /// The text of a line, with its LF. Its only error is want of memory.
 pub fn line_text(alloc: Global, line: &Line) -> Result<Bytes, AllocError>
     ensures { IfOk result (λ text. text ≡ line_text line.now) }
 {
     let mut text = Vec::new(alloc);
-    push_time(&mut text, line.moment)?;
-    push_word(&mut text, line.client.as_slice())?;
-    push_word(&mut text, line.method.as_slice())?;
-    push_word(&mut text, line.target.as_slice())?;
-    push_number(&mut text, u64::from(line.status))?;
-    push_number(&mut text, line.length)?;
-    push_shown(&mut text, true, line.reason.as_slice())?;
-    text.extend_from_slice(b" ")?;
-    push_time(&mut text, line.took)?;
-    push_last(&mut text, line.origin.as_slice())?;
+    push_line(&mut text, line)?;
     Ok(Bytes::from_vec(text))
 }

@@ -1,10 +1,10 @@
 //! Lines that wait to be written.
 
-ghost use Rattle.std.specs.Prelude.{◌≡◌, ◌⊎◌, ◌++◌, [], OnErr, OnOk};
+ghost use Rattle.std.specs.Prelude.{◌≡◌, ◌⊎◌, ◌+◌, ◌<◌, ◌++◌, [], length, vec_capacity, OnErr, OnOk};
 ghost use Rattle.proxy_log.specs.Line.{line_text};
-ghost use Rattle.proxy_log.specs.Lines.{IsAdded, IsLost};
+ghost use Rattle.proxy_log.specs.Lines.{HasNoRoom, IsAdded, IsLost};
 
-use crate::line::{Line, line_text};
+use crate::line::{Line, push_line};
 use std::alloc::{AllocError, Global};
 
 /// Room for so many bytes is kept for the next lines.
@@ -29,9 +29,10 @@ impl Lines {
         }
     }
 
-    /// Adds a line. Where there is no memory for it, it is lost, and counted.
+    /// Adds a line. Where there is neither room nor memory for it, it is lost, and counted.
     pub fn add(&mut self, line: &Line)
-        ensures { IsAdded (line_text line.now) self.old self.new ⊎ IsLost self.old self.new }
+        ensures { IsAdded (line_text line.now) self.old self.new
+            ⊎ (IsLost self.old self.new × HasNoRoom (line_text line.now) self.old) }
     {
         match self.write(line) {
             Ok(()) => self.added = self.added.saturating_add(1),
@@ -43,11 +44,16 @@ impl Lines {
     fn write(&mut self, line: &Line) -> Result<(), AllocError>
         ensures ok { OnOk result (self.new.text.items ≡ self.old.text.items ++ line_text line.now) }
         ensures err { OnErr result (self.new.text.items ≡ self.old.text.items) }
+        ensures full { OnErr result (HasNoRoom (line_text line.now) self.old) }
         ensures added { self.new.added ≡ self.old.added }
         ensures lost { self.new.lost ≡ self.old.lost }
     {
-        let text = line_text(self.alloc, line)?;
-        self.text.extend_from_slice(text.as_slice())
+        let front = self.text.len();
+        let written = push_line(&mut self.text, line);
+        if written.is_err() {
+            self.text.truncate(front);
+        }
+        written
     }
 
     /// Counts a line that is lost.

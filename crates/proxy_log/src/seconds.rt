@@ -1,5 +1,5 @@
 //! Seconds with three digits behind the point.
-ghost use Rattle.std.specs.Prelude.{◌≡◌, ◌<◌, ◌++◌, OnOk};
+ghost use Rattle.std.specs.Prelude.{◌≡◌, ◌+◌, ◌<◌, ◌≤◌, ◌++◌, length, take, vec_capacity, OnErr, OnOk};
 ghost use Rattle.proxy_log.specs.Seconds.{three_digits, seconds_text};
 
 use itoa::Buffer;
@@ -7,7 +7,10 @@ use std::alloc::AllocError;
 
 /// Adds milliseconds to a text, as seconds. Its only error is want of memory.
 pub fn push_seconds(text: &mut Vec<u8>, milliseconds: u64) -> Result<(), AllocError>
-    ensures { OnOk result (text.new.items ≡ text.old.items ++ seconds_text milliseconds) }
+    ensures ok { OnOk result (text.new.items ≡ text.old.items ++ seconds_text milliseconds) }
+    ensures full { OnErr result (vec_capacity text.old < length text.old.items + length (seconds_text milliseconds)) }
+    ensures capacity { vec_capacity text.old ≤ vec_capacity text.new }
+    ensures front { take (length text.old.items) text.new.items ≡ text.old.items }
 {
     let mut digits = Buffer::new();
     let rest = (milliseconds % 1000) as u16;

@@ -2,7 +2,8 @@
 ghost use Rattle.std.specs.Prelude.{◌≡◌, ◌==◌, ◌<◌, ℕ, List, length};
 ghost use Rattle.std.specs.Option.{option_map};
 ghost use Rattle.hx_fields.specs.Names.{cut_at};
-ghost use Rattle.proxy_log.specs.Told.{behind_name, final_status, number_of, reason_of, reason_and_content, told_of, value_in};
+ghost use Rattle.proxy_log.specs.Told.{behind_name, final_status, number_of, reason_of, reason_and_content, told_of};
+ghost use Rattle.proxy_log.specs.Told.{value_in};
 
 use crate::text_lines::{cut_line, is_empty_line, without_return};
 use hx_fields::cut_at;
@@ -11,7 +12,8 @@ use hx_fields::cut_at;
 #[derive(Clone, Copy, Debug)]
 pub struct Told<'a> {
     pub status: u16,
-    /// What the proxy's member of Cache-Status says behind the proxy's name; in an answer of the proxy's own, the text of Refusal.
+    /// What the proxy's member of Cache-Status says behind the proxy's name; in an answer of the proxy's own, the text
+    /// of Refusal.
     pub reason: &'a [u8],
     content: &'a [u8],
 }
@@ -82,8 +84,8 @@ fn own_reason<'a>(member: Option<&'a [u8]>, refusal: Option<&'a [u8]>) -> Option
     }
 }
 
-/// The value of a line whose name and colon are in front. The seventh byte of a line tells the proxy's two names from nearly
-/// all others.
+/// The value of a line whose name and colon are in front. The seventh byte of a line tells the proxy's two names from
+/// nearly all others.
 fn value_in<'a>(front: &[u8], line: &'a [u8]) -> Option<&'a [u8]>
     requires { 6 < length front.now }
     ensures { option_map (λ value. value.now) result ≡ value_in front.now line.now }

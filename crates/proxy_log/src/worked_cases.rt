@@ -1,4 +1,5 @@
-//! The texts of worked lines, computed from the definitions: each function's contract is the cases, and its body is empty.
+//! The texts of worked lines, computed from the definitions: each function's contract is the cases, and its body is
+//! empty.
 ghost use Rattle.std.specs.Prelude.{◌≡◌, ◌∷◌, ◌++◌, [], codes, Some, None};
 ghost use Rattle.proxy_log.specs.Cases.{answered, refused, unread, with_target};
 ghost use Rattle.proxy_log.specs.Line.{line_text};
@@ -6,27 +7,41 @@ ghost use Rattle.proxy_log.specs.Told.{told_of};
 
 /// A miss, a hit, a denial with its blanks, a content that is refused, and what couldn't be read.
 pub fn lines_are_written()
-    ensures miss { line_text (answered 1764050000123 (codes "fwd=uri-miss;ttl=600;stored") 12 (codes "127.0.0.1:8081")) ≡ codes "1764050000.123 127.0.0.1:40001 GET http://h/a 200 5 fwd=uri-miss;ttl=600;stored 0.012 127.0.0.1:8081\n" }
-    ensures hit { line_text (answered 1764050001004 (codes "hit;ttl=599") 0 []) ≡ codes "1764050001.004 127.0.0.1:40001 GET http://h/a 200 5 hit;ttl=599 0.000 -\n" }
-    ensures denied { line_text (answered 90 (codes "denied by line 1") 60000 []) ≡ codes "0.090 127.0.0.1:40001 GET http://h/a 200 5 denied by line 1 60.000 -\n" }
-    ensures refused { line_text (refused (codes "http://h:80/up")) ≡ codes "0.000 127.0.0.1:40001 POST http://h:80/up 413 18 refused: too-large 1.000 -\n" }
-    ensures unread { line_text (unread (codes "refused: head")) ≡ codes "0.000 127.0.0.1:40001 - - 400 13 refused: head 0.000 -\n" }
+    ensures miss { line_text (answered 1764050000123 (codes "fwd=uri-miss;ttl=600;stored") 12 (codes "127.0.0.1:8081"))
+        ≡ codes "1764050000.123 127.0.0.1:40001 GET http://h/a 200 5 fwd=uri-miss;ttl=600;stored 0.012 127.0.0.1:8081\n" }
+    ensures hit { line_text (answered 1764050001004 (codes "hit;ttl=599") 0 [])
+        ≡ codes "1764050001.004 127.0.0.1:40001 GET http://h/a 200 5 hit;ttl=599 0.000 -\n" }
+    ensures denied { line_text (answered 90 (codes "denied by line 1") 60000 [])
+        ≡ codes "0.090 127.0.0.1:40001 GET http://h/a 200 5 denied by line 1 60.000 -\n" }
+    ensures refused { line_text (refused (codes "http://h:80/up"))
+        ≡ codes "0.000 127.0.0.1:40001 POST http://h:80/up 413 18 refused: too-large 1.000 -\n" }
+    ensures unread { line_text (unread (codes "refused: head"))
+        ≡ codes "0.000 127.0.0.1:40001 - - 400 13 refused: head 0.000 -\n" }
 {}
 
 /// A space, a line end, a quote's backslash, and bytes above and below what is visible.
 pub fn bytes_that_break_a_line_are_escaped()
-    ensures blank { line_text (with_target (codes "/a b\n")) ≡ codes "0.007 127.0.0.1:40001 GET /a\\x20b\\x0A 400 13 refused: form 0.000 -\n" }
-    ensures backslash { line_text (with_target (codes "/a\\x20")) ≡ codes "0.007 127.0.0.1:40001 GET /a\\x5Cx20 400 13 refused: form 0.000 -\n" }
-    ensures above { line_text (with_target (codes "/" ++ 195 ∷ (169 ∷ (127 ∷ (126 ∷ []))))) ≡ codes "0.007 127.0.0.1:40001 GET /\\xC3\\xA9\\x7F~ 400 13 refused: form 0.000 -\n" }
-    ensures below { line_text (with_target (0 ∷ (27 ∷ (33 ∷ [])))) ≡ codes "0.007 127.0.0.1:40001 GET \\x00\\x1B! 400 13 refused: form 0.000 -\n" }
+    ensures blank { line_text (with_target (codes "/a b\n"))
+        ≡ codes "0.007 127.0.0.1:40001 GET /a\\x20b\\x0A 400 13 refused: form 0.000 -\n" }
+    ensures backslash { line_text (with_target (codes "/a\\x20"))
+        ≡ codes "0.007 127.0.0.1:40001 GET /a\\x5Cx20 400 13 refused: form 0.000 -\n" }
+    ensures above { line_text (with_target (codes "/" ++ 195 ∷ (169 ∷ (127 ∷ (126 ∷ [])))))
+        ≡ codes "0.007 127.0.0.1:40001 GET /\\xC3\\xA9\\x7F~ 400 13 refused: form 0.000 -\n" }
+    ensures below { line_text (with_target (0 ∷ (27 ∷ (33 ∷ []))))
+        ≡ codes "0.007 127.0.0.1:40001 GET \\x00\\x1B! 400 13 refused: form 0.000 -\n" }
 {}
 
 /// Answers of an origin and of the store, a refusal, an interim response, and what stands behind a head.
 pub fn replies_tell_their_reasons()
-    ensures last { told_of (codes "HTTP/1.1 200 OK\r\nCache-Status: o;hit\r\nCache-Status: p;fwd=uri-miss;stored\r\nContent-Length: 2\r\n\r\nhi") ≡ Some (200, (codes "fwd=uri-miss;stored", codes "hi")) }
-    ensures refusal { told_of (codes "HTTP/1.1 403 Forbidden\r\nRefusal: denied by line 1\r\nConnection: close\r\n\r\ndenied by line 1") ≡ Some (403, (codes "denied by line 1", codes "denied by line 1")) }
-    ensures others_refusal { told_of (codes "HTTP/1.1 404 Not Found\r\nRefusal: o\r\nCache-Status: p;hit;ttl=9\r\n\r\n") ≡ Some (404, (codes "hit;ttl=9", [])) }
-    ensures content { told_of (codes "HTTP/1.1 200 OK\r\nCache-Status: p;hit\r\n\r\nCache-Status: o;fwd=miss\r\n\r\n") ≡ Some (200, (codes "hit", codes "Cache-Status: o;fwd=miss\r\n\r\n")) }
+    ensures last { told_of
+        (codes "HTTP/1.1 200 OK\r\nCache-Status: o;hit\r\nCache-Status: p;fwd=uri-miss;stored\r\nContent-Length: 2\r\n\r\nhi") ≡ Some (200, (codes "fwd=uri-miss;stored", codes "hi")) }
+    ensures refusal { told_of
+        (codes "HTTP/1.1 403 Forbidden\r\nRefusal: denied by line 1\r\nConnection: close\r\n\r\ndenied by line 1")
+        ≡ Some (403, (codes "denied by line 1", codes "denied by line 1")) }
+    ensures others_refusal { told_of (codes "HTTP/1.1 404 Not Found\r\nRefusal: o\r\nCache-Status: p;hit;ttl=9\r\n\r\n")
+        ≡ Some (404, (codes "hit;ttl=9", [])) }
+    ensures content { told_of (codes "HTTP/1.1 200 OK\r\nCache-Status: p;hit\r\n\r\nCache-Status: o;fwd=miss\r\n\r\n")
+        ≡ Some (200, (codes "hit", codes "Cache-Status: o;fwd=miss\r\n\r\n")) }
     ensures interim { told_of (codes "HTTP/1.1 100 Continue\r\n\r\n") ≡ None }
     ensures early { told_of (codes "HTTP/1.1 103 Early Hints\r\nCache-Status: p;hit\r\n\r\n") ≡ None }
     ensures silent { told_of (codes "HTTP/1.1 200 OK\r\n\r\nRefusal: x\r\n\r\n") ≡ None }

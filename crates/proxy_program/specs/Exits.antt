@@ -1,6 +1,6 @@
 -- The exit statuses.
 use Rattle.std.specs.Prelude.{ℕ}
-use Rattle.proxy_server.specs.FaultLines.{status_of as replay_status}
+use Rattle.proxy_replay.specs.FaultLines.{status_of as replay_status}
 use Rattle.proxy_program.specs.declared.fault.Fault.{Fault}
 use Rattle.proxy_program.specs.declared.fault.Fault.TheVariants.{Usage, Table, Read, Write, Socket, Serving, NoMemory}
 

@@ -10,13 +10,14 @@ use Rattle.hx_allow.specs.declared.faults.ConfigFault.{ConfigFault}
 use Rattle.hx_allow.specs.declared.faults.ConfigFault.TheVariants.{OutOfMemory}
 use Rattle.proxy_program.specs.declared.fault.Fault.{Fault}
 use Rattle.proxy_program.specs.declared.fault.Fault.TheVariants as faults
-use Rattle.proxy_server.specs.declared.faults.ReplayFault.TheVariants as replay
+use Rattle.proxy_replay.specs.declared.faults.ReplayFault.TheVariants as replay
 
 -- all of a file, or so much of it that it is none of a table, which has at most so many bytes
 abbrev pub IsWholeOrTooLong : List ℕ → List ℕ → Type 0
 IsWholeOrTooLong text file = (text ≡ file) ⊎ (MOST_TABLE_BYTES < length text)
 
--- A table's bytes are read as this one, or have this fault, which is the first in the order of looking; or memory ran out.
+-- A table's bytes are read as this one, or have this fault, which is the first in the order of looking; or memory ran
+-- out.
 abbrev pub IsConfigOf : List ℕ → Result Table Fault → Type 0
 IsConfigOf text (Ok table) = ReadsAs text (Ok table)
 IsConfigOf text (Err (faults.Table (replay.Config OutOfMemory) place)) = Unit {0}
@@ -25,4 +26,6 @@ IsConfigOf text (Err other) = ⊥
 
 -- what was read of a file and is taken as a table is all of that file
 abbrev pub NoTableIsCut : Type 0
-NoTableIsCut = (text file : List ℕ) (table : Table) → IsWholeOrTooLong text file → ReadsAs text (Ok table) → ReadsAs file (Ok table) × (text ≡ file)
+NoTableIsCut =
+    (text file : List ℕ) (table : Table) → IsWholeOrTooLong text file → ReadsAs text (Ok table)
+    → ReadsAs file (Ok table) × (text ≡ file)

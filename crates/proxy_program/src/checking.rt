@@ -1,4 +1,5 @@
-//! What `check` tells of a table that is read: how many lines it has, what in it has no effect, and what a request meets.
+//! What `check` tells of a table that is read: how many lines it has, what in it has no effect, and what a request
+//! meets.
 
 use crate::fault::Fault;
 use http::Method;

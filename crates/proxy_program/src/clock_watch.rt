@@ -20,8 +20,8 @@ impl ClockWatch {
         }
     }
 
-    /// By how many seconds the clock went back since the turn before, where it is to be told. `second` is one of the clock that
-    /// never goes back.
+    /// By how many seconds the clock went back since the turn before, where it is to be told. `second` is one of the
+    /// clock that never goes back.
     pub(crate) fn look(&mut self, moment: u64, second: u64) -> Option<u64> {
         let back = self.last.saturating_sub(moment);
         self.last = moment;

@@ -4,7 +4,7 @@ use crate::checking::{Question, question_of};
 use crate::fault::Fault;
 use clap::builder::ValueParser;
 use clap::{Arg, ArgAction, ArgMatches, Command, Error};
-use proxy_live::Limits;
+use proxy_server::Limits;
 use std::alloc::Global;
 use std::net::SocketAddr;
 

@@ -5,7 +5,8 @@ use std::fs;
 use std::io::Read;
 use std::rt::Files;
 
-/// Where `tools/stamp` writes the commit into a program that was built. It stands there once, and has as many bytes as a hash.
+/// Where `tools/stamp` writes the commit into a program that was built. It stands there once, and has as many bytes as
+/// a hash.
 const COMMIT: &[u8] = b"-the-commit-is-written-here-by-its-tool-";
 
 /// How many bytes can be read where there are none.
@@ -28,7 +29,8 @@ fn written(alloc: Global, text: String) -> String {
 
 /// The commit; empty where none was written in. Its only error is want of memory.
 pub(crate) fn commit_of<R: Files + AllocGlobal>(rt: &R) -> Result<String, AllocError> {
-    // A compiler that knows from where on the bytes are taken puts their values into the code, where a tool doesn't find them.
+    // A compiler that knows from where on the bytes are taken puts their values into the code, where a tool doesn't
+    // find them.
     let bytes = COMMIT.get(none_read(rt)..).unwrap_or(COMMIT);
     let text = Vec::from_slice(rt.alloc(), bytes)?;
     match String::from_utf8(text) {

@@ -2,8 +2,8 @@
 ghost use Rattle.std.specs.Prelude.{◌≡◌};
 ghost use Rattle.proxy_program.specs.Exits.{status_of};
 
-use proxy_live::{RecordFault, ServeFault};
-use proxy_server::ReplayFault;
+use proxy_replay::ReplayFault;
+use proxy_server::{RecordFault, ServeFault};
 use std::alloc::{AllocError, Global};
 use std::fmt::Formatter;
 use std::io::ErrorKind;

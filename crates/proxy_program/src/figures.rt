@@ -4,7 +4,7 @@ use crate::command_line::VERSION;
 use crate::stats_file::StatsFile;
 use crate::warnings::Seldom;
 use hx_store::Shelf;
-use proxy_live::{About, Server, StoreCounts};
+use proxy_server::{About, Server, StoreCounts};
 use std::io;
 use std::io::{ErrorKind, Write};
 use std::net::Net;

@@ -1,9 +1,10 @@
-//! Where in a table its fault is: the line of the file where it stops being TOML, or where a key stands that isn't known.
+//! Where in a table its fault is: the line of the file where it stops being TOML, or where a key stands that isn't
+//! known.
 ghost use Rattle.proxy_program.specs.TableFiles.{IsConfigOf};
 
 use crate::fault::Fault;
 use hx_allow::{Config, ConfigFault};
-use proxy_server::ReplayFault;
+use proxy_replay::ReplayFault;
 use std::alloc::Global;
 use toml::{Table, Value};
 

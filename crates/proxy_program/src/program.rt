@@ -71,8 +71,8 @@ struct Ended {
     is_quiet: bool,
 }
 
-/// Of a fault before it is known what is asked for. Where memory was refused that may be a replay, whose standard output has
-/// its effects alone.
+/// Of a fault before it is known what is asked for. Where memory was refused that may be a replay, whose standard
+/// output has its effects alone.
 impl From<Fault> for Ended {
     fn from(fault: Fault) -> Ended {
         let is_quiet = match &fault {
@@ -126,7 +126,7 @@ where
     match form_of(rt.alloc(), &matches)? {
         Form::Replay => {
             tell_what_is_awaited(rt);
-            return Ok(proxy_server::program::run(rt));
+            return Ok(proxy_replay::program::run(rt));
         }
         Form::Check(path, question) => checked(rt, path, question.as_ref())?,
         Form::Serve(service) => served(rt, &service)?,

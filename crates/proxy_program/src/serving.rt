@@ -13,7 +13,7 @@ use crate::warnings::Warnings;
 use crate::watch::{Goes, Watch};
 use hx_allow::Config;
 use hx_store::{IndexedShelf, Shelf};
-use proxy_live::{CountedShelf, Limits, LiveSockets, Recorder, ServeFault, Server, StoreCounts};
+use proxy_server::{CountedShelf, Limits, LiveSockets, Recorder, ServeFault, Server, StoreCounts};
 use std::fs::OpenOptions;
 use std::hash::{BuildHasher, Hasher, RandomState};
 use std::io;

@@ -1,4 +1,5 @@
-//! The file of figures, which is written once a second: whole under another name, and then renamed, so that nobody reads a part of one.
+//! The file of figures, which is written once a second: whole under another name, and then renamed, so that nobody
+//! reads a part of one.
 
 use std::alloc::AllocError;
 use std::fs::OpenOptions;

@@ -2,7 +2,7 @@
 
 use crate::clock_watch::ClockWatch;
 use hx_store::Shelf;
-use proxy_live::{Server, Turned};
+use proxy_server::{Server, Turned};
 use std::io::Write;
 use std::net::Net;
 
@@ -64,7 +64,8 @@ impl Warnings {
         }
     }
 
-    /// Tells what is to be told of a turn: that it ended early, that the clock went back, and once that the record has ended.
+    /// Tells what is to be told of a turn: that it ended early, that the clock went back, and once that the record has
+    /// ended.
     pub(crate) fn look_back<'s, R: Net + Eprint, S: Shelf + Drop, W: Write + Drop>(
         &mut self,
         rt: &R,

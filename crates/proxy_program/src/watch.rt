@@ -2,7 +2,7 @@
 
 use crate::journal::Journal;
 use hx_store::Shelf;
-use proxy_live::Server;
+use proxy_server::Server;
 use std::io::Write;
 use std::net::Net;
 use std::rt::{Clock, Files};

@@ -10,7 +10,8 @@ block_text bytes = decimal (length bytes) ++ codes "\n" ++ bytes ++ codes "\n"
 
 abbrev pub effect_text : Effect → List ℕ
 effect_text (Client n bytes) = codes "client " ++ decimal n ++ codes " " ++ block_text bytes
-effect_text (Forward l address bytes) = codes "forward " ++ decimal l ++ codes " " ++ address ++ codes " " ++ block_text bytes
+effect_text (Forward l address bytes) =
+    codes "forward " ++ decimal l ++ codes " " ++ address ++ codes " " ++ block_text bytes
 effect_text (Close n) = codes "close " ++ decimal n ++ codes "\n"
 effect_text (Drop l) = codes "drop " ++ decimal l ++ codes "\n"
 

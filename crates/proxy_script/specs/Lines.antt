@@ -1,5 +1,6 @@
 -- The lines of a script: how each is spelled, and what a text says as a line.
-use Rattle.std.specs.Prelude.{ℕ, ◌^◌, ◌<◌, List, [], ◌∷◌, ◌++◌, Bool, true, false, not, find, nat_lt, Option, None, Some, if◌then◌else◌, codes, decimal, bytes_eq}
+use Rattle.std.specs.Prelude.{ℕ, ◌^◌, ◌<◌, List, [], ◌∷◌, ◌++◌, Bool, true, false, not, find, nat_lt, Option, None}
+use Rattle.std.specs.Prelude.{Some, if◌then◌else◌, codes, decimal, bytes_eq}
 use Rattle.std.specs.Option.{option_map, option_and_then}
 use Rattle.hx_fields.specs.declared.limits.TheConstants.{END_OF_TIME}
 use Rattle.hx_fields.specs.Names.{cut_at}
@@ -10,7 +11,8 @@ use Rattle.hx_status.specs.Refusals.{kind_word}
 use Rattle.hx_status.specs.declared.cause.FailKind.{FailKind}
 use Rattle.hx_status.specs.declared.cause.FailKind.TheVariants.{Refused, TimedOut, Closed, BadAnswer, TooLarge}
 use Rattle.proxy_script.specs.declared.line_parser.Header.{Header}
-use Rattle.proxy_script.specs.declared.line_parser.Header.TheVariants.{Config, At, Accept, Client, Link, End, Gone, Shut, Fail}
+use Rattle.proxy_script.specs.declared.line_parser.Header.TheVariants.{Config, At, Accept, Client, Link, End, Gone}
+use Rattle.proxy_script.specs.declared.line_parser.Header.TheVariants.{Shut, Fail}
 
 abbrev pub word_text : Word → List ℕ
 word_text word.Config = codes "config"
@@ -24,7 +26,8 @@ word_text word.Shut = codes "shut"
 word_text word.Fail = codes "fail"
 
 abbrev pub words : List Word
-words = word.Config ∷ word.At ∷ word.Accept ∷ word.Client ∷ word.Link ∷ word.End ∷ word.Gone ∷ word.Shut ∷ word.Fail ∷ []
+words =
+    word.Config ∷ word.At ∷ word.Accept ∷ word.Client ∷ word.Link ∷ word.End ∷ word.Gone ∷ word.Shut ∷ word.Fail ∷ []
 
 -- how a link fails by itself; the other kinds are what the proxy makes of an answer
 abbrev pub failures : List FailKind

@@ -3,14 +3,16 @@
 -- Said: what an item says       spelled: how it is spelled      Fits: what has a spelling
 -- item_at: the item at the front, less than a whole one, or none
 -- IsScript: the bytes are the spelling of a table and of items
-use Rattle.std.specs.Prelude.{◌≡◌, ℕ, ◌+◌, ◌==◌, nat_le, List, [], ◌∷◌, ◌++◌, length, Bool, false, Option, None, Some, if◌then◌else◌, slice_index, take, drop}
+use Rattle.std.specs.Prelude.{◌≡◌, ℕ, ◌+◌, ◌==◌, nat_le, List, [], ◌∷◌, ◌++◌, length, Bool, false, Option, None, Some}
+use Rattle.std.specs.Prelude.{if◌then◌else◌, slice_index, take, drop}
 use Rattle.std.specs.List.{flat_map, AllByRecursion}
 use Rattle.hx_fields.specs.Names.{cut_at}
 use Rattle.proxy_script.specs.Lines.{line_text, FitsLine, is_config, placed}
 use Rattle.proxy_script.specs.Happenings.{Said as Happening}
 use Rattle.proxy_script.specs.Happenings as happening
 use Rattle.proxy_script.specs.declared.line_parser.Header.{Header}
-use Rattle.proxy_script.specs.declared.line_parser.Header.TheVariants.{Config, At, Accept, Client, Link, End, Gone, Shut, Fail}
+use Rattle.proxy_script.specs.declared.line_parser.Header.TheVariants.{Config, At, Accept, Client, Link, End, Gone}
+use Rattle.proxy_script.specs.declared.line_parser.Header.TheVariants.{Shut, Fail}
 use Rattle.proxy_script.specs.declared.items.Item.{Item}
 use Rattle.proxy_script.specs.declared.items.Item.TheVariants as item
 use Rattle.proxy_script.specs.declared.parser.Front.{Front}

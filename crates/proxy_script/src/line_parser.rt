@@ -1,6 +1,7 @@
 //! The lines of a script.
 ghost use Rattle.std.specs.Prelude.{◌≡◌};
-ghost use Rattle.proxy_script.specs.Lines.{moment_of, two_numbers, number_and_failure, header_with, header_of, is_config};
+ghost use Rattle.proxy_script.specs.Lines.{moment_of, two_numbers, number_and_failure, header_with, header_of};
+ghost use Rattle.proxy_script.specs.Lines.{is_config};
 
 use crate::digits::number_of;
 use crate::words::{Word, failure_of, word_of};

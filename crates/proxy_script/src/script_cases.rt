@@ -29,8 +29,10 @@ pub fn items_are_read()
     ensures moment { item_at false (codes "at 0\nx") ≡ Found (Moment 0) (codes "x") }
     ensures last_moment { item_at false (codes "at 253402300799\n") ≡ Found (Moment 253402300799) [] }
     ensures accepts { item_at false (codes "accept 1\n") ≡ Found (Happens (happening.Accepts 1)) [] }
-    ensures last_number { item_at false (codes "accept 18446744073709551615\n") ≡ Found (Happens (happening.Accepts 18446744073709551615)) [] }
-    ensures sends { item_at false (codes "client 1 3\nGET\nend 1\n") ≡ Found (Happens (happening.Sends 1 (codes "GET"))) (codes "end 1\n") }
+    ensures last_number { item_at false (codes "accept 18446744073709551615\n")
+        ≡ Found (Happens (happening.Accepts 18446744073709551615)) [] }
+    ensures sends { item_at false (codes "client 1 3\nGET\nend 1\n")
+        ≡ Found (Happens (happening.Sends 1 (codes "GET"))) (codes "end 1\n") }
     ensures nothing { item_at false (codes "client 1 0\n\n") ≡ Found (Happens (happening.Sends 1 [])) [] }
     ensures hears { item_at false (codes "link 2 4\nHTTP\n") ≡ Found (Happens (happening.Hears 2 (codes "HTTP"))) [] }
     ensures ends { item_at false (codes "end 1\n") ≡ Found (Happens (happening.Ends 1)) [] }
@@ -81,7 +83,9 @@ pub fn wrong_items_are_refused()
 /// How each effect is told.
 pub fn effects_are_told()
     ensures closes { effects_text (effect.Close 1 ∷ effect.Drop 2 ∷ []) ≡ codes "close 1\ndrop 2\n" }
-    ensures bytes { effects_text (effect.Client 3 (codes "hi") ∷ effect.Close 3 ∷ []) ≡ codes "client 3 2\nhi\nclose 3\n" }
-    ensures forward { effect_text (effect.Forward 7 (codes "127.0.0.1:80") (codes "GET")) ≡ codes "forward 7 127.0.0.1:80 3\nGET\n" }
+    ensures bytes { effects_text (effect.Client 3 (codes "hi") ∷ effect.Close 3 ∷ [])
+        ≡ codes "client 3 2\nhi\nclose 3\n" }
+    ensures forward { effect_text (effect.Forward 7 (codes "127.0.0.1:80") (codes "GET"))
+        ≡ codes "forward 7 127.0.0.1:80 3\nGET\n" }
     ensures nothing { effects_text [] ≡ [] }
 {}

@@ -1,9 +1,9 @@
-pub mod Known
-pub mod Stepping
-pub mod Fronts
-pub mod Playing
-pub mod Running
-pub mod OnePlay
-pub mod Behind
-pub mod Overs
-pub mod OneReplay
+mod AskedLemmas
+mod Closings
+mod Living
+mod Losing
+mod Passing
+mod Peering
+mod Scripts
+mod Streaming
+mod TurnRecords

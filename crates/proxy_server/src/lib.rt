@@ -1,26 +1,53 @@
-//! The program's logic: a script is replayed through the engine.
+//! The server: the proxy over sockets of the system, with its waits, time-outs, log and figures, and a record of what
+//! happened. What a turn does with ready sockets is in `proxy_turn`; the replay of a record is in `proxy_replay`.
 //!
-//! What a play of a script is stands in `specs/Played.antt`, and what a replay gives in `specs/Replay.antt`. The
-//! reader is read to its end first; then the items are played one by one, and the effects of each happening are
-//! written whole. A fault's line on standard error is in `specs/FaultLines.antt`.
+//! No call of `LiveSockets` waits: which end is ready is known from `wait`, which stands between the turns. A failure
+//! that is seen while effects are carried out is kept, and handed to the engine before the next turn, as silence is; so
+//! a turn's effects are those of what happened before it, and a record can be replayed. The handle `Net` is used here
+//! alone. Where a log is kept, the sockets note each reply behind its write; who serves writes the lines between the
+//! turns.
 #![tactic(auto)]
 
-mod bytes;
-mod fault_lines;
-mod faults;
-mod laws;
-mod memory;
-mod play;
-pub mod program;
-mod replay_laws;
-mod shelves;
-mod steps;
+mod asked;
+mod client;
+mod clients;
+mod closing;
+mod counted_shelf;
+mod counts;
+mod doors;
+mod early;
+mod endings;
+mod fault_texts;
+mod limits;
+mod lines;
+mod links;
+mod live_sockets;
+mod origins;
+mod pace;
+mod page;
+mod patience;
+mod peer;
+mod pieces;
+mod record_laws;
+mod recorder;
+mod recording;
+mod replies;
+mod send_buffer;
+mod server;
+mod sorts;
+mod stats;
+mod stream;
+mod telling;
+mod tokens;
+mod turns;
+mod unsent;
 
-pub use crate::faults::ReplayFault;
-pub use crate::laws::{
-    a_play_is_a_run, a_script_has_one_play, each_link_is_dropped_once, nothing_follows_a_close,
-    nothing_follows_a_gone,
-};
-pub use crate::memory::replayed;
-pub use crate::play::{replay, replay_on_list};
-pub use crate::replay_laws::{a_replay_refuses_other_texts, what_items_do};
+pub use crate::counted_shelf::{CountedShelf, StoreCounts};
+pub use crate::doors::Troubles;
+pub use crate::limits::Limits;
+pub use crate::live_sockets::LiveSockets;
+pub use crate::record_laws::{a_record_is_a_script, what_a_turn_takes_is_recorded};
+pub use crate::recorder::{RecordFault, Recorder};
+pub use crate::recording::Recording;
+pub use crate::server::{ServeFault, Server, Turned};
+pub use crate::stats::About;

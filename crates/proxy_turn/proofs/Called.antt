@@ -2,8 +2,8 @@
 use Rattle.std.proofs.Common.{◌≡◌, List, [], ◌∷◌, ◌++◌, sym, ap, ◌∙◌}
 use Rattle.std.proofs.lemmas.List.{append-nil, append_assoc, map-append}
 use Rattle.proxy_script.specs.declared.effect_list.Effect.{Effect}
-use Rattle.proxy_engine.specs.Story.{Story}
-use Rattle.proxy_engine.specs.declared.happening.End.{End}
+use Rattle.proxy_engine.specs.EngineModel.{EngineModel}
+use Rattle.proxy_engine.specs.declared.work.End.{End}
 use Rattle.proxy_turn.specs.Calls as call
 use Rattle.proxy_turn.specs.Calls.{Call}
 use Rattle.proxy_turn.specs.Turn.{Read, Fate, CarriesOut, Round, Asked, calls_asked, calls_read, calls_carried, calls_told, calls_worked, calls_of}
@@ -15,7 +15,7 @@ Joins p q r = (a b : List Call) → p a → q b → r (a ++ b)
 pub read_more : (rs : List Read) (r : Read) → calls_read (rs ++ r ∷ []) ≡ calls_read rs ++ call.Read r.end r.given ∷ []
 read_more rs r = map-append (λ (x : Read). call.Read x.end x.given) rs (r ∷ [])
 
-pub told_more : (es : List Effect) (fs : List Fate) (s : Story) (gone : List End) (t : Story) (mid : List End) (e : Effect) (f : Fate) → CarriesOut s gone es fs t mid → calls_told (es ++ e ∷ []) (fs ++ f ∷ []) ≡ calls_told es fs ++ calls_carried e f
+pub told_more : (es : List Effect) (fs : List Fate) (s : EngineModel) (gone : List End) (t : EngineModel) (mid : List End) (e : Effect) (f : Fate) → CarriesOut s gone es fs t mid → calls_told (es ++ e ∷ []) (fs ++ f ∷ []) ≡ calls_told es fs ++ calls_carried e f
 told_more [] [] s gone t mid e f out = append-nil (calls_carried e f)
 told_more [] (x ∷ fs) s gone t mid e f out = absurd out
 told_more (x ∷ es) [] s gone t mid e f out = absurd out
@@ -28,9 +28,9 @@ worked_one_more (x ∷ rs) r =
     ap (λ (xs : List Call). calls_told x.told x.fates ++ xs) (worked_one_more rs r) ∙ sym (append_assoc (calls_told x.told x.fates) (calls_worked rs) (calls_told r.told r.fates))
 
 -- nothing was read or done
-pub asked_alone : (s : Story) (asked : Asked) → calls_asked s asked ≡ calls_of s asked [] []
+pub asked_alone : (s : EngineModel) (asked : Asked) → calls_asked s asked ≡ calls_of s asked [] []
 asked_alone s asked = sym (append-nil (calls_asked s asked))
 
 -- nothing was done
-pub asked_read : (s : Story) (asked : Asked) (reads : List Read) → calls_asked s asked ++ calls_read reads ≡ calls_of s asked reads []
+pub asked_read : (s : EngineModel) (asked : Asked) (reads : List Read) → calls_asked s asked ++ calls_read reads ≡ calls_of s asked reads []
 asked_read s asked reads = ap (λ (xs : List Call). calls_asked s asked ++ xs) (sym (append-nil (calls_read reads)))

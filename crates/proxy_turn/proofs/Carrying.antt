@@ -4,10 +4,10 @@ use Rattle.std.proofs.Math.Seq.{take-suc}
 use Rattle.hx_status.specs.declared.cause.FailKind.{FailKind}
 use Rattle.proxy_script.specs.declared.effect_list.Effect.{Effect}
 use Rattle.proxy_engine.specs.Happenings.{Said}
-use Rattle.proxy_engine.specs.Story.{Story}
+use Rattle.proxy_engine.specs.EngineModel.{EngineModel}
 use Rattle.proxy_engine.specs.Orderly.{TakesStay}
-use Rattle.proxy_engine.specs.State.{State, Stands}
-use Rattle.proxy_engine.specs.declared.happening.End.{End}
+use Rattle.proxy_engine.specs.State.{State, Represents}
+use Rattle.proxy_engine.specs.declared.work.End.{End}
 use Rattle.proxy_turn.specs.Calls.{Call}
 use Rattle.proxy_turn.specs.Counts.{Calls, Raises}
 use Rattle.proxy_turn.specs.Turn.{TakesIf, lost, is_lost, end_of, FailsAs, Lost, CarriesOut, fate_failures, failed_fates, calls_carried, calls_told}
@@ -17,7 +17,7 @@ use Rattle.proxy_turn.proofs.Counting.{raises_none, raises_on}
 use Rattle.proxy_turn.proofs.There.{all_there_later}
 use Rattle.proxy_turn.proofs.Turning.{carries_more, carries_stays, sum_more}
 
-pub carried_lost : (s : Story) (gone : List End) (effect : Effect) (e : State) (more : List End) (did : List Call → Type 0) (before after : Calls) (kind : FailKind) (end : End) (o : Option Said) → end ≡ end_of effect → is_lost gone end ≡ false → FailsAs effect kind → o ≡ lost end kind
+pub carried_lost : (s : EngineModel) (gone : List End) (effect : Effect) (e : State) (more : List End) (did : List Call → Type 0) (before after : Calls) (kind : FailKind) (end : End) (o : Option Said) → end ≡ end_of effect → is_lost gone end ≡ false → FailsAs effect kind → o ≡ lost end kind
     → TookIf s o e → more ≡ gone ++ end ∷ [] → did (calls_carried effect (Lost kind)) → Raises before after 0 0 1 → CarriedOne s gone effect e more did before after 1
 carried_lost s gone effect e more did before after kind end o is here fails said took longer calls raises = record {
   fate = Lost kind;
@@ -34,20 +34,20 @@ carried_lost s gone effect e more did before after kind end o is here fails said
   raises = raises;
 }
 
-effect_there : (s : Story) (es : List Effect) (i : ℕ) (effect : Effect) → AreThere s (map end_of es) → i < length es → effect ≡ get_or es i effect → IsThere s (end_of effect)
+effect_there : (s : EngineModel) (es : List Effect) (i : ℕ) (effect : Effect) → AreThere s (map end_of es) → i < length es → effect ≡ get_or es i effect → IsThere s (end_of effect)
 effect_there s [] i effect there l is = absurd (omega (arith, l))
 effect_there s (e ∷ es) zero effect there l is = subst (λ (x : Effect). IsThere s (end_of x)) (sym is) there.0
 effect_there s (e ∷ es) (suc i) effect there l is = effect_there s es i effect there.1 (omega (arith, l)) is
 
-pub carried_none : (s : Story) (gone : List End) (e : State) (did : List Call → Type 0) (here : Calls) → Stands e s → did [] → CarriedOut s gone [] e gone did here here 0
+pub carried_none : (s : EngineModel) (gone : List End) (e : State) (did : List Call → Type 0) (here : Calls) → Represents e s → did [] → CarriedOut s gone [] e gone did here here 0
 carried_none s gone e did here stands none = record { fates = []; last = s; carries = (refl, refl); stands = stands; counted = refl; calls = none; raises = raises_none here }
 
-pub named_later : (stay : TakesStay) (s : Story) (gone : List End) (es : List Effect) (i : ℕ) (effect : Effect) (e : State) (mid : List End) (did : List Call → Type 0) (a b : Calls) (faults : ℕ) → effect ≡ get_or es i effect → i < length es → AreThere s (map end_of es) → (done : CarriedOut s gone (take i es) e mid did a b faults)
+pub named_later : (stay : TakesStay) (s : EngineModel) (gone : List End) (es : List Effect) (i : ℕ) (effect : Effect) (e : State) (mid : List End) (did : List Call → Type 0) (a b : Calls) (faults : ℕ) → effect ≡ get_or es i effect → i < length es → AreThere s (map end_of es) → (done : CarriedOut s gone (take i es) e mid did a b faults)
     → IsThere done.last (end_of effect)
 named_later stay s gone es i effect e mid did a b faults is l there done =
     effect_there done.last es i effect (all_there_later s done.last (map end_of es) (carries_stays stay (take i es) done.fates s gone done.last mid done.carries) there) l is
 
-module _ (s : Story) (gone : List End) (es : List Effect) (i : ℕ) (effect : Effect) (e new : State) (mid more : List End) (did then all : List Call → Type 0) (a b c : Calls) (faults count : ℕ) where
+module _ (s : EngineModel) (gone : List End) (es : List Effect) (i : ℕ) (effect : Effect) (e new : State) (mid more : List End) (did then all : List Call → Type 0) (a b c : Calls) (faults count : ℕ) where
   pub carried_more : effect ≡ get_or es i effect → i < length es → (done : CarriedOut s gone (take i es) e mid did a b faults) → CarriedOne done.last mid effect new more then b c count → Joins did then all → CarriedOut s gone (take (i + 1) es) new more all a c (faults + count)
   carried_more is l done one join =
       let longer : take (i + 1) es ≡ take i es ++ effect ∷ [] = next in

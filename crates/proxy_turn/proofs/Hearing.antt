@@ -3,15 +3,15 @@ use Rattle.std.proofs.Common.{◌≡◌, ℕ, zero, suc, ◌+◌, ◌-◌, ◌<�
 use Rattle.std.proofs.Math.Seq.{take-suc}
 use Rattle.std.proofs.lemmas.List.{map-append, length-append, length-map, append-nil, take_all, take-append-drop}
 use Rattle.hx_status.specs.declared.cause.FailKind.{FailKind}
-use Rattle.proxy_engine.specs.Story.{Story}
+use Rattle.proxy_engine.specs.EngineModel.{EngineModel}
 use Rattle.proxy_engine.specs.Orderly.{TakesStay}
 use Rattle.proxy_engine.specs.Reading.{ends_read}
 use Rattle.proxy_engine.specs.Room.{IsRoomy, IsRoomyLink, HasRoom}
-use Rattle.proxy_engine.specs.State.{State, Stands}
-use Rattle.proxy_engine.specs.declared.ends.Connection.{Connection}
-use Rattle.proxy_engine.specs.declared.ends.Link.{Link}
-use Rattle.proxy_engine.specs.declared.happening.End.{End}
-use Rattle.proxy_engine.specs.declared.happening.End.TheVariants as ends
+use Rattle.proxy_engine.specs.State.{State, Represents}
+use Rattle.proxy_engine.specs.declared.endpoints.ends.Connection.{Connection}
+use Rattle.proxy_engine.specs.declared.endpoints.ends.Link.{Link}
+use Rattle.proxy_engine.specs.declared.work.End.{End}
+use Rattle.proxy_engine.specs.declared.work.End.TheVariants as ends
 use Rattle.proxy_turn.specs.Calls as call
 use Rattle.proxy_turn.specs.Calls.{Call}
 use Rattle.proxy_turn.specs.Counts.{Calls, Raises}
@@ -47,15 +47,15 @@ lost_found e ends.Listener kind = tt
 lost_found e (ends.Client n) kind = tt
 lost_found e (ends.Link k) kind = tt
 
-pub reads_none : (s : Story) (e : State) (did : List Call → Type 0) (here : Calls) → Stands e s → did [] → ReadsSome s [] e did here here
+pub reads_none : (s : EngineModel) (e : State) (did : List Call → Type 0) (here : Calls) → Represents e s → did [] → ReadsSome s [] e did here here
 reads_none s e did here stands none = record { last = s; are = refl; stands = stands; calls = none; raises = raises_none here }
 
 -- an end that was there is there behind the reads
-pub read_later : (stay : TakesStay) (s : Story) (es : List End) (reads : List Read) (i : ℕ) (end : End) (e : State) (did : List Call → Type 0) (a b : Calls) → end ≡ get_or es i end → i < length es → AreThere s es → (done : ReadsSome s reads e did a b) → IsThere done.last end
+pub read_later : (stay : TakesStay) (s : EngineModel) (es : List End) (reads : List Read) (i : ℕ) (end : End) (e : State) (did : List Call → Type 0) (a b : Calls) → end ≡ get_or es i end → i < length es → AreThere s es → (done : ReadsSome s reads e did a b) → IsThere done.last end
 read_later stay s es reads i end e did a b is l there done = there_at done.last es i end (all_there_later s done.last es (reads_stay stay reads s done.last done.are) there) l is
 
 -- one more
-pub reads_one : (s : Story) (reads : List Read) (end : End) (e new : State) (did then all : List Call → Type 0) (a b c : Calls) (count : ℕ) → (done : ReadsSome s reads e did a b) → (one : ReadsOne done.last end new then b c count) → Joins did then all
+pub reads_one : (s : EngineModel) (reads : List Read) (end : End) (e new : State) (did then all : List Call → Type 0) (a b c : Calls) (count : ℕ) → (done : ReadsSome s reads e did a b) → (one : ReadsOne done.last end new then b c count) → Joins did then all
     → ReadsSome s (reads ++ record { end = end; given = one.given } ∷ []) new all a c
 reads_one s reads end e new did then all a b c count done one join =
     let r : Read = record { end = end; given = one.given } in
@@ -69,16 +69,16 @@ reads_one s reads end e new did then all a b c count done one join =
     }
 
 -- these ends were read
-pub record SoFar (s : Story) (es : List End) (e : State) (did : List Call → Type 0) (a b : Calls) (faults : ℕ) : Type 0 where
+pub record SoFar (s : EngineModel) (es : List End) (e : State) (did : List Call → Type 0) (a b : Calls) (faults : ℕ) : Type 0 where
   pub reads : List Read
   pub ends : ends_of reads ≡ es
   pub some : ReadsSome s reads e did a b
   pub counted : faults ≡ failed_reads reads
 
-pub so_far_none : (s : Story) (e : State) (did : List Call → Type 0) (here : Calls) → Stands e s → did [] → SoFar s [] e did here here 0
+pub so_far_none : (s : EngineModel) (e : State) (did : List Call → Type 0) (here : Calls) → Represents e s → did [] → SoFar s [] e did here here 0
 so_far_none s e did here stands none = record { reads = []; ends = refl; some = reads_none s e did here stands none; counted = refl }
 
-pub so_far_more : (s : Story) (es : List End) (i : ℕ) (end : End) (e new : State) (did then all : List Call → Type 0) (a b c : Calls) (faults count : ℕ) → end ≡ get_or es i end → i < length es → (done : SoFar s (take i es) e did a b faults) → ReadsOne done.some.last end new then b c count
+pub so_far_more : (s : EngineModel) (es : List End) (i : ℕ) (end : End) (e new : State) (did then all : List Call → Type 0) (a b c : Calls) (faults count : ℕ) → end ≡ get_or es i end → i < length es → (done : SoFar s (take i es) e did a b faults) → ReadsOne done.some.last end new then b c count
     → Joins did then all → SoFar s (take (i + 1) es) new all a c (faults + count)
 so_far_more s es i end e new did then all a b c faults count is l done one join =
     let r : Read = record { end = end; given = one.given } in
@@ -94,10 +94,10 @@ so_far_more s es i end e new did then all a b c faults count is l done one join 
         let same : i + 1 ≡ suc i = omega arith in
         ap (λ (n : ℕ). take n es) same ∙ (take-suc es i end l ∙ ap (λ (x : End). take i es ++ x ∷ []) (sym is))
 
-pub so_far_later : (stay : TakesStay) (s : Story) (es : List End) (i : ℕ) (end : End) (e : State) (did : List Call → Type 0) (a b : Calls) (faults : ℕ) → end ≡ get_or es i end → i < length es → AreThere s es → (done : SoFar s (take i es) e did a b faults) → IsThere done.some.last end
+pub so_far_later : (stay : TakesStay) (s : EngineModel) (es : List End) (i : ℕ) (end : End) (e : State) (did : List Call → Type 0) (a b : Calls) (faults : ℕ) → end ≡ get_or es i end → i < length es → AreThere s es → (done : SoFar s (take i es) e did a b faults) → IsThere done.some.last end
 so_far_later stay s es i end e did a b faults is l there done = read_later stay s es done.reads i end e did a b is l there done.some
 
-pub read_whole : (s : Story) (es : List End) (n : ℕ) (e : State) (did : List Call → Type 0) (a b : Calls) (faults : ℕ) (counts : ℕ × ℕ) → es ≡ ends_read s → length es ≤ n → SoFar s (take n es) e did a b faults → counts.0 ≡ length es → counts.1 ≡ faults → ReadsAll s e did a b (Ok counts)
+pub read_whole : (s : EngineModel) (es : List End) (n : ℕ) (e : State) (did : List Call → Type 0) (a b : Calls) (faults : ℕ) (counts : ℕ × ℕ) → es ≡ ends_read s → length es ≤ n → SoFar s (take n es) e did a b faults → counts.0 ≡ length es → counts.1 ≡ faults → ReadsAll s e did a b (Ok counts)
 read_whole s es n e did a b faults counts is l done number more =
     let all = done.ends ∙ take_all n es l in
     record {
@@ -108,7 +108,7 @@ read_whole s es n e did a b faults counts is l done number more =
       tells = (refl, number ∙ (sym (ap length all) ∙ length-map done.reads (λ (x : Read). x.end)), more ∙ done.counted);
     }
 
-pub read_partly : (s : Story) (es : List End) (i : ℕ) (e new : State) (did then all : List Call → Type 0) (a b c : Calls) (faults : ℕ) (fault : TurnFault) → es ≡ ends_read s → (done : SoFar s (take i es) e did a b faults) → ReadsNone done.some.last new then b c fault → Joins did then all → ReadsAll s new all a c (Err fault)
+pub read_partly : (s : EngineModel) (es : List End) (i : ℕ) (e new : State) (did then all : List Call → Type 0) (a b c : Calls) (faults : ℕ) (fault : TurnFault) → es ≡ ends_read s → (done : SoFar s (take i es) e did a b faults) → ReadsNone done.some.last new then b c fault → Joins did then all → ReadsAll s new all a c (Err fault)
 read_partly s es i e new did then all a b c faults fault is done none join = record {
   reads = done.reads;
   rest = drop i es;
@@ -117,7 +117,7 @@ read_partly s es i e new did then all a b c faults fault is done none join = rec
   tells = none.fault_is;
 }
 
-pub read_not : (s : Story) (e : State) (did : List Call → Type 0) (here : Calls) (fault : TurnFault) → fault ≡ NoMemory → Stands e s → did [] → ReadsAll s e did here here (Err fault)
+pub read_not : (s : EngineModel) (e : State) (did : List Call → Type 0) (here : Calls) (fault : TurnFault) → fault ≡ NoMemory → Represents e s → did [] → ReadsAll s e did here here (Err fault)
 read_not s e did here fault is stands none = record { reads = []; rest = ends_read s; ends = refl; some = reads_none s e did here stands none; tells = is }
 
 -- an element is itself at its place

@@ -14,12 +14,12 @@ use Rattle.proxy_core.specs.declared.event.Event.{Event}
 use Rattle.proxy_script.specs.declared.effect_list.Effect.{Effect}
 use Rattle.proxy_engine.specs.Admitted.{Refusal}
 use Rattle.proxy_engine.specs.Happenings.{Said, Accepts, Sends, Hears, Ends, Leaves, Shuts, Fails}
-use Rattle.proxy_engine.specs.Story.{Story, heard, with_core}
+use Rattle.proxy_engine.specs.EngineModel.{EngineModel, heard, with_core}
 use Rattle.proxy_engine.specs.Due.{Act, Abandons, Finishes, Wakes, Serves, Gives, Breaks}
 use Rattle.proxy_engine.specs.Acts.{Does, StepsOn, Refuses, Closes, Served, Arrives, Came, Replies, Forwards, Queues, Nothing, came, after_on}
 use Rattle.proxy_engine.specs.Orderly.{IsOrderly, BeginsOrderly, TakesInOrder, ActsInOrder}
 use Rattle.proxy_engine.specs.Lives.{Step, Took, Worked, Lives, LivesAreRuns}
-use Rattle.proxy_engine.specs.State.{State, Stands, begun}
+use Rattle.proxy_engine.specs.State.{State, Represents, begun}
 use Rattle.proxy_turn.specs.TurnSteps.{TurnsAreLived}
 use Rattle.proxy_turn.specs.declared.report.Report.{Report}
 use Rattle.proxy_turn.specs.declared.report.TurnFault.{TurnFault}
@@ -31,10 +31,10 @@ use Rattle.proxy_turn.proofs.Stepping.{lives_on}
 abbrev kept_core : CoreState → Table × ℕ
 kept_core k = (k.table, k.limit)
 
-abbrev kept : Story → Table × ℕ
+abbrev kept : EngineModel → Table × ℕ
 kept s = kept_core s.core
 
-core_heard : (s : Story) (h : Said) → (heard s h).core ≡ s.core
+core_heard : (s : EngineModel) (h : Said) → (heard s h).core ≡ s.core
 core_heard s (Accepts n) = refl
 core_heard s (Sends n bytes) = refl
 core_heard s (Hears l bytes) = refl
@@ -43,7 +43,7 @@ core_heard s (Leaves n) = refl
 core_heard s (Shuts l) = refl
 core_heard s (Fails l kind) = refl
 
-steps_keep : (s t : Story) (i : ℕ) (to_head : Bool) (event : Event) (before told : List Effect) (after : Story) → StepsOn s t i to_head event before told after → kept after ≡ kept s
+steps_keep : (s t : EngineModel) (i : ℕ) (to_head : Bool) (event : Event) (before told : List Effect) (after : EngineModel) → StepsOn s t i to_head event before told after → kept after ≡ kept s
 steps_keep s t i to_head event before told after steps =
     ap kept steps.after_is ∙ (by (came s.core.table steps.outcome) ∙ ap kept_core steps.steps.leaves)
   where
@@ -53,12 +53,12 @@ steps_keep s t i to_head event before told after steps =
     by Queues = refl
     by Nothing = refl
 
-does_keep : (s : Story) (now : ℕ) (act : Act) (told : List Effect) (after : Story) → Does s now act told after → kept after ≡ kept s
+does_keep : (s : EngineModel) (now : ℕ) (act : Act) (told : List Effect) (after : EngineModel) → Does s now act told after → kept after ≡ kept s
 does_keep s now (Abandons i l) told after done = steps_keep s _ _ _ _ _ told after done
 does_keep s now (Finishes j (Gives r)) told after done = steps_keep s _ _ _ _ _ told after done.1
 does_keep s now (Finishes j (Breaks kind)) told after done = steps_keep s _ _ _ _ _ told after done
 does_keep s now (Wakes i) told after done = steps_keep s _ _ _ _ _ told after done.1
-does_keep s now (Serves i wish) told after done = by_wish wish done
+does_keep s now (Serves i action) told after done = by_action action done
   where
     refuses : (why : Cause) (head : Bool) → Refuses s now i why head told after → kept after ≡ kept s
     refuses why head d = ap kept d.after_is
@@ -70,30 +70,30 @@ does_keep s now (Serves i wish) told after done = by_wish wish done
     arrives r (Ok asked) d = steps_keep s _ _ _ _ _ told after d.1
     arrives r (Err refusal) d = refuses _ _ d
 
-    by_wish : (w : Next Request) → Served s now i w told after → kept after ≡ kept s
-    by_wish next.More d = absurd d
-    by_wish next.NeedsContinue d = ap kept d.1
-    by_wish (next.Message r) d = arrives r d.0 d.2
-    by_wish (next.Refused frame.Truncated) d = closes d
-    by_wish (next.Refused frame.Head) d = refuses _ _ d
-    by_wish (next.Refused frame.Version) d = refuses _ _ d
-    by_wish (next.Refused frame.BothLengths) d = refuses _ _ d
-    by_wish (next.Refused frame.Length) d = refuses _ _ d
-    by_wish (next.Refused frame.Coding) d = refuses _ _ d
-    by_wish (next.Refused frame.Chunk) d = refuses _ _ d
-    by_wish (next.Refused frame.TooLarge) d = refuses _ _ d
-    by_wish (next.Refused frame.Expect) d = refuses _ _ d
-    by_wish (next.Refused frame.Status) d = refuses _ _ d
-    by_wish next.End d = closes d
+    by_action : (w : Next Request) → Served s now i w told after → kept after ≡ kept s
+    by_action next.More d = absurd d
+    by_action next.NeedsContinue d = ap kept d.1
+    by_action (next.Message r) d = arrives r d.0 d.2
+    by_action (next.Refused frame.Truncated) d = closes d
+    by_action (next.Refused frame.Head) d = refuses _ _ d
+    by_action (next.Refused frame.Version) d = refuses _ _ d
+    by_action (next.Refused frame.BothLengths) d = refuses _ _ d
+    by_action (next.Refused frame.Length) d = refuses _ _ d
+    by_action (next.Refused frame.Coding) d = refuses _ _ d
+    by_action (next.Refused frame.Chunk) d = refuses _ _ d
+    by_action (next.Refused frame.TooLarge) d = refuses _ _ d
+    by_action (next.Refused frame.Expect) d = refuses _ _ d
+    by_action (next.Refused frame.Status) d = refuses _ _ d
+    by_action next.End d = closes d
 
-lives_keep : (s : Story) (steps : List Step) (t : Story) → Lives s steps t → kept t ≡ kept s
+lives_keep : (s : EngineModel) (steps : List Step) (t : EngineModel) → Lives s steps t → kept t ≡ kept s
 lives_keep s [] t here = ap kept here
 lives_keep s (Took h ∷ past) t lives =
     ap kept lives.2.1 ∙ (ap kept_core (core_heard lives.0 h) ∙ lives_keep s past lives.0 lives.1)
 lives_keep s (Worked now act told ∷ past) t lives = does_keep lives.0 now act told t lives.2.1 ∙ lives_keep s past lives.0 lives.1
 
 -- an engine that stands for what was lived from a beginning by this table has that table
-same_table : (e new : State) (first link : ℕ) (steps : List Step) (last : Story) → Lives (beginning e first link) steps last → Stands new last → e.core.table ≡ new.core.table
+same_table : (e new : State) (first link : ℕ) (steps : List Step) (last : EngineModel) → Lives (beginning e first link) steps last → Represents new last → e.core.table ≡ new.core.table
 same_table e new first link steps last lives stands =
     sym (ap (λ (k : Table × ℕ). k.0) (ap kept_core stands.core ∙ lives_keep (beginning e first link) steps last lives))
 
@@ -105,7 +105,7 @@ take_on (h ∷ hs) past =
     take_on hs (Took h ∷ past)
     ∙ (sym (append_assoc (take_steps hs []) (Took h ∷ []) past) ∙ ap (λ (steps : List Step). steps ++ past) (sym (take_on hs (Took h ∷ []))))
 
-takes_live : (hs : List Said) (begin : Story) (past : List Step) (s t : Story) → Lives begin past s → Lives s (take_steps hs []) t → Lives begin (take_steps hs past) t
+takes_live : (hs : List Said) (begin : EngineModel) (past : List Step) (s t : EngineModel) → Lives begin past s → Lives s (take_steps hs []) t → Lives begin (take_steps hs past) t
 takes_live hs begin past s t before takes =
     subst (λ (steps : List Step). Lives begin steps t) (sym (take_on hs past)) (lives_on (take_steps hs []) begin past s t before takes)
 
@@ -143,7 +143,7 @@ losses_go_on e new loses s stands orderly =
     let losses = loses s stands in
     record { steps = take_steps losses.lost []; last = losses.after; lives = losses.takes; stands = losses.stands }
 
-lives_orderly : TakesInOrder → ActsInOrder → (s : Story) (steps : List Step) (t : Story) → IsOrderly s → Lives s steps t → IsOrderly t
+lives_orderly : TakesInOrder → ActsInOrder → (s : EngineModel) (steps : List Step) (t : EngineModel) → IsOrderly s → Lives s steps t → IsOrderly t
 lives_orderly takes acts s [] t h here = subst IsOrderly (sym here) h
 lives_orderly takes acts s (Took said ∷ past) t h lives = subst IsOrderly (sym lives.2.1) (takes lives.0 said (lives_orderly takes acts s past lives.0 h lives.1))
 lives_orderly takes acts s (Worked now act told ∷ past) t h lives = (acts lives.0 now act told t (lives_orderly takes acts s past lives.0 h lives.1) lives.2.0 lives.2.1).0
@@ -163,7 +163,7 @@ turns_are_served takes acts e mid new now before after told loses turns s stands
 
 -- ---- it goes on
 
-table_now : (e : State) (s : Story) → Stands e s → kept_core e.core ≡ kept s
+table_now : (e : State) (s : EngineModel) → Represents e s → kept_core e.core ≡ kept s
 table_now e s stands = ap kept_core stands.core
 
 pub begins_lived : BeginsLived
@@ -187,7 +187,7 @@ takes_go_on e new h taken s stands orderly =
 
 module _ (lived : TurnsAreLived) where
   -- behind what was lived before it
-  served_lives : (begin : Story) (past : List Step) (e new : State) (s : Story) (now : ℕ) (told : Result Report TurnFault) → Lives begin past s → (served : ServedTurn now s new told) → Lives begin (served_steps served past) served.turn.last
+  served_lives : (begin : EngineModel) (past : List Step) (e new : State) (s : EngineModel) (now : ℕ) (told : Result Report TurnFault) → Lives begin past s → (served : ServedTurn now s new told) → Lives begin (served_steps served past) served.turn.last
   served_lives begin past e new s now told before served =
       let turn = served.turn in
       lived begin (take_steps served.lost past) now served.mid turn.asked turn.reads turn.rest turn.rounds turn.last (takes_live served.lost begin past s served.mid before served.takes) turn.turn
@@ -215,7 +215,7 @@ module _ (takes : TakesInOrder) (acts : ActsInOrder) where
       }
 
   module _ (begins : BeginsOrderly) where
-    lived_orderly : (e : State) (first link : ℕ) (steps : List Step) (last : Story) → LivesBy e first link steps last → IsOrderly last
+    lived_orderly : (e : State) (first link : ℕ) (steps : List Step) (last : EngineModel) → LivesBy e first link steps last → IsOrderly last
     lived_orderly e first link steps last lived =
         lives_orderly takes acts (beginning e first link) steps last (begins (core_begun e.core.table e.core.table.capacity first) link refl) lived.lives
 

@@ -2,30 +2,30 @@
 use Rattle.std.proofs.Common.{◌≡◌, ℕ, List, [], ◌∷◌, ◌++◌, refl, sym, ap, ◌∙◌, subst, append_assoc, append-nil, Option, None, Some}
 use Rattle.proxy_script.specs.declared.effect_list.Effect.{Effect}
 use Rattle.proxy_engine.specs.Happenings.{Said}
-use Rattle.proxy_engine.specs.Story.{Story}
+use Rattle.proxy_engine.specs.EngineModel.{EngineModel}
 use Rattle.proxy_engine.specs.Lives.{Step, Worked, Lives, told_of}
 use Rattle.proxy_engine.specs.Reading.{failed_links}
-use Rattle.proxy_engine.specs.declared.happening.End.{End}
+use Rattle.proxy_engine.specs.declared.work.End.{End}
 use Rattle.proxy_turn.specs.Turn.{TakesIf, accepted_by, said_by, Read, Reads, lost, end_of, Fate, Carried, Passed, Lost, CarriesOut, Round, Works}
 use Rattle.proxy_turn.specs.TurnSteps.{took_if, read_steps, loss_steps, round_steps, effects_of, TurnsAreLived, TurnsTellTheirEffects}
 
 -- ---- behind what was lived
 
-pub lives_on : (later : List Step) (s : Story) (steps : List Step) (t u : Story) → Lives s steps t → Lives t later u → Lives s (later ++ steps) u
+pub lives_on : (later : List Step) (s : EngineModel) (steps : List Step) (t u : EngineModel) → Lives s steps t → Lives t later u → Lives s (later ++ steps) u
 lives_on [] s steps t u first here = subst (Lives s steps) (sym here) first
 lives_on (step ∷ later) s steps t u first rest = (rest.0, lives_on later s steps t rest.0 first rest.1, rest.2)
 
-module _ (begin : Story) where
-  if_lived : (past : List Step) (s : Story) (o : Option Said) (t : Story) → Lives begin past s → TakesIf s o t → Lives begin (took_if o past) t
+module _ (begin : EngineModel) where
+  if_lived : (past : List Step) (s : EngineModel) (o : Option Said) (t : EngineModel) → Lives begin past s → TakesIf s o t → Lives begin (took_if o past) t
   if_lived past s None t lived takes = subst (Lives begin past) (sym takes) lived
   if_lived past s (Some h) t lived takes = (s, lived, takes)
 
-  reads_lived : (rs : List Read) (past : List Step) (s t : Story) → Lives begin past s → Reads s rs t → Lives begin (read_steps rs past) t
+  reads_lived : (rs : List Read) (past : List Step) (s t : EngineModel) → Lives begin past s → Reads s rs t → Lives begin (read_steps rs past) t
   reads_lived [] past s t lived here = subst (Lives begin past) (sym here) lived
   reads_lived (r ∷ rs) past s t lived before =
       reads_lived rs (took_if (said_by r.end r.given) past) before.0 t (if_lived past s (said_by r.end r.given) before.0 lived before.1) before.2
 
-  carries_lived : (es : List Effect) (fs : List Fate) (past : List Step) (s : Story) (gone : List End) (t : Story) (more : List End) → Lives begin past s → CarriesOut s gone es fs t more → Lives begin (loss_steps es fs past) t
+  carries_lived : (es : List Effect) (fs : List Fate) (past : List Step) (s : EngineModel) (gone : List End) (t : EngineModel) (more : List End) → Lives begin past s → CarriesOut s gone es fs t more → Lives begin (loss_steps es fs past) t
   carries_lived [] [] past s gone t more lived here = subst (Lives begin past) (sym here.0) lived
   carries_lived [] (f ∷ fs) past s gone t more lived out = absurd out
   carries_lived (e ∷ es) [] past s gone t more lived out = absurd out
@@ -36,7 +36,7 @@ module _ (begin : Story) where
   carries_lived (e ∷ es) (Lost kind ∷ fs) past s gone t more lived out =
       carries_lived es fs (took_if (lost (end_of e) kind) past) out.0 out.1 t more (if_lived past s (lost (end_of e) kind) out.0 lived out.2.2) out.3
 
-  works_lived : (rs : List Round) (now : ℕ) (past : List Step) (s : Story) (gone : List End) (t : Story) (more : List End) → Lives begin past s → Works now s gone rs t more → Lives begin (round_steps now rs past) t
+  works_lived : (rs : List Round) (now : ℕ) (past : List Step) (s : EngineModel) (gone : List End) (t : EngineModel) (more : List End) → Lives begin past s → Works now s gone rs t more → Lives begin (round_steps now rs past) t
   works_lived [] now past s gone t more lived here = subst (Lives begin past) (sym here.0) lived
   works_lived (r ∷ rs) now past s gone t more lived w =
       works_lived rs now (loss_steps r.told r.fates (Worked now r.act r.told ∷ past)) w.1 w.2 t more

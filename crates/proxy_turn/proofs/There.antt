@@ -13,15 +13,15 @@ use Rattle.proxy_core.specs.declared.event.Event.TheVariants as events
 use Rattle.proxy_script.specs.declared.effect_list.Effect.{Effect}
 use Rattle.proxy_script.specs.declared.effect_list.Effect.TheVariants as effects
 use Rattle.proxy_engine.specs.Admitted.{Refusal}
-use Rattle.proxy_engine.specs.Story.{Story, ConnStory, LinkStory, no_connection, no_link, opened, connection_at, link_at, with_connection, with_core, connection_fault, link_fault, keeps_answer}
-use Rattle.proxy_engine.specs.declared.activities.Activity.TheVariants.{Free}
+use Rattle.proxy_engine.specs.EngineModel.{EngineModel, ConnectionModel, LinkModel, no_connection, no_link, opened, connection_at, link_at, with_connection, with_core, connection_fault, link_fault, keeps_answer}
+use Rattle.proxy_engine.specs.declared.endpoints.activities.Activity.TheVariants.{Free}
 use Rattle.proxy_engine.specs.Due.{Act, Abandons, Finishes, Wakes, Serves, Gives, Breaks}
 use Rattle.proxy_engine.specs.Acts.{Does, StepsOn, Refuses, Closes, Served, Arrives, Came, Replies, Forwards, Queues, Nothing, came, effects_on, after_on, next_number, freed, doing, dropping, passing}
 use Rattle.proxy_engine.specs.Orderly.{IsOpen, Drops, NamesOpen, Stays}
 use Rattle.proxy_engine.specs.Reading.{places_with, is_read, link_end, client_end, ends_read}
-use Rattle.proxy_engine.specs.declared.happening.EngineFault.TheVariants.{NotAccepted, WrongNumber}
-use Rattle.proxy_engine.specs.declared.happening.End.{End}
-use Rattle.proxy_engine.specs.declared.happening.End.TheVariants as ends
+use Rattle.proxy_engine.specs.declared.work.EngineFault.TheVariants.{NotAccepted, WrongNumber}
+use Rattle.proxy_engine.specs.declared.work.End.{End}
+use Rattle.proxy_engine.specs.declared.work.End.TheVariants as ends
 use Rattle.hx_status.specs.declared.cause.Cause.{Cause}
 use Rattle.hx_status.specs.declared.cause.FailKind.{FailKind}
 use Rattle.proxy_turn.specs.Turn.{arrived, ended, lost, end_of}
@@ -77,7 +77,7 @@ link_within first count l free =
 
 -- ---- an end that is there stays so
 
-pub there_later : (s t : Story) (end : End) → Stays s t → IsThere s end → IsThere t end
+pub there_later : (s t : EngineModel) (end : End) → Stays s t → IsThere s end → IsThere t end
 there_later s t ends.Listener stays there = tt
 there_later s t (ends.Client n) stays there =
     let within = client_within (length s.connections) n there in
@@ -93,23 +93,23 @@ there_later s t (ends.Link l) stays there =
     let below = within.1 in
     link_there t.first (length t.links) l (omega (arith, above, same)) (omega (arith, below, same, more))
 
-pub all_there_later : (s t : Story) (es : List End) → Stays s t → AreThere s es → AreThere t es
+pub all_there_later : (s t : EngineModel) (es : List End) → Stays s t → AreThere s es → AreThere t es
 all_there_later s t [] stays there = tt
 all_there_later s t (end ∷ es) stays there = (there_later s t end stays there.0, all_there_later s t es stays there.1)
 
 -- ---- what comes of it can be taken
 
-pub arrived_free : (s : Story) (end : End) (bytes : List ℕ) → IsThere s end → IsFree s (arrived end bytes)
+pub arrived_free : (s : EngineModel) (end : End) (bytes : List ℕ) → IsThere s end → IsFree s (arrived end bytes)
 arrived_free s ends.Listener bytes there = tt
 arrived_free s (ends.Client n) bytes there = there
 arrived_free s (ends.Link l) bytes there = there
 
-pub ended_free : (s : Story) (end : End) → IsThere s end → IsFree s (ended end)
+pub ended_free : (s : EngineModel) (end : End) → IsThere s end → IsFree s (ended end)
 ended_free s ends.Listener there = tt
 ended_free s (ends.Client n) there = there
 ended_free s (ends.Link l) there = there
 
-pub lost_free : (s : Story) (end : End) (kind : FailKind) → IsThere s end → IsFree s (lost end kind)
+pub lost_free : (s : EngineModel) (end : End) (kind : FailKind) → IsThere s end → IsFree s (lost end kind)
 lost_free s ends.Listener kind there = tt
 lost_free s (ends.Client n) kind there = there
 lost_free s (ends.Link l) kind there = there
@@ -128,28 +128,28 @@ places_below flag i n (x ∷ xs) l = by (flag x) (places_below flag (i + 1) n xs
     by true rest = (omega (arith, l), rest)
     by false rest = rest
 
-links_there : (s : Story) (js : List ℕ) → AllBelow (length s.links) js → AreThere s (map (link_end s.first) js)
+links_there : (s : EngineModel) (js : List ℕ) → AllBelow (length s.links) js → AreThere s (map (link_end s.first) js)
 links_there s [] below = tt
 links_there s (j ∷ js) below =
     let here = below.0 in
     (link_there s.first (length s.links) (s.first + j) (omega arith) (omega (arith, here)), links_there s js below.1)
 
-clients_there : (s : Story) (is : List ℕ) → AllBelow (length s.connections) is → AreThere s (map client_end is)
+clients_there : (s : EngineModel) (is : List ℕ) → AllBelow (length s.connections) is → AreThere s (map client_end is)
 clients_there s [] below = tt
 clients_there s (i ∷ is) below =
     let here = below.0 in
     (client_there (length s.connections) (i + 1) (omega arith) (omega (arith, here)), clients_there s is below.1)
 
-both_there : (s : Story) (es more : List End) → AreThere s es → AreThere s more → AreThere s (es ++ more)
+both_there : (s : EngineModel) (es more : List End) → AreThere s es → AreThere s more → AreThere s (es ++ more)
 both_there s [] more f g = g
 both_there s (end ∷ es) more f g = (f.0, both_there s es more f.1 g)
 
-pub read_there : (s : Story) → AreThere s (ends_read s)
+pub read_there : (s : EngineModel) → AreThere s (ends_read s)
 read_there s = both_there s (map (link_end s.first) (places_with keeps_answer 0 s.links)) (map client_end (places_with is_read 0 s.connections))
     (links_there s (places_with keeps_answer 0 s.links) (places_below keeps_answer 0 (length s.links) s.links (omega arith)))
     (clients_there s (places_with is_read 0 s.connections) (places_below is_read 0 (length s.connections) s.connections (omega arith)))
 
-pub there_at : (s : Story) (es : List End) (i : ℕ) (end : End) → AreThere s es → i < length es → end ≡ get_or es i end → IsThere s end
+pub there_at : (s : EngineModel) (es : List End) (i : ℕ) (end : End) → AreThere s es → i < length es → end ≡ get_or es i end → IsThere s end
 there_at s [] i end there l e = absurd (omega (arith, l))
 there_at s (e ∷ es) zero end there l is = subst (IsThere s) (sym is) there.0
 there_at s (e ∷ es) (suc i) end there l is = there_at s es i end there.1 (omega (arith, l)) is
@@ -173,27 +173,27 @@ replies_none i number bytes true = refl
 replies_none i number bytes false = refl
 
 -- a step whose effects name a new link opens it
-steps_open : (s t : Story) (i : ℕ) (to_head : Bool) (event : Event) (before told : List Effect) (after : Story) → length t.links ≡ length s.links → ((more : List Effect) → forwards (before ++ more) ≡ forwards more)
+steps_open : (s t : EngineModel) (i : ℕ) (to_head : Bool) (event : Event) (before told : List Effect) (after : EngineModel) → length t.links ≡ length s.links → ((more : List Effect) → forwards (before ++ more) ≡ forwards more)
     → StepsOn s t i to_head event before told after → forwards told ≡ true → length s.links < length after.links
 steps_open s t i to_head event before told after same apart steps e = by (came s.core.table steps.outcome) steps.told_is steps.after_is
   where
     by : (c : Came) → told ≡ before ++ effects_on i (next_number s) c → after ≡ after_on i to_head c (with_core t steps.core) → length s.links < length after.links
     by (Replies bytes close) told_is after_is = not_both (forwards told) e (ap forwards told_is ∙ (apart (effects_on i (next_number s) (Replies bytes close)) ∙ replies_none i (next_number s) bytes close))
     by (Forwards address bytes) told_is after_is =
-        let long = ap (λ (u : Story). length u.links) after_is ∙ length-append t.links (opened steps.core.table.max_body to_head i ∷ []) in
+        let long = ap (λ (u : EngineModel). length u.links) after_is ∙ length-append t.links (opened steps.core.table.max_body to_head i ∷ []) in
         omega (arith, same, long)
     by Queues told_is after_is = not_both (forwards told) e (ap forwards told_is ∙ apart [])
     by Nothing told_is after_is = not_both (forwards told) e (ap forwards told_is ∙ apart [])
 
 -- an act whose effects name a new link opens it
-opens : (s : Story) (now : ℕ) (act : Act) (told : List Effect) (after : Story) → Does s now act told after → forwards told ≡ true → length s.links < length after.links
+opens : (s : EngineModel) (now : ℕ) (act : Act) (told : List Effect) (after : EngineModel) → Does s now act told after → forwards told ≡ true → length s.links < length after.links
 opens s now (Abandons i (Some l)) told after done e =
     steps_open s (freed s l i) i false (events.Abandon (i + 1)) (effects.Drop (s.first + l) ∷ []) told after (length-set s.links l (dropping (link_at s l))) (λ more. refl) done e
 opens s now (Abandons i None) told after done e = steps_open s (with_connection s i (doing Free)) i false (events.Abandon (i + 1)) [] told after refl (λ more. refl) done e
 opens s now (Finishes j (Gives r)) told after done e = steps_open s (freed s j (link_at s j).connection) _ _ _ (effects.Drop (s.first + j) ∷ []) told after (length-set s.links j (dropping (link_at s j))) (λ more. refl) done.1 e
 opens s now (Finishes j (Breaks kind)) told after done e = steps_open s (freed s j (link_at s j).connection) _ _ _ (effects.Drop (s.first + j) ∷ []) told after (length-set s.links j (dropping (link_at s j))) (λ more. refl) done e
 opens s now (Wakes i) told after done e = steps_open s (with_connection s i (doing Free)) i _ (events.Wake now (i + 1)) [] told after refl (λ more. refl) done.1 e
-opens s now (Serves i wish) told after done e = by_wish wish done
+opens s now (Serves i action) told after done e = by_action action done
   where
     refuses : (why : Cause) (head : Bool) → Refuses s now i why head told after → length s.links < length after.links
     refuses why head d = not_both (forwards told) e (ap forwards d.told_is)
@@ -205,24 +205,24 @@ opens s now (Serves i wish) told after done e = by_wish wish done
     arrives r (Ok asked) d = steps_open s (with_connection s i (passing (next.Message r))) _ _ _ [] told after refl (λ more. refl) d.1 e
     arrives r (Err refusal) d = refuses _ _ d
 
-    by_wish : (w : Next Request) → Served s now i w told after → length s.links < length after.links
-    by_wish next.More d = absurd d
-    by_wish next.NeedsContinue d = not_both (forwards told) e (ap forwards d.0)
-    by_wish (next.Message r) d = arrives r d.0 d.2
-    by_wish (next.Refused frame.Truncated) d = closes d
-    by_wish (next.Refused frame.Head) d = refuses _ _ d
-    by_wish (next.Refused frame.Version) d = refuses _ _ d
-    by_wish (next.Refused frame.BothLengths) d = refuses _ _ d
-    by_wish (next.Refused frame.Length) d = refuses _ _ d
-    by_wish (next.Refused frame.Coding) d = refuses _ _ d
-    by_wish (next.Refused frame.Chunk) d = refuses _ _ d
-    by_wish (next.Refused frame.TooLarge) d = refuses _ _ d
-    by_wish (next.Refused frame.Expect) d = refuses _ _ d
-    by_wish (next.Refused frame.Status) d = refuses _ _ d
-    by_wish next.End d = closes d
+    by_action : (w : Next Request) → Served s now i w told after → length s.links < length after.links
+    by_action next.More d = absurd d
+    by_action next.NeedsContinue d = not_both (forwards told) e (ap forwards d.0)
+    by_action (next.Message r) d = arrives r d.0 d.2
+    by_action (next.Refused frame.Truncated) d = closes d
+    by_action (next.Refused frame.Head) d = refuses _ _ d
+    by_action (next.Refused frame.Version) d = refuses _ _ d
+    by_action (next.Refused frame.BothLengths) d = refuses _ _ d
+    by_action (next.Refused frame.Length) d = refuses _ _ d
+    by_action (next.Refused frame.Coding) d = refuses _ _ d
+    by_action (next.Refused frame.Chunk) d = refuses _ _ d
+    by_action (next.Refused frame.TooLarge) d = refuses _ _ d
+    by_action (next.Refused frame.Expect) d = refuses _ _ d
+    by_action (next.Refused frame.Status) d = refuses _ _ d
+    by_action next.End d = closes d
 
 -- what isn't closed, or isn't dropped, is no stand-in
-open_inside : (s : Story) (i : ℕ) → (connection_at s i).closed ≡ false → i < length s.connections
+open_inside : (s : EngineModel) (i : ℕ) → (connection_at s i).closed ≡ false → i < length s.connections
 open_inside s i unclosed = elim (cases_order i (length s.connections)) [
   | inl is ↦ beyond (omega (arith, is))
   | inr (inl less) ↦ less
@@ -230,9 +230,9 @@ open_inside s i unclosed = elim (cases_order i (length s.connections)) [
 ]
   where
     beyond : length s.connections ≤ i → i < length s.connections
-    beyond l = not_both true refl (sym (ap (λ (c : ConnStory). c.closed) (get_or-eq_default s.connections no_connection l)) ∙ unclosed)
+    beyond l = not_both true refl (sym (ap (λ (c : ConnectionModel). c.closed) (get_or-eq_default s.connections no_connection l)) ∙ unclosed)
 
-link_inside : (s : Story) (j : ℕ) → (link_at s j).dropped ≡ false → j < length s.links
+link_inside : (s : EngineModel) (j : ℕ) → (link_at s j).dropped ≡ false → j < length s.links
 link_inside s j undropped = elim (cases_order j (length s.links)) [
   | inl is ↦ beyond (omega (arith, is))
   | inr (inl less) ↦ less
@@ -240,9 +240,9 @@ link_inside s j undropped = elim (cases_order j (length s.links)) [
 ]
   where
     beyond : length s.links ≤ j → j < length s.links
-    beyond l = not_both true refl (sym (ap (λ (k : LinkStory). k.dropped) (get_or-eq_default s.links no_link l)) ∙ undropped)
+    beyond l = not_both true refl (sym (ap (λ (k : LinkModel). k.dropped) (get_or-eq_default s.links no_link l)) ∙ undropped)
 
-module _ (s after : Story) (stays : Stays s after) where
+module _ (s after : EngineModel) (stays : Stays s after) where
   client_named : (n : ℕ) → IsOpen s n → IsThere after (ends.Client n)
   client_named n is =
       let inside = open_inside s is.place is.closed in
@@ -275,5 +275,5 @@ module _ (s after : Story) (stays : Stays s after) where
   named (effects.Drop l ∷ rest) names long = (dropped_named l names.0, named rest names.1 long)
 
 -- what the effects of an act name is there behind it
-pub effects_there : (s : Story) (now : ℕ) (act : Act) (told : List Effect) (after : Story) → Stays s after → NamesOpen s after told → Does s now act told after → AreThere after (map end_of told)
+pub effects_there : (s : EngineModel) (now : ℕ) (act : Act) (told : List Effect) (after : EngineModel) → Stays s after → NamesOpen s after told → Does s now act told after → AreThere after (map end_of told)
 effects_there s now act told after stays names done = named s after stays told names (opens s now act told after done)

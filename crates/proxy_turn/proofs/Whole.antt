@@ -1,6 +1,6 @@
 -- A turn of its parts.
 use Rattle.std.proofs.Common.{◌≡◌, inl, inr, ℕ, ◌+◌, ◌≤◌, List, [], ◌++◌, length, refl, ap, ◌∙◌, subst, arith, Result, Ok, Err}
-use Rattle.proxy_engine.specs.Story.{Story}
+use Rattle.proxy_engine.specs.EngineModel.{EngineModel}
 use Rattle.proxy_engine.specs.Orderly.{IsOrderly, TakesInOrder}
 use Rattle.proxy_engine.specs.Reading.{ends_read, failed_links}
 use Rattle.proxy_engine.specs.State.{State}
@@ -21,7 +21,7 @@ raises_same a b i j k x y z e f h raises = subst (λ n. Raises a b n y z) e (sub
 not_failed : (asked : Asked) → asked ≡ NotAsked → asked_failures asked ≡ 0
 not_failed asked is = ap asked_failures is
 
-module _ (now : ℕ) (s : Story) (e : State) (did : List Call → Type 0) (a b : Calls) where
+module _ (now : ℕ) (s : EngineModel) (e : State) (did : List Call → Type 0) (a b : Calls) where
   -- the listener was the last
   pub asks_alone : (fault : TurnFault) → Asks s e did a b (Err fault) → TurnsAndCalls now s e did a b (Err fault)
   asks_alone fault part = record {

@@ -4,18 +4,18 @@ use Rattle.std.proofs.lemmas.List.{length-append}
 use Rattle.std.specs.declared.vec.Vec.{Vec}
 use Rattle.std.specs.declared.alloc.Global.{Global}
 use Rattle.proxy_script.specs.declared.effect_list.Effect.{Effect}
-use Rattle.proxy_engine.specs.Story.{Story}
+use Rattle.proxy_engine.specs.EngineModel.{EngineModel}
 use Rattle.proxy_engine.specs.Due.{Act, IsDueFirst}
 use Rattle.proxy_engine.specs.Acts.{Does}
 use Rattle.proxy_engine.specs.Drops.{ActsAreShort}
 use Rattle.proxy_engine.specs.Orderly.{IsOrderly, TakesInOrder, ActsInOrder, ActsStay}
 use Rattle.proxy_engine.specs.Reading.{failed_links}
-use Rattle.proxy_engine.specs.State.{State, Stands, Did, Failed}
-use Rattle.proxy_engine.specs.declared.happening.End.{End}
-use Rattle.proxy_engine.specs.declared.happening.EngineFault.{EngineFault}
-use Rattle.proxy_engine.specs.declared.happening.EngineFault.TheVariants as engine
-use Rattle.proxy_engine.specs.declared.happening.Work.{Work}
-use Rattle.proxy_engine.specs.declared.happening.Work.TheVariants as work
+use Rattle.proxy_engine.specs.State.{State, Represents, Did, Failed}
+use Rattle.proxy_engine.specs.declared.work.End.{End}
+use Rattle.proxy_engine.specs.declared.work.EngineFault.{EngineFault}
+use Rattle.proxy_engine.specs.declared.work.EngineFault.TheVariants as engine
+use Rattle.proxy_engine.specs.declared.work.Work.{Work}
+use Rattle.proxy_engine.specs.declared.work.Work.TheVariants as work
 use Rattle.proxy_turn.specs.Calls.{Call}
 use Rattle.proxy_turn.specs.Counts.{Calls, Raises}
 use Rattle.proxy_turn.specs.Turn.{Round, end_of, failed_fates, failed_rounds, calls_told, calls_worked}
@@ -28,7 +28,7 @@ use Rattle.proxy_turn.proofs.There.{effects_there}
 use Rattle.proxy_turn.proofs.Turning.{works_more, works_orderly, sum_more}
 
 -- so many acts were done
-pub record SoFar (now : ℕ) (s : Story) (e : State) (gone : List End) (did : List Call → Type 0) (a b : Calls) (works faults : ℕ) : Type 0 where
+pub record SoFar (now : ℕ) (s : EngineModel) (e : State) (gone : List End) (did : List Call → Type 0) (a b : Calls) (works faults : ℕ) : Type 0 where
   pub rounds : List Round
   pub some : WorksSome now s rounds e gone did a b
   pub number : length rounds ≡ works
@@ -36,19 +36,19 @@ pub record SoFar (now : ℕ) (s : Story) (e : State) (gone : List End) (did : Li
   pub few : faults ≤ 3 * works
 
 -- the first act that was due was done
-pub record Acted (t : Story) (now : ℕ) (told : List Effect) (e : State) : Type 0 where
+pub record Acted (t : EngineModel) (now : ℕ) (told : List Effect) (e : State) : Type 0 where
   pub act : Act
-  pub after : Story
+  pub after : EngineModel
   pub due : IsDueFirst t (Some act)
   pub does : Does t now act told after
-  pub stands : Stands e after
+  pub stands : Represents e after
 
-pub acted : (t : Story) (now : ℕ) (w : Work) (effects : Vec Effect Global) (e : State) → w ≡ work.Did effects → Did t now w e → Acted t now effects.items e
+pub acted : (t : EngineModel) (now : ℕ) (w : Work) (effects : Vec Effect Global) (e : State) → w ≡ work.Did effects → Did t now w e → Acted t now effects.items e
 acted t now w effects e is did =
     let one = subst (λ (w : Work). Did t now w e) is did in
     record { act = one.0; after = one.2.after; due = one.1; does = one.2.does; stands = one.2.stands }
 
-pub worked_none : (now : ℕ) (s : Story) (e : State) (gone : List End) (did : List Call → Type 0) (here : Calls) → gone ≡ failed_links s → Stands e s → did [] → SoFar now s e gone did here here 0 0
+pub worked_none : (now : ℕ) (s : EngineModel) (e : State) (gone : List End) (did : List Call → Type 0) (here : Calls) → gone ≡ failed_links s → Represents e s → did [] → SoFar now s e gone did here here 0 0
 worked_none now s e gone did here is stands none = record {
   rounds = [];
   some = record { last = s; works = (refl, is); stands = stands; calls = none; raises = raises_none here };
@@ -57,7 +57,7 @@ worked_none now s e gone did here is stands none = record {
   few = omega arith;
 }
 
-module _ (now : ℕ) (s : Story) (e : State) (gone : List End) (did : List Call → Type 0) (a b : Calls) (works faults : ℕ) (done : SoFar now s e gone did a b works faults) where
+module _ (now : ℕ) (s : EngineModel) (e : State) (gone : List End) (did : List Call → Type 0) (a b : Calls) (works faults : ℕ) (done : SoFar now s e gone did a b works faults) where
   pub still_orderly : TakesInOrder → ActsInOrder → IsOrderly s → IsOrderly done.some.last
   still_orderly takes acts h = works_orderly takes acts done.rounds now s (failed_links s) done.some.last gone done.some.works h
 
@@ -124,7 +124,7 @@ module _ (now : ℕ) (s : Story) (e : State) (gone : List End) (did : List Call 
   stopped_by bound = record { rounds = done.rounds; gone = gone; some = done.some; bound = bounded bound; few = small bound; tells = tt }
 
   -- an act was refused
-  pub failed_by : (fault : EngineFault) (new : State) → Failed done.some.last fault → Stands new done.some.last → works ≤ 1000 → WorksAll now s new did a b (Err (of_engine fault))
+  pub failed_by : (fault : EngineFault) (new : State) → Failed done.some.last fault → Represents new done.some.last → works ≤ 1000 → WorksAll now s new did a b (Err (of_engine fault))
   failed_by fault new failed stands bound = record {
     rounds = done.rounds;
     gone = gone;
@@ -141,11 +141,11 @@ module _ (now : ℕ) (s : Story) (e : State) (gone : List End) (did : List Call 
       tells engine.Spent failed = failed
 
 -- under other names for the same
-pub same_gone : (now : ℕ) (s : Story) (e : State) (gone more : List End) (did : List Call → Type 0) (a b : Calls) (works faults : ℕ) → more ≡ gone → SoFar now s e gone did a b works faults → SoFar now s e more did a b works faults
+pub same_gone : (now : ℕ) (s : EngineModel) (e : State) (gone more : List End) (did : List Call → Type 0) (a b : Calls) (works faults : ℕ) → more ≡ gone → SoFar now s e gone did a b works faults → SoFar now s e more did a b works faults
 same_gone now s e gone more did a b works faults is done = subst (λ (es : List End). SoFar now s e es did a b works faults) (sym is) done
 
-pub same_told : (s : Story) (gone : List End) (told more : List Effect) (e : State) (later : List End) (did : List Call → Type 0) (a b : Calls) (count : ℕ) → more ≡ told → CarriedOut s gone more e later did a b count → CarriedOut s gone told e later did a b count
+pub same_told : (s : EngineModel) (gone : List End) (told more : List Effect) (e : State) (later : List End) (did : List Call → Type 0) (a b : Calls) (count : ℕ) → more ≡ told → CarriedOut s gone more e later did a b count → CarriedOut s gone told e later did a b count
 same_told s gone told more e later did a b count is out = subst (λ (es : List Effect). CarriedOut s gone es e later did a b count) is out
 
-pub same_fault : (now : ℕ) (s : Story) (e : State) (did : List Call → Type 0) (a b : Calls) (fault other : TurnFault) → other ≡ fault → WorksAll now s e did a b (Err fault) → WorksAll now s e did a b (Err other)
+pub same_fault : (now : ℕ) (s : EngineModel) (e : State) (did : List Call → Type 0) (a b : Calls) (fault other : TurnFault) → other ≡ fault → WorksAll now s e did a b (Err fault) → WorksAll now s e did a b (Err other)
 same_fault now s e did a b fault other is all = subst (λ (f : TurnFault). WorksAll now s e did a b (Err f)) (sym is) all

@@ -2,7 +2,7 @@
 --
 -- Answer, Given: what came of `accept` and of a read      Call: a call      answer_of, given_of: of what they returned
 use Rattle.std.specs.Prelude.{ℕ, List, take, Bool, true, false, Result, Ok, Err}
-use Rattle.proxy_engine.specs.declared.happening.End.{End}
+use Rattle.proxy_engine.specs.declared.work.End.{End}
 use Rattle.proxy_turn.specs.declared.sockets.SocketFailed.{SocketFailed}
 use Rattle.proxy_turn.specs.declared.sockets.Received.{Received}
 use Rattle.proxy_turn.specs.declared.sockets.Received.TheVariants as received

@@ -1,6 +1,7 @@
 -- Counts of calls, which stop at the greatest number.
 --
--- IsRise: a count rises      Calls, Raises: the three counts of sockets, and how they rise      failed: 1 for a call that failed
+-- IsRise: a count rises      Calls, Raises: the three counts of sockets, and how they rise
+-- failed: 1 for a call that failed
 use Rattle.std.specs.Prelude.{◌≡◌, ℕ, ◌+◌, ◌-◌, ◌^◌, ◌<◌, ◌≤◌, Result, Ok, Err}
 
 -- a count rises by k, as far as it ends below the greatest number

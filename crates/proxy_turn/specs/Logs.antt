@@ -32,7 +32,9 @@ Grew was_lost log lost later made = lost ≡ false → (was_lost ≡ false) × (
 pub grew_none : (lost : Bool) (log : List LoggedCall) → Grew lost log lost log []
 grew_none lost log kept = (kept, sym (append-nil (map call_in log)))
 
-pub grew_joined : (first : Bool) (log : List LoggedCall) (then : Bool) (mid : List LoggedCall) (last : Bool) (later : List LoggedCall) (a b : List Call) → Grew first log then mid a → Grew then mid last later b → Grew first log last later (a ++ b)
+pub grew_joined : (first : Bool) (log : List LoggedCall) (then : Bool) (mid : List LoggedCall) (last : Bool)
+    (later : List LoggedCall) (a b : List Call) → Grew first log then mid a → Grew then mid last later b
+    → Grew first log last later (a ++ b)
 grew_joined first log then mid last later a b one two kept =
     let second = two kept in
     let start = one second.0 in

@@ -3,17 +3,18 @@
 -- beginning, LivesBy: what an engine has lived through, by these steps
 -- HasLived: the same by some steps      IsServing: they are a good run, with the headline
 -- Reaches, GoesOn: what it lived through since
--- take_steps, IsLoss, TakesLosses, LosesOn: ends that were lost      ServedTurn, served_steps: a turn behind them, and its steps
+-- take_steps, IsLoss, TakesLosses, LosesOn: ends that were lost
+-- ServedTurn, served_steps: a turn behind them, and its steps
 -- BeginsLived and what follows it: the laws
 use Rattle.std.specs.Prelude.{◌≡◌, ℕ, List, [], ◌∷◌, Result}
 use Rattle.std.specs.List.{AllByRecursion}
 use Rattle.hx_allow.specs.Lines.{Table}
 use Rattle.proxy_core.specs.Traces.{begun as core_begun}
 use Rattle.proxy_engine.specs.Happenings.{Said, Accepts, Sends, Hears, Ends, Leaves, Shuts, Fails}
-use Rattle.proxy_engine.specs.Story.{Story}
+use Rattle.proxy_engine.specs.EngineModel.{EngineModel}
 use Rattle.proxy_engine.specs.Orderly.{IsOrderly}
 use Rattle.proxy_engine.specs.Lives.{Step, Took, Lives, IsRun}
-use Rattle.proxy_engine.specs.State.{State, Stands, Takes, begun}
+use Rattle.proxy_engine.specs.State.{State, Represents, Takes, begun}
 use Rattle.proxy_turn.specs.Counts.{Calls}
 use Rattle.proxy_turn.specs.Turn.{Turns}
 use Rattle.proxy_turn.specs.TurnSteps.{steps_of}
@@ -22,49 +23,51 @@ use Rattle.proxy_turn.specs.declared.report.TurnFault.{TurnFault}
 
 -- ---- what it has lived through
 
--- an engine to which nothing has happened, by the table of this one, with room for as many responses as that table has it
-abbrev pub beginning : State → ℕ → ℕ → Story
+-- an engine to which nothing has happened, by the table of this one, with room for as many responses as that table has
+-- it
+abbrev pub beginning : State → ℕ → ℕ → EngineModel
 beginning e first link = begun (core_begun e.core.table e.core.table.capacity first) link
 
--- by its table and capacity, these steps led from an engine to which nothing had happened to this story, for which it stands
-pub record LivesBy (e : State) (first link : ℕ) (steps : List Step) (last : Story) : Type 0 where
+-- by its table and capacity, these steps led from an engine to which nothing had happened to this model, for which it
+-- stands
+pub record LivesBy (e : State) (first link : ℕ) (steps : List Step) (last : EngineModel) : Type 0 where
   pub lives : Lives (beginning e first link) steps last
-  pub stands : Stands e last
+  pub stands : Represents e last
 
 -- some steps did
 pub record HasLived (e : State) : Type 0 where
   pub first : ℕ
   pub link : ℕ
   pub steps : List Step
-  pub last : Story
+  pub last : EngineModel
   pub lived : LivesBy e first link steps last
 
--- The steps of its core are a good run by its table, over a store of its capacity, with the headline: of the requests that its
--- clients' bytes spell, the responses that its origins' bytes spell, the failures and the moments, in the order in which they
--- were taken; and the effects of its acts are what they gave. Which bytes were taken and which effects were carried out is in the
--- steps: those of a turn are `served_steps`.
+-- The steps of its core are a good run by its table, over a store of its capacity, with the headline: of the requests
+-- that its clients' bytes spell, the responses that its origins' bytes spell, the failures and the moments, in the
+-- order in which they were taken; and the effects of its acts are what they gave. Which bytes were taken and which
+-- effects were carried out is in the steps: those of a turn are `served_steps`.
 pub record IsServing (e : State) : Type 0 where
   pub first : ℕ
   pub link : ℕ
   pub steps : List Step
-  pub last : Story
+  pub last : EngineModel
   pub run : IsRun e.core.table e.core.table.capacity first (beginning e first link) steps last
-  pub stands : Stands e last
+  pub stands : Represents e last
   pub limit : e.core.limit ≡ e.core.table.capacity
 
 -- ---- what it lived through since
 
--- steps led from this story to one that it stands for
-pub record Reaches (s : Story) (e : State) : Type 0 where
+-- steps led from this model to one that it stands for
+pub record Reaches (s : EngineModel) (e : State) : Type 0 where
   pub steps : List Step
-  pub last : Story
+  pub last : EngineModel
   pub lives : Lives s steps last
-  pub stands : Stands e last
+  pub stands : Represents e last
 
--- What the engine had lived through goes on from there: each orderly story that it stood for leads to one that it stands for
--- now.
+-- What the engine had lived through goes on from there: each orderly model that it stood for leads to one that it
+-- stands for now.
 abbrev pub GoesOn : State → State → Type 0
-GoesOn e new = (s : Story) → Stands e s → IsOrderly s → Reaches s new
+GoesOn e new = (s : EngineModel) → Represents e s → IsOrderly s → Reaches s new
 
 -- ---- a turn of a server
 
@@ -84,41 +87,45 @@ take_steps [] past = past
 take_steps (h ∷ hs) past = take_steps hs (Took h ∷ past)
 
 -- clients that went away and links that failed were taken, one after another, and nothing else was taken or done
-pub record TakesLosses (s : Story) (e : State) : Type 0 where
+pub record TakesLosses (s : EngineModel) (e : State) : Type 0 where
   pub lost : List Said
   pub are_losses : AllByRecursion IsLoss lost
-  pub after : Story
+  pub after : EngineModel
   pub takes : Lives s (take_steps lost []) after
-  pub stands : Stands e after
+  pub stands : Represents e after
 
--- from each story that the engine stood for
+-- from each model that the engine stood for
 abbrev pub LosesOn : State → State → Type 0
-LosesOn e new = (s : Story) → Stands e s → TakesLosses s new
+LosesOn e new = (s : EngineModel) → Represents e s → TakesLosses s new
 
--- Ends that were lost were taken as such, and then one turn was served at this moment, which told this. Nothing else was taken or
--- done.
-pub record ServedTurn (now : ℕ) (s : Story) (e : State) (told : Result Report TurnFault) : Type 0 where
+-- Ends that were lost were taken as such, and then one turn was served at this moment, which told this. Nothing else
+-- was taken or done.
+pub record ServedTurn (now : ℕ) (s : EngineModel) (e : State) (told : Result Report TurnFault) : Type 0 where
   pub lost : List Said
   pub are_losses : AllByRecursion IsLoss lost
-  pub mid : Story
+  pub mid : EngineModel
   pub takes : Lives s (take_steps lost []) mid
   pub before : Calls
   pub after : Calls
   pub turn : Turns now mid e before after told
 
 -- its steps, behind those before it
-abbrev pub served_steps : {now : ℕ} {s : Story} {e : State} {told : Result Report TurnFault} → ServedTurn now s e told → List Step → List Step
-served_steps {now} served past = steps_of now served.mid served.turn.asked served.turn.reads served.turn.rounds (take_steps served.lost past)
+abbrev pub served_steps : {now : ℕ} {s : EngineModel} {e : State} {told : Result Report TurnFault}
+    → ServedTurn now s e told → List Step → List Step
+served_steps {now} served past =
+    steps_of now served.mid served.turn.asked served.turn.reads served.turn.rounds (take_steps served.lost past)
 
--- each orderly story that the engine stood for leads by such a turn to one that it stands for now
+-- each orderly model that the engine stood for leads by such a turn to one that it stands for now
 abbrev pub Serves : ℕ → State → State → Result Report TurnFault → Type 0
-Serves now e new told = (s : Story) → Stands e s → IsOrderly s → ServedTurn now s new told
+Serves now e new told = (s : EngineModel) → Represents e s → IsOrderly s → ServedTurn now s new told
 
 -- ---- the laws
 
 -- an engine to which nothing has happened, with room for as many responses as its table has it
 abbrev pub BeginsLived : Type 0
-BeginsLived = (e : State) (table : Table) (first link : ℕ) → Stands e (begun (core_begun table table.capacity first) link) → HasLived e
+BeginsLived =
+    (e : State) (table : Table) (first link : ℕ) → Represents e (begun (core_begun table table.capacity first) link)
+    → HasLived e
 
 -- nothing is done
 abbrev pub StaysOn : Type 0
@@ -130,7 +137,7 @@ GoesOnAndOn = (e mid new : State) → GoesOn e mid → GoesOn mid new → GoesOn
 
 -- it takes what happened
 abbrev pub TakesGoOn : Type 0
-TakesGoOn = (e new : State) (h : Said) → ((s : Story) → Stands e s → Takes s h new) → GoesOn e new
+TakesGoOn = (e new : State) (h : Said) → ((s : EngineModel) → Represents e s → Takes s h new) → GoesOn e new
 
 -- it serves a turn, whole or as far as it came, behind what was lost
 abbrev pub TurnsGoOn : Type 0
@@ -148,7 +155,7 @@ abbrev pub NothingIsLost : Type 0
 NothingIsLost = (e : State) → LosesOn e e
 
 abbrev pub OneIsLost : Type 0
-OneIsLost = (e new : State) (h : Said) → IsLoss h → ((s : Story) → Stands e s → Takes s h new) → LosesOn e new
+OneIsLost = (e new : State) (h : Said) → IsLoss h → ((s : EngineModel) → Represents e s → Takes s h new) → LosesOn e new
 
 abbrev pub MoreAreLost : Type 0
 MoreAreLost = (e mid new : State) → LosesOn e mid → LosesOn mid new → LosesOn e new
@@ -160,20 +167,24 @@ LossesGoOn = (e new : State) → LosesOn e new → GoesOn e new
 -- behind them a turn is served
 abbrev pub TurnsAreServed : Type 0
 TurnsAreServed =
-    (e mid new : State) (now : ℕ) (before after : Calls) (told : Result Report TurnFault) → LosesOn e mid → ((s : Story) → Stands mid s → IsOrderly s → Turns now s new before after told)
+    (e mid new : State) (now : ℕ) (before after : Calls) (told : Result Report TurnFault) → LosesOn e mid
+    → ((s : EngineModel) → Represents mid s → IsOrderly s → Turns now s new before after told)
     → Serves now e new told
 
 -- Where an engine has lived by these steps, it has lived behind a turn by those of the turn behind them, and no others.
 abbrev pub TurnsLiveOn : Type 0
 TurnsLiveOn =
-    (e new : State) (first link : ℕ) (steps : List Step) (s : Story) (now : ℕ) (told : Result Report TurnFault) → LivesBy e first link steps s → (served : ServedTurn now s new told)
+    (e new : State) (first link : ℕ) (steps : List Step) (s : EngineModel) (now : ℕ) (told : Result Report TurnFault)
+    → LivesBy e first link steps s → (served : ServedTurn now s new told)
     → LivesBy new first link (served_steps served steps) served.turn.last
 
 -- What an engine has lived through is in order, and the steps of its core are a good run: whichever its steps are.
 abbrev pub LivesAreServing : Type 0
 LivesAreServing =
-    (e : State) (first link : ℕ) (steps : List Step) (last : Story) → LivesBy e first link steps last → IsOrderly last × IsRun e.core.table e.core.table.capacity first (beginning e first link) steps last
+    (e : State) (first link : ℕ) (steps : List Step) (last : EngineModel) → LivesBy e first link steps last
+    → IsOrderly last × IsRun e.core.table e.core.table.capacity first (beginning e first link) steps last
 
 -- as it goes on, it keeps the operator's table, and the room of its store
 abbrev pub KeepsItsTable : Type 0
-KeepsItsTable = (e new : State) → GoesOn e new → HasLived e → (new.core.table ≡ e.core.table) × (new.core.limit ≡ e.core.limit)
+KeepsItsTable =
+    (e new : State) → GoesOn e new → HasLived e → (new.core.table ≡ e.core.table) × (new.core.limit ≡ e.core.limit)

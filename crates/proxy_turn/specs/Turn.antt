@@ -1,24 +1,26 @@
--- What a turn does with an engine: the happenings that it takes and the acts that it does, over the stories of the engine.
+-- What a turn does with an engine: the happenings that it takes and the acts that it does, over the models of the
+-- engine.
 --
 -- Asked, asks: the call of accept               Given, Read, Reads: reads, and what each gave, as a happening
 -- Fate, CarriesOne, CarriesOut: what became of the effects of an act       Round, Works: acts with their effects
 -- calls_of: the calls of a turn, in order       IsTurn: a turn, whole or as far as it came
 -- Tells: what it answers      Turns: both      TurnsAndCalls: with its calls
-use Rattle.std.specs.Prelude.{◌≡◌, ℕ, ◌+◌, ◌≤◌, List, [], ◌∷◌, ◌++◌, length, sum_by, map, Bool, true, false, ◌&&◌, ◌==◌, nat_lt, Option, None, Some, is_some, cond, Result, Ok, Err, ◌⊎◌}
+use Rattle.std.specs.Prelude.{◌≡◌, ℕ, ◌+◌, ◌≤◌, List, [], ◌∷◌, ◌++◌, length, sum_by, map, Bool, true, false, ◌&&◌, ◌==◌}
+use Rattle.std.specs.Prelude.{nat_lt, Option, None, Some, is_some, cond, Result, Ok, Err, ◌⊎◌}
 use Rattle.std.specs.List.{list_any}
 use Rattle.hx_status.specs.declared.cause.FailKind.{FailKind}
 use Rattle.hx_status.specs.declared.cause.FailKind.TheVariants as kinds
 use Rattle.proxy_script.specs.declared.effect_list.Effect.{Effect}
 use Rattle.proxy_script.specs.declared.effect_list.Effect.TheVariants as effects
 use Rattle.proxy_engine.specs.Happenings.{Said, Accepts, Sends, Hears, Ends, Leaves, Shuts, Fails}
-use Rattle.proxy_engine.specs.Story.{Story, heard, fault_of}
+use Rattle.proxy_engine.specs.EngineModel.{EngineModel, heard, fault_of}
 use Rattle.proxy_engine.specs.Due.{Act, IsDueFirst}
 use Rattle.proxy_engine.specs.Acts.{Does}
 use Rattle.proxy_engine.specs.Reading.{ends_read, failed_links, open_count, next_connection}
-use Rattle.proxy_engine.specs.State.{State, Stands, Failed as EngineFailed}
-use Rattle.proxy_engine.specs.declared.happening.EngineFault.TheVariants as engine
-use Rattle.proxy_engine.specs.declared.happening.End.{End}
-use Rattle.proxy_engine.specs.declared.happening.End.TheVariants as ends
+use Rattle.proxy_engine.specs.State.{State, Represents, Failed as EngineFailed}
+use Rattle.proxy_engine.specs.declared.work.EngineFault.TheVariants as engine
+use Rattle.proxy_engine.specs.declared.work.End.{End}
+use Rattle.proxy_engine.specs.declared.work.End.TheVariants as ends
 use Rattle.proxy_turn.specs.Calls as call
 use Rattle.proxy_turn.specs.Calls.{Call}
 pub use Rattle.proxy_turn.specs.Calls.{Given, Nothing, Ended, Broken, Bytes}
@@ -28,7 +30,7 @@ use Rattle.proxy_turn.specs.declared.report.TurnFault.{TurnFault}
 use Rattle.proxy_turn.specs.declared.report.TurnFault.TheVariants as faults
 
 -- a happening is taken, if there is one
-abbrev pub TakesIf : Story → Option Said → Story → Type 0
+abbrev pub TakesIf : EngineModel → Option Said → EngineModel → Type 0
 TakesIf s None t = t ≡ s
 TakesIf s (Some h) t = (fault_of s h ≡ None) × (t ≡ heard s h)
 
@@ -39,7 +41,7 @@ pub data Asked : Type 0 where
   NotAsked Failed NoneCame Came : Asked
 
 -- where fewer than 256 connections are open, and a number is left
-abbrev pub asks : Story → Bool
+abbrev pub asks : EngineModel → Bool
 asks s = nat_lt (open_count s) 256 && is_some (next_connection s)
 
 abbrev pub was_asked : Asked → Bool
@@ -48,7 +50,7 @@ was_asked Failed = true
 was_asked NoneCame = true
 was_asked Came = true
 
-abbrev pub accepted_by : Story → Asked → Option Said
+abbrev pub accepted_by : EngineModel → Asked → Option Said
 accepted_by s NotAsked = None
 accepted_by s Failed = None
 accepted_by s NoneCame = None
@@ -91,9 +93,10 @@ pub record Read : Type 0 where
   pub given : Given
 
 -- what each read gave is taken before the next
-abbrev pub Reads : Story → List Read → Story → Type 0
+abbrev pub Reads : EngineModel → List Read → EngineModel → Type 0
 Reads s [] t = t ≡ s
-Reads s (r ∷ rs) t = (after : Story) × TakesIf s (said_by r.end r.given) after × Reads after rs t × IsPiece r.given
+Reads s (r ∷ rs) t =
+    (after : EngineModel) × TakesIf s (said_by r.end r.given) after × Reads after rs t × IsPiece r.given
 
 abbrev pub ends_of : List Read → List End
 ends_of reads = map (λ (r : Read). r.end) reads
@@ -134,19 +137,20 @@ FailsAs (effects.Forward l address bytes) kind = (kind ≡ kinds.Refused) ⊎ (k
 FailsAs (effects.Drop l) kind = kind ≡ kinds.Closed
 
 -- No call is made on an end on which one has failed before. A loss is taken at once.
-abbrev pub CarriesOne : Story → List End → Effect → Fate → Story → List End → Type 0
+abbrev pub CarriesOne : EngineModel → List End → Effect → Fate → EngineModel → List End → Type 0
 CarriesOne s gone e Carried t more = (is_lost gone (end_of e) ≡ false) × (t ≡ s) × (more ≡ gone)
 CarriesOne s gone e Passed t more = (is_lost gone (end_of e) ≡ true) × (t ≡ s) × (more ≡ gone)
 CarriesOne s gone e (Lost kind) t more =
-    (is_lost gone (end_of e) ≡ false) × FailsAs e kind × TakesIf s (lost (end_of e) kind) t × (more ≡ gone ++ end_of e ∷ [])
+    (is_lost gone (end_of e) ≡ false) × FailsAs e kind × TakesIf s (lost (end_of e) kind) t
+    × (more ≡ gone ++ end_of e ∷ [])
 
 -- effects, one after another
-abbrev pub CarriesOut : Story → List End → List Effect → List Fate → Story → List End → Type 0
+abbrev pub CarriesOut : EngineModel → List End → List Effect → List Fate → EngineModel → List End → Type 0
 CarriesOut s gone [] [] t more = (t ≡ s) × (more ≡ gone)
 CarriesOut s gone [] (f ∷ fs) t more = ⊥
 CarriesOut s gone (e ∷ es) [] t more = ⊥
 CarriesOut s gone (e ∷ es) (f ∷ fs) t more =
-    (after : Story) × (then : List End) × CarriesOne s gone e f after then × CarriesOut after then es fs t more
+    (after : EngineModel) × (then : List End) × CarriesOne s gone e f after then × CarriesOut after then es fs t more
 
 -- ---- acts
 
@@ -157,16 +161,17 @@ pub record Round : Type 0 where
   pub fates : List Fate
 
 -- each act is the first that was due, and its effects are carried out before the next
-abbrev pub Works : ℕ → Story → List End → List Round → Story → List End → Type 0
+abbrev pub Works : ℕ → EngineModel → List End → List Round → EngineModel → List End → Type 0
 Works now s gone [] t more = (t ≡ s) × (more ≡ gone)
 Works now s gone (r ∷ rs) t more =
-    (done : Story) × (after : Story) × (then : List End)
-    × IsDueFirst s (Some r.act) × Does s now r.act r.told done × CarriesOut done gone r.told r.fates after then × Works now after then rs t more
+    (done : EngineModel) × (after : EngineModel) × (then : List End)
+    × IsDueFirst s (Some r.act) × Does s now r.act r.told done × CarriesOut done gone r.told r.fates after then
+    × Works now after then rs t more
 
 -- ---- calls
 
 -- for a connection of the next number
-abbrev pub calls_asked : Story → Asked → List Call
+abbrev pub calls_asked : EngineModel → Asked → List Call
 calls_asked s NotAsked = []
 calls_asked s Failed = call.Accept (length s.connections + 1) call.Failed ∷ []
 calls_asked s NoneCame = call.Accept (length s.connections + 1) call.NoneCame ∷ []
@@ -180,14 +185,16 @@ abbrev pub calls_failed : ℕ → List ℕ → List ℕ → FailKind → List Ca
 calls_failed l address bytes kinds.Refused = call.Connect l address false ∷ []
 calls_failed l address bytes other = call.Connect l address true ∷ call.Write (ends.Link l) bytes false ∷ []
 
--- An effect's calls, once and with its bytes whole. Of one that was lost the last call failed; for one that was passed over none is made.
+-- An effect's calls, once and with its bytes whole. Of one that was lost the last call failed; for one that was passed
+-- over none is made.
 abbrev pub calls_carried : Effect → Fate → List Call
 calls_carried effect Passed = []
 calls_carried (effects.Client n bytes) Carried = call.Write (ends.Client n) bytes true ∷ []
 calls_carried (effects.Client n bytes) (Lost kind) = call.Write (ends.Client n) bytes false ∷ []
 calls_carried (effects.Close n) Carried = call.Shut (ends.Client n) true ∷ []
 calls_carried (effects.Close n) (Lost kind) = call.Shut (ends.Client n) false ∷ []
-calls_carried (effects.Forward l address bytes) Carried = call.Connect l address true ∷ call.Write (ends.Link l) bytes true ∷ []
+calls_carried (effects.Forward l address bytes) Carried =
+    call.Connect l address true ∷ call.Write (ends.Link l) bytes true ∷ []
 calls_carried (effects.Forward l address bytes) (Lost kind) = calls_failed l address bytes kind
 calls_carried (effects.Drop l) Carried = call.Shut (ends.Link l) true ∷ []
 calls_carried (effects.Drop l) (Lost kind) = call.Shut (ends.Link l) false ∷ []
@@ -202,7 +209,7 @@ calls_worked [] = []
 calls_worked (r ∷ rs) = calls_told r.told r.fates ++ calls_worked rs
 
 -- all of a turn, in order
-abbrev pub calls_of : Story → Asked → List Read → List Round → List Call
+abbrev pub calls_of : EngineModel → Asked → List Read → List Round → List Call
 calls_of s asked reads rounds = calls_asked s asked ++ (calls_read reads ++ calls_worked rounds)
 
 -- ---- counts
@@ -245,9 +252,10 @@ failed_rounds rounds = sum_by (λ (r : Round). failed_fates r.fates) rounds
 -- ---- a turn
 
 -- As far as it came: accept, one read of each end from which bytes may come, in order, but for the rest, and then acts.
-pub record IsTurn (now : ℕ) (s : Story) (asked : Asked) (reads : List Read) (rest : List End) (rounds : List Round) (t : Story) : Type 0 where
-  pub begun : Story
-  pub read : Story
+pub record IsTurn (now : ℕ) (s : EngineModel) (asked : Asked) (reads : List Read) (rest : List End)
+    (rounds : List Round) (t : EngineModel) : Type 0 where
+  pub begun : EngineModel
+  pub read : EngineModel
   pub gone : List End
   pub only : was_asked asked ≡ true → asks s ≡ true
   pub accepts : TakesIf s (accepted_by s asked) begun
@@ -258,7 +266,8 @@ pub record IsTurn (now : ℕ) (s : Story) (asked : Asked) (reads : List Read) (r
   pub behind : rest ≡ [] ⊎ rounds ≡ []
 
 -- nothing was left out, and this was counted
-pub record IsWhole (s : Story) (asked : Asked) (reads : List Read) (rest : List End) (rounds : List Round) (t : Story) (report : Report) : Type 0 where
+pub record IsWhole (s : EngineModel) (asked : Asked) (reads : List Read) (rest : List End) (rounds : List Round)
+    (t : EngineModel) (report : Report) : Type 0 where
   pub asked_is : was_asked asked ≡ asks s
   pub unbroken : asked_failures asked ≡ 0
   pub rest_is : rest ≡ []
@@ -269,25 +278,30 @@ pub record IsWhole (s : Story) (asked : Asked) (reads : List Read) (rest : List 
   pub faults : report.faults ≡ failed_reads reads + failed_rounds rounds
 
 -- what a turn answers
-abbrev pub Tells : Story → Asked → List Read → List End → List Round → Story → Result Report TurnFault → Type 0
+abbrev pub Tells : EngineModel → Asked → List Read → List End → List Round → EngineModel → Result Report TurnFault
+    → Type 0
 Tells s asked reads rest rounds t (Ok report) = IsWhole s asked reads rest rounds t report
 Tells s asked reads rest rounds t (Err faults.Listener) = (asked ≡ Failed) × (reads ≡ []) × (rounds ≡ [])
 Tells s asked reads rest rounds t (Err faults.NoMemory) = asked_failures asked ≡ 0
-Tells s asked reads rest rounds t (Err faults.Spent) = (asked_failures asked ≡ 0) × (was_asked asked ≡ asks s) × (rest ≡ []) × EngineFailed t engine.Spent
+Tells s asked reads rest rounds t (Err faults.Spent) =
+    (asked_failures asked ≡ 0) × (was_asked asked ≡ asks s) × (rest ≡ []) × EngineFailed t engine.Spent
 
 -- a turn of an engine, with how the counts of calls rose
-pub record Turns (now : ℕ) (s : Story) (e : State) (before after : Calls) (result : Result Report TurnFault) : Type 0 where
+pub record Turns (now : ℕ) (s : EngineModel) (e : State) (before after : Calls)
+    (result : Result Report TurnFault) : Type 0 where
   pub asked : Asked
   pub reads : List Read
   pub rest : List End
   pub rounds : List Round
-  pub last : Story
+  pub last : EngineModel
   pub turn : IsTurn now s asked reads rest rounds last
-  pub stands : Stands e last
+  pub stands : Represents e last
   pub tells : Tells s asked reads rest rounds last result
-  pub raises : Raises before after (asked_calls asked) (length reads) (asked_failures asked + (failed_reads reads + failed_rounds rounds))
+  pub raises : Raises before after (asked_calls asked) (length reads)
+      (asked_failures asked + (failed_reads reads + failed_rounds rounds))
 
 -- A turn of an engine, and its calls: `did` says that just these were made on the sockets.
-pub record TurnsAndCalls (now : ℕ) (s : Story) (e : State) (did : List Call → Type 0) (before after : Calls) (result : Result Report TurnFault) : Type 0 where
+pub record TurnsAndCalls (now : ℕ) (s : EngineModel) (e : State) (did : List Call → Type 0) (before after : Calls)
+    (result : Result Report TurnFault) : Type 0 where
   pub turns : Turns now s e before after result
   pub calls : did (calls_of s turns.asked turns.reads turns.rounds)

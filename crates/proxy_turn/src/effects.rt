@@ -1,11 +1,12 @@
 //! The socket calls of an act's effects. No call is made on an end on which one has failed.
 
-ghost use Rattle.std.specs.Prelude.{◌≡◌, ◌<◌, ◌≤◌, ◌+◌, ◌⊎◌, length, map, option_map, IfOk, IfErr, OnOk, OnErr, vec_len, vec_capacity};
+ghost use Rattle.std.specs.Prelude.{◌≡◌, ◌<◌, ◌≤◌, ◌+◌, ◌⊎◌, length, map, option_map, IfOk, IfErr, OnOk, OnErr};
+ghost use Rattle.std.specs.Prelude.{vec_len, vec_capacity};
 ghost use Rattle.hx_status.specs.declared.cause.FailKind.TheVariants.{Refused, Closed};
 ghost use Rattle.proxy_script.specs.declared.effect_list.Effect.TheVariants.{Forward};
 ghost use Rattle.proxy_engine.specs.Happenings.{said};
-ghost use Rattle.proxy_engine.specs.Story.{Story};
-ghost use Rattle.proxy_engine.specs.State.{Stands};
+ghost use Rattle.proxy_engine.specs.EngineModel.{EngineModel};
+ghost use Rattle.proxy_engine.specs.State.{Represents};
 ghost use Rattle.proxy_turn.specs.Counts.{IsRise, calls, failed};
 ghost use Rattle.proxy_turn.specs.Turn.{end_of, is_lost, FailsAs, calls_carried};
 ghost use Rattle.proxy_turn.specs.Parts.{TookIf, IsFree, FindsIf, IsThere, AreThere, fate_of, CarriedOne, CarriedOut};
@@ -25,8 +26,10 @@ pub(crate) fn take<S: Shelf>(
     alloc: Global,
     happening: Option<Happening<'_>>,
 ) -> Result<(), TurnFault>
-    ensures ok { OnOk result ((s : Story) → Stands engine.old s → TookIf s (option_map said happening.entry) engine.new) }
-    ensures never { OnErr result ((s : Story) → Stands engine.old s → IsFree s (option_map said happening.entry) → FindsIf engine.old (option_map said happening.entry) → ⊥) }
+    ensures ok { OnOk result ((s : EngineModel) → Represents engine.old s
+        → TookIf s (option_map said happening.entry) engine.new) }
+    ensures never { OnErr result ((s : EngineModel) → Represents engine.old s
+        → IsFree s (option_map said happening.entry) → FindsIf engine.old (option_map said happening.entry) → ⊥) }
 {
     if let Some(happening) = happening {
         engine.take(alloc, happening)?;
@@ -97,8 +100,8 @@ fn call<K: Sockets>(sockets: &mut K, effect: &Effect) -> Result<(), FailKind>
     }
 }
 
-/// Carries out an effect, unless a call on its end has failed; answers how many calls failed. Where there is room for one more
-/// end in `failed`, it takes no memory.
+/// Carries out an effect, unless a call on its end has failed; answers how many calls failed. Where there is room for
+/// one more end in `failed`, it takes no memory.
 fn carry_out_one<S: Shelf, K: Sockets>(
     engine: &mut Engine<S>,
     sockets: &mut K,
@@ -106,8 +109,13 @@ fn carry_out_one<S: Shelf, K: Sockets>(
     effect: &Effect,
     failed: &mut Vec<End>,
 ) -> Result<u64, TurnFault>
-    ensures ok { IfOk result (λ count. (s : Story) → Stands engine.old s → IsThere s (end_of effect.now) → CarriedOne s failed.old.items effect.now engine.new failed.new.items (λ made. K.Did sockets.old made sockets.new) (calls (K.accepts sockets.old) (K.reads sockets.old) (K.failures sockets.old)) (calls (K.accepts sockets.new) (K.reads sockets.new) (K.failures sockets.new)) count) }
-    ensures never { OnErr result (vec_len failed.old < vec_capacity failed.old → (s : Story) → Stands engine.old s → IsThere s (end_of effect.now) → ⊥) }
+    ensures ok { IfOk result (λ count. (s : EngineModel) → Represents engine.old s → IsThere s (end_of effect.now)
+        → CarriedOne s failed.old.items effect.now engine.new failed.new.items
+        (λ made. K.Did sockets.old made sockets.new)
+        (calls (K.accepts sockets.old) (K.reads sockets.old) (K.failures sockets.old))
+        (calls (K.accepts sockets.new) (K.reads sockets.new) (K.failures sockets.new)) count) }
+    ensures never { OnErr result (vec_len failed.old < vec_capacity failed.old → (s : EngineModel)
+        → Represents engine.old s → IsThere s (end_of effect.now) → ⊥) }
     ensures room { vec_capacity failed.old ≤ vec_capacity failed.new }
     ensures one { vec_len failed.new ≤ vec_len failed.old + 1 }
     ensures few { IfOk result (λ count. count ≤ 1) }
@@ -126,8 +134,8 @@ fn carry_out_one<S: Shelf, K: Sockets>(
     }
 }
 
-/// Carries out the effects of an act, in order; answers how many calls failed. Where there is room in `failed` for their
-/// ends, it takes no memory.
+/// Carries out the effects of an act, in order; answers how many calls failed. Where there is room in `failed` for
+/// their ends, it takes no memory.
 pub(crate) fn carry_out<S: Shelf, K: Sockets>(
     engine: &mut Engine<S>,
     sockets: &mut K,
@@ -135,8 +143,13 @@ pub(crate) fn carry_out<S: Shelf, K: Sockets>(
     effects: &[Effect],
     failed: &mut Vec<End>,
 ) -> Result<u64, TurnFault>
-    ensures ok { IfOk result (λ count. (s : Story) → Stands engine.old s → AreThere s (map end_of effects.now) → CarriedOut s failed.old.items effects.now engine.new failed.new.items (λ made. K.Did sockets.old made sockets.new) (calls (K.accepts sockets.old) (K.reads sockets.old) (K.failures sockets.old)) (calls (K.accepts sockets.new) (K.reads sockets.new) (K.failures sockets.new)) count) }
-    ensures never { OnErr result (vec_len failed.old + length effects.now ≤ vec_capacity failed.old → (s : Story) → Stands engine.old s → AreThere s (map end_of effects.now) → ⊥) }
+    ensures ok { IfOk result (λ count. (s : EngineModel) → Represents engine.old s → AreThere s (map end_of effects.now)
+        → CarriedOut s failed.old.items effects.now engine.new failed.new.items
+        (λ made. K.Did sockets.old made sockets.new)
+        (calls (K.accepts sockets.old) (K.reads sockets.old) (K.failures sockets.old))
+        (calls (K.accepts sockets.new) (K.reads sockets.new) (K.failures sockets.new)) count) }
+    ensures never { OnErr result (vec_len failed.old + length effects.now ≤ vec_capacity failed.old → (s : EngineModel)
+        → Represents engine.old s → AreThere s (map end_of effects.now) → ⊥) }
     ensures few { IfOk result (λ count. count ≤ length effects.now) }
 {
     what_ends_stays_ended();

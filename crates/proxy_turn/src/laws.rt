@@ -1,12 +1,15 @@
 //! Laws on the definitions that the contracts cite.
 ghost use Rattle.proxy_turn.specs.TurnSteps.{TurnsAreLived, TurnsTellTheirEffects};
-ghost use Rattle.proxy_turn.specs.Served.{NothingIsLost, OneIsLost, MoreAreLost, LossesGoOn, TurnsAreServed, BeginsLived, StaysOn, GoesOnAndOn, TakesGoOn, TurnsGoOn, LivedGoesOn, LivedAreServing, TurnsLiveOn, LivesAreServing, KeepsItsTable};
+ghost use Rattle.proxy_turn.specs.Served.{NothingIsLost, OneIsLost, MoreAreLost, LossesGoOn, TurnsAreServed};
+ghost use Rattle.proxy_turn.specs.Served.{BeginsLived, StaysOn, GoesOnAndOn, TakesGoOn, TurnsGoOn, LivedGoesOn};
+ghost use Rattle.proxy_turn.specs.Served.{LivedAreServing, TurnsLiveOn, LivesAreServing, KeepsItsTable};
 
 use proxy_engine::{effects_name_open_ends, lives_are_runs};
 
-/// A turn is lived by its own steps, behind whatever was lived before it: it takes the connection that came and what its reads
-/// gave, does its acts at its moment, and takes the ends on which a call failed. The effects of these steps are those that it
-/// carried out. So what `proxy_engine::lives_are_runs` says of whatever an engine lives through, it says of turns over sockets.
+/// A turn is lived by its own steps, behind whatever was lived before it: it takes the connection that came and what
+/// its reads gave, does its acts at its moment, and takes the ends on which a call failed. The effects of these steps
+/// are those that it carried out. So what `proxy_engine::lives_are_runs` says of whatever an engine lives through, it
+/// says of turns over sockets.
 pub fn turns_are_lived()
     ensures lived { TurnsAreLived }
     ensures tells { TurnsTellTheirEffects }
@@ -23,10 +26,11 @@ pub fn a_turn_is_served_behind_losses()
     effects_name_open_ends();
 }
 
-/// Whatever happens to an engine, and whatever its sockets do in its turns: what it has lived through goes on, and the steps of
-/// its core are a good run, by its table and with the headline, of the requests that its clients' bytes spell.
+/// Whatever happens to an engine, and whatever its sockets do in its turns: what it has lived through goes on, and the
+/// steps of its core are a good run, by its table and with the headline, of the requests that its clients' bytes spell.
 ///
-/// Its steps behind a turn of a server are those of the turn, behind those before it. Its table and the room of its store stay.
+/// Its steps behind a turn of a server are those of the turn, behind those before it. Its table and the room of its
+/// store stay.
 pub fn engines_live_on()
     ensures begins { BeginsLived }
     ensures stays { StaysOn }

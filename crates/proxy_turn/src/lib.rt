@@ -1,7 +1,8 @@
 //! Turns of a proxy over sockets: a connection is accepted, each end is read from once, and what is then due is done.
 //!
-//! `Sockets` are the calls that a turn makes, each of which may fail; contracts see each with its bytes and what came of it
-//! (`specs/Calls.antt`), and how many failed (`specs/Counts.antt`). Nothing here opens a socket, waits or reads a clock.
+//! `Sockets` are the calls that a turn makes, each of which may fail; contracts see each with its bytes and what came
+//! of it (`specs/Calls.antt`), and how many failed (`specs/Counts.antt`). Nothing here opens a socket, waits or reads a
+//! clock.
 #![tactic(auto)]
 
 mod effects;

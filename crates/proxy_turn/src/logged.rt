@@ -1,8 +1,8 @@
 //! Sockets that keep a log of the calls made on them: what contracts say of calls, seen at run time.
 ghost use Rattle.std.specs.Prelude.{◌≡◌, ◌<◌, [], ◌∷◌, ◌++◌, map, false};
 ghost use Rattle.hx_fields.specs.declared.limits.TheConstants.{END_OF_TIME};
-ghost use Rattle.proxy_engine.specs.Story.{Story};
-ghost use Rattle.proxy_engine.specs.State.{Stands};
+ghost use Rattle.proxy_engine.specs.EngineModel.{EngineModel};
+ghost use Rattle.proxy_engine.specs.State.{Represents};
 ghost use Rattle.proxy_engine.specs.Orderly.{IsOrderly};
 ghost use Rattle.proxy_turn.specs.Calls as call;
 ghost use Rattle.proxy_turn.specs.Calls.{given_of};
@@ -84,7 +84,8 @@ impl<K: Sockets + Drop> Logged<K> {
 
     fn keep_read(&mut self, end: End, received: &Result<Received, SocketFailed>, buf: &[u8])
         ensures sockets { self.new.sockets ≡ self.old.sockets }
-        ensures kept { Grew self.old.lost self.old.calls.items self.new.lost self.new.calls.items (call.Read end (given_of received.now buf.now) ∷ []) }
+        ensures kept { Grew self.old.lost self.old.calls.items self.new.lost self.new.calls.items
+            (call.Read end (given_of received.now buf.now) ∷ []) }
     {
         let gave = match received {
             Ok(Received::Nothing) => Gave::Nothing,
@@ -106,7 +107,8 @@ impl<K: Sockets + Drop> Logged<K> {
 
     fn keep_write(&mut self, end: End, bytes: &[u8], done: bool)
         ensures sockets { self.new.sockets ≡ self.old.sockets }
-        ensures kept { Grew self.old.lost self.old.calls.items self.new.lost self.new.calls.items (call.Write end bytes.now done ∷ []) }
+        ensures kept { Grew self.old.lost self.old.calls.items self.new.lost self.new.calls.items
+            (call.Write end bytes.now done ∷ []) }
     {
         match Bytes::copy_of(self.alloc, bytes) {
             Ok(bytes) => self.keep(LoggedCall::Write(end, bytes, done)),
@@ -116,7 +118,8 @@ impl<K: Sockets + Drop> Logged<K> {
 
     fn keep_connect(&mut self, link: u64, address: &[u8], done: bool)
         ensures sockets { self.new.sockets ≡ self.old.sockets }
-        ensures kept { Grew self.old.lost self.old.calls.items self.new.lost self.new.calls.items (call.Connect link address.now done ∷ []) }
+        ensures kept { Grew self.old.lost self.old.calls.items self.new.lost self.new.calls.items
+            (call.Connect link address.now done ∷ []) }
     {
         match Bytes::copy_of(self.alloc, address) {
             Ok(address) => self.keep(LoggedCall::Connect(link, address, done)),
@@ -136,7 +139,8 @@ impl<K: Sockets + Drop> Sockets for Logged<K> {
 
     ghost none = { λ s. grew_none s.lost s.calls.items };
 
-    ghost joined = { λ s t u a b first then. grew_joined s.lost s.calls.items t.lost t.calls.items u.lost u.calls.items a b first then };
+    ghost joined = { λ s t u a b first then.
+        grew_joined s.lost s.calls.items t.lost t.calls.items u.lost u.calls.items a b first then };
 
     fn accept(&mut self, n: u64) -> Result<bool, SocketFailed> {
         let came = self.sockets.accept(n);
@@ -177,7 +181,11 @@ pub fn turn_with_log<S: Shelf, K: Sockets + Drop>(
     now: u64,
 ) -> Result<Report, TurnFault>
     requires { now < END_OF_TIME }
-    ensures { (s : Story) → Stands engine.old s → IsOrderly s → TurnsAndCalls now s engine.new (λ made. Grew sockets.old.lost sockets.old.calls.items sockets.new.lost sockets.new.calls.items made) (calls (K.accepts sockets.old.sockets) (K.reads sockets.old.sockets) (K.failures sockets.old.sockets)) (calls (K.accepts sockets.new.sockets) (K.reads sockets.new.sockets) (K.failures sockets.new.sockets)) result }
+    ensures { (s : EngineModel) → Represents engine.old s → IsOrderly s
+        → TurnsAndCalls now s engine.new
+        (λ made. Grew sockets.old.lost sockets.old.calls.items sockets.new.lost sockets.new.calls.items made)
+        (calls (K.accepts sockets.old.sockets) (K.reads sockets.old.sockets) (K.failures sockets.old.sockets))
+        (calls (K.accepts sockets.new.sockets) (K.reads sockets.new.sockets) (K.failures sockets.new.sockets)) result }
 {
     turn(engine, sockets, alloc, now)
 }

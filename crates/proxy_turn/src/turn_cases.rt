@@ -1,5 +1,5 @@
-//! What is called for effects, what reads and failed calls are taken as, in which order steps stand, and what a turn refuses: each
-//! function's contract is the cases, and its body is empty.
+//! What is called for effects, what reads and failed calls are taken as, in which order steps stand, and what a turn
+//! refuses: each function's contract is the cases, and its body is empty.
 
 ghost use Rattle.std.specs.Prelude.{◌≡◌, ◌∷◌, [], Some, None, true, false, codes};
 ghost use Rattle.hx_status.specs.declared.cause.FailKind.TheVariants as kinds;
@@ -7,27 +7,36 @@ ghost use Rattle.proxy_script.specs.declared.effect_list.Effect.TheVariants as e
 ghost use Rattle.proxy_engine.specs.Happenings.{Accepts, Sends, Hears, Ends, Leaves, Shuts, Fails};
 ghost use Rattle.proxy_engine.specs.Due.{Wakes};
 ghost use Rattle.proxy_engine.specs.Lives.{Took, Worked};
-ghost use Rattle.proxy_engine.specs.declared.happening.End.TheVariants as ends;
+ghost use Rattle.proxy_engine.specs.declared.work.End.TheVariants as ends;
 ghost use Rattle.proxy_turn.specs.Calls as call;
 ghost use Rattle.proxy_turn.specs.Calls.{Nothing, Ended, Broken, Bytes};
 ghost use Rattle.proxy_turn.specs.Turn.{Carried, Passed, Lost, calls_carried, calls_told, is_lost, lost, said_by};
 ghost use Rattle.proxy_turn.specs.TurnSteps.{loss_steps, read_steps, round_steps};
 ghost use Rattle.proxy_turn.specs.Served.{IsLoss, take_steps};
-ghost use Rattle.proxy_turn.specs.TurnCases.{NoMoreThanAThousand, NotAskedInVain, NoOtherEndIsRead, NoActBeforeTheReads, NoLargerPiece, NothingIsLeftOut, NothingIsInvented, TheListenerFailed, NoCallOnALostEnd, NoneIsPassedOver, NoClientRefuses};
+ghost use Rattle.proxy_turn.specs.TurnCases.{NoMoreThanAThousand, NotAskedInVain, NoOtherEndIsRead};
+ghost use Rattle.proxy_turn.specs.TurnCases.{NoActBeforeTheReads, NoLargerPiece, NothingIsLeftOut, NothingIsInvented};
+ghost use Rattle.proxy_turn.specs.TurnCases.{TheListenerFailed, NoCallOnALostEnd, NoneIsPassedOver, NoClientRefuses};
 
-/// The calls of an effect: its bytes go to its end, whole and once, and behind a failed call none is made. Of a forward that failed as
-/// refused the connect failed, of any other the write.
+/// The calls of an effect: its bytes go to its end, whole and once, and behind a failed call none is made. Of a forward
+/// that failed as refused the connect failed, of any other the write.
 pub fn what_is_called()
-    ensures reply { calls_carried (effects.Client 1 (codes "x")) Carried ≡ call.Write (ends.Client 1) (codes "x") true ∷ [] }
-    ensures failed_reply { calls_carried (effects.Client 1 (codes "x")) (Lost kinds.Closed) ≡ call.Write (ends.Client 1) (codes "x") false ∷ [] }
+    ensures reply { calls_carried (effects.Client 1 (codes "x")) Carried ≡ call.Write (ends.Client 1) (codes "x") true
+        ∷ [] }
+    ensures failed_reply { calls_carried (effects.Client 1 (codes "x")) (Lost kinds.Closed)
+        ≡ call.Write (ends.Client 1) (codes "x") false ∷ [] }
     ensures close { calls_carried (effects.Close 1) Carried ≡ call.Shut (ends.Client 1) true ∷ [] }
-    ensures forward { calls_carried (effects.Forward 5 (codes "o") (codes "x")) Carried ≡ call.Connect 5 (codes "o") true ∷ call.Write (ends.Link 5) (codes "x") true ∷ [] }
-    ensures refused { calls_carried (effects.Forward 5 (codes "o") (codes "x")) (Lost kinds.Refused) ≡ call.Connect 5 (codes "o") false ∷ [] }
-    ensures cut { calls_carried (effects.Forward 5 (codes "o") (codes "x")) (Lost kinds.Closed) ≡ call.Connect 5 (codes "o") true ∷ call.Write (ends.Link 5) (codes "x") false ∷ [] }
+    ensures forward { calls_carried (effects.Forward 5 (codes "o") (codes "x")) Carried
+        ≡ call.Connect 5 (codes "o") true ∷ call.Write (ends.Link 5) (codes "x") true ∷ [] }
+    ensures refused { calls_carried (effects.Forward 5 (codes "o") (codes "x")) (Lost kinds.Refused)
+        ≡ call.Connect 5 (codes "o") false ∷ [] }
+    ensures cut { calls_carried (effects.Forward 5 (codes "o") (codes "x")) (Lost kinds.Closed)
+        ≡ call.Connect 5 (codes "o") true ∷ call.Write (ends.Link 5) (codes "x") false ∷ [] }
     ensures drop { calls_carried (effects.Drop 5) Carried ≡ call.Shut (ends.Link 5) true ∷ [] }
     ensures passed { calls_carried (effects.Client 1 (codes "x")) Passed ≡ [] }
-    ensures in_order { calls_told (effects.Client 1 (codes "x") ∷ effects.Close 1 ∷ []) (Carried ∷ Carried ∷ []) ≡ call.Write (ends.Client 1) (codes "x") true ∷ call.Shut (ends.Client 1) true ∷ [] }
-    ensures none_behind { calls_told (effects.Client 1 (codes "x") ∷ effects.Close 1 ∷ []) (Lost kinds.Closed ∷ Passed ∷ []) ≡ call.Write (ends.Client 1) (codes "x") false ∷ [] }
+    ensures in_order { calls_told (effects.Client 1 (codes "x") ∷ effects.Close 1 ∷ []) (Carried ∷ Carried ∷ [])
+        ≡ call.Write (ends.Client 1) (codes "x") true ∷ call.Shut (ends.Client 1) true ∷ [] }
+    ensures none_behind { calls_told (effects.Client 1 (codes "x") ∷ effects.Close 1 ∷ [])
+        (Lost kinds.Closed ∷ Passed ∷ []) ≡ call.Write (ends.Client 1) (codes "x") false ∷ [] }
     ensures one_is_lost { is_lost (ends.Client 1 ∷ []) (ends.Client 1) ≡ true }
     ensures another_is_not { is_lost (ends.Client 1 ∷ []) (ends.Client 2) ≡ false }
     ensures a_link_is_no_client { is_lost (ends.Client 1 ∷ []) (ends.Link 1) ≡ false }
@@ -46,20 +55,26 @@ pub fn what_reads_are_taken_as()
     ensures left { lost (ends.Client 1) kinds.Closed ≡ Some (Leaves 1) }
 {}
 
-/// The steps of a turn, the latest first: each read's happening, each act at the moment of the turn, and behind it what its failed calls
-/// lost.
+/// The steps of a turn, the latest first: each read's happening, each act at the moment of the turn, and behind it what
+/// its failed calls lost.
 pub fn in_which_order_steps_stand()
-    ensures reads { read_steps (record { end = ends.Client 1; given = Bytes (codes "x") } ∷ record { end = ends.Client 2; given = Ended } ∷ []) [] ≡ Took (Ends 2) ∷ Took (Sends 1 (codes "x")) ∷ [] }
+    ensures reads { read_steps (record { end = ends.Client 1; given = Bytes (codes "x") }
+        ∷ record { end = ends.Client 2; given = Ended } ∷ []) [] ≡ Took (Ends 2) ∷ Took (Sends 1 (codes "x")) ∷ [] }
     ensures nothing_read { read_steps (record { end = ends.Client 1; given = Nothing } ∷ []) [] ≡ [] }
-    ensures acts { round_steps 9 (record { act = Wakes 0; told = effects.Close 1 ∷ []; fates = Carried ∷ [] } ∷ record { act = Wakes 1; told = []; fates = [] } ∷ []) [] ≡ Worked 9 (Wakes 1) [] ∷ Worked 9 (Wakes 0) (effects.Close 1 ∷ []) ∷ [] }
-    ensures losses { round_steps 9 (record { act = Wakes 0; told = effects.Close 1 ∷ []; fates = Lost kinds.Closed ∷ [] } ∷ []) [] ≡ Took (Leaves 1) ∷ Worked 9 (Wakes 0) (effects.Close 1 ∷ []) ∷ [] }
+    ensures acts { round_steps 9 (record { act = Wakes 0; told = effects.Close 1 ∷ []; fates = Carried ∷ [] }
+        ∷ record { act = Wakes 1; told = []; fates = [] } ∷ []) [] ≡ Worked 9 (Wakes 1) []
+        ∷ Worked 9 (Wakes 0) (effects.Close 1 ∷ []) ∷ [] }
+    ensures losses { round_steps 9
+        (record { act = Wakes 0; told = effects.Close 1 ∷ []; fates = Lost kinds.Closed ∷ [] } ∷ []) []
+        ≡ Took (Leaves 1) ∷ Worked 9 (Wakes 0) (effects.Close 1 ∷ []) ∷ [] }
     ensures passed { loss_steps (effects.Close 1 ∷ []) (Passed ∷ []) [] ≡ [] }
     ensures taken { take_steps (Leaves 1 ∷ Leaves 2 ∷ []) [] ≡ Took (Leaves 2) ∷ Took (Leaves 1) ∷ [] }
 {}
 
-/// No turn does more than a thousand acts, asks the listener in vain, reads another end, takes a piece that is too large, acts before it
-/// has read, leaves out an end and says nothing of it, or counts what wasn't done. No call is made on an end that is lost, no effect is
-/// passed over to one that isn't, and between turns nothing is taken but losses.
+/// No turn does more than a thousand acts, asks the listener in vain, reads another end, takes a piece that is too
+/// large, acts before it has read, leaves out an end and says nothing of it, or counts what wasn't done. No call is
+/// made on an end that is lost, no effect is passed over to one that isn't, and between turns nothing is taken but
+/// losses.
 pub fn a_turn_refuses_what_is_not_done()
     ensures acts { NoMoreThanAThousand }
     ensures listener { NotAskedInVain }

@@ -1,9 +1,9 @@
-//! A turn, in three parts: a connection is accepted, each end from which bytes may come is read once, and what is then due
-//! is done.
+//! A turn, in three parts: a connection is accepted, each end from which bytes may come is read once, and what is then
+//! due is done.
 ghost use Rattle.std.specs.Prelude.{◌<◌, ◌≤◌, ◌≡◌, ◌^◌, length, IfOk, IfErr};
 ghost use Rattle.hx_fields.specs.declared.limits.TheConstants.{END_OF_TIME};
-ghost use Rattle.proxy_engine.specs.Story.{Story};
-ghost use Rattle.proxy_engine.specs.State.{Stands};
+ghost use Rattle.proxy_engine.specs.EngineModel.{EngineModel};
+ghost use Rattle.proxy_engine.specs.State.{Represents};
 ghost use Rattle.proxy_engine.specs.Orderly.{IsOrderly};
 ghost use Rattle.proxy_turn.specs.Counts.{calls};
 ghost use Rattle.proxy_turn.specs.Turn.{TurnsAndCalls};
@@ -28,7 +28,10 @@ fn accept<S: Shelf, K: Sockets>(
     sockets: &mut K,
     alloc: Global,
 ) -> Result<u64, TurnFault>
-    ensures { (s : Story) → Stands engine.old s → Asks s engine.new (λ made. K.Did sockets.old made sockets.new) (calls (K.accepts sockets.old) (K.reads sockets.old) (K.failures sockets.old)) (calls (K.accepts sockets.new) (K.reads sockets.new) (K.failures sockets.new)) result }
+    ensures { (s : EngineModel) → Represents engine.old s
+        → Asks s engine.new (λ made. K.Did sockets.old made sockets.new)
+        (calls (K.accepts sockets.old) (K.reads sockets.old) (K.failures sockets.old))
+        (calls (K.accepts sockets.new) (K.reads sockets.new) (K.failures sockets.new)) result }
 {
     if !engine.has_fewer_connections(MOST_OPEN) {
         return Ok(0);
@@ -47,8 +50,8 @@ fn accept<S: Shelf, K: Sockets>(
     }
 }
 
-/// Reads once from an end, and takes what it gave; answers how many calls failed. Its memory is found before the read, so
-/// nothing that was read is lost.
+/// Reads once from an end, and takes what it gave; answers how many calls failed. Its memory is found before the read,
+/// so nothing that was read is lost.
 fn read_one<S: Shelf, K: Sockets>(
     engine: &mut Engine<S>,
     sockets: &mut K,
@@ -59,8 +62,14 @@ fn read_one<S: Shelf, K: Sockets>(
     requires { length buf.old ≡ 4096 }
     ensures length { length buf.new ≡ length buf.old }
     ensures few { IfOk result (λ count. count ≤ 1) }
-    ensures ok { IfOk result (λ count. (s : Story) → Stands engine.old s → IsThere s end → ReadsOne s end engine.new (λ made. K.Did sockets.old made sockets.new) (calls (K.accepts sockets.old) (K.reads sockets.old) (K.failures sockets.old)) (calls (K.accepts sockets.new) (K.reads sockets.new) (K.failures sockets.new)) count) }
-    ensures err { IfErr result (λ fault. (s : Story) → Stands engine.old s → IsThere s end → ReadsNone s engine.new (λ made. K.Did sockets.old made sockets.new) (calls (K.accepts sockets.old) (K.reads sockets.old) (K.failures sockets.old)) (calls (K.accepts sockets.new) (K.reads sockets.new) (K.failures sockets.new)) fault) }
+    ensures ok { IfOk result (λ count. (s : EngineModel) → Represents engine.old s → IsThere s end
+        → ReadsOne s end engine.new (λ made. K.Did sockets.old made sockets.new)
+        (calls (K.accepts sockets.old) (K.reads sockets.old) (K.failures sockets.old))
+        (calls (K.accepts sockets.new) (K.reads sockets.new) (K.failures sockets.new)) count) }
+    ensures err { IfErr result (λ fault. (s : EngineModel) → Represents engine.old s → IsThere s end
+        → ReadsNone s engine.new (λ made. K.Did sockets.old made sockets.new)
+        (calls (K.accepts sockets.old) (K.reads sockets.old) (K.failures sockets.old))
+        (calls (K.accepts sockets.new) (K.reads sockets.new) (K.failures sockets.new)) fault) }
 {
     engine.reserve(alloc, end)?;
     match sockets.read(end, buf) {
@@ -87,7 +96,10 @@ fn read_all<S: Shelf, K: Sockets>(
     alloc: Global,
 ) -> Result<(u64, u64), TurnFault>
     ensures few { IfOk result (λ counts. counts.1 < 2 ^ 63) }
-    ensures reads { (s : Story) → Stands engine.old s → ReadsAll s engine.new (λ made. K.Did sockets.old made sockets.new) (calls (K.accepts sockets.old) (K.reads sockets.old) (K.failures sockets.old)) (calls (K.accepts sockets.new) (K.reads sockets.new) (K.failures sockets.new)) result }
+    ensures reads { (s : EngineModel) → Represents engine.old s
+        → ReadsAll s engine.new (λ made. K.Did sockets.old made sockets.new)
+        (calls (K.accepts sockets.old) (K.reads sockets.old) (K.failures sockets.old))
+        (calls (K.accepts sockets.new) (K.reads sockets.new) (K.failures sockets.new)) result }
 {
     what_ends_stays_ended();
     let Ok(ends) = engine.readable_ends(alloc) else {
@@ -112,7 +124,10 @@ fn work_all<S: Shelf, K: Sockets>(
     now: u64,
 ) -> Result<(u64, u64), TurnFault>
     requires { now < END_OF_TIME }
-    ensures { (s : Story) → Stands engine.old s → IsOrderly s → WorksAll now s engine.new (λ made. K.Did sockets.old made sockets.new) (calls (K.accepts sockets.old) (K.reads sockets.old) (K.failures sockets.old)) (calls (K.accepts sockets.new) (K.reads sockets.new) (K.failures sockets.new)) result }
+    ensures { (s : EngineModel) → Represents engine.old s → IsOrderly s
+        → WorksAll now s engine.new (λ made. K.Did sockets.old made sockets.new)
+        (calls (K.accepts sockets.old) (K.reads sockets.old) (K.failures sockets.old))
+        (calls (K.accepts sockets.new) (K.reads sockets.new) (K.failures sockets.new)) result }
 {
     effects_name_open_ends();
     what_ends_stays_ended();
@@ -142,11 +157,11 @@ fn work_all<S: Shelf, K: Sockets>(
 
 /// Serves one turn. `now` is in Unix seconds, up to the end of the year 9999.
 ///
-/// A failed call on a client is taken as its going away, a failed `connect` as a refusal by the origin, any other on a link
-/// as its closing. After a fault the engine stands where the whole takes and works of the turn left it.
+/// A failed call on a client is taken as its going away, a failed `connect` as a refusal by the origin, any other on a
+/// link as its closing. After a fault the engine stands where the whole takes and works of the turn left it.
 ///
-/// What each read gave is what the engine takes, and each effect's bytes go to its end, whole, once and in order: the calls
-/// on the sockets are those of the turn (`calls_of`), and no others.
+/// What each read gave is what the engine takes, and each effect's bytes go to its end, whole, once and in order: the
+/// calls on the sockets are those of the turn (`calls_of`), and no others.
 pub fn turn<S: Shelf, K: Sockets>(
     engine: &mut Engine<S>,
     sockets: &mut K,
@@ -154,7 +169,10 @@ pub fn turn<S: Shelf, K: Sockets>(
     now: u64,
 ) -> Result<Report, TurnFault>
     requires { now < END_OF_TIME }
-    ensures { (s : Story) → Stands engine.old s → IsOrderly s → TurnsAndCalls now s engine.new (λ made. K.Did sockets.old made sockets.new) (calls (K.accepts sockets.old) (K.reads sockets.old) (K.failures sockets.old)) (calls (K.accepts sockets.new) (K.reads sockets.new) (K.failures sockets.new)) result }
+    ensures { (s : EngineModel) → Represents engine.old s → IsOrderly s
+        → TurnsAndCalls now s engine.new (λ made. K.Did sockets.old made sockets.new)
+        (calls (K.accepts sockets.old) (K.reads sockets.old) (K.failures sockets.old))
+        (calls (K.accepts sockets.new) (K.reads sockets.new) (K.failures sockets.new)) result }
 {
     effects_name_open_ends();
     let accepted = match accept(engine, sockets, alloc) {

@@ -3,16 +3,17 @@
 //! Its text is read by the grammar of effects, and those of each happening by themselves.
 //! - Links are numbered 1, 2, 3 and so on; each forward is on a new one, to an address of the table, and a link is
 //!   dropped once at most.
-//! - A connection has one request at an origin at most. It is the first that isn't answered yet, and its link is dropped
-//!   before anything goes to the client.
+//! - A connection has one request at an origin at most. It is the first that isn't answered yet, and its link is
+//!   dropped before anything goes to the client.
 //! - Replies come in the order of a connection's requests: what came of an origin has the fields of that very request,
-//!   what came of the store those of an earlier one for its target, whose answer was stored. A reply is a whole message.
+//!   what came of the store those of an earlier one for its target, whose answer was stored. A reply is a whole
+//!   message.
 //! - Nothing goes to a connection that isn't accepted, or is closed, or gone; a client that goes leaves no link.
-//! - A happening has effects on its own connection, or that of its link, and on those that it wakes, alone. A request that has
-//!   come whole gets something at once, or waits; of those that wait `waiting.rt` says more.
+//! - A happening has effects on its own connection, or that of its link, and on those that it wakes, alone. A request
+//!   that has come whole gets something at once, or waits; of those that wait `waiting.rt` says more.
 //! - Behind an unsafe request that went well nothing is sent of what was stored for its target before.
-//! - A request that the table sends past the store goes to the origin of its line, and its answer says so, and is kept for
-//!   nobody. No other request goes there, and no other answer says so.
+//! - A request that the table sends past the store goes to the origin of its line, and its answer says so, and is kept
+//!   for nobody. No other request goes there, and no other answer says so.
 //! - An answer is as the words of its line have it: `words.rt` says how.
 
 use crate::clients::{Client, clients_of, place};
@@ -223,7 +224,8 @@ impl<'a> Check<'a> {
         )
     }
 
-    /// There may be an effect on a connection to which the happening happened, or which it wakes. Gives what it wakes now.
+    /// There may be an effect on a connection to which the happening happened, or which it wakes. Gives what it wakes
+    /// now.
     fn touch(&mut self, number: u64) -> Result<Option<Woken>, Wrong> {
         if let Some(woken) = self.wakes(number)? {
             return Ok(Some(woken));
@@ -648,7 +650,8 @@ impl<'a> Check<'a> {
         }
     }
 
-    /// A stored response is sent to a request that waited: it tells for what, and that is what the one went forward for.
+    /// A stored response is sent to a request that waited: it tells for what, and that is what the one went forward
+    /// for.
     fn ask_woken(
         &mut self,
         number: u64,

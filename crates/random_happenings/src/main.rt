@@ -1,10 +1,10 @@
-//! Plays 10,000 random happenings by a table whose lines all have a cache, 10,000 by one with lines without, and 10,000 by one
-//! whose lines have words on caching, and checks what the proxy does of them.
+//! Plays 10,000 random happenings by a table whose lines all have a cache, 10,000 by one with lines without, and 10,000
+//! by one whose lines have words on caching, and checks what the proxy does of them.
 //!
-//! A `World` of clients and origins makes happenings, the same in each run, one after another: requests and answers, whole,
-//! cut, faulty and too late, failures, ends, and moments that go forward and back. An engine beside it tells which links
-//! there are, so that what comes next can be of use. The script of all is then replayed, and of each effect is checked
-//! what `check.rt` says.
+//! A `World` of clients and origins makes happenings, the same in each run, one after another: requests and answers,
+//! whole, cut, faulty and too late, failures, ends, and moments that go forward and back. An engine beside it tells
+//! which links there are, so that what comes next can be of use. The script of all is then replayed, and of each effect
+//! is checked what `check.rt` says.
 #![tactic(auto)]
 
 mod answers;

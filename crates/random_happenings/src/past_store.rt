@@ -1,5 +1,5 @@
-//! What is checked of requests that the table sends past the store, in its own words: their answers are those of the origin,
-//! told to be the operator's choice, or the proxy's own; no other answer says so.
+//! What is checked of requests that the table sends past the store, in its own words: their answers are those of the
+//! origin, told to be the operator's choice, or the proxy's own; no other answer says so.
 
 use crate::fields::last_value;
 use bstr::ByteSlice;

@@ -112,8 +112,8 @@ pub enum Reason {
     Other,
 }
 
-/// The reason of what was stale, by its detail, unless a later word has taken the place of that. A rule without one leaves room
-/// for why an answer isn't stored.
+/// The reason of what was stale, by its detail, unless a later word has taken the place of that. A rule without one
+/// leaves room for why an answer isn't stored.
 fn reason_by_detail(detail: &[u8]) -> Option<Reason> {
     if detail.starts_with(b"stale-if-error") || detail.starts_with(b"reuse-after-") {
         return None;

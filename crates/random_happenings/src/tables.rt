@@ -1,5 +1,5 @@
-//! The operator's tables of the trials, which requests the second sends past the store, and which lines of the third have
-//! which words.
+//! The operator's tables of the trials, which requests the second sends past the store, and which lines of the third
+//! have which words.
 
 /// The table of a trial.
 #[derive(Clone, Copy, Debug, PartialEq, Eq)]
@@ -49,8 +49,8 @@ path = \"/\"
 origin = \"127.0.0.1:8081\"
 ";
 
-/// The table of the second trial: the same with lines without cache, which have an origin of their own. One stands beside
-/// a line for GET, so that requests over it ask for what is stored; another has all requests for its path.
+/// The table of the second trial: the same with lines without cache, which have an origin of their own. One stands
+/// beside a line for GET, so that requests over it ask for what is stored; another has all requests for its path.
 const PARTLY_WITHOUT: &[u8] = b"version = 2
 name = \"edge\"
 capacity = 4
@@ -91,9 +91,9 @@ path = \"/\"
 origin = \"127.0.0.1:8081\"
 ";
 
-/// The table of the third trial: the line of one host gives a lifetime and a staleness and ignores what requests want, those of the
-/// others store no cookies and no errors and tell why an answer isn't stored. That host's line and the one of /a let requests wait
-/// for what is stale.
+/// The table of the third trial: the line of one host gives a lifetime and a staleness and ignores what requests want,
+/// those of the others store no cookies and no errors and tell why an answer isn't stored. That host's line and the one
+/// of /a let requests wait for what is stale.
 const WITH_WORDS: &[u8] = b"version = 3
 name = \"edge\"
 capacity = 4
@@ -136,7 +136,8 @@ errors = \"not-stored\"
 explain = \"storing\"
 ";
 
-/// Whether the second table sends a request past the store: a HEAD or POST for /a, and what `*` allows for /b of the host i.
+/// Whether the second table sends a request past the store: a HEAD or POST for /a, and what `*` allows for /b of the
+/// host i.
 pub fn is_past_the_store(method: &str, host: &str, path: &str) -> bool {
     match path {
         "/a" => method == "HEAD" || method == "POST",

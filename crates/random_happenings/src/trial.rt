@@ -5,7 +5,7 @@ use crate::counts::Counts;
 use crate::log::Log;
 use crate::tables::Table;
 use crate::world::{Stopped, World};
-use proxy_server::{ReplayFault, replay, replay_on_list};
+use proxy_replay::{ReplayFault, replay, replay_on_list};
 use std::alloc::Global;
 use std::io;
 

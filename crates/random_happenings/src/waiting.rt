@@ -1,20 +1,21 @@
-//! What is checked of requests that wait, in its own words: what is seen of them is that a request has come whole and gets
-//! nothing.
+//! What is checked of requests that wait, in its own words: what is seen of them is that a request has come whole and
+//! gets nothing.
 //!
-//! - It is a GET over a line with a cache, and beside it another GET for its target is at the origin: one of those that were
-//!   there when it came, as long as it waits. Over a line with `wait = "missing-or-stale"` that one has neither no-store nor
-//!   Authorization.
-//! - It gets something when that one has its answer or goes: never before, and then at once, in the order in which those that
-//!   waited came, and before another request is served.
-//! - That one went forward since nothing was held for its target, or, over a line with the word, since what was held had expired;
-//!   and it was the first to come of all that did so for this reason.
+//! - It is a GET over a line with a cache, and beside it another GET for its target is at the origin: one of those that
+//!   were there when it came, as long as it waits. Over a line with `wait = "missing-or-stale"` that one has neither
+//!   no-store nor Authorization.
+//! - It gets something when that one has its answer or goes: never before, and then at once, in the order in which
+//!   those that waited came, and before another request is served.
+//! - That one went forward since nothing was held for its target, or, over a line with the word, since what was held
+//!   had expired; and it was the first to come of all that did so for this reason.
 //! - Of two GETs for a target that go forward for one such reason the second does so only where it waited before.
 
 use crate::replies::Reason;
 use crate::requests::Asked;
 use std::alloc::{AllocError, Global};
 
-/// When a request came: the happening, and its connection, since those that come in one are served in the order of connections.
+/// When a request came: the happening, and its connection, since those that come in one are served in the order of
+/// connections.
 #[derive(Clone, Copy, Debug, PartialEq, Eq)]
 pub struct Arrival {
     pub happening: u64,
@@ -170,8 +171,8 @@ impl Waiter {
         }
     }
 
-    /// Notes those that came before the one for which it waited: none of them went forward for the same reason, or it would have
-    /// been the first to wait for. Over a line without the word that reason is known.
+    /// Notes those that came before the one for which it waited: none of them went forward for the same reason, or it
+    /// would have been the first to wait for. Over a line without the word that reason is known.
     pub fn push_suspects(
         &self,
         suspects: &mut Vec<Suspect>,

@@ -1,10 +1,10 @@
 //! What is checked of answers over lines with words on caching, in the words' own terms (docs/WORDS.md).
 //!
-//! - The line of the host i ignores what requests want: no answer names such a wish. What is stored without a lifetime of its
-//!   own has that of the line.
-//! - The other lines store no answer with a cookie and without public, and none with an error but for those that any cache may
-//!   keep; nothing of the kind comes from the store, but for what a 304 with a cookie freshens, which is sent once. An answer
-//!   that isn't stored says why.
+//! - The line of the host i ignores what requests want: no answer names such a wish. What is stored without a lifetime
+//!   of its own has that of the line.
+//! - The other lines store no answer with a cookie and without public, and none with an error but for those that any
+//!   cache may keep; nothing of the kind comes from the store, but for what a 304 with a cookie freshens, which is sent
+//!   once. An answer that isn't stored says why.
 //! - Who waits for what is stale, and over which lines, `waiting.rt` says.
 
 use crate::fields::last_value;

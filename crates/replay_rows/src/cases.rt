@@ -1,8 +1,8 @@
 //! The play of a case.
 //!
-//! Behind each thing that happens the script up to it is replayed: what that writes more than the replay of the script before it
-//! has to be what is expected there, each effect in its order and no other. So an effect is looked for where it stands, and one
-//! that nobody expects is a difference.
+//! Behind each thing that happens the script up to it is replayed: what that writes more than the replay of the script
+//! before it has to be what is expected there, each effect in its order and no other. So an effect is looked for where
+//! it stands, and one that nobody expects is a difference.
 
 use crate::case_lines::entries;
 use crate::effects::{Effect, first_shown};

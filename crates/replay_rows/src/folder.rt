@@ -98,7 +98,8 @@ pub fn play_all<R: Files + Print + AllocGlobal + Clone + Drop>(rt: &R) -> io::Re
     Ok(rows && cases)
 }
 
-/// Whether a file belongs to a row or a case beside it. `rt try` hands a program only the files that its arguments name.
+/// Whether a file belongs to a row or a case beside it. `rt try` hands a program only the files that its arguments
+/// name.
 fn is_beside(path: &str) -> bool {
     path.ends_with(".effects")
         || path.ends_with(".stderr")

@@ -19,8 +19,8 @@ fn push_bytes(
     Ok(())
 }
 
-/// The script with the bytes of each client and link in blocks of one byte. An empty block stays, and from the first item
-/// that can't be read on all is as it was.
+/// The script with the bytes of each client and link in blocks of one byte. An empty block stays, and from the first
+/// item that can't be read on all is as it was.
 pub fn byte_by_byte(alloc: Global, script: &[u8]) -> Result<Vec<u8>, AllocError> {
     let mut pieces = Vec::new(alloc);
     let mut rest = script;

@@ -1,9 +1,10 @@
 //! What the replay of a script gives.
 
-use proxy_server::{ReplayFault, replay, replay_on_list};
+use proxy_replay::{ReplayFault, replay, replay_on_list};
 use std::alloc::{AllocError, Global};
 
-/// What a replay writes, the line of its fault and the exit status; where it ends well there is no line, and the status is 0.
+/// What a replay writes, the line of its fault and the exit status; where it ends well there is no line, and the status
+/// is 0.
 pub struct Played {
     pub text: Vec<u8>,
     pub line: String,
@@ -63,7 +64,8 @@ impl Played {
         Played::ended(alloc, text, end)
     }
 
-    /// The line on standard error and that of the exit status, as they are written down beside a script; nothing where it ends well.
+    /// The line on standard error and that of the exit status, as they are written down beside a script; nothing where
+    /// it ends well.
     pub fn written(&self, alloc: Global) -> Result<(String, String), AllocError> {
         if self.status == 0 {
             return Ok((String::new(alloc), String::new(alloc)));

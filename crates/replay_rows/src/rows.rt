@@ -90,8 +90,8 @@ impl Row {
         Ok(cut.text.as_slice() == self.effects.as_slice() && cut.status == status)
     }
 
-    /// Whether the replay gives what is written down, over a shelf that is a list too, and writes the same and ends alike where
-    /// all bytes come one at a time.
+    /// Whether the replay gives what is written down, over a shelf that is a list too, and writes the same and ends
+    /// alike where all bytes come one at a time.
     pub fn holds(&self, alloc: Global) -> Result<bool, AllocError> {
         let whole = Played::of(alloc, self.script.as_slice())?;
         let listed = Played::on_list(alloc, self.script.as_slice())?;

@@ -1,5 +1,5 @@
-//! The caches' libraries above messages: copies that the proxy doesn't make, the store by the order of its calls, and the
-//! operator's table.
+//! The caches' libraries above messages: copies that the proxy doesn't make, the store by the order of its calls, and
+//! the operator's table.
 
 mod both_shelves;
 mod copies;

@@ -1,4 +1,5 @@
-//! The core, the engine, scripts and replays, with ample memory: what clauses say can only be refused by memory is found here.
+//! The core, the engine, scripts and replays, with ample memory: what clauses say can only be refused by memory is
+//! found here.
 
 mod cores;
 mod engines;

@@ -35,8 +35,8 @@ fn path_of(serial: u64) -> &'static str {
 /// How many requests differ in what `entry_for` has its entries nominate.
 const REQUESTS: u64 = 12;
 
-/// One of several requests: a field absent, once, on two lines, or with their value on one; the other absent, present or
-/// empty.
+/// One of several requests: a field absent, once, on two lines, or with their value on one; the other absent, present
+/// or empty.
 fn request(alloc: Global, n: u64) -> Result<Fields, AllocError> {
     let mut fields = Fields::new(alloc);
     fields.push(b"Host", b"h")?;

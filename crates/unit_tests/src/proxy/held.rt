@@ -47,7 +47,8 @@ fn last_place(history: &[Done], serial: u64) -> Option<usize> {
     last
 }
 
-/// How many others were stored or used later, and not removed since. Serials begin at 1, and each step stores one at most.
+/// How many others were stored or used later, and not removed since. Serials begin at 1, and each step stores one at
+/// most.
 fn count_before(history: &[Done], serial: u64, place: usize) -> usize {
     let mut count = 0usize;
     for (i, _) in history.iter().enumerate() {

@@ -2,7 +2,7 @@
 
 use hx_allow::Config;
 use hx_store::ListShelf;
-use proxy_live::{Limits, LiveSockets, Server};
+use proxy_server::{Limits, LiveSockets, Server};
 use std::alloc::Global;
 use std::io::{ErrorKind, Read, Write};
 use std::net::{SocketAddr, TcpListener, TcpStream};
@@ -101,7 +101,8 @@ fn loopback_hit(rt: HostRuntime) -> Result<(), Fail> {
     Ok(())
 }
 
-/// An origin that never answers has timed out after its silence, and a client that sends nothing is closed after its own.
+/// An origin that never answers has timed out after its silence, and a client that sends nothing is closed after its
+/// own.
 #[test]
 fn silent_ends_are_let_go(rt: HostRuntime) -> Result<(), Fail> {
     let origin = TcpListener::bind(&rt, "127.0.0.1:0")?;

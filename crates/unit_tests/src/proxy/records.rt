@@ -6,9 +6,9 @@ use hx_allow::Config;
 use hx_fields::Bytes;
 use hx_store::ListShelf;
 use proxy_engine::Engine;
-use proxy_live::{RecordFault, Recorder, Recording};
+use proxy_replay::replayed;
 use proxy_script::{Effect, Happening, effects_text};
-use proxy_server::replayed;
+use proxy_server::{RecordFault, Recorder, Recording};
 use proxy_turn::{End, Received, SocketFailed, Sockets, turn};
 use std::alloc::{AllocError, Global};
 use std::io;
@@ -212,7 +212,8 @@ fn serve<W: Write + Drop>(alloc: Global, ends: &mut Recording<Crowd, W>) -> Resu
     Ok(())
 }
 
-/// Clients and origins that all have something at once are recorded, and the replay of the record does the same, to the byte.
+/// Clients and origins that all have something at once are recorded, and the replay of the record does the same, to the
+/// byte.
 #[test]
 fn a_record_replays_what_was_done(rt: HostRuntime) -> Result<(), Fail> {
     let alloc = rt.alloc();

@@ -1,7 +1,7 @@
 //! A script over memory. Which line names a fault, and with which exit status, is a contract.
 
 use super::first_run::{FIRST_EFFECTS, FIRST_RUN};
-use proxy_server::{ReplayFault, replayed};
+use proxy_replay::{ReplayFault, replayed};
 use std::alloc::Global;
 
 /// The call over memory, as the test takes it.

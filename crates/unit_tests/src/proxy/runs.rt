@@ -40,8 +40,8 @@ fn stops(rt: &impl Abort, ran: &Run, count: usize, fault: Option<CoreFault>) {
     assert_eq!(rt; ran.stopped, fault);
 }
 
-/// Two ask for what is stale. What the first of them stores is sent when the second fails, and a method that no line allows is
-/// denied.
+/// Two ask for what is stale. What the first of them stores is sent when the second fails, and a method that no line
+/// allows is denied.
 fn whole_run(alloc: Global) -> Result<Vec<Event>, Fail> {
     let mut events = Vec::new(alloc);
     arrives(alloc, &mut events, 20, 1, Method::GET, "/a")?;

@@ -2,7 +2,7 @@
 ghost use Rattle.std.specs.Prelude.{Some};
 
 use super::first_run::{FIRST_EFFECTS, FIRST_RUN};
-use proxy_server::{ReplayFault, replay};
+use proxy_replay::{ReplayFault, replay};
 use std::alloc::Global;
 use std::io;
 use std::io::{ErrorKind, Read, Write};
@@ -160,7 +160,8 @@ fn a_writer_that_fails_ends_the_replay(rt: HostRuntime) -> Result<(), Fail> {
         let ended = written_to(rt.alloc(), 7, calls, ErrorKind::Other);
         if ended.0 == "done" {
             is_whole(&rt, &ended, calls);
-            // Seven bytes at a time of 91, 182 and 168: the last are taken with the 63rd call, and a failure before it is told.
+            // Seven bytes at a time of 91, 182 and 168: the last are taken with the 63rd call, and a failure before it
+            // is told.
             assert!(rt; calls == 63);
             return Ok(());
         }

@@ -87,7 +87,8 @@ fn is_ready(rt: &impl Abort, alloc: Global, core: &Core<ListShelf>, ids: &[u64])
     }
 }
 
-/// Those that wait are ready once the first has its answer, in the order of their arrival, and until they are woken or go.
+/// Those that wait are ready once the first has its answer, in the order of their arrival, and until they are woken or
+/// go.
 #[test]
 fn the_released_are_ready(rt: HostRuntime) -> Result<(), Fail> {
     let alloc = rt.alloc();

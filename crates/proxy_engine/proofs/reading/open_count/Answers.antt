@@ -1,6 +1,6 @@
 use Rattle.std.proofs.Common.{◌≡◌, [], List, ℕ, length, ap, ◌∙◌, arith, rules}
 use Rattle.proxy_engine.specs.Held.{held, connection_is_open}
-use Rattle.proxy_engine.specs.declared.ends.Connection.{Connection}
+use Rattle.proxy_engine.specs.declared.endpoints.ends.Connection.{Connection}
 use Rattle.proxy_engine.proofs.Readable.{held_listed}
 use Rattle.proxy_engine.proofs.reading.open_count.Goals as goal
 

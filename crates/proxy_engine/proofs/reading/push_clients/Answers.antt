@@ -1,7 +1,7 @@
 use Rattle.std.proofs.Common.{◌≡◌, [], ◌++◌, List, ℕ, map, sym, ap, ◌∙◌, append-nil, rules}
 use Rattle.proxy_engine.specs.Held.{held, connection_reads}
 use Rattle.proxy_engine.specs.Reading.{client_end}
-use Rattle.proxy_engine.specs.declared.ends.Connection.{Connection}
+use Rattle.proxy_engine.specs.declared.endpoints.ends.Connection.{Connection}
 use Rattle.proxy_engine.proofs.Readable.{held_listed}
 use Rattle.proxy_engine.proofs.reading.push_clients.Goals as goal
 

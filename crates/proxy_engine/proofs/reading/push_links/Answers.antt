@@ -1,7 +1,7 @@
 use Rattle.std.proofs.Common.{◌≡◌, [], ◌++◌, List, ℕ, map, sym, ap, ◌∙◌, append-nil, rules}
 use Rattle.proxy_engine.specs.Held.{held, link_reads}
 use Rattle.proxy_engine.specs.Reading.{link_end}
-use Rattle.proxy_engine.specs.declared.ends.Link.{Link}
+use Rattle.proxy_engine.specs.declared.endpoints.ends.Link.{Link}
 use Rattle.proxy_engine.proofs.Readable.{held_listed}
 use Rattle.proxy_engine.proofs.reading.push_links.Goals as goal
 

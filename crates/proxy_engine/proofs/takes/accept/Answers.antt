@@ -1,8 +1,8 @@
 use Rattle.std.proofs.Common.{true, List, Option, sym, subst, ◌∙◌}
-use Rattle.proxy_engine.specs.State.{Stands, state}
-use Rattle.proxy_engine.specs.Story.{heard}
+use Rattle.proxy_engine.specs.State.{Represents, state}
+use Rattle.proxy_engine.specs.EngineModel.{heard}
 use Rattle.proxy_engine.specs.Happenings.{Accepts}
-use Rattle.proxy_engine.specs.declared.ends.Connection.{Connection}
+use Rattle.proxy_engine.specs.declared.endpoints.ends.Connection.{Connection}
 use Rattle.proxy_engine.proofs.Peeking.{no_request_yet}
 use Rattle.proxy_engine.proofs.Taking.{opens_free, opens_refused, opens_full, accepted_more}
 use Rattle.proxy_engine.proofs.takes.accept.Goals as goal
@@ -16,6 +16,6 @@ returns-in-Err-clause-fault c = λ s links core first h. opens_full c.args.conne
 pub returns-in-Ok-clause-ok : goal.returns-in-Ok-clause-ok
 returns-in-Ok-clause-ok c = λ s links core first most h. record {
   free = opens_free c.args.connections.now.items links core first s c.args.n true (sym c.is_next.ensures ∙ c.if-not-is_next.false) h;
-  stands = subst (λ (cs : List (Option Connection)). Stands (state cs links core first) (heard s (Accepts c.args.n))) (sym c.in-Ok.ensures.ok)
+  stands = subst (λ (cs : List (Option Connection)). Represents (state cs links core first) (heard s (Accepts c.args.n))) (sym c.in-Ok.ensures.ok)
       (accepted_more c.args.connections.now.items links core first s c.args.max_body c.new-reader.result most (c.new-reader.ensures.stands _ c.new.ensures.stands (no_request_yet c.args.max_body)) h);
 }

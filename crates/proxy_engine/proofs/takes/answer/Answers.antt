@@ -1,9 +1,9 @@
 use Rattle.std.proofs.Common.{◌≡◌, true, false, ℕ, length, get_or, Option, Some, None, sym, ap, subst, ◌∙◌}
-use Rattle.proxy_engine.specs.Wiring.{owner_of}
+use Rattle.proxy_engine.specs.Pairing.{owner_of}
 use Rattle.proxy_engine.specs.Room.{IsRoomyLink}
-use Rattle.proxy_engine.specs.Story.{heard_by}
-use Rattle.proxy_engine.specs.State.{LinkStands}
-use Rattle.proxy_engine.specs.declared.ends.Link.{Link}
+use Rattle.proxy_engine.specs.EngineModel.{heard_by}
+use Rattle.proxy_engine.specs.State.{LinkRepresents}
+use Rattle.proxy_engine.specs.declared.endpoints.ends.Link.{Link}
 use Rattle.proxy_engine.proofs.Searching.{map_kept}
 use Rattle.proxy_engine.proofs.Taking.{link_free, link_refused, link_full, link_taken, link_over, link_keeps, heard_over}
 use Rattle.proxy_engine.proofs.takes.answer.Goals as goal
@@ -21,7 +21,7 @@ pub returns-in-Ok-clause-ok : goal.returns-in-Ok-clause-ok
 returns-in-Ok-clause-ok c = λ s connections core h. record {
   free = link_free connections c.args.links.now.items core c.args.first s c.args.l true c.in-Some.ensures.0 h;
   stands = link_taken (heard_by c.args.bytes.now) connections c.args.links.now.items core c.args.first s c.args.l c.in-Some.j (Some c.hear.new.link) c.in-Some.ensures.1 c.in-Some.ensures.2
-      (λ k q. c.in-Ok.ensures.stands k (subst (λ (o : Option Link). LinkStands o k) (sym c.in-Some-at_mut.ensures.value) q)) h;
+      (λ k q. c.in-Ok.ensures.stands k (subst (λ (o : Option Link). LinkRepresents o k) (sym c.in-Some-at_mut.ensures.value) q)) h;
 }
 
 pub returns-in-Err-clause-fault : goal.returns-in-Err-clause-fault

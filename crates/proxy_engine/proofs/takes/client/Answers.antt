@@ -1,9 +1,9 @@
 use Rattle.std.proofs.Common.{◌≡◌, true, false, ℕ, length, get_or, Option, Some, None, sym, ap, subst, ◌∙◌}
-use Rattle.proxy_engine.specs.Wiring.{activity_of}
+use Rattle.proxy_engine.specs.Pairing.{activity_of}
 use Rattle.proxy_engine.specs.Room.{IsRoomy}
-use Rattle.proxy_engine.specs.Story.{sent}
-use Rattle.proxy_engine.specs.State.{ConnStands}
-use Rattle.proxy_engine.specs.declared.ends.Connection.{Connection}
+use Rattle.proxy_engine.specs.EngineModel.{sent}
+use Rattle.proxy_engine.specs.State.{ConnectionRepresents}
+use Rattle.proxy_engine.specs.declared.endpoints.ends.Connection.{Connection}
 use Rattle.proxy_engine.proofs.Searching.{map_kept}
 use Rattle.proxy_engine.proofs.Taking.{connection_free, connection_refused, connection_full, connection_taken, connection_over, connection_keeps, sent_over}
 use Rattle.proxy_engine.proofs.takes.client.Goals as goal
@@ -21,7 +21,7 @@ pub returns-in-Ok-clause-ok : goal.returns-in-Ok-clause-ok
 returns-in-Ok-clause-ok c = λ s links core first h. record {
   free = connection_free c.args.connections.now.items links core first s c.args.n true c.in-Some.ensures.0 h;
   stands = connection_taken (sent c.args.bytes.now) c.args.connections.now.items links core first s c.args.n c.in-Some.i (Some c.send.new.connection) c.in-Some.ensures.1 c.in-Some.ensures.2
-      (λ k q. c.in-Ok.ensures.stands k (subst (λ (o : Option Connection). ConnStands o k) (sym c.in-Some-at_mut.ensures.value) q)) h;
+      (λ k q. c.in-Ok.ensures.stands k (subst (λ (o : Option Connection). ConnectionRepresents o k) (sym c.in-Some-at_mut.ensures.value) q)) h;
 }
 
 pub returns-in-Err-clause-fault : goal.returns-in-Err-clause-fault

@@ -1,8 +1,8 @@
 use Rattle.std.proofs.Common.{true, Option, Some, None, sym, ap, subst, ◌∙◌}
-use Rattle.proxy_engine.specs.Wiring.{activity_of}
-use Rattle.proxy_engine.specs.Story.{ended}
-use Rattle.proxy_engine.specs.State.{ConnStands}
-use Rattle.proxy_engine.specs.declared.ends.Connection.{Connection}
+use Rattle.proxy_engine.specs.Pairing.{activity_of}
+use Rattle.proxy_engine.specs.EngineModel.{ended}
+use Rattle.proxy_engine.specs.State.{ConnectionRepresents}
+use Rattle.proxy_engine.specs.declared.endpoints.ends.Connection.{Connection}
 use Rattle.proxy_engine.proofs.Searching.{map_kept}
 use Rattle.proxy_engine.proofs.Taking.{connection_free, connection_refused, connection_taken, connection_over, ended_over}
 use Rattle.proxy_engine.proofs.takes.finish_client.Goals as goal
@@ -20,7 +20,7 @@ pub returns-in-Some-at_mut-clause-ok : goal.returns-in-Some-at_mut-clause-ok
 returns-in-Some-at_mut-clause-ok c = λ s links core first h. record {
   free = connection_free c.args.connections.now.items links core first s c.args.n true c.in-Some.ensures.0 h;
   stands = connection_taken ended c.args.connections.now.items links core first s c.args.n c.in-Some.i (Some c.end.new.connection) c.in-Some.ensures.1 c.in-Some.ensures.2
-      (λ k q. c.end.ensures.stands k (subst (λ (o : Option Connection). ConnStands o k) (sym c.in-Some-at_mut.ensures.value) q)) h;
+      (λ k q. c.end.ensures.stands k (subst (λ (o : Option Connection). ConnectionRepresents o k) (sym c.in-Some-at_mut.ensures.value) q)) h;
 }
 
 pub returns-in-Some-at_mut-clause-activities : goal.returns-in-Some-at_mut-clause-activities

@@ -1,9 +1,9 @@
 use Rattle.std.proofs.Common.{◌≡◌, ◌-◌, true, List, Option, Some, None, sym, ap, subst, ◌∙◌}
 use Rattle.proxy_engine.specs.Activities.{has_exchange}
-use Rattle.proxy_engine.specs.Wiring.{activity_of, activities_of}
-use Rattle.proxy_engine.specs.Story.{left, with_connection}
-use Rattle.proxy_engine.specs.State.{ConnStands, Stands, state}
-use Rattle.proxy_engine.specs.declared.ends.Connection.{Connection}
+use Rattle.proxy_engine.specs.Pairing.{activity_of, activities_of}
+use Rattle.proxy_engine.specs.EngineModel.{left, with_connection}
+use Rattle.proxy_engine.specs.State.{ConnectionRepresents, Represents, state}
+use Rattle.proxy_engine.specs.declared.endpoints.ends.Connection.{Connection}
 use Rattle.proxy_engine.proofs.ActivityCases.{free_from}
 use Rattle.proxy_engine.proofs.Searching.{map_kept}
 use Rattle.proxy_engine.proofs.Taking.{connection_free, connection_refused, connection_taken, left_gone}
@@ -15,7 +15,7 @@ returns-in_default-clause-fault c = λ s links core first h. connection_refused 
 pub returns-then-not-has_exchange-clause-ok : goal.returns-then-not-has_exchange-clause-ok
 returns-then-not-has_exchange-clause-ok c = λ s links core first h. record {
   free = connection_free c.args.connections.now.items links core first s c.args.n true c.in-Some.ensures.0 h;
-  stands = subst (λ (cs : List (Option Connection)). Stands (state cs links core first) (with_connection s (c.args.n - 1) left)) (sym c.let_go.ensures)
+  stands = subst (λ (cs : List (Option Connection)). Represents (state cs links core first) (with_connection s (c.args.n - 1) left)) (sym c.let_go.ensures)
       (connection_taken left c.args.connections.now.items links core first s c.args.n c.in-Some.i None c.in-Some.ensures.1 c.in-Some.ensures.2 (λ k q. left_gone _ k (sym c.has_exchange.ensures ∙ c.if-not-has_exchange.true) q) h);
 }
 
@@ -29,7 +29,7 @@ returns-in-Some-at_mut-clause-ok c = λ s links core first h.
     record {
       free = connection_free c.args.connections.now.items links core first s c.args.n true c.in-Some.ensures.0 h;
       stands = connection_taken left c.args.connections.now.items links core first s c.args.n c.in-Some.i (Some c.lose.new.connection) c.in-Some.ensures.1 c.in-Some.ensures.2
-          (λ k q. c.lose.ensures.stands there k (subst (λ (o : Option Connection). ConnStands o k) (sym c.in-Some-at_mut.ensures.value) q)) h;
+          (λ k q. c.lose.ensures.stands there k (subst (λ (o : Option Connection). ConnectionRepresents o k) (sym c.in-Some-at_mut.ensures.value) q)) h;
     }
 
 pub returns-in-Some-at_mut-clause-activities : goal.returns-in-Some-at_mut-clause-activities

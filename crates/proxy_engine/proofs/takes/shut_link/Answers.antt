@@ -1,8 +1,8 @@
 use Rattle.std.proofs.Common.{true, Option, Some, None, sym, ap, subst, ◌∙◌}
-use Rattle.proxy_engine.specs.Wiring.{owner_of}
-use Rattle.proxy_engine.specs.Story.{shut}
-use Rattle.proxy_engine.specs.State.{LinkStands}
-use Rattle.proxy_engine.specs.declared.ends.Link.{Link}
+use Rattle.proxy_engine.specs.Pairing.{owner_of}
+use Rattle.proxy_engine.specs.EngineModel.{shut}
+use Rattle.proxy_engine.specs.State.{LinkRepresents}
+use Rattle.proxy_engine.specs.declared.endpoints.ends.Link.{Link}
 use Rattle.proxy_engine.proofs.Searching.{map_kept}
 use Rattle.proxy_engine.proofs.Taking.{link_free, link_refused, link_taken, link_over, shut_over}
 use Rattle.proxy_engine.proofs.takes.shut_link.Goals as goal
@@ -20,7 +20,7 @@ pub returns-in-Some-at_mut-clause-ok : goal.returns-in-Some-at_mut-clause-ok
 returns-in-Some-at_mut-clause-ok c = λ s connections core h. record {
   free = link_free connections c.args.links.now.items core c.args.first s c.args.l true c.in-Some.ensures.0 h;
   stands = link_taken shut connections c.args.links.now.items core c.args.first s c.args.l c.in-Some.j (Some c.close_link.new.link) c.in-Some.ensures.1 c.in-Some.ensures.2
-      (λ k q. c.close_link.ensures.stands k (subst (λ (o : Option Link). LinkStands o k) (sym c.in-Some-at_mut.ensures.value) q)) h;
+      (λ k q. c.close_link.ensures.stands k (subst (λ (o : Option Link). LinkRepresents o k) (sym c.in-Some-at_mut.ensures.value) q)) h;
 }
 
 pub returns-in-Some-at_mut-clause-owners : goal.returns-in-Some-at_mut-clause-owners

@@ -1,5 +1,5 @@
 use Rattle.std.proofs.Common.{List, sym, ap, ◌∙◌}
-use Rattle.proxy_engine.specs.declared.happening.End.{End}
+use Rattle.proxy_engine.specs.declared.work.End.{End}
 use Rattle.proxy_turn.specs.Turn.{is_lost}
 use Rattle.proxy_turn.proofs.Carrying.{carried_lost}
 use Rattle.proxy_turn.proofs.Counting.{raises_failed}

@@ -1,6 +1,6 @@
 use Rattle.std.proofs.Common.{◌≡◌, refl, ap, ◌∙◌, List, [], ◌∷◌, Bool, ◌||◌, rules}
 use Rattle.std.specs.List.{list_any}
-use Rattle.proxy_engine.specs.declared.happening.End.{End}
+use Rattle.proxy_engine.specs.declared.work.End.{End}
 use Rattle.proxy_turn.specs.Turn.{same_end}
 use Rattle.proxy_turn.proofs.effects.is_lost.Goals as goal
 

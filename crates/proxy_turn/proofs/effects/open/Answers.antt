@@ -1,5 +1,5 @@
 use Rattle.std.proofs.Common.{rules, ◌≡◌, [], ◌∷◌, is_ok, Bool, true, false, subst}
-use Rattle.proxy_engine.specs.declared.happening.End.TheVariants.{Link}
+use Rattle.proxy_engine.specs.declared.work.End.TheVariants.{Link}
 use Rattle.proxy_turn.specs.Calls.{Connect, Write}
 use Rattle.proxy_turn.proofs.effects.open.Goals as goal
 

@@ -1,5 +1,5 @@
 use Rattle.std.proofs.Common.{◌≡◌, ◌+◌, refl, sym, subst, arith, rules, ◌∙◌, get_or}
-use Rattle.proxy_engine.specs.declared.happening.End.TheVariants.{Listener}
+use Rattle.proxy_engine.specs.declared.work.End.TheVariants.{Listener}
 use Rattle.proxy_turn.specs.Parts.{AreThere}
 use Rattle.proxy_turn.proofs.Hearing.{SoFar, so_far_none, so_far_more, so_far_later, read_partly, read_not, read_at}
 use Rattle.proxy_turn.proofs.There.{read_there}

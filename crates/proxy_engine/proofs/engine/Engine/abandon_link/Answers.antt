@@ -1,10 +1,10 @@
 use Rattle.std.proofs.Common.{None, ◌≡◌, ◌+◌, ◌≤◌, ◌^◌, ◌∙◌, ◌∷◌, [], ℕ, length, ap, arith}
 use Rattle.proxy_core.specs.State.{State as CoreState}
 use Rattle.proxy_script.specs.declared.effect_list.Effect.TheVariants.{Drop}
-use Rattle.proxy_engine.specs.State.{LinkStands}
+use Rattle.proxy_engine.specs.State.{LinkRepresents}
 use Rattle.proxy_engine.proofs.Parts.{both_length}
-use Rattle.proxy_engine.proofs.Wishing.{told_one}
-use Rattle.proxy_engine.proofs.Wires.{within_links, link_there, wired_ended}
+use Rattle.proxy_engine.proofs.Acting.{told_one}
+use Rattle.proxy_engine.proofs.Pairs.{within_links, link_there, paired_ended}
 use Rattle.proxy_engine.proofs.Stepping.{abandoned_done}
 use Rattle.proxy_engine.proofs.engine.Engine.abandon_link.Goals as goal
 
@@ -14,7 +14,7 @@ free_lost-requires-clause-link g c = link_there c.self.inside.ends.connections.i
 pub returns-clause-ok : goal.returns-clause-ok
 returns-clause-ok g c = rw (← c.self.view_is) (
     λ s now h.
-    let links = both_length LinkStands c.self.inside.ends.links.items s.links h.links in
+    let links = both_length LinkRepresents c.self.inside.ends.links.items s.links h.links in
     let first_is : c.self.inside.ends.first_link ≡ s.first = h.first in
     let numbers : s.first + length s.links ≤ 2 ^ 64 = h.numbers in
     let within = within_links c.self.inside.ends.connections.items c.self.inside.ends.links.items c.self.inside.core.exchanges c.args.i c.args.l (rw (← c.self.view_is) at c.requires.linked) c.self.invariant in
@@ -25,5 +25,5 @@ returns-clause-ok g c = rw (← c.self.view_is) (
     )
 
 pub invariant_of-self : goal.invariant_of-self
-invariant_of-self g c = wired_ended c.self.inside.ends.connections.items c.free_lost.new.connections.items c.self.inside.ends.links.items c.free_lost.new.links.items c.self.inside.core.exchanges c.abandon.new.self.exchanges c.args.i c.args.l (rw (← c.self.view_is) at c.requires.linked) c.free_lost.ensures.activities c.free_lost.ensures.owners
+invariant_of-self g c = paired_ended c.self.inside.ends.connections.items c.free_lost.new.connections.items c.self.inside.ends.links.items c.free_lost.new.links.items c.self.inside.core.exchanges c.abandon.new.self.exchanges c.args.i c.args.l (rw (← c.self.view_is) at c.requires.linked) c.free_lost.ensures.activities c.free_lost.ensures.owners
     None (ap (λ (k : CoreState). k.exchanges) c.in-Ok.ensures.ok.leaves) c.self.invariant

@@ -1,7 +1,7 @@
 use Rattle.std.proofs.Common.{ap}
 use Rattle.proxy_core.specs.State.{State as CoreState}
-use Rattle.proxy_engine.specs.Wiring.{owners_of}
-use Rattle.proxy_engine.proofs.Wires.{wired_waited}
+use Rattle.proxy_engine.specs.Pairing.{owners_of}
+use Rattle.proxy_engine.proofs.Pairs.{paired_waited}
 use Rattle.proxy_engine.proofs.Stepping.{given_up_done}
 use Rattle.std.proofs.Common.{None}
 use Rattle.proxy_engine.proofs.engine.Engine.abandon_waiting.Goals as goal
@@ -15,5 +15,5 @@ returns-clause-ok g c = rw (← c.self.view_is) (
 
 pub invariant_of-self : goal.invariant_of-self
 invariant_of-self g c =
-    wired_waited c.self.inside.ends.connections.items c.let_go_waiting.new.connections.items (owners_of c.self.inside.ends.links.items) c.self.inside.core.exchanges c.abandon.new.self.exchanges c.args.i (rw (← c.self.view_is) at c.requires.waiting) c.let_go_waiting.ensures.activities
+    paired_waited c.self.inside.ends.connections.items c.let_go_waiting.new.connections.items (owners_of c.self.inside.ends.links.items) c.self.inside.core.exchanges c.abandon.new.self.exchanges c.args.i (rw (← c.self.view_is) at c.requires.waiting) c.let_go_waiting.ensures.activities
     None (ap (λ (k : CoreState). k.exchanges) c.in-Ok.ensures.ok.leaves) c.self.invariant

@@ -2,18 +2,18 @@ use Rattle.std.proofs.Common.{◌≡◌, ◌+◌, ◌≤◌, ◌^◌, ◌∙◌,
 use Rattle.proxy_script.specs.declared.effect_list.Effect.{Effect}
 use Rattle.proxy_script.specs.declared.effect_list.Effect.TheVariants.{Drop}
 use Rattle.hx_allow.specs.Lines.{Table}
-use Rattle.proxy_engine.specs.Story.{no_link}
+use Rattle.proxy_engine.specs.EngineModel.{no_link}
 use Rattle.proxy_engine.specs.Due.{Finish, Finishes}
 use Rattle.proxy_engine.specs.Acts.{came_at, came, effects_on, after_on}
-use Rattle.proxy_engine.specs.State.{LinkStands, Stands, state, Done, finish_at, link_load}
-use Rattle.proxy_engine.specs.Wiring.{owners_of}
-use Rattle.proxy_engine.specs.declared.ends.Link.{Link}
+use Rattle.proxy_engine.specs.State.{LinkRepresents, Represents, state, Done, finish_at, link_load}
+use Rattle.proxy_engine.specs.Pairing.{owners_of}
+use Rattle.proxy_engine.specs.declared.endpoints.ends.Link.{Link}
 use Rattle.proxy_engine.proofs.Parts.{both_length, both_at}
 use Rattle.proxy_engine.proofs.Keeping.{inside}
 use Rattle.proxy_engine.proofs.Changes.{finish_there}
-use Rattle.proxy_engine.proofs.Wishing.{one_finish, told_one}
+use Rattle.proxy_engine.proofs.Acting.{one_finish, told_one}
 use Rattle.proxy_engine.proofs.Ending.{goes_given, remains, one_more}
-use Rattle.proxy_engine.proofs.Wires.{within_connections, owned_link, is_open, is_out, still_here, wired_finished}
+use Rattle.proxy_engine.proofs.Pairs.{within_connections, owned_link, is_open, is_out, still_here, paired_finished}
 use Rattle.proxy_engine.proofs.Stepping.{finished_done, ends_table, link_counts}
 use Rattle.proxy_engine.proofs.engine.Engine.complete.Goals as goal
 
@@ -27,8 +27,8 @@ prove-unreachable-requires g c = let x = c.at.result.now in
     let within = within_connections c.self.inside.ends.connections.items x.connection c.args.j link in
     absurd (omega (arith, within, c.if-prove.true, c.len-count.ensures))
 
-pub way_again-requires : goal.way_again-requires
-way_again-requires g c = let cs = c.self.inside.ends.connections.items in
+pub upstream_again-requires : goal.upstream_again-requires
+upstream_again-requires g c = let cs = c.self.inside.ends.connections.items in
     let ks = c.self.inside.ends.links.items in
     let xs = c.self.inside.core.exchanges in
     let x = c.at.result.now in
@@ -89,7 +89,7 @@ invariant_of-self-2 g c = let cs = c.self.inside.ends.connections.items in
     let link = owned_link cs ks core.exchanges c.args.j x there c.self.invariant in
     let is_there = is_open cs ks core.exchanges x.connection c.args.j link c.self.invariant in
     let owners : owners_of c.free.new.links.items ≡ set (owners_of ks) c.args.j None = c.free.ensures.owners ∙ ap (λ (ls : List (Option Link)). set (owners_of ls) c.args.j None) same in
-    wired_finished cs c.free.new.connections.items c.carry_out.new.self.connections.items ks c.free.new.links.items c.carry_out.new.self.links.items core.exchanges c.end.new.core.exchanges x.connection c.args.j c.in_ok-outcome.outcome link c.free.ensures.activities owners
+    paired_finished cs c.free.new.connections.items c.carry_out.new.self.connections.items ks c.free.new.links.items c.carry_out.new.self.links.items core.exchanges c.end.new.core.exchanges x.connection c.args.j c.in_ok-outcome.outcome link c.free.ensures.activities owners
     c.carry_out.ensures.activities c.carry_out.ensures.owners is_there (remains core c.end.new.core c.args.now (x.connection + 1) c.in_ok-outcome.ensures.ok.0 c.in_ok-outcome.outcome is_there c.in_ok-outcome.ensures.ok.2) c.self.invariant
 
 pub returns-clause-less : goal.returns-clause-less
@@ -123,25 +123,25 @@ returns-clause-ok g c = rw (← c.self.view_is) (
     let due = ap finish_at here ∙ ended.1 in
     let same : f ≡ ended.0 = one_finish (get_or ks j None) ended.0 f due shown in
     let within = inside ks j (finish_there (get_or ks j None) (rw (← c.self.view_is) at c.requires.due)) in
-    let links = both_length LinkStands ks s.links h.links in
+    let links = both_length LinkRepresents ks s.links h.links in
     let first_is : c.self.inside.ends.first_link ≡ s.first = h.first in
     let numbers : s.first + length s.links ≤ 2 ^ 64 = h.numbers in
     let sizes = ap length items in
     let number : c.number_at.result ≡ c.self.inside.ends.first_link + j = c.number_at.ensures (omega (arith, links, within)) in
-    let owner = subst (λ (o : Option Link). LinkStands o (get_or s.links j no_link)) there (both_at LinkStands ks s.links j None no_link h.links within) in
+    let owner = subst (λ (o : Option Link). LinkRepresents o (get_or s.links j no_link)) there (both_at LinkRepresents ks s.links j None no_link h.links within) in
     let link = owned_link cs ks core.exchanges j x there c.self.invariant in
     let is_there = is_open cs ks core.exchanges i j link c.self.invariant in
     let told : c.put.new.effects.items ≡ Drop (c.self.inside.ends.first_link + j) ∷ [] = told_one c.in_ok-effects.effects.items c.put.new.effects.items _ c.put.ensures.items c.in_ok-effects.ensures.items ∙ ap (λ (n : ℕ). Drop n ∷ []) number in
-    let way = c.set_address.new.self in
-    let led : came_at way.address.items c.in_ok-outcome.outcome ≡ came core.table c.in_ok-outcome.outcome =
+    let upstream = c.set_address.new.self in
+    let led : came_at upstream.address.items c.in_ok-outcome.outcome ≡ came core.table c.in_ok-outcome.outcome =
     c.set_address.ensures.came ∙ ap (λ (t : Table). came t c.in_ok-outcome.outcome) (c.config.ensures ∙ ends_table core c.end.new.core c.args.now (i + 1) ended.0 c.in_ok-outcome.outcome ended.2) in
-    let free = c.free.ensures.stands s core c.self.inside.ends.first_link (subst (λ (ls : List (Option Link)). Stands (state cs ls core c.self.inside.ends.first_link) s) (sym items) h) in
+    let free = c.free.ensures.stands s core c.self.inside.ends.first_link (subst (λ (ls : List (Option Link)). Represents (state cs ls core c.self.inside.ends.first_link) s) (sym items) h) in
     let fresh = c.free.ensures.links in
     subst (λ (n : ℕ). Done s c.args.now (Finishes j f) c.carry_out.new.effects.items (state c.carry_out.new.self.connections.items c.carry_out.new.self.links.items c.end.new.core n)) (sym c.carry_out.ensures.first)
     (subst (λ (x : Finish). Done s c.args.now (Finishes j x) c.carry_out.new.effects.items (state c.carry_out.new.self.connections.items c.carry_out.new.self.links.items c.end.new.core c.self.inside.ends.first_link)) (sym same)
-    (finished_done s c.free.new.connections.items c.carry_out.new.self.connections.items c.free.new.links.items c.carry_out.new.self.links.items core c.end.new.core c.self.inside.ends.first_link c.args.now i j way.max_body ended.0 c.in_ok-outcome.outcome
-    way.address.items way.to_head c.carry_out.new.effects.items is_there (λ t. let few = (rw (← c.self.view_is) at c.requires.left) ended.0 due t in omega (arith, few, links)) ended.2 led (c.set_address.ensures.max_body ∙ c.in_ok-way.ensures.max_body)
-    (c.set_address.ensures.to_head ∙ c.in_ok-way.ensures.to_head) (omega (arith, fresh, sizes, links, first_is))
-    (c.carry_out.ensures.effects ∙ ap (λ (b : List Effect). b ++ effects_on i (c.self.inside.ends.first_link + length c.free.new.links.items) (came_at way.address.items c.in_ok-outcome.outcome)) told)
-    first_is h.core owner.connection free (λ t k most stands. subst (λ (n : ℕ). Stands (state c.carry_out.new.self.connections.items c.carry_out.new.self.links.items k n) (after_on i way.to_head (came_at way.address.items c.in_ok-outcome.outcome) t)) c.carry_out.ensures.first (c.carry_out.ensures.stands t k most stands))))
+    (finished_done s c.free.new.connections.items c.carry_out.new.self.connections.items c.free.new.links.items c.carry_out.new.self.links.items core c.end.new.core c.self.inside.ends.first_link c.args.now i j upstream.max_body ended.0 c.in_ok-outcome.outcome
+    upstream.address.items upstream.to_head c.carry_out.new.effects.items is_there (λ t. let few = (rw (← c.self.view_is) at c.requires.left) ended.0 due t in omega (arith, few, links)) ended.2 led (c.set_address.ensures.max_body ∙ c.in_ok-upstream.ensures.max_body)
+    (c.set_address.ensures.to_head ∙ c.in_ok-upstream.ensures.to_head) (omega (arith, fresh, sizes, links, first_is))
+    (c.carry_out.ensures.effects ∙ ap (λ (b : List Effect). b ++ effects_on i (c.self.inside.ends.first_link + length c.free.new.links.items) (came_at upstream.address.items c.in_ok-outcome.outcome)) told)
+    first_is h.core owner.connection free (λ t k most stands. subst (λ (n : ℕ). Represents (state c.carry_out.new.self.connections.items c.carry_out.new.self.links.items k n) (after_on i upstream.to_head (came_at upstream.address.items c.in_ok-outcome.outcome) t)) c.carry_out.ensures.first (c.carry_out.ensures.stands t k most stands))))
     )

@@ -1,8 +1,8 @@
 use Rattle.std.proofs.Common.{length, subst, ◌≡◌, ◌+◌, ◌^◌, nat_le, true, false, sym, ap, ◌∙◌, arith}
 use Rattle.std.proofs.lemmas.Bool.{leb-true}
-use Rattle.proxy_engine.specs.State.{State, LinkStands, finish_at}
-use Rattle.proxy_engine.specs.Wishes.{EndFault}
-use Rattle.proxy_engine.specs.declared.happening.EngineFault.TheVariants.{OutOfMemory, Spent}
+use Rattle.proxy_engine.specs.State.{State, LinkRepresents, finish_at}
+use Rattle.proxy_engine.specs.Actions.{EndFault}
+use Rattle.proxy_engine.specs.declared.work.EngineFault.TheVariants.{OutOfMemory, Spent}
 use Rattle.proxy_engine.proofs.Parts.{both_length}
 use Rattle.proxy_engine.proofs.Changes.{finish_there}
 use Rattle.proxy_engine.proofs.Stepping.{spent_failed, spent_told, memory_told}
@@ -22,7 +22,7 @@ pub returns-then-is_answered-clause-fault : goal.returns-then-is_answered-clause
 returns-then-is_answered-clause-fault g c = rw (← c.self.view_is) (
     λ s f shown due h.
     let here = ap finish_at (sym c.at.ensures) ∙ shown in
-    let links = both_length LinkStands c.self.inside.ends.links.items s.links h.links in
+    let links = both_length LinkRepresents c.self.inside.ends.links.items s.links h.links in
     let first_is : c.self.inside.ends.first_link ≡ s.first = h.first in
     let many = leb-true (2 ^ 64) (c.self.inside.ends.first_link + length c.self.inside.ends.links.items) (sym c.is_spent.ensures ∙ c.if-is_spent.true) in
     spent_failed s c.args.j f (sym (c.is_answered.ensures f here) ∙ c.if-is_answered.true) (omega (arith, many, links)) due

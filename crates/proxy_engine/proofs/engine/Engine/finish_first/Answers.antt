@@ -3,7 +3,7 @@ use Rattle.proxy_engine.specs.Due.{Finishes}
 use Rattle.proxy_engine.specs.State.{FoundLinks, state}
 use Rattle.proxy_engine.proofs.Changes.{looked_links}
 use Rattle.proxy_engine.proofs.Spending.{end_told, look_stopped}
-use Rattle.proxy_engine.proofs.Wishing.{on_ok, on_err, stays_err}
+use Rattle.proxy_engine.proofs.Acting.{on_ok, on_err, stays_err}
 use Rattle.proxy_engine.proofs.engine.Engine.finish_first.Goals as goal
 
 pub finish-requires-clause-due : goal.finish-requires-clause-due

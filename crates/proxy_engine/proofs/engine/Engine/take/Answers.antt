@@ -1,70 +1,70 @@
 use Rattle.std.proofs.Common.{◌≡◌, sym, subst, ap, ◌∙◌, true}
 use Rattle.hx_allow.specs.Lines.{Table}
 use Rattle.proxy_engine.specs.Happenings.{said}
-use Rattle.proxy_engine.specs.Story.{keeps}
-use Rattle.proxy_engine.specs.State.{State, Stands, Takes, TakeFault, state}
+use Rattle.proxy_engine.specs.EngineModel.{keeps}
+use Rattle.proxy_engine.specs.State.{State, Represents, Takes, TakeFault, state}
 use Rattle.proxy_script.specs.declared.happening.Happening.{Happening}
-use Rattle.proxy_engine.specs.Wiring.{owners_of}
-use Rattle.proxy_engine.proofs.Wires.{wired_accepted}
+use Rattle.proxy_engine.specs.Pairing.{owners_of}
+use Rattle.proxy_engine.proofs.Pairs.{paired_accepted}
 use Rattle.proxy_engine.proofs.Taking.{on_ok}
 use Rattle.proxy_engine.specs.Marked.{EndList}
-use Rattle.proxy_engine.specs.declared.ends.Connection.{Connection}
-use Rattle.proxy_engine.proofs.Wishing.{on_err, stays_err}
+use Rattle.proxy_engine.specs.declared.endpoints.ends.Connection.{Connection}
+use Rattle.proxy_engine.proofs.Acting.{on_err, stays_err}
 use Rattle.proxy_engine.proofs.Readable.{found_in}
 use Rattle.proxy_engine.proofs.engine.Engine.take.Goals as goal
 
 pub returns-in-Accept-clause-ok : goal.returns-in-Accept-clause-ok
 returns-in-Accept-clause-ok g c = on_ok c.accept.result _ _
-    (λ k s h. subst (λ (x : Happening). Takes s (said x) (state c.accept.new.connections.items c.self.inside.ends.links.items c.self.inside.core c.self.inside.ends.first_link)) (sym c.in-Accept.is) (k s c.self.inside.ends.links.items c.self.inside.core c.self.inside.ends.first_link (sym (c.max_body-max_body.ensures ∙ ap (λ (t : Table). t.max_body) c.config.ensures)) (subst (λ (e : State). Stands e s) (sym c.self.view_is) h)))
+    (λ k s h. subst (λ (x : Happening). Takes s (said x) (state c.accept.new.connections.items c.self.inside.ends.links.items c.self.inside.core c.self.inside.ends.first_link)) (sym c.in-Accept.is) (k s c.self.inside.ends.links.items c.self.inside.core c.self.inside.ends.first_link (sym (c.max_body-max_body.ensures ∙ ap (λ (t : Table). t.max_body) c.config.ensures)) (subst (λ (e : State). Represents e s) (sym c.self.view_is) h)))
     c.accept.ensures.ok
 
 pub returns-in-Client-clause-ok : goal.returns-in-Client-clause-ok
 returns-in-Client-clause-ok g c = on_ok c.client.result _ _
-    (λ k s h. subst (λ (x : Happening). Takes s (said x) (state c.client.new.connections.items c.self.inside.ends.links.items c.self.inside.core c.self.inside.ends.first_link)) (sym c.in-Client.is) (k s c.self.inside.ends.links.items c.self.inside.core c.self.inside.ends.first_link (subst (λ (e : State). Stands e s) (sym c.self.view_is) h)))
+    (λ k s h. subst (λ (x : Happening). Takes s (said x) (state c.client.new.connections.items c.self.inside.ends.links.items c.self.inside.core c.self.inside.ends.first_link)) (sym c.in-Client.is) (k s c.self.inside.ends.links.items c.self.inside.core c.self.inside.ends.first_link (subst (λ (e : State). Represents e s) (sym c.self.view_is) h)))
     c.client.ensures.ok
 
 pub returns-in-End-clause-ok : goal.returns-in-End-clause-ok
 returns-in-End-clause-ok g c = on_ok c.finish_client.result _ _
-    (λ k s h. subst (λ (x : Happening). Takes s (said x) (state c.finish_client.new.connections.items c.self.inside.ends.links.items c.self.inside.core c.self.inside.ends.first_link)) (sym c.in-End.is) (k s c.self.inside.ends.links.items c.self.inside.core c.self.inside.ends.first_link (subst (λ (e : State). Stands e s) (sym c.self.view_is) h)))
+    (λ k s h. subst (λ (x : Happening). Takes s (said x) (state c.finish_client.new.connections.items c.self.inside.ends.links.items c.self.inside.core c.self.inside.ends.first_link)) (sym c.in-End.is) (k s c.self.inside.ends.links.items c.self.inside.core c.self.inside.ends.first_link (subst (λ (e : State). Represents e s) (sym c.self.view_is) h)))
     c.finish_client.ensures.ok
 
 pub returns-in-Gone-clause-ok : goal.returns-in-Gone-clause-ok
 returns-in-Gone-clause-ok g c = on_ok c.lose_client.result _ _
-    (λ k s h. subst (λ (x : Happening). Takes s (said x) (state c.lose_client.new.connections.items c.self.inside.ends.links.items c.self.inside.core c.self.inside.ends.first_link)) (sym c.in-Gone.is) (k s c.self.inside.ends.links.items c.self.inside.core c.self.inside.ends.first_link (subst (λ (e : State). Stands e s) (sym c.self.view_is) h)))
+    (λ k s h. subst (λ (x : Happening). Takes s (said x) (state c.lose_client.new.connections.items c.self.inside.ends.links.items c.self.inside.core c.self.inside.ends.first_link)) (sym c.in-Gone.is) (k s c.self.inside.ends.links.items c.self.inside.core c.self.inside.ends.first_link (subst (λ (e : State). Represents e s) (sym c.self.view_is) h)))
     c.lose_client.ensures.ok
 
 pub returns-in-Link-clause-ok : goal.returns-in-Link-clause-ok
 returns-in-Link-clause-ok g c = on_ok c.answer.result _ _
-    (λ k s h. subst (λ (x : Happening). Takes s (said x) (state c.self.inside.ends.connections.items c.answer.new.links.items c.self.inside.core c.self.inside.ends.first_link)) (sym c.in-Link.is) (k s c.self.inside.ends.connections.items c.self.inside.core (subst (λ (e : State). Stands e s) (sym c.self.view_is) h)))
+    (λ k s h. subst (λ (x : Happening). Takes s (said x) (state c.self.inside.ends.connections.items c.answer.new.links.items c.self.inside.core c.self.inside.ends.first_link)) (sym c.in-Link.is) (k s c.self.inside.ends.connections.items c.self.inside.core (subst (λ (e : State). Represents e s) (sym c.self.view_is) h)))
     c.answer.ensures.ok
 
 pub returns-in-Shut-clause-ok : goal.returns-in-Shut-clause-ok
 returns-in-Shut-clause-ok g c = on_ok c.shut_link.result _ _
-    (λ k s h. subst (λ (x : Happening). Takes s (said x) (state c.self.inside.ends.connections.items c.shut_link.new.links.items c.self.inside.core c.self.inside.ends.first_link)) (sym c.in-Shut.is) (k s c.self.inside.ends.connections.items c.self.inside.core (subst (λ (e : State). Stands e s) (sym c.self.view_is) h)))
+    (λ k s h. subst (λ (x : Happening). Takes s (said x) (state c.self.inside.ends.connections.items c.shut_link.new.links.items c.self.inside.core c.self.inside.ends.first_link)) (sym c.in-Shut.is) (k s c.self.inside.ends.connections.items c.self.inside.core (subst (λ (e : State). Represents e s) (sym c.self.view_is) h)))
     c.shut_link.ensures.ok
 
 pub returns-in-Fail-clause-ok : goal.returns-in-Fail-clause-ok
 returns-in-Fail-clause-ok g c = on_ok c.break_link.result _ _
-    (λ k s h. subst (λ (x : Happening). Takes s (said x) (state c.self.inside.ends.connections.items c.break_link.new.links.items c.self.inside.core c.self.inside.ends.first_link)) (sym c.in-Fail.is) (k s c.self.inside.ends.connections.items c.self.inside.core (subst (λ (e : State). Stands e s) (sym c.self.view_is) h)))
+    (λ k s h. subst (λ (x : Happening). Takes s (said x) (state c.self.inside.ends.connections.items c.break_link.new.links.items c.self.inside.core c.self.inside.ends.first_link)) (sym c.in-Fail.is) (k s c.self.inside.ends.connections.items c.self.inside.core (subst (λ (e : State). Represents e s) (sym c.self.view_is) h)))
     c.break_link.ensures.ok
 
 pub returns-in-Client-clause-kept : goal.returns-in-Client-clause-kept
-returns-in-Client-clause-kept g c = λ e s h. subst (λ (x : Happening). keeps s (said x) ≡ true) (sym c.in-Client.is) (c.client.ensures.kept e s c.self.inside.ends.links.items c.self.inside.core c.self.inside.ends.first_link (subst (λ (e : State). Stands e s) (sym c.self.view_is) h))
+returns-in-Client-clause-kept g c = λ e s h. subst (λ (x : Happening). keeps s (said x) ≡ true) (sym c.in-Client.is) (c.client.ensures.kept e s c.self.inside.ends.links.items c.self.inside.core c.self.inside.ends.first_link (subst (λ (e : State). Represents e s) (sym c.self.view_is) h))
 
 pub returns-in-Link-clause-kept : goal.returns-in-Link-clause-kept
-returns-in-Link-clause-kept g c = λ e s h. subst (λ (x : Happening). keeps s (said x) ≡ true) (sym c.in-Link.is) (c.answer.ensures.kept e s c.self.inside.ends.connections.items c.self.inside.core (subst (λ (e : State). Stands e s) (sym c.self.view_is) h))
+returns-in-Link-clause-kept g c = λ e s h. subst (λ (x : Happening). keeps s (said x) ≡ true) (sym c.in-Link.is) (c.answer.ensures.kept e s c.self.inside.ends.connections.items c.self.inside.core (subst (λ (e : State). Represents e s) (sym c.self.view_is) h))
 
 pub invariant_of-self : goal.invariant_of-self
-invariant_of-self g c = wired_accepted c.accept.result c.self.inside.ends.connections.items c.accept.new.connections.items (owners_of c.self.inside.ends.links.items) c.self.inside.core.exchanges c.accept.ensures.activities (stays_err c.accept.result _ _ (λ same. ap (λ (v : EndList Connection). v.items) same) c.accept.ensures.err) c.self.invariant
+invariant_of-self g c = paired_accepted c.accept.result c.self.inside.ends.connections.items c.accept.new.connections.items (owners_of c.self.inside.ends.links.items) c.self.inside.core.exchanges c.accept.ensures.activities (stays_err c.accept.result _ _ (λ same. ap (λ (v : EndList Connection). v.items) same) c.accept.ensures.err) c.self.invariant
 
 pub returns-in-Client-clause-fault : goal.returns-in-Client-clause-fault
 returns-in-Client-clause-fault g c = on_err c.client.result _ _
-    (λ e k s h. subst (λ (x : Happening). TakeFault s (said x) e) (sym c.in-Client.is) (k s c.self.inside.ends.links.items c.self.inside.core c.self.inside.ends.first_link (subst (λ (e : State). Stands e s) (sym c.self.view_is) h)))
+    (λ e k s h. subst (λ (x : Happening). TakeFault s (said x) e) (sym c.in-Client.is) (k s c.self.inside.ends.links.items c.self.inside.core c.self.inside.ends.first_link (subst (λ (e : State). Represents e s) (sym c.self.view_is) h)))
     c.client.ensures.fault
 
 pub returns-in-Link-clause-fault : goal.returns-in-Link-clause-fault
 returns-in-Link-clause-fault g c = on_err c.answer.result _ _
-    (λ e k s h. subst (λ (x : Happening). TakeFault s (said x) e) (sym c.in-Link.is) (k s c.self.inside.ends.connections.items c.self.inside.core (subst (λ (e : State). Stands e s) (sym c.self.view_is) h)))
+    (λ e k s h. subst (λ (x : Happening). TakeFault s (said x) e) (sym c.in-Link.is) (k s c.self.inside.ends.connections.items c.self.inside.core (subst (λ (e : State). Represents e s) (sym c.self.view_is) h)))
     c.answer.ensures.fault
 
 pub returns-in-Accept-clause-reserved : goal.returns-in-Accept-clause-reserved

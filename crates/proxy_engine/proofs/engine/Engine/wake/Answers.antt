@@ -1,14 +1,14 @@
 use Rattle.std.proofs.Common.{length, ◌≡◌, ◌+◌, ◌^◌, sym, ◌∙◌, arith}
 use Rattle.std.proofs.lemmas.Bool.{leb-true}
 use Rattle.proxy_engine.specs.Due.{Wakes}
-use Rattle.proxy_engine.specs.State.{LinkStands}
+use Rattle.proxy_engine.specs.State.{LinkRepresents}
 use Rattle.proxy_engine.proofs.Parts.{both_length}
 use Rattle.proxy_engine.proofs.engine.Engine.wake.Goals as goal
 
 pub returns-then-is_spent-clause-fault : goal.returns-then-is_spent-clause-fault
 returns-then-is_spent-clause-fault g c = rw (← c.self.view_is) (
     λ s i is due h.
-    let links = both_length LinkStands c.self.inside.ends.links.items s.links h.links in
+    let links = both_length LinkRepresents c.self.inside.ends.links.items s.links h.links in
     let first_is : c.self.inside.ends.first_link ≡ s.first = h.first in
     let many = leb-true (2 ^ 64) (c.self.inside.ends.first_link + length c.self.inside.ends.links.items) (sym c.is_spent.ensures ∙ c.if-is_spent.true) in
     (Wakes i, due, tt, omega (arith, many, links))

@@ -1,20 +1,20 @@
 use Rattle.std.proofs.Common.{◌≡◌, ◌+◌, ◌-◌, ℕ, Some, ap, sym, ◌∙◌, arith}
 use Rattle.proxy_core.specs.Waiting.{IsReady}
-use Rattle.proxy_core.specs.declared.exchange.Exchange.{Exchange}
+use Rattle.proxy_core.specs.declared.open.exchange.Exchange.{Exchange}
 use Rattle.std.proofs.Common.{List, Option}
 use Rattle.proxy_engine.specs.Due.{Wakes, next_ready}
 use Rattle.proxy_engine.specs.State.{State}
-use Rattle.proxy_engine.specs.Wiring.{Wired, activities_of, owners_of}
-use Rattle.proxy_engine.specs.declared.activities.Activity.{Activity}
-use Rattle.proxy_engine.specs.declared.happening.EngineFault.TheVariants.{OutOfMemory}
+use Rattle.proxy_engine.specs.Pairing.{Paired, activities_of, owners_of}
+use Rattle.proxy_engine.specs.declared.endpoints.activities.Activity.{Activity}
+use Rattle.proxy_engine.specs.declared.work.EngineFault.TheVariants.{OutOfMemory}
 use Rattle.proxy_engine.proofs.Spending.{err_at, number_left, served_unseen}
-use Rattle.proxy_engine.proofs.Wires.{ready_numbered}
+use Rattle.proxy_engine.proofs.Pairs.{ready_numbered}
 use Rattle.proxy_engine.proofs.engine.Engine.wake_first.Goals as goal
 
 -- the id is that of the connection before it
-before : (activities : List Activity) (owners : List (Option ℕ)) (xs : List Exchange) (id : ℕ) → IsReady id xs → Wired activities owners xs → id ≡ (id - 1) + 1
-before activities owners xs id ready wired =
-    let positive = ready_numbered activities owners xs id ready wired in
+before : (activities : List Activity) (owners : List (Option ℕ)) (xs : List Exchange) (id : ℕ) → IsReady id xs → Paired activities owners xs → id ≡ (id - 1) + 1
+before activities owners xs id ready paired =
+    let positive = ready_numbered activities owners xs id ready paired in
     omega (arith, positive)
 
 pub returns-in-Ok-clause-ok : goal.returns-in-Ok-clause-ok

@@ -1,6 +1,0 @@
-use Rattle.std.proofs.Common.{ap, ◌∙◌, map}
-use Rattle.proxy_core.specs.State.{release}
-use Rattle.proxy_core.proofs.exchanges.Exchanges.close.Goals as goal
-
-pub returns : goal.returns
-returns c = c.release.ensures ∙ ap (map (release c.args.id)) c.take_out.ensures

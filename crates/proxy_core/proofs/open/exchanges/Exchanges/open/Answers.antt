@@ -1,0 +1,71 @@
+use Rattle.std.proofs.Common.{◌≡◌, ap, sym, ◌∙◌, subst, List, ℕ, None}
+use Rattle.std.specs.Ordering.{nat_cmp}
+use Rattle.std.specs.BTreeMap.{get}
+use Rattle.std.specs.Map.{values_of}
+use Rattle.proxy_core.specs.declared.open.exchange.Exchange.{Exchange}
+use Rattle.proxy_core.specs.Outcomes.{find_exchange}
+use Rattle.proxy_core.specs.Arrivals.{AreIndexed}
+use Rattle.proxy_core.proofs.Gets.{AllTold, gets-entered, gets-again, gets-not}
+use Rattle.proxy_core.specs.Waiters.{waits_in}
+use Rattle.proxy_core.specs.Releases.{is_within, ReleasedPass}
+use Rattle.proxy_core.specs.Kept.{AreKept}
+use Rattle.proxy_core.proofs.Releases.{pass-entered}
+use Rattle.proxy_core.proofs.Waiters.{waiters-entered, waiters-again, waiters-not}
+use Rattle.proxy_core.proofs.Arrivals.{indexed_opened, indexed_again}
+use Rattle.proxy_core.proofs.open.exchanges.Exchanges.open.Goals as goal
+
+pub enter-requires-clause-waits_not : goal.enter-requires-clause-waits_not
+enter-requires-clause-waits_not c =
+    waiters-not c.in_ok-arrival.arrival c.self.inside.by_arrival.entries c.self.inside.waiting c.in_ok-arrival.ensures c.self.invariant.indexes.waiters
+
+pub enter-requires-clause-asks_not : goal.enter-requires-clause-asks_not
+enter-requires-clause-asks_not c =
+    gets-not c.in_ok-arrival.arrival c.self.inside.by_arrival.entries c.self.inside.gets c.in_ok-arrival.ensures c.self.invariant.asking
+
+pub settle-requires : goal.settle-requires
+settle-requires c =
+    let s = c.self.inside in
+    subst (ReleasedPass (is_within c.enter-in-Ok.new.self)) (sym c.in-Ok.ensures.ok)
+    (pass-entered c.in_ok-arrival.arrival c.args.exchange s.released c.enter-in-Ok.new.self s.by_arrival.entries c.enter-in-Ok.ensures.widened c.enter-in-Ok.ensures.entered c.self.invariant.releases.within)
+
+pub invariant_of-self-in-Ok : goal.invariant_of-self-in-Ok
+invariant_of-self-in-Ok c =
+    let s = c.self.inside in
+    let es = s.by_arrival.entries in
+    let x = c.args.exchange in
+    let n = c.in_ok-arrival.arrival in
+    let i = c.self.invariant.indexes in
+    let free : find_exchange x.id (values_of es) ≡ None = ap (find_exchange x.id) c.self.view_is ∙ c.requires in
+    record {
+      indexes = subst (λ (zs : List (ℕ × Exchange)). AreIndexed zs (λ id. get nat_cmp c.insert.new.self id) (waits_in c.enter.new.waiting)) (sym c.in-Ok.ensures.ok)
+          (record {
+            ids = indexed_opened n x es (λ id. get nat_cmp s.arrivals id) (λ id. get nat_cmp c.insert.new.self id) c.in_ok-arrival.ensures i.ids free (λ q. c.in_ok-insert.ensures.updates.0 q);
+            waiters = waiters-entered n x es s.waiting c.enter.new.waiting c.in_ok-arrival.ensures c.in-Ok.ensures.entered i.waiters;
+          });
+      releases = c.settle.ensures.settled;
+      asking = subst (AllTold c.enter.new.gets) (sym c.in-Ok.ensures.ok)
+          (gets-entered n x es s.gets c.enter.new.gets c.in_ok-arrival.ensures c.in-Ok.ensures.asks c.self.invariant.asking);
+      trim_waits = c.enter.ensures.trim_waits c.self.invariant.trim_waits;
+      trim_gets = c.enter.ensures.trim_gets c.self.invariant.trim_gets;
+    }
+
+pub invariant_of-self-in-Err : goal.invariant_of-self-in-Err
+invariant_of-self-in-Err c =
+    let s = c.self.inside in
+    let es = s.by_arrival.entries in
+    let x = c.args.exchange in
+    let n = c.in_ok-arrival.arrival in
+    let i = c.self.invariant.indexes in
+    let free : find_exchange x.id (values_of es) ≡ None = ap (find_exchange x.id) c.self.view_is ∙ c.requires in
+    subst (λ (zs : List (ℕ × Exchange)). AreKept zs (λ id. get nat_cmp c.remove.new.self id) c.enter.new.waiting s.released c.enter.new.gets) (sym c.in-Err.ensures.err)
+    (record {
+      indexes = record {
+        ids = indexed_again x.id n es (λ id. get nat_cmp s.arrivals id) (λ id. get nat_cmp c.insert.new.self id) (λ id. get nat_cmp c.remove.new.self id) i.ids free
+            (λ q. c.in_ok-insert.ensures.updates.0 q) (λ q. c.remove.ensures.updates.0 q);
+        waiters = waiters-again es s.waiting c.enter.new.waiting c.in-Err.ensures.left i.waiters;
+      };
+      releases = c.self.invariant.releases;
+      asking = gets-again es s.gets c.enter.new.gets c.in-Err.ensures.asks_no_more c.self.invariant.asking;
+      trim_waits = c.enter.ensures.trim_waits c.self.invariant.trim_waits;
+      trim_gets = c.enter.ensures.trim_gets c.self.invariant.trim_gets;
+    })

@@ -1,0 +1,6 @@
+use Rattle.proxy_core.proofs.Gets.{LeadersLeft}
+use Rattle.proxy_core.proofs.open.exchanges.first_to_lead.Given as goal
+
+-- those that lead are still to come
+abbrev pub invariant-loop-arrival : goal.invariant-loop-arrival
+invariant-loop-arrival l = LeadersLeft l.policy l.rule l.key l.arrival-iterator l.by_arrival.entries

@@ -1,0 +1,22 @@
+use Rattle.std.proofs.Common.{◌≡◌, ◌++◌, ◌∷◌, [], List, ap, subst, ◌∙◌, IfOk}
+use Rattle.std.specs.Prelude.{codes, decimal}
+use Rattle.hx_fields.specs.declared.field_line.Field.{Field}
+use Rattle.hx_framing.specs.Text.{response_text}
+use Rattle.hx_age.specs.Age.{age_of}
+use Rattle.hx_store.specs.Stored.{Stored}
+use Rattle.proxy_core.specs.Replies.{line}
+use Rattle.proxy_core.proofs.AddedLines.{lines_added}
+use Rattle.proxy_core.proofs.replies.stored_reply.StoredReply.written.Goals as goal
+
+pub returns : goal.returns
+returns c =
+    let fields = c.args.fields.now in
+    let reply = c.args.self.now in
+    let age =
+    c.as_bytes.ensures.value ∙ c.format.ensures.text ∙ ap decimal c.current_age-age.ensures
+    ∙ ap (λ (e : Stored). decimal (age_of e.times reply.sent_at)) c.entry.view_is in
+    let told = c.as_slice.ensures ∙ c.in_ok-member.ensures in
+    let same =
+    lines_added fields (line (codes "Age") c.as_bytes.result.now) (line (codes "Cache-Status") c.as_slice.result.now)
+    ∙ (λ i. (fields ++ line (codes "Age") (age i) ∷ []) ++ line (codes "Cache-Status") (told i) ∷ []) in
+    subst (λ (lines : List Field). IfOk c.write_response_with.result (λ text. text ≡ response_text c.args.status lines c.args.length reply.asked.now.close c.args.content.now)) same c.write_response_with.ensures

@@ -1,9 +1,0 @@
-use Rattle.std.proofs.Common.{refl}
-use Rattle.std.specs.Fmt.{digits}
-use Rattle.httpdate.proofs.OnLiterals.{httpdate_on_literals}
-use Rattle.hx_validate.specs.Answering.{freshened_of}
-use Rattle.proxy_core.proofs.worked_cases.what_an_answer_gives.Goals as goal
-
-pub returns-clause-validated : goal.returns-clause-validated
-unfolding digits httpdate_on_literals freshened_of
-returns-clause-validated c = refl

@@ -1,0 +1,77 @@
+//! A request that went forward, or waits for the answer to another, and isn't answered yet.
+ghost use Rattle.std.specs.Prelude.{◌≡◌};
+ghost use Rattle.proxy_core.specs.State.{goes_out, overtake, release};
+
+use crate::open::leading::waits_for;
+use crate::open::stage::Stage;
+use crate::steps::condition::Condition;
+use hx_hop::Asked;
+use hx_reuse::ReuseRule;
+use hx_target::Key;
+
+/// An open exchange.
+pub struct Exchange {
+    pub id: u64,
+    pub asked: Asked,
+    /// The line of the table that allowed it; lines are numbered from 1.
+    pub line: u16,
+    /// The rule at arrival, or when it was woken. It is named in the answer even if the store has changed since.
+    pub rule: ReuseRule,
+    /// When it last went forward, or began to wait, in Unix seconds (RFC 9111, section 4.2.3: request_time).
+    pub request_time: u64,
+    /// The held response that its latest request asks about, with the proxy's conditions.
+    pub condition: Option<Condition>,
+    /// Whether its key was invalidated since (RFC 9111, section 4.4).
+    pub overtaken: bool,
+    /// Whether nothing in the request keeps what it is answered for itself (RFC 9111, sections 5.2.1.5 and 3.5).
+    pub for_others: bool,
+    pub stage: Stage,
+}
+
+impl Exchange {
+    /// Its request goes forward, with this rule and these conditions of the proxy.
+    pub(crate) fn go_out(&mut self, now: u64, rule: ReuseRule, condition: Option<Condition>)
+        ensures { self.new ≡ goes_out now rule condition self.old }
+    {
+        self.rule = rule;
+        self.request_time = now;
+        self.condition = condition;
+        self.overtaken = false;
+        self.stage = Stage::Forwarded;
+    }
+
+    /// It waits no longer, if it waited for the exchange of this id.
+    pub(crate) fn release(&mut self, leader: u64)
+        ensures { self.new ≡ release leader self.old }
+    {
+        if waits_for(self.stage, leader) {
+            self.stage = Stage::Released;
+        }
+    }
+
+    /// Marks it, if it is of a key that was invalidated (RFC 9111, section 4.4).
+    pub(crate) fn overtake(&mut self, key: &Key)
+        ensures { self.new ≡ overtake key.now self.old }
+    {
+        if self.asked.target.key.is_same(key) {
+            self.overtaken = true;
+        }
+    }
+}
+
+/// One call drops it, wherever that is.
+impl Drop for Exchange {
+    fn drop(self) {
+        let Exchange {
+            id: _,
+            asked: _,
+            line: _,
+            rule: _,
+            request_time: _,
+            condition: _,
+            overtaken: _,
+            for_others: _,
+            stage: _,
+        } = self;
+    }
+}

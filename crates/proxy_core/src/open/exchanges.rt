@@ -1,0 +1,376 @@
+//! The open exchanges, in the order of arrival.
+//!
+//! Each has the number of its arrival, and a second map tells the number of an id. So one is found, opened and closed in
+//! the logarithm of how many are open, and each that a close releases costs that too. The first that may be woken is known:
+//! `first_ready` costs that logarithm where there is one, and nothing where there is none (see `released`). `leader` looks
+//! through the GETs of its key up to the one that leads. `ready` and an invalidation go through all of them.
+ghost use Rattle.std.specs.Prelude.{◌≡◌, ◌<◌, ◌++◌, ◌∷◌, [], map, filter, not, ◌==◌, None, IfOk, OnOk, OnErr, option_copied, slice_get, IfSome};
+ghost use Rattle.proxy_core.specs.Waiting.{IsReady};
+ghost use Rattle.std.specs.List.{All};
+ghost use Rattle.std.specs.Ordering.{nat_cmp};
+ghost use Rattle.std.specs.Map.{remove_entry};
+ghost use Rattle.std.specs.Option.{ForNone, ForSome};
+ghost use Rattle.std.specs.BTreeMap.{get, keys, values, is_at};
+ghost use Rattle.proxy_core.specs.Gets.{GetsPass, IsGetEntered, GetHasLeft, AreSame, AreWithout, AreTrim};
+ghost use Rattle.std.specs.BTreeSet.{contains};
+ghost use Rattle.proxy_core.specs.Arrivals.{WaitersPass, on_all};
+ghost use Rattle.proxy_core.specs.Waiters.{IsEntered, HasLeft, IsSameIndex, IsNotIn, IsTrim};
+ghost use Rattle.proxy_core.specs.Outcomes.{find_exchange};
+ghost use Rattle.proxy_core.specs.Leading.{leader, ready_ids};
+ghost use Rattle.proxy_core.specs.State.{closed, release, overtake, left_open, gone_out, sent_out};
+
+use crate::open::exchange::Exchange;
+use crate::open::get_index::GetIndex;
+use crate::open::ids::Ids;
+use crate::open::leading::{is_released, leads};
+use crate::open::released::Released;
+use crate::open::wait_index::WaitIndex;
+use crate::steps::condition::Condition;
+use hx_policy::Policy;
+use hx_reuse::ReuseRule;
+use hx_target::Key;
+use std::alloc::{AllocError, Global};
+use std::collections::{BTreeMap, BTreeSet};
+use std::marker::Model;
+
+/// The open exchanges. Contracts see their list.
+pub(crate) struct Exchanges {
+    /// By the number of the arrival: a later one has a greater number.
+    by_arrival: BTreeMap<u64, Exchange>,
+    /// The number of each id's arrival.
+    arrivals: BTreeMap<u64, u64>,
+    /// Those that wait, by the id that they wait for.
+    waiting: WaitIndex,
+    /// Where the released ones stand.
+    released: Released,
+    /// The GETs, by the key that they ask for: whatever may come to lead is among them.
+    gets: GetIndex,
+}
+
+/// One call drops it, wherever that is.
+impl Drop for Exchanges {
+    fn drop(self) {
+        let Exchanges {
+            by_arrival: _,
+            arrivals: _,
+            waiting: _,
+            released: _,
+            gets: _,
+        } = self;
+    }
+}
+
+impl Model for Exchanges {
+    ghost use Rattle.std.specs.Prelude.{List};
+    ghost use Rattle.std.specs.Ordering.{nat_cmp};
+    ghost use Rattle.std.specs.BTreeMap.{get, values};
+    ghost use Rattle.proxy_core.specs.declared.open.exchange.Exchange.{Exchange};
+    ghost use Rattle.proxy_core.specs.Kept.{AreKept};
+
+    ghost Value = { List Exchange };
+
+    ghost view = { λ x. values x.by_arrival };
+
+    ghost invariant = { λ x. AreKept x.by_arrival.entries (λ id. get nat_cmp x.arrivals id) x.waiting x.released x.gets };
+}
+
+impl Exchanges {
+    pub(crate) fn new(alloc: Global) -> Self
+        ensures { result ≡ [] }
+    {
+        Exchanges {
+            by_arrival: BTreeMap::new(alloc),
+            arrivals: BTreeMap::new(alloc),
+            waiting: WaitIndex::new(alloc),
+            released: Released::new(),
+            gets: GetIndex::new(alloc),
+        }
+    }
+
+    /// The open exchange of an id.
+    pub(crate) fn find(&self, id: u64) -> Option<&Exchange>
+        ensures { option_copied result ≡ find_exchange id self.now }
+    {
+        self.by_arrival.get(self.arrivals.get(&id)?)
+    }
+
+    /// Opens an exchange. Where there is no memory for it nothing has changed.
+    pub(crate) fn open(&mut self, exchange: Exchange) -> Result<(), AllocError>
+        requires { find_exchange exchange.id self.old ≡ None }
+        ensures ok { OnOk result (self.new ≡ self.old ++ exchange ∷ []) }
+        ensures err { OnErr result (self.new ≡ self.old) }
+    {
+        let (id, stage) = (exchange.id, exchange.stage);
+        let arrival = arrival_after(&self.by_arrival)?;
+        self.arrivals.insert(id, arrival)?;
+        match enter(
+            &mut self.by_arrival,
+            &mut self.waiting,
+            &mut self.gets,
+            arrival,
+            exchange,
+        ) {
+            Ok(()) => {
+                self.released.enter(stage, arrival);
+                self.released.settle(&self.by_arrival);
+                Ok(())
+            }
+            Err(error) => {
+                self.arrivals.remove(&id);
+                Err(error)
+            }
+        }
+    }
+
+    /// The first exchange to arrive for whose answer GETs of this key wait that go forward by this rule, over a line of this
+    /// policy. It looks through the open GETs of that key up to that one, which mostly is the first of them.
+    pub(crate) fn leader(&self, policy: Policy, rule: ReuseRule, key: &Key) -> Option<u64>
+        ensures { result ≡ leader policy rule key.now self.now }
+    {
+        match self.gets.find(key) {
+            Some(arrivals) => first_to_lead(&self.by_arrival, arrivals, policy, rule, key),
+            None => None,
+        }
+    }
+
+    /// The first of those that may be woken. No memory is taken.
+    pub(crate) fn first_ready(&self) -> Option<u64>
+        ensures value { result ≡ slice_get (ready_ids self.now) 0 }
+        ensures ready { IfSome result (λ id. IsReady id self.now) }
+    {
+        Some(self.by_arrival.get(&self.released.first()?)?.id)
+    }
+
+    /// Those that may be woken, in the order of arrival. Fails for want of memory alone.
+    pub(crate) fn ready(&self, alloc: Global) -> Result<Ids, AllocError>
+        ensures { IfOk result (λ ids. ids ≡ ready_ids self.now) }
+    {
+        let mut ids = Ids::new(alloc);
+        for (_, x) in &self.by_arrival {
+            if is_released(x.stage) {
+                ids.push(x.id)?;
+            }
+        }
+        Ok(ids)
+    }
+
+    /// The exchange of an id ends, and releases those that wait for it. No memory is taken.
+    pub(crate) fn close(&mut self, id: u64)
+        ensures { self.new ≡ closed id self.old }
+    {
+        self.take_out(id);
+        self.release(id);
+    }
+
+    fn take_out(&mut self, id: u64)
+        ensures { self.new ≡ filter (λ x. not (x.id == id)) self.old }
+    {
+        if let Some(arrival) = self.arrivals.remove(&id) {
+            remove(
+                &mut self.by_arrival,
+                &mut self.waiting,
+                &mut self.gets,
+                arrival,
+            );
+            self.released.settle(&self.by_arrival);
+        }
+    }
+
+    /// Those that wait for the exchange of an id wait no longer.
+    fn release(&mut self, leader: u64)
+        ensures { self.new ≡ map (release leader) self.old }
+    {
+        if let Some(waiting) = self.waiting.take(leader) {
+            release_each(&mut self.by_arrival, &waiting, leader);
+            self.released.enter_all(&waiting);
+            self.released.settle(&self.by_arrival);
+        }
+    }
+
+    /// The exchange of an id goes forward once more, in its place. No memory is taken.
+    pub(crate) fn go_out(&mut self, id: u64, now: u64)
+        ensures { self.new ≡ map (gone_out id now) self.old }
+    {
+        if let Some(arrival) = self.arrivals.get(&id) {
+            if let Some(x) = self.by_arrival.get_mut(arrival) {
+                self.waiting.leave(x.stage, *arrival);
+                let rule = x.rule;
+                x.go_out(now, rule, None);
+                self.released.settle(&self.by_arrival);
+            }
+        }
+    }
+
+    /// The exchange of an id goes forward with this rule and these conditions, in its place. No memory is taken.
+    pub(crate) fn send_out(
+        &mut self,
+        id: u64,
+        now: u64,
+        rule: ReuseRule,
+        condition: Option<Condition>,
+    )
+        ensures { self.new ≡ map (sent_out id now rule condition) self.old }
+    {
+        if let Some(arrival) = self.arrivals.get(&id) {
+            if let Some(x) = self.by_arrival.get_mut(arrival) {
+                self.waiting.leave(x.stage, *arrival);
+                x.go_out(now, rule, condition);
+                self.released.settle(&self.by_arrival);
+            }
+        }
+    }
+
+    /// The exchange of an id ends, and the others of an invalidated key are overtaken. No memory is taken.
+    pub(crate) fn leave(&mut self, id: u64, invalidated: Option<&Key>)
+        ensures { self.new ≡ left_open (option_copied invalidated.entry) id self.old }
+    {
+        self.close(id);
+        match invalidated {
+            Some(key) => self.overtake(key),
+            None => {}
+        }
+    }
+
+    /// Marks each exchange of a key that was invalidated. It goes through all of them.
+    fn overtake(&mut self, key: &Key)
+        ensures { self.new ≡ map (overtake key.now) self.old }
+    {
+        overtake_each(&mut self.by_arrival, key);
+        self.released.settle(&self.by_arrival);
+    }
+}
+
+/// The number of the next arrival: one more than that of the last exchange. Where there is none left, that counts as
+/// want of memory: 2^64 exchanges would have to arrive and at no time all be closed.
+fn arrival_after(by_arrival: &BTreeMap<u64, Exchange>) -> Result<u64, AllocError>
+    ensures { IfOk result (λ n. All (λ k. k < n) (keys by_arrival.now)) }
+{
+    match by_arrival.last_key_value() {
+        Some((last, _)) => last.checked_add(1).ok_or(AllocError),
+        None => Ok(0),
+    }
+}
+
+/// Puts an exchange behind the others, and into the index of GETs. Want of memory changes nothing.
+fn push(
+    by_arrival: &mut BTreeMap<u64, Exchange>,
+    gets: &mut GetIndex,
+    arrival: u64,
+    exchange: Exchange,
+) -> Result<(), AllocError>
+    requires last { All (λ k. k < arrival) (keys by_arrival.old) }
+    requires asks_not { AreWithout arrival gets.old }
+    ensures ok { OnOk result (by_arrival.new.entries ≡ by_arrival.old.entries ++ (arrival, exchange) ∷ []) }
+    ensures entered { OnOk result (IsGetEntered exchange.asked arrival gets.old gets.new) }
+    ensures err { OnErr result (by_arrival.new.entries ≡ by_arrival.old.entries) }
+    ensures left { OnErr result (AreSame gets.old gets.new) }
+    ensures trim { AreTrim gets.old → AreTrim gets.new }
+{
+    gets.enter(&exchange.asked, arrival)?;
+    match by_arrival.insert(arrival, exchange) {
+        Ok(_) => Ok(()),
+        Err(refused) => {
+            let (_, exchange) = refused.value;
+            gets.leave(&exchange.asked, arrival);
+            Err(AllocError)
+        }
+    }
+}
+
+/// Puts an exchange behind the others, and into the indexes of GETs and of those that wait. Want of memory changes
+/// nothing.
+fn enter(
+    by_arrival: &mut BTreeMap<u64, Exchange>,
+    waiting: &mut WaitIndex,
+    gets: &mut GetIndex,
+    arrival: u64,
+    exchange: Exchange,
+) -> Result<(), AllocError>
+    requires last { All (λ k. k < arrival) (keys by_arrival.old) }
+    requires waits_not { IsNotIn arrival waiting.old }
+    requires asks_not { AreWithout arrival gets.old }
+    ensures ok { OnOk result (by_arrival.new.entries ≡ by_arrival.old.entries ++ (arrival, exchange) ∷ []) }
+    ensures entered { OnOk result (IsEntered exchange.stage arrival waiting.old waiting.new) }
+    ensures asks { OnOk result (IsGetEntered exchange.asked arrival gets.old gets.new) }
+    ensures err { OnErr result (by_arrival.new.entries ≡ by_arrival.old.entries) }
+    ensures left { OnErr result (IsSameIndex waiting.old waiting.new) }
+    ensures asks_no_more { OnErr result (AreSame gets.old gets.new) }
+    ensures trim_waits { IsTrim waiting.old → IsTrim waiting.new }
+    ensures trim_gets { AreTrim gets.old → AreTrim gets.new }
+{
+    let stage = exchange.stage;
+    waiting.enter(stage, arrival)?;
+    match push(by_arrival, gets, arrival, exchange) {
+        Ok(()) => Ok(()),
+        Err(error) => {
+            waiting.leave(stage, arrival);
+            Err(error)
+        }
+    }
+}
+
+/// Takes the exchange of an arrival out, also of the indexes of GETs and of those that wait.
+fn remove(
+    by_arrival: &mut BTreeMap<u64, Exchange>,
+    waiting: &mut WaitIndex,
+    gets: &mut GetIndex,
+    arrival: u64,
+)
+    ensures entries { by_arrival.new.entries ≡ remove_entry (is_at (nat_cmp arrival)) by_arrival.old.entries }
+    ensures left { ForSome (get nat_cmp by_arrival.old arrival) (λ x. HasLeft x.stage arrival waiting.old waiting.new) }
+    ensures asks_no_more { ForSome (get nat_cmp by_arrival.old arrival) (λ x. GetHasLeft x.asked arrival gets.old gets.new) }
+    ensures waits_still { ForNone (get nat_cmp by_arrival.old arrival) (IsSameIndex waiting.old waiting.new) }
+    ensures asks_still { ForNone (get nat_cmp by_arrival.old arrival) (AreSame gets.old gets.new) }
+    ensures trim_waits { IsTrim waiting.old → IsTrim waiting.new }
+    ensures trim_gets { AreTrim gets.old → AreTrim gets.new }
+{
+    if let Some(x) = by_arrival.remove(&arrival) {
+        waiting.leave(x.stage, arrival);
+        gets.leave(&x.asked, arrival);
+    }
+}
+
+/// The first of these arrivals, among which all GETs of a key are, that others wait for.
+fn first_to_lead(
+    by_arrival: &BTreeMap<u64, Exchange>,
+    arrivals: &BTreeSet<u64>,
+    policy: Policy,
+    rule: ReuseRule,
+    key: &Key,
+) -> Option<u64>
+    requires { GetsPass key.now (contains nat_cmp arrivals.now) by_arrival.now.entries }
+    ensures { result ≡ leader policy rule key.now (values by_arrival.now) }
+{
+    // It is said of the length that the numbers ascend.
+    let _open = by_arrival.len();
+    for arrival in arrivals {
+        if let Some(x) = by_arrival.get(arrival) {
+            if leads(x, policy, rule, key) {
+                return Some(x.id);
+            }
+        }
+    }
+    None
+}
+
+/// Releases those of these arrivals that wait for the exchange of an id.
+fn release_each(by_arrival: &mut BTreeMap<u64, Exchange>, waiting: &BTreeSet<u64>, leader: u64)
+    requires { WaitersPass leader (contains nat_cmp waiting.now) by_arrival.old.entries }
+    ensures { by_arrival.new.entries ≡ on_all (release leader) by_arrival.old.entries }
+{
+    for arrival in waiting {
+        if let Some(x) = by_arrival.get_mut(arrival) {
+            x.release(leader);
+        }
+    }
+}
+
+/// Marks each exchange of a key that was invalidated.
+fn overtake_each(by_arrival: &mut BTreeMap<u64, Exchange>, key: &Key)
+    ensures { by_arrival.new.entries ≡ on_all (overtake key.now) by_arrival.old.entries }
+{
+    by_arrival.retain(|_, x| {
+        x.overtake(key);
+        true
+    });
+}

@@ -1,0 +1,126 @@
+//! Which arrivals are GETs for which key.
+//!
+//! A call costs the logarithm of how many are open.
+ghost use Rattle.std.specs.Prelude.{◌≡◌, ℕ, false, IfOk, OnOk, OnErr, option_copied};
+ghost use Rattle.std.specs.Bool.{OnFalse, OnTrue};
+ghost use Rattle.std.specs.BTreeMap.{get};
+ghost use Rattle.hx_target.specs.KeyOrder.{key_cmp};
+ghost use Rattle.proxy_core.specs.Gets.{gets_in, AreNone, IsPut, IsPutIf, IsTaken, IsGetEntered, GetHasLeft, AreSame, AreTrim, AreTrimBeside};
+
+use crate::open::leading::is_get;
+use hx_hop::Asked;
+use hx_target::Key;
+use std::alloc::{AllocError, Global};
+use std::collections::{BTreeMap, BTreeSet};
+
+/// The numbers of the arrivals of GETs, by the key that they ask for, of which none stands there without an arrival.
+pub(crate) struct GetIndex {
+    alloc: Global,
+    arrivals: BTreeMap<Key, BTreeSet<u64>>,
+}
+
+/// One call drops it, wherever that is.
+impl Drop for GetIndex {
+    fn drop(self) {
+        let GetIndex {
+            alloc: _,
+            arrivals: _,
+        } = self;
+    }
+}
+
+impl GetIndex {
+    /// No arrivals.
+    pub(crate) fn new(alloc: Global) -> Self
+        ensures none { AreNone result }
+        ensures trim { AreTrim result }
+    {
+        GetIndex {
+            alloc,
+            arrivals: BTreeMap::new(alloc),
+        }
+    }
+
+    /// The arrivals of GETs for a key.
+    pub(crate) fn find(&self, key: &Key) -> Option<&BTreeSet<u64>>
+        ensures { option_copied result ≡ get key_cmp self.now.arrivals key.now }
+    {
+        self.arrivals.get(key)
+    }
+
+    /// Enters an arrival, if it is a GET. Want of memory changes nothing.
+    pub(crate) fn enter(&mut self, asked: &Asked, arrival: u64) -> Result<(), AllocError>
+        ensures ok { OnOk result (IsGetEntered asked.now arrival self.old self.new) }
+        ensures err { OnErr result (AreSame self.old self.new) }
+        ensures trim { AreTrim self.old → AreTrim self.new }
+    {
+        if is_get(asked) {
+            return self.insert(&asked.target.key, arrival);
+        }
+        Ok(())
+    }
+
+    /// Takes an arrival out, if it is a GET. No memory is taken.
+    pub(crate) fn leave(&mut self, asked: &Asked, arrival: u64)
+        ensures left { GetHasLeft asked.now arrival self.old self.new }
+        ensures trim { AreTrim self.old → AreTrim self.new }
+    {
+        if is_get(asked) {
+            self.remove(&asked.target.key, arrival);
+        }
+    }
+
+    fn insert(&mut self, key: &Key, arrival: u64) -> Result<(), AllocError>
+        ensures ok { OnOk result (IsPut key.now arrival self.old self.new) }
+        ensures err { OnErr result (AreSame self.old self.new) }
+        ensures trim { AreTrim self.old → AreTrim self.new }
+    {
+        if self.insert_beside(key, arrival)? {
+            return Ok(());
+        }
+        let mut arrivals = BTreeSet::new(self.alloc);
+        arrivals.insert(arrival)?;
+        self.arrivals.insert(key.copy(self.alloc)?, arrivals)?;
+        Ok(())
+    }
+
+    /// Enters an arrival where others ask for that key, and says whether some do.
+    fn insert_beside(&mut self, key: &Key, arrival: u64) -> Result<bool, AllocError>
+        ensures ok { IfOk result (λ has. IsPutIf has key.now arrival self.old self.new) }
+        ensures err { OnErr result (AreSame self.old self.new) }
+        ensures trim { AreTrim self.old → AreTrim self.new }
+    {
+        match self.arrivals.get_mut(key) {
+            Some(arrivals) => {
+                arrivals.insert(arrival)?;
+                Ok(true)
+            }
+            None => Ok(false),
+        }
+    }
+
+    fn remove(&mut self, key: &Key, arrival: u64)
+        ensures taken { IsTaken key.now arrival self.old self.new }
+        ensures trim { AreTrim self.old → AreTrim self.new }
+    {
+        if self.take_out(key, arrival) {
+            self.arrivals.remove(key);
+        }
+    }
+
+    /// Takes an arrival out, and says whether it was the last that asked for that key.
+    fn take_out(&mut self, key: &Key, arrival: u64) -> bool
+        ensures taken { IsTaken key.now arrival self.old self.new }
+        ensures last { OnTrue result ((m : ℕ) → gets_in self.new key.now m ≡ false) }
+        ensures trim_beside { AreTrim self.old → AreTrimBeside key.now self.new }
+        ensures trim { AreTrim self.old → OnFalse result (AreTrim self.new) }
+    {
+        match self.arrivals.get_mut(key) {
+            Some(arrivals) => {
+                arrivals.remove(&arrival);
+                arrivals.is_empty()
+            }
+            None => false,
+        }
+    }
+}

@@ -1,0 +1,66 @@
+//! What is known of an origin's answer.
+ghost use Rattle.std.specs.Prelude.{◌≡◌, ◌<◌, IfOk};
+ghost use Rattle.hx_hop.specs.Answering.{answered_of};
+ghost use Rattle.proxy_core.specs.Storing.{is_unasked, invalidates, key_invalidated};
+ghost use Rattle.proxy_core.specs.Validating.{is_validation};
+
+use crate::open::exchange::Exchange;
+use hx_framing::Response;
+use hx_hop::{Answered, answered};
+use hx_target::Key;
+use std::alloc::{AllocError, Global};
+
+/// An answer of the origin to an open exchange.
+#[derive(Clone, Copy)]
+pub(crate) struct OriginAnswer<'a> {
+    pub(crate) exchange: &'a Exchange,
+    pub(crate) response: &'a Response,
+    /// When it came, in Unix seconds (RFC 9111, section 4.2.3: response_time).
+    pub(crate) response_time: u64,
+}
+
+impl OriginAnswer<'_> {
+    /// Its head, as rules see it.
+    pub(crate) fn head(&self, alloc: Global) -> Result<Answered, AllocError>
+        requires { self.now.response_time < 253_402_300_800 }
+        ensures { IfOk result (λ head. head ≡ answered_of self.now.response.now self.now.response_time) }
+    {
+        answered(alloc, self.response, self.response_time)
+    }
+
+    /// Whether it is a 304 to the proxy's conditions.
+    pub(crate) fn is_validation(&self) -> bool
+        ensures { result ≡ is_validation self.now.exchange.now self.now.response.now }
+    {
+        self.response.status == 304 && self.exchange.condition.is_some()
+    }
+
+    /// Whether it is a 304 to a client that set no condition.
+    pub(crate) fn is_unasked(&self) -> bool
+        ensures { result ≡ is_unasked self.now.exchange.now.asked self.now.response.now }
+    {
+        let fields = &self.exchange.asked.fields;
+        self.response.status == 304
+            && !(fields.has(b"If-None-Match") || fields.has(b"If-Modified-Since"))
+    }
+
+    /// Whether it invalidates what is held for the request's key.
+    pub(crate) fn invalidates(&self) -> bool
+        ensures { result ≡ invalidates self.now.exchange.now self.now.response.now }
+    {
+        !self.exchange.asked.method.is_safe()
+            && (200 <= self.response.status && self.response.status <= 399)
+            && !(self.is_validation() || self.is_unasked())
+    }
+
+    /// The key that it invalidates.
+    pub(crate) fn key_invalidated(&self, alloc: Global) -> Result<Option<Key>, AllocError>
+        ensures { IfOk result (λ key. key ≡ key_invalidated self.now.exchange.now self.now.response.now) }
+    {
+        if self.invalidates() {
+            Ok(Some(self.exchange.asked.target.key.copy(alloc)?))
+        } else {
+            Ok(None)
+        }
+    }
+}

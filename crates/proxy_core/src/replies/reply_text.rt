@@ -1,0 +1,158 @@
+//! The bytes of what the origin answered and of what the proxy answers by itself, and what all replies share.
+ghost use Rattle.std.specs.Prelude.{◌≡◌, ◌<◌, length, IfOk, Some, None};
+ghost use Rattle.hx_framing.specs.Text.{response_text};
+ghost use Rattle.hx_hop.specs.Answering.{answered_of};
+ghost use Rattle.hx_hop.specs.Moments.{date_text_of};
+ghost use Rattle.proxy_core.specs.Replies.{passed_text, lines_passed, length_passed, ttl_passed, refused_text, lines_refused, content_sent, is_head, length_told};
+
+use crate::replies::origin_answer::OriginAnswer;
+use hx_age::{Times, current_age, ttl};
+use hx_directives::Directives;
+use hx_fields::{Bytes, Fields};
+use hx_framing::{Response, write_response};
+use hx_hop::{Answered, Asked, date_text};
+use hx_policy::Policy;
+use hx_reuse::lifetime_under;
+use hx_status::{Cause, How, Status, member, refusal};
+use hx_storable::StoreRule;
+use std::alloc::{AllocError, Global};
+
+pub(crate) fn is_head(asked: &Asked) -> bool
+    ensures { result ≡ is_head asked.now }
+{
+    asked.method.as_str().as_bytes() == b"HEAD".as_slice()
+}
+
+/// What is sent of a content: nothing to HEAD (RFC 9110, section 9.3.2).
+pub(crate) fn content_sent(head: bool, content: &[u8]) -> &[u8]
+    ensures { result.now ≡ content_sent head content.now }
+{
+    if head { &[] } else { content }
+}
+
+/// No length where the status has none (RFC 9110, section 8.6).
+pub(crate) fn length_told(status: u16, length: Option<u64>) -> Option<u64>
+    ensures { result ≡ length_told status length }
+{
+    if status == 204 || status == 304 {
+        None
+    } else {
+        length
+    }
+}
+
+/// What is told of an answer that is passed on.
+#[derive(Clone, Copy)]
+pub(crate) struct PassedOn {
+    /// What the line of its exchange says of caching.
+    pub(crate) policy: Policy,
+    pub(crate) stored: bool,
+    /// The first storing rule against it, where its line tells that.
+    pub(crate) rule: Option<StoreRule>,
+}
+
+/// The seconds of freshness that an answer has left, where it was stored.
+fn ttl_passed(
+    alloc: Global,
+    answer: &OriginAnswer<'_>,
+    head: &Answered,
+    told: PassedOn,
+) -> Result<Option<i64>, AllocError>
+    ensures { IfOk result (λ left. left ≡ ttl_passed told.policy answer.now.exchange.now head.now.status head.now.fields answer.now.response_time told.stored) }
+{
+    if !told.stored {
+        return Ok(None);
+    }
+    let now = answer.response_time;
+    let directives = Directives::of(alloc, &head.fields)?;
+    let times = Times::of(&head.fields, answer.exchange.request_time, now);
+    let age = current_age(&times, now);
+    let lifetime = lifetime_under(told.policy, head.status, &head.fields, &directives);
+    Ok(Some(ttl(lifetime, age)))
+}
+
+/// The lines of an answer that is passed on.
+fn lines_passed(
+    alloc: Global,
+    name: &str,
+    answer: &OriginAnswer<'_>,
+    head: &Answered,
+    told: PassedOn,
+) -> Result<Fields, AllocError>
+    ensures { IfOk result (λ lines. lines ≡ lines_passed told.policy name.now answer.now.exchange.now head.now.status head.now.fields answer.now.response_time told.stored told.rule) }
+{
+    let status = Status {
+        how: How::Fwd(answer.exchange.rule),
+        fwd_status: None,
+        ttl: ttl_passed(alloc, answer, head, told)?,
+        stored: told.stored,
+        collapsed: false,
+        detail: None,
+        not_stored: told.rule,
+    };
+    let member = member(alloc, name, &status)?;
+    let mut lines = head.fields.copy(alloc)?;
+    lines.push(b"Cache-Status", member.as_slice())?;
+    Ok(lines)
+}
+
+/// The length that an answer of the origin announces (RFC 9110, section 8.6).
+fn length_passed(head: bool, response: &Response) -> Option<u64>
+    ensures { result ≡ length_passed head response.now }
+{
+    if head {
+        length_told(response.status, response.announced)
+    } else {
+        length_told(response.status, Some(response.content.len() as u64))
+    }
+}
+
+/// An answer of the origin, as it is passed on: its head is handed in as rules see it.
+pub(crate) fn passed_text(
+    alloc: Global,
+    name: &str,
+    answer: &OriginAnswer<'_>,
+    head: &Answered,
+    told: PassedOn,
+) -> Result<Bytes, AllocError>
+    requires { head.now ≡ answered_of answer.now.response.now answer.now.response_time }
+    ensures { IfOk result (λ text. text ≡ passed_text told.policy name.now answer.now.exchange.now answer.now.response.now answer.now.response_time told.stored told.rule) }
+{
+    let asked = &answer.exchange.asked;
+    let response = answer.response;
+    let to_head = is_head(asked);
+    let lines = lines_passed(alloc, name, answer, head, told)?;
+    let length = length_passed(to_head, response);
+    let content = content_sent(to_head, response.content.as_slice());
+    write_response(alloc, response.status, &lines, length, asked.close, content)
+}
+
+fn lines_refused(alloc: Global, now: u64, text: &[u8]) -> Result<Fields, AllocError>
+    requires { now < 253_402_300_800 }
+    ensures { IfOk result (λ lines. lines ≡ lines_refused (date_text_of now) text.now) }
+{
+    let mut lines = Fields::new(alloc);
+    lines.push(b"Date", &date_text(now))?;
+    lines.push(b"Content-Type", b"text/plain")?;
+    lines.push(b"Refusal", text)?;
+    Ok(lines)
+}
+
+/// The proxy's own answer to a cause at a moment, in Unix seconds below the year 10000. HEAD gets the head alone.
+pub fn refused(
+    alloc: Global,
+    now: u64,
+    cause: Cause,
+    close: bool,
+    head: bool,
+) -> Result<Bytes, AllocError>
+    requires { now < 253_402_300_800 }
+    ensures { IfOk result (λ text. text ≡ refused_text (date_text_of now) cause close head) }
+{
+    let (status, text) = refusal(alloc, cause)?;
+    let lines = lines_refused(alloc, now, text.as_slice())?;
+    let content = content_sent(head, text.as_slice());
+    let length = text.len() as u64;
+    let message = write_response(alloc, status, &lines, Some(length), close, content)?;
+    Ok(message)
+}

@@ -1,0 +1,223 @@
+//! The origin of an exchange answers.
+ghost use Rattle.std.specs.Prelude.{◌≡◌, ◌<◌, Some, None, IfOk, IfErr, OnErr};
+ghost use Rattle.hx_hop.specs.Answering.{answered_of};
+ghost use Rattle.hx_allow.specs.Matching.{policy_of};
+ghost use Rattle.hx_reuse.specs.Rules.{decision_of};
+ghost use Rattle.hx_vary.specs.Vary.{kept_values};
+ghost use Rattle.proxy_core.specs.Replies.{passed_text};
+ghost use Rattle.proxy_core.specs.Storing.{rule_told};
+ghost use Rattle.proxy_core.specs.Outcomes.{is_error_status, passed, passed_unless, fallback_for, answered, stored_serial};
+ghost use Rattle.proxy_core.specs.declared.event.Event.TheVariants.{Answer};
+ghost use Rattle.proxy_core.specs.State.{Steps, Refuses};
+ghost use Rattle.proxy_core.specs.Pending.{reply_of, IsNext, Makes, outcome_after, AfterLeaves, AfterFits};
+
+use crate::core_state::{Core, not_forwarded};
+use crate::fault::CoreFault;
+use crate::moments::moment_fault;
+use crate::outcome::Outcome;
+use crate::replies::origin_answer::OriginAnswer;
+use crate::replies::pending::{AfterAnswer, Change, PendingReply};
+use crate::replies::reply_text::{PassedOn, passed_text};
+use crate::replies::stored_reply::CacheStatusInfo;
+use crate::steps::fallback::{Fallback, fallback_for};
+use crate::steps::storing::{Admission, NewEntry, removed_unstored, replaced_by};
+use hx_fields::Bytes;
+use hx_framing::Response;
+use hx_hop::Answered;
+use hx_status::FailKind;
+use hx_storable::StoreRule;
+use hx_store::Shelf;
+use std::alloc::{AllocError, Global};
+
+fn is_error_status(status: u16) -> bool
+    ensures { result ≡ is_error_status status }
+{
+    status == 500 || status == 502 || status == 503 || status == 504
+}
+
+impl<S: Shelf> Core<S> {
+    /// The bytes of an answer that is passed on: its head is handed in as rules see it.
+    fn passed_text(
+        &self,
+        alloc: Global,
+        answer: &OriginAnswer<'_>,
+        head: &Answered,
+        rule: Option<StoreRule>,
+        stored: bool,
+    ) -> Result<Bytes, AllocError>
+        requires { head.now ≡ answered_of answer.now.response.now answer.now.response_time }
+        ensures { IfOk result (λ text. text ≡ passed_text (policy_of self.now.table.lines answer.now.exchange.now.line) self.now.table.name answer.now.exchange.now answer.now.response.now answer.now.response_time stored rule) }
+    {
+        let policy = self.config.policy(answer.exchange.line);
+        let told = PassedOn {
+            policy,
+            stored,
+            rule,
+        };
+        passed_text(alloc, self.config.name(), answer, head, told)
+    }
+
+    /// Passes on an answer that isn't stored, and tells the rule against that.
+    fn pass_by(
+        &self,
+        alloc: Global,
+        answer: &OriginAnswer<'_>,
+        head: &Answered,
+        rule: Option<StoreRule>,
+    ) -> Result<PendingReply, AllocError>
+        requires { head.now ≡ answered_of answer.now.response.now answer.now.response_time }
+        ensures outcome { IfOk result (λ pending. reply_of pending ≡ passed self.now.table self.now.entries answer.now.response_time answer.now.exchange.now answer.now.response.now rule None) }
+        ensures change { IfOk result (λ pending. pending.change ≡ Change.Keep) }
+    {
+        Ok(PendingReply {
+            bytes: self.passed_text(alloc, answer, head, rule, false)?,
+            close: answer.exchange.asked.close,
+            change: Change::Keep,
+            removed: removed_unstored(alloc, &self.shelf, answer)?,
+        })
+    }
+
+    /// Passes on an answer, and stores it.
+    fn pass_and_store(
+        &self,
+        alloc: Global,
+        answer: &OriginAnswer<'_>,
+        head: Answered,
+        rule: Option<StoreRule>,
+        new_entry: NewEntry,
+    ) -> Result<PendingReply, AllocError>
+        requires head { head ≡ answered_of answer.now.response.now answer.now.response_time }
+        requires nominated { new_entry.nominated ≡ kept_values head.fields answer.now.exchange.now.asked.fields }
+        ensures outcome { IfOk result (λ pending. reply_of pending ≡ passed self.now.table self.now.entries answer.now.response_time answer.now.exchange.now answer.now.response.now rule (Some new_entry.serial)) }
+        ensures next { IfOk result (λ pending. IsNext (Some new_entry.serial) pending.change) }
+        ensures makes { IfOk result (λ pending. Makes answer.now.exchange.now answer.now.response.now answer.now.response_time pending.change) }
+    {
+        let asked = &answer.exchange.asked;
+        let bytes = self.passed_text(alloc, answer, &head, rule, true)?;
+        let removed = replaced_by(alloc, &self.shelf, asked)?;
+        let entry = new_entry.into_entry(alloc, answer, head)?;
+        Ok(PendingReply {
+            bytes,
+            close: asked.close,
+            change: Change::Store(entry),
+            removed,
+        })
+    }
+
+    /// Passes on an answer, and stores it where it may be.
+    fn pass_on(&self, alloc: Global, answer: &OriginAnswer<'_>) -> Result<PendingReply, AllocError>
+        requires { answer.now.response_time < 253_402_300_800 }
+        ensures outcome { IfOk result (λ pending. reply_of pending ≡ passed self.now.table self.now.entries answer.now.response_time answer.now.exchange.now answer.now.response.now (rule_told self.now.table answer.now.exchange.now answer.now.response.now answer.now.response_time self.now.next) (stored_serial self.now.table answer.now.exchange.now answer.now.response.now answer.now.response_time self.now.next)) }
+        ensures next { IfOk result (λ pending. IsNext self.now.next pending.change) }
+        ensures makes { IfOk result (λ pending. Makes answer.now.exchange.now answer.now.response.now answer.now.response_time pending.change) }
+    {
+        let head = answer.head(alloc)?;
+        let Admission { rule, new_entry } = self.admit(alloc, answer, &head)?;
+        match new_entry {
+            None => self.pass_by(alloc, answer, &head, rule),
+            Some(new_entry) => self.pass_and_store(alloc, answer, head, rule, new_entry),
+        }
+    }
+
+    /// Passes on an answer, or sends a held response in place of an error where one may be.
+    fn pass_on_or_send_stale(
+        &self,
+        alloc: Global,
+        answer: &OriginAnswer<'_>,
+    ) -> Result<PendingReply, AllocError>
+        requires { answer.now.response_time < 253_402_300_800 }
+        ensures outcome { IfOk result (λ pending. reply_of pending ≡ passed_unless self.now.table self.now.entries answer.now.response_time answer.now.exchange.now answer.now.response.now self.now.next (is_error_status answer.now.response.now.status) (fallback_for (policy_of self.now.table.lines answer.now.exchange.now.line) self.now.entries answer.now.exchange.now.asked answer.now.response_time (decision_of (policy_of self.now.table.lines answer.now.exchange.now.line) self.now.entries answer.now.exchange.now.asked answer.now.response_time))) }
+        ensures next { IfOk result (λ pending. IsNext self.now.next pending.change) }
+        ensures makes { IfOk result (λ pending. Makes answer.now.exchange.now answer.now.response.now answer.now.response_time pending.change) }
+    {
+        let status = answer.response.status;
+        if !is_error_status(status) {
+            return self.pass_on(alloc, answer);
+        }
+        let exchange = answer.exchange;
+        let asked = &exchange.asked;
+        let now = answer.response_time;
+        let policy = self.config.policy(exchange.line);
+        match fallback_for(alloc, &self.shelf, asked, now, policy)? {
+            Fallback::Sends(serial, detail) => {
+                let info = CacheStatusInfo::forwarded(policy, exchange, Some(status), Some(detail));
+                self.send(alloc, serial, now, info, asked)
+            }
+            Fallback::Refuses(_, _) => self.pass_on(alloc, answer),
+        }
+    }
+
+    /// What follows an answer.
+    fn after_answer(
+        &self,
+        alloc: Global,
+        answer: &OriginAnswer<'_>,
+    ) -> Result<AfterAnswer, AllocError>
+        requires { answer.now.response_time < 253_402_300_800 }
+        ensures outcome { IfOk result (λ after. outcome_after answer.now.exchange.now after ≡ answered self.now.table self.now.entries answer.now.response_time answer.now.exchange.now answer.now.response.now self.now.next (decision_of (policy_of self.now.table.lines answer.now.exchange.now.line) self.now.entries answer.now.exchange.now.asked answer.now.response_time)) }
+        ensures leaves { IfOk result (λ after. AfterLeaves self.now.limit self.now.entries answer.now.exchange.now (Answer answer.now.response_time answer.now.exchange.now.id answer.now.response.now) after) }
+        ensures fits { IfOk result (λ after. AfterFits self.now.next self.now.entries after) }
+    {
+        if answer.is_validation() {
+            return self.after_304(alloc, answer);
+        }
+        if answer.is_unasked() {
+            let kind = FailKind::BadAnswer;
+            let came = Some(answer.response.status);
+            let exchange = answer.exchange;
+            let now = answer.response_time;
+            let pending = self.reply_to_failure(alloc, exchange, kind, came, now)?;
+            return Ok(AfterAnswer::Ends(pending));
+        }
+        let pending = self.pass_on_or_send_stale(alloc, answer)?;
+        Ok(AfterAnswer::Ends(pending))
+    }
+
+    /// The origin answered. A 304 to the proxy's conditions sends the response that it answers; where it answers
+    /// none, a held one is sent or the client's own request goes forward once more. Any other 304 that nobody asked
+    /// for is a failure. In place of 500, 502, 503 and 504 a held response is sent where one may be. Else the answer
+    /// is passed on, and stored where no storing rule stands. `now` is in Unix seconds. The answer is lent, so that a
+    /// refusal loses nothing.
+    pub fn answer(
+        &mut self,
+        alloc: Global,
+        now: u64,
+        id: u64,
+        response: &Response,
+    ) -> Result<Outcome, CoreFault>
+        ensures ok { IfOk result (λ outcome. Steps self.old (Answer now id response.now) outcome self.new) }
+        ensures err { IfErr result (λ fault. Refuses self.old (Answer now id response.now) fault) }
+        ensures unchanged { OnErr result (self.new ≡ self.old) }
+    {
+        let x = match self.exchanges.find(id) {
+            Some(x) => x,
+            None => return Err(CoreFault::UnknownId),
+        };
+        match moment_fault(now) {
+            None => {}
+            Some(fault) => return Err(fault),
+        }
+        match not_forwarded(x.stage) {
+            None => {}
+            Some(fault) => return Err(fault),
+        }
+        let answer = OriginAnswer {
+            exchange: x,
+            response,
+            response_time: now,
+        };
+        let invalidated = match answer.key_invalidated(alloc) {
+            Ok(key) => key,
+            Err(_) => return Err(CoreFault::OutOfMemory),
+        };
+        let line = x.line;
+        match self.after_answer(alloc, &answer) {
+            Ok(AfterAnswer::Ends(pending)) => match self.finish(id, pending, invalidated) {
+                Ok(outcome) => Ok(outcome),
+                Err(_) => Err(CoreFault::OutOfMemory),
+            },
+            Ok(AfterAnswer::GoesOn(bytes)) => Ok(self.go_on(id, now, line, bytes)),
+            Err(_) => Err(CoreFault::OutOfMemory),
+        }
+    }
+}

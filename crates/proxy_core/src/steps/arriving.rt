@@ -1,0 +1,190 @@
+//! A request arrives.
+ghost use Rattle.std.specs.Prelude.{◌≡◌, ◌<◌, ◌++◌, ◌∷◌, [], None, IfOk, IfErr, OnOk, OnErr};
+ghost use Rattle.hx_directives.specs.Occurrences.{occurrences_of};
+ghost use Rattle.hx_allow.specs.Matching.{policy_of, verdict_of};
+ghost use Rattle.hx_allow.specs.declared.verdicts.Verdict.TheVariants.{Allowed};
+ghost use Rattle.hx_reuse.specs.Rules.{decision_of};
+ghost use Rattle.proxy_core.specs.Leading.{leader_for};
+ghost use Rattle.proxy_core.specs.Outcomes.{as_hit, find_exchange, refused, allowed, sent_on, forward_text, is_only_if_cached};
+ghost use Rattle.proxy_core.specs.declared.event.Event.TheVariants.{Arrive};
+ghost use Rattle.proxy_core.specs.declared.open.stage.Stage.TheVariants.{Forwarded};
+ghost use Rattle.proxy_core.specs.State.{Steps, Refuses, after, placed};
+
+use crate::core_state::Core;
+use crate::fault::CoreFault;
+use crate::moments::moment_fault;
+use crate::open::exchange::Exchange;
+use crate::open::leading::{can_wait, is_for_others, is_get};
+use crate::open::stage::Stage;
+use crate::outcome::Outcome;
+use crate::replies::stored_reply::CacheStatusInfo;
+use crate::steps::condition::condition_at;
+use crate::steps::judging::judge_by;
+use crate::steps::sending::{forward_text, refuse};
+use hx_allow::Verdict;
+use hx_directives::{Directive, Directives};
+use hx_hop::Asked;
+use hx_policy::Policy;
+use hx_reuse::{Decision, ReuseRule};
+use hx_status::{Cause, How};
+use hx_store::Shelf;
+use std::alloc::{AllocError, Global};
+
+/// A stored response that no rule keeps back.
+fn as_hit(policy: Policy) -> CacheStatusInfo
+    ensures { result ≡ as_hit policy }
+{
+    CacheStatusInfo {
+        policy,
+        how: How::Hit,
+        came: None,
+        detail: None,
+        collapsed: false,
+    }
+}
+
+fn is_only_if_cached(asked_directives: &Directives, asked: &Asked) -> bool
+    requires { asked_directives.now ≡ occurrences_of asked.now.fields }
+    ensures { result ≡ is_only_if_cached asked.now }
+{
+    asked_directives.has(Directive::OnlyIfCached)
+}
+
+/// A request that the table doesn't allow.
+fn deny(alloc: Global, now: u64, cause: Cause, asked: &Asked) -> Result<Outcome, CoreFault>
+    requires { now < 253_402_300_800 }
+    ensures outcome { IfOk result (λ outcome. outcome ≡ refused now cause asked.now) }
+    ensures fault { IfErr result (λ fault. fault ≡ CoreFault.OutOfMemory) }
+{
+    match refuse(alloc, now, cause, asked) {
+        Ok(pending) => Ok(pending.into_outcome()),
+        Err(_) => Err(CoreFault::OutOfMemory),
+    }
+}
+
+impl<S: Shelf> Core<S> {
+    /// A request arrives: the operator's table is asked first, then the store. `now` is in Unix seconds; `id`
+    /// names the exchange until its reply. The request is lent, so that a refusal loses nothing.
+    pub fn arrive(
+        &mut self,
+        alloc: Global,
+        now: u64,
+        id: u64,
+        asked: &Asked,
+    ) -> Result<Outcome, CoreFault>
+        ensures ok { IfOk result (λ outcome. Steps self.old (Arrive now id asked.now) outcome self.new) }
+        ensures err { IfErr result (λ fault. Refuses self.old (Arrive now id asked.now) fault) }
+        ensures unchanged { OnErr result (self.new ≡ self.old) }
+    {
+        match self.exchanges.find(id) {
+            Some(_) => return Err(CoreFault::IdTaken),
+            None => {}
+        }
+        match moment_fault(now) {
+            None => {}
+            Some(fault) => return Err(fault),
+        }
+        match self.config.judge(&asked.method, &asked.target) {
+            Verdict::Allowed(line) => match self.allow(alloc, now, id, asked, line) {
+                Ok(outcome) => Ok(outcome),
+                Err(_) => Err(CoreFault::OutOfMemory),
+            },
+            Verdict::DeniedBy(line) => deny(alloc, now, Cause::Denied(line), asked),
+            Verdict::NoLine => deny(alloc, now, Cause::NoLine, asked),
+        }
+    }
+
+    /// A request that the table allows.
+    fn allow(
+        &mut self,
+        alloc: Global,
+        now: u64,
+        id: u64,
+        asked: &Asked,
+        line: u16,
+    ) -> Result<Outcome, AllocError>
+        requires early { now < 253_402_300_800 }
+        requires free { find_exchange id self.old.exchanges ≡ None }
+        requires line { verdict_of self.old.table.lines asked.now.method asked.now.target ≡ Allowed line }
+        ensures outcome { IfOk result (λ outcome. outcome ≡ allowed self.old.table self.old.entries self.old.exchanges line now asked.now (decision_of (policy_of self.old.table.lines line) self.old.entries asked.now now)) }
+        ensures after { IfOk result (λ outcome. self.new ≡ after self.old (Arrive now id asked.now) outcome) }
+        ensures unchanged { OnErr result (self.new ≡ self.old) }
+    {
+        let directives = Directives::of(alloc, &asked.fields)?;
+        let policy = self.config.policy(line);
+        match judge_by(alloc, &self.shelf, asked, &directives, now, policy)? {
+            Decision::Hit(serial) => {
+                let pending = self.send(alloc, serial, now, as_hit(policy), asked)?;
+                self.shelf.promote(serial);
+                Ok(pending.into_outcome())
+            }
+            Decision::Forward(rule, named) => {
+                if is_only_if_cached(&directives, asked) {
+                    let pending = refuse(alloc, now, Cause::OnlyIfCached(rule), asked)?;
+                    return Ok(pending.into_outcome());
+                }
+                let exchange = Exchange {
+                    id,
+                    asked: asked.copy(alloc)?,
+                    line,
+                    rule,
+                    request_time: now,
+                    condition: condition_at(alloc, &self.shelf, named)?,
+                    overtaken: false,
+                    for_others: is_for_others(&directives, asked),
+                    stage: Stage::Forwarded,
+                };
+                self.wait_or_forward(alloc, policy, exchange)
+            }
+        }
+    }
+
+    /// The open exchange for whose answer a request waits, which a rule keeps from the store.
+    fn leader_for(&self, policy: Policy, asked: &Asked, rule: ReuseRule) -> Option<u64>
+        ensures { result ≡ leader_for policy self.now.exchanges asked.now rule }
+    {
+        if is_get(asked) && can_wait(policy, rule) {
+            self.exchanges.leader(policy, rule, &asked.target.key)
+        } else {
+            None
+        }
+    }
+
+    /// The exchange of a request opens, which waits or goes forward.
+    fn wait_or_forward(
+        &mut self,
+        alloc: Global,
+        policy: Policy,
+        exchange: Exchange,
+    ) -> Result<Outcome, AllocError>
+        requires free { find_exchange exchange.id self.old.exchanges ≡ None }
+        requires stage { exchange.stage ≡ Forwarded }
+        ensures outcome { IfOk result (λ outcome. outcome ≡ sent_on self.old.table exchange.line exchange.asked exchange.condition (leader_for policy self.old.exchanges exchange.asked exchange.rule)) }
+        ensures after { OnOk result (self.new ≡ record self.old { exchanges = self.old.exchanges ++ placed (leader_for policy self.old.exchanges exchange.asked exchange.rule) exchange ∷ [] }) }
+        ensures unchanged { OnErr result (self.new ≡ self.old) }
+    {
+        match self.leader_for(policy, &exchange.asked, exchange.rule) {
+            Some(leader) => {
+                let mut waiting = exchange;
+                waiting.stage = Stage::Waiting(leader);
+                self.exchanges.open(waiting)?;
+                Ok(Outcome::Waits(leader))
+            }
+            None => self.forward(alloc, exchange),
+        }
+    }
+
+    /// A request goes forward, and its exchange opens.
+    fn forward(&mut self, alloc: Global, exchange: Exchange) -> Result<Outcome, AllocError>
+        requires { find_exchange exchange.id self.old.exchanges ≡ None }
+        ensures outcome { IfOk result (λ outcome. outcome ≡ Outcome.Forward exchange.line (forward_text self.old.table exchange.asked exchange.condition)) }
+        ensures after { OnOk result (self.new ≡ record self.old { exchanges = self.old.exchanges ++ exchange ∷ [] }) }
+        ensures unchanged { OnErr result (self.new ≡ self.old) }
+    {
+        let line = exchange.line;
+        let condition = exchange.condition.as_ref();
+        let bytes = forward_text(alloc, &self.config, &exchange.asked, condition)?;
+        self.exchanges.open(exchange)?;
+        Ok(Outcome::Forward(line, bytes))
+    }
+}

@@ -1,0 +1,48 @@
+//! The origin of an exchange failed.
+ghost use Rattle.std.specs.Prelude.{◌≡◌, ◌<◌, IfOk, IfErr, OnErr};
+ghost use Rattle.proxy_core.specs.declared.event.Event.TheVariants.{Fail};
+ghost use Rattle.proxy_core.specs.State.{Steps, Refuses};
+
+use crate::core_state::{Core, not_forwarded};
+use crate::fault::CoreFault;
+use crate::moments::moment_fault;
+use crate::outcome::Outcome;
+use hx_status::FailKind;
+use hx_store::Shelf;
+use std::alloc::Global;
+
+impl<S: Shelf> Core<S> {
+    /// The origin failed: a held response is sent where no reuse rule stands now, or where one on that response does and
+    /// no error rule, else 502 or 504. `now` is in Unix seconds.
+    pub fn fail(
+        &mut self,
+        alloc: Global,
+        now: u64,
+        id: u64,
+        kind: FailKind,
+    ) -> Result<Outcome, CoreFault>
+        ensures ok { IfOk result (λ outcome. Steps self.old (Fail now id kind) outcome self.new) }
+        ensures err { IfErr result (λ fault. Refuses self.old (Fail now id kind) fault) }
+        ensures unchanged { OnErr result (self.new ≡ self.old) }
+    {
+        let x = match self.exchanges.find(id) {
+            Some(x) => x,
+            None => return Err(CoreFault::UnknownId),
+        };
+        match moment_fault(now) {
+            None => {}
+            Some(fault) => return Err(fault),
+        }
+        match not_forwarded(x.stage) {
+            None => {}
+            Some(fault) => return Err(fault),
+        }
+        match self.reply_to_failure(alloc, x, kind, None, now) {
+            Ok(pending) => match self.finish(id, pending, None) {
+                Ok(outcome) => Ok(outcome),
+                Err(_) => Err(CoreFault::OutOfMemory),
+            },
+            Err(_) => Err(CoreFault::OutOfMemory),
+        }
+    }
+}

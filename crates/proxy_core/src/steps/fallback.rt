@@ -1,0 +1,106 @@
+//! What is sent in place of an answer that failed (RFC 5861, section 4).
+ghost use Rattle.std.specs.Prelude.{◌≡◌, ◌<◌, Some, None, IfOk};
+ghost use Rattle.hx_directives.specs.Occurrences.{occurrences_of};
+ghost use Rattle.hx_allow.specs.Matching.{policy_of};
+ghost use Rattle.hx_reuse.specs.Rules.{decision_of};
+ghost use Rattle.proxy_core.specs.Outcomes.{error_rule_at, fallback_by, fallback_for, failed};
+ghost use Rattle.proxy_core.specs.Pending.{reply_of, IsPlain};
+
+use crate::core_state::Core;
+use crate::open::exchange::Exchange;
+use crate::replies::pending::{Change, PendingReply};
+use crate::replies::stored_reply::CacheStatusInfo;
+use crate::steps::judging::judge_by;
+use crate::steps::sending::refuse;
+use hx_directives::Directives;
+use hx_hop::Asked;
+use hx_policy::Policy;
+use hx_reuse::{Decision, ErrorRule, ReuseRule, may_serve_on_error};
+use hx_status::{Cause, Detail, FailKind};
+use hx_store::Shelf;
+use std::alloc::{AllocError, Global};
+
+/// What a failure comes to.
+#[derive(Clone, Copy, Debug, PartialEq, Eq)]
+pub enum Fallback {
+    /// The held response of this serial is sent, and this word tells why.
+    Sends(u64, Detail),
+    /// The reuse rule that stands now, and with one on the chosen response the error rule.
+    Refuses(ReuseRule, Option<ErrorRule>),
+}
+
+/// The error rule against the held response of a serial.
+fn error_rule_at<S: Shelf>(
+    shelf: &S,
+    serial: u64,
+    asked: &Asked,
+    asked_directives: &Directives,
+    now: u64,
+    policy: Policy,
+) -> Option<ErrorRule>
+    requires { asked_directives.now ≡ occurrences_of asked.now.fields }
+    ensures { result ≡ error_rule_at policy (S.entries shelf.now) serial asked.now now }
+{
+    match shelf.peek(serial) {
+        Some(entry) => may_serve_on_error(asked_directives, entry, now, policy).err(),
+        None => None,
+    }
+}
+
+fn fallback_by(rule: ReuseRule, serial: u64, error: Option<ErrorRule>) -> Fallback
+    ensures { result ≡ fallback_by rule serial error }
+{
+    match error {
+        Some(error) => Fallback::Refuses(rule, Some(error)),
+        None => Fallback::Sends(serial, Detail::StaleIfError),
+    }
+}
+
+/// What is held instead of an answer that failed.
+pub(crate) fn fallback_for<S: Shelf>(
+    alloc: Global,
+    shelf: &S,
+    asked: &Asked,
+    now: u64,
+    policy: Policy,
+) -> Result<Fallback, AllocError>
+    ensures { IfOk result (λ fallback. fallback ≡ fallback_for policy (S.entries shelf.now) asked.now now (decision_of policy (S.entries shelf.now) asked.now now)) }
+{
+    let directives = Directives::of(alloc, &asked.fields)?;
+    match judge_by(alloc, shelf, asked, &directives, now, policy)? {
+        Decision::Hit(serial) => Ok(Fallback::Sends(serial, Detail::ReuseAfterError)),
+        Decision::Forward(rule, None) => Ok(Fallback::Refuses(rule, None)),
+        Decision::Forward(rule, Some(serial)) => {
+            let error = error_rule_at(shelf, serial, asked, &directives, now, policy);
+            Ok(fallback_by(rule, serial, error))
+        }
+    }
+}
+
+impl<S: Shelf> Core<S> {
+    /// What a failure leads to, where an answer of some status came or none.
+    pub(crate) fn reply_to_failure(
+        &self,
+        alloc: Global,
+        exchange: &Exchange,
+        kind: FailKind,
+        came: Option<u16>,
+        now: u64,
+    ) -> Result<PendingReply, AllocError>
+        requires { now < 253_402_300_800 }
+        ensures outcome { IfOk result (λ pending. reply_of pending ≡ failed self.now.table self.now.entries now exchange.now kind came (fallback_for (policy_of self.now.table.lines exchange.now.line) self.now.entries exchange.now.asked now (decision_of (policy_of self.now.table.lines exchange.now.line) self.now.entries exchange.now.asked now))) }
+        ensures plain { IfOk result (λ pending. IsPlain pending.change) }
+    {
+        let asked = &exchange.asked;
+        let policy = self.config.policy(exchange.line);
+        match fallback_for(alloc, &self.shelf, asked, now, policy)? {
+            Fallback::Sends(serial, detail) => {
+                let info = CacheStatusInfo::forwarded(policy, exchange, came, Some(detail));
+                self.send(alloc, serial, now, info, asked)
+            }
+            Fallback::Refuses(rule, error) => {
+                refuse(alloc, now, Cause::Origin(kind, rule, error), asked)
+            }
+        }
+    }
+}

@@ -1,0 +1,127 @@
+//! What a pending reply does to the core.
+ghost use Rattle.std.specs.Prelude.{◌≡◌, ◌∷◌, [], take, map, false, IfOk, OnOk, OnErr, option_copied};
+ghost use Rattle.hx_store.specs.Shelf.{holds, without};
+ghost use Rattle.proxy_core.specs.State.{taken, next_after, gone_out, sent_out};
+ghost use Rattle.proxy_core.specs.Pending.{reply_of, entries_by, finished, IsNext, IsNew, IsHeld};
+
+use crate::core_state::Core;
+use crate::open::serial_numbers::serial_after;
+use crate::outcome::{Outcome, Reply};
+use crate::replies::pending::{Change, PendingReply};
+use hx_fields::Bytes;
+use hx_store::{Entry, Shelf};
+use hx_target::Key;
+use std::alloc::AllocError;
+
+/// Stores an entry. What is evicted is let go.
+fn put_in<S: Shelf>(shelf: &mut S, entry: Entry, removed: &[u64]) -> Result<(), AllocError>
+    requires { holds entry.serial (S.entries shelf.old) ≡ false }
+    ensures ok { OnOk result (S.entries shelf.new ≡ take (S.limit shelf.old) (entry ∷ without removed.now (S.entries shelf.old))) }
+    ensures err { OnErr result (S.entries shelf.new ≡ S.entries shelf.old) }
+    ensures limit { S.limit shelf.new ≡ S.limit shelf.old }
+{
+    match shelf.put(entry, removed) {
+        Ok(_) => Ok(()),
+        Err(_) => Err(AllocError),
+    }
+}
+
+/// Takes out the responses of these serials. No memory is taken.
+fn remove_each<S: Shelf>(shelf: &mut S, removed: &[u64])
+    ensures entries { S.entries shelf.new ≡ taken removed.now (S.entries shelf.old) }
+    ensures limit { S.limit shelf.new ≡ S.limit shelf.old }
+{
+    for serial in removed {
+        shelf.remove(*serial);
+    }
+}
+
+/// Changes what is held. Where memory is wanted nothing has changed.
+fn change_shelf<S: Shelf>(shelf: &mut S, change: Change, removed: &[u64]) -> Result<(), AllocError>
+    requires new { IsNew change (S.entries shelf.old) }
+    requires held { IsHeld change (S.entries shelf.old) }
+    ensures ok { OnOk result (S.entries shelf.new ≡ entries_by (S.limit shelf.old) removed.now change (S.entries shelf.old)) }
+    ensures err { OnErr result (S.entries shelf.new ≡ S.entries shelf.old) }
+    ensures limit { S.limit shelf.new ≡ S.limit shelf.old }
+{
+    match change {
+        Change::Keep => {
+            remove_each(shelf, removed);
+            Ok(())
+        }
+        Change::Use(serial) => {
+            shelf.promote(serial);
+            remove_each(shelf, removed);
+            Ok(())
+        }
+        Change::Freshen(entry) => {
+            shelf.freshen(entry);
+            remove_each(shelf, removed);
+            Ok(())
+        }
+        Change::Remove(serial) => {
+            shelf.remove(serial);
+            remove_each(shelf, removed);
+            Ok(())
+        }
+        Change::Store(entry) => put_in(shelf, entry, removed),
+    }
+}
+
+/// The next serial, after one may have been stored.
+fn next_after(next: Option<u64>, stored: Option<u64>) -> Option<u64>
+    ensures { result ≡ next_after next stored }
+{
+    match stored {
+        Some(serial) => serial_after(serial),
+        None => next,
+    }
+}
+
+impl<S: Shelf> Core<S> {
+    /// The exchange of an id goes forward once more, with the client's own request.
+    pub(crate) fn go_on(&mut self, id: u64, now: u64, line: u16, bytes: Bytes) -> Outcome
+        ensures outcome { result ≡ Outcome.Forward line bytes }
+        ensures after { self.new ≡ record self.old { exchanges = map (gone_out id now) self.old.exchanges } }
+    {
+        self.exchanges.go_out(id, now);
+        Outcome::Forward(line, bytes)
+    }
+
+    /// Does what a pending reply says, and ends the exchange of an id. Where a key was invalidated, its other exchanges are
+    /// overtaken.
+    pub(crate) fn finish(
+        &mut self,
+        id: u64,
+        pending: PendingReply,
+        invalidated: Option<Key>,
+    ) -> Result<Outcome, AllocError>
+        requires next { IsNext self.old.next pending.change }
+        requires held { IsHeld pending.change self.old.entries }
+        ensures outcome { IfOk result (λ outcome. outcome ≡ reply_of pending) }
+        ensures after { OnOk result (self.new ≡ finished self.old id pending invalidated) }
+        ensures unchanged { OnErr result (self.new ≡ self.old) }
+    {
+        let PendingReply {
+            bytes,
+            close,
+            change,
+            removed,
+        } = pending;
+        let stored = change.stored();
+        let used = change.used();
+        match change_shelf(&mut self.shelf, change, removed.as_slice()) {
+            Ok(()) => {}
+            Err(error) => return Err(error),
+        }
+        self.exchanges.leave(id, invalidated.as_ref());
+        self.next = next_after(self.next, stored);
+        Ok(Outcome::Reply(Reply {
+            bytes,
+            close,
+            stored,
+            used,
+            removed,
+        }))
+    }
+}

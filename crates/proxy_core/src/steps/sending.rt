@@ -1,0 +1,95 @@
+//! What is sent without an answer to pass on: a stored response, the proxy's own reply, a request.
+ghost use Rattle.std.specs.Prelude.{◌≡◌, ◌<◌, IfOk, option_copied};
+ghost use Rattle.proxy_core.specs.Outcomes.{sent, refused, forward_text};
+ghost use Rattle.proxy_core.specs.Validating.{sent_with};
+ghost use Rattle.proxy_core.specs.Pending.{reply_of};
+
+use crate::core_state::Core;
+use crate::replies::pending::{Change, PendingReply};
+use crate::replies::reply_text::{is_head, refused};
+use crate::replies::stored_reply::{CacheStatusInfo, StoredReply};
+use crate::steps::condition::Condition;
+use hx_allow::Config;
+use hx_fields::Bytes;
+use hx_framing::write_request;
+use hx_hop::{Asked, Conditions, forward_request};
+use hx_status::Cause;
+use hx_store::{Serials, Shelf};
+use std::alloc::{AllocError, Global};
+
+impl<S: Shelf> Core<S> {
+    /// The reply that sends the stored response of a serial.
+    pub(crate) fn send(
+        &self,
+        alloc: Global,
+        serial: u64,
+        now: u64,
+        info: CacheStatusInfo,
+        asked: &Asked,
+    ) -> Result<PendingReply, AllocError>
+        ensures outcome { IfOk result (λ pending. reply_of pending ≡ sent self.now.table self.now.entries serial now info asked.now) }
+        ensures change { IfOk result (λ pending. pending.change ≡ Change.Use serial) }
+    {
+        let bytes = match self.shelf.peek(serial) {
+            Some(entry) => {
+                let reply = StoredReply {
+                    name: self.config.name(),
+                    entry,
+                    asked,
+                    info,
+                    sent_at: now,
+                };
+                reply.text(alloc)?
+            }
+            None => Bytes::new(alloc),
+        };
+        Ok(PendingReply {
+            bytes,
+            close: asked.close,
+            change: Change::Use(serial),
+            removed: Serials::new(alloc),
+        })
+    }
+}
+
+/// The proxy's own reply.
+pub(crate) fn refuse(
+    alloc: Global,
+    now: u64,
+    cause: Cause,
+    asked: &Asked,
+) -> Result<PendingReply, AllocError>
+    requires { now < 253_402_300_800 }
+    ensures outcome { IfOk result (λ pending. reply_of pending ≡ refused now cause asked.now) }
+    ensures change { IfOk result (λ pending. pending.change ≡ Change.Keep) }
+{
+    Ok(PendingReply {
+        bytes: refused(alloc, now, cause, asked.close, is_head(asked))?,
+        close: asked.close,
+        change: Change::Keep,
+        removed: Serials::new(alloc),
+    })
+}
+
+fn sent_with(condition: Option<&Condition>) -> Option<&Conditions>
+    ensures { option_copied result ≡ sent_with (option_copied condition.entry) }
+{
+    match condition {
+        Some(condition) => Some(&condition.sent),
+        None => None,
+    }
+}
+
+/// The bytes of a request that goes forward, with the proxy's conditions or without.
+pub(crate) fn forward_text(
+    alloc: Global,
+    config: &Config,
+    asked: &Asked,
+    condition: Option<&Condition>,
+) -> Result<Bytes, AllocError>
+    ensures { IfOk result (λ text. text ≡ forward_text config.now asked.now (option_copied condition.entry)) }
+{
+    let name = config.name().as_bytes();
+    let request = forward_request(alloc, asked, name, sent_with(condition))?;
+    write_request(alloc, &request)
+}

@@ -1,0 +1,214 @@
+//! Whether an answer is stored, the stored response that it makes, and what goes for it.
+ghost use Rattle.std.specs.Prelude.{◌≡◌, ◌<◌, Some, None, IfOk, IfSome, option_map};
+ghost use Rattle.hx_directives.specs.Occurrences.{occurrences_of};
+ghost use Rattle.hx_hop.specs.Answering.{answered_of};
+ghost use Rattle.hx_vary.specs.Vary.{kept_values, nominated_of};
+ghost use Rattle.hx_storable.specs.Rules.{storage_rule_of};
+ghost use Rattle.proxy_core.specs.Storing.{names_nothing, facts_of, rule_told, made, replaced_by};
+ghost use Rattle.proxy_core.specs.Outcomes.{stored_serial, removed_by};
+
+use crate::core_state::Core;
+use crate::replies::origin_answer::OriginAnswer;
+use hx_age::Times;
+use hx_directives::Directives;
+use hx_hop::{Answered, Asked, lists_cache_field};
+use hx_reuse::lifetime_under;
+use hx_storable::{Facts, StoreRule, first_rule_against, the_least_storage_rule_is_named};
+use hx_store::{Entry, Serials, Shelf};
+use hx_validate::has_validator;
+use hx_vary::{Nominated, Nomination};
+use std::alloc::{AllocError, Global};
+
+/// What a new stored response has beside the answer: its serial, and what it nominates.
+#[derive(Drop)]
+pub(crate) struct NewEntry {
+    pub(crate) serial: u64,
+    pub(crate) nominated: Nominated,
+}
+
+/// Whether an answer is stored.
+#[derive(Drop)]
+pub(crate) struct Admission {
+    /// What is told of the first storing rule against it.
+    pub(crate) rule: Option<StoreRule>,
+    /// What it has as a stored response, where it is stored.
+    pub(crate) new_entry: Option<NewEntry>,
+}
+
+impl Admission {
+    fn none(rule: Option<StoreRule>) -> Admission
+        ensures rule { result.rule ≡ rule }
+        ensures new_entry { result.new_entry ≡ None }
+    {
+        Admission {
+            rule,
+            new_entry: None,
+        }
+    }
+}
+
+impl NewEntry {
+    /// The stored response that an answer with this head makes.
+    pub(crate) fn into_entry(
+        self,
+        alloc: Global,
+        answer: &OriginAnswer<'_>,
+        head: Answered,
+    ) -> Result<Entry, AllocError>
+        requires head { head ≡ answered_of answer.now.response.now answer.now.response_time }
+        requires nominated { self.nominated ≡ kept_values head.fields answer.now.exchange.now.asked.fields }
+        ensures { IfOk result (λ entry. entry ≡ made self.serial answer.now.exchange.now answer.now.response.now answer.now.response_time) }
+    {
+        let NewEntry { serial, nominated } = self;
+        let Answered { status, mut fields } = head;
+        let exchange = answer.exchange;
+        let key = exchange.asked.target.key.detached(alloc)?;
+        let content = answer.response.content.copy(alloc)?;
+        let times = Times::of(&fields, exchange.request_time, answer.response_time);
+        fields.remove_named(b"Age");
+        // What is stored stays long: its lists get room for just what they have.
+        let fields = fields.copy(alloc)?;
+        let directives = Directives::of(alloc, &fields)?.copy(alloc)?;
+        Ok(Entry {
+            serial,
+            key,
+            nominated,
+            status,
+            fields,
+            directives,
+            content,
+            times,
+        })
+    }
+}
+
+/// Whether no request but its own may be answered by the response (RFC 9111, section 4.1).
+fn is_star(nomination: &Nomination) -> bool
+    ensures { result ≡ names_nothing nomination.now }
+{
+    match nomination {
+        Nomination::Star => true,
+        Nomination::Names(_) => false,
+    }
+}
+
+impl<S: Shelf> Core<S> {
+    /// What the storing rules ask of an answer beside the heads. What it nominates is handed in.
+    fn facts(
+        &self,
+        answer: &OriginAnswer<'_>,
+        head: &Answered,
+        directives: &Directives,
+        nomination: &Nomination,
+    ) -> Facts
+        requires head { head.now ≡ answered_of answer.now.response.now answer.now.response_time }
+        requires directives { directives.now ≡ occurrences_of head.now.fields }
+        requires nomination { nomination.now ≡ nominated_of head.now.fields answer.now.exchange.now.asked.fields }
+        ensures { result ≡ facts_of self.now.table answer.now.exchange.now answer.now.response.now answer.now.response_time self.now.next }
+    {
+        let response = answer.response;
+        let policy = self.config.policy(answer.exchange.line);
+        let lifetime = lifetime_under(policy, head.status, &head.fields, directives);
+        Facts {
+            policy,
+            vary_star: is_star(nomination),
+            listed: lists_cache_field(&response.fields),
+            explicit: lifetime.explicit,
+            validator: has_validator(&head.fields),
+            too_large: response.content.len() as u64 > self.config.max_stored(),
+            overtaken: answer.exchange.overtaken,
+            no_serial: self.next.is_none(),
+        }
+    }
+
+    /// The least storing rule that stands.
+    fn rule_against(
+        &self,
+        alloc: Global,
+        answer: &OriginAnswer<'_>,
+        head: &Answered,
+        nomination: &Nomination,
+    ) -> Result<Option<StoreRule>, AllocError>
+        requires head { head.now ≡ answered_of answer.now.response.now answer.now.response_time }
+        requires nomination { nomination.now ≡ nominated_of head.now.fields answer.now.exchange.now.asked.fields }
+        ensures { IfOk result (λ rule. rule ≡ storage_rule_of answer.now.exchange.now.asked head.now (facts_of self.now.table answer.now.exchange.now answer.now.response.now answer.now.response_time self.now.next)) }
+    {
+        let asked = &answer.exchange.asked;
+        let directives = Directives::of(alloc, &head.fields)?;
+        let asked_directives = Directives::of(alloc, &asked.fields)?;
+        let facts = self.facts(answer, head, &directives, nomination);
+        let rule = first_rule_against(asked, &asked_directives, head, &directives, facts);
+        Ok(rule)
+    }
+
+    /// What is told of the storing rule that stands against an answer.
+    fn rule_told(&self, answer: &OriginAnswer<'_>, rule: Option<StoreRule>) -> Option<StoreRule>
+        requires { rule ≡ storage_rule_of answer.now.exchange.now.asked (answered_of answer.now.response.now answer.now.response_time) (facts_of self.now.table answer.now.exchange.now answer.now.response.now answer.now.response_time self.now.next) }
+        ensures { result ≡ rule_told self.now.table answer.now.exchange.now answer.now.response.now answer.now.response_time self.now.next }
+    {
+        if self.config.policy(answer.exchange.line).explains_storing {
+            rule
+        } else {
+            None
+        }
+    }
+
+    /// Whether an answer is stored: the serial and the nominated values of the stored response that it makes, or what is told
+    /// of why it isn't.
+    pub(crate) fn admit(
+        &self,
+        alloc: Global,
+        answer: &OriginAnswer<'_>,
+        head: &Answered,
+    ) -> Result<Admission, AllocError>
+        requires { head.now ≡ answered_of answer.now.response.now answer.now.response_time }
+        ensures rule { IfOk result (λ admission. admission.rule ≡ rule_told self.now.table answer.now.exchange.now answer.now.response.now answer.now.response_time self.now.next) }
+        ensures serial { IfOk result (λ admission. option_map (λ n. n.serial) admission.new_entry ≡ stored_serial self.now.table answer.now.exchange.now answer.now.response.now answer.now.response_time self.now.next) }
+        ensures nominated { IfOk result (λ admission. IfSome admission.new_entry (λ n. n.nominated ≡ kept_values head.now.fields answer.now.exchange.now.asked.fields)) }
+    {
+        let nomination = Nominated::of(alloc, &head.fields, &answer.exchange.asked.fields)?;
+        let rule = self.rule_against(alloc, answer, head, &nomination)?;
+        let told = self.rule_told(answer, rule);
+        if rule.is_some() {
+            return Ok(Admission::none(told));
+        }
+        the_least_storage_rule_is_named();
+        let serial = match self.next {
+            Some(serial) => serial,
+            None => return Ok(Admission::none(told)),
+        };
+        match nomination {
+            Nomination::Names(nominated) => Ok(Admission {
+                rule: told,
+                new_entry: Some(NewEntry { serial, nominated }),
+            }),
+            Nomination::Star => Ok(Admission::none(told)),
+        }
+    }
+}
+
+/// The serials of the held responses that a stored one takes the place of.
+pub(crate) fn replaced_by<S: Shelf>(
+    alloc: Global,
+    shelf: &S,
+    asked: &Asked,
+) -> Result<Serials, AllocError>
+    ensures { IfOk result (λ replaced. replaced ≡ replaced_by (S.entries shelf.now) asked.now) }
+{
+    shelf.find_matching(alloc, &asked.target.key, &asked.fields)
+}
+
+/// What goes for an answer that isn't stored.
+pub(crate) fn removed_unstored<S: Shelf>(
+    alloc: Global,
+    shelf: &S,
+    answer: &OriginAnswer<'_>,
+) -> Result<Serials, AllocError>
+    ensures { IfOk result (λ removed. removed ≡ removed_by (S.entries shelf.now) answer.now.exchange.now answer.now.response.now None) }
+{
+    if answer.invalidates() {
+        shelf.find(alloc, &answer.exchange.asked.target.key)
+    } else {
+        Ok(Serials::new(alloc))
+    }
+}

@@ -1,0 +1,265 @@
+//! What a 304 to the proxy's conditions does (RFC 9111, section 4.3).
+ghost use Rattle.std.specs.Prelude.{◌≡◌, ◌<◌, ◌∷◌, [], None, IfOk, option_copied, cond};
+ghost use Rattle.hx_hop.specs.Answering.{answered_of};
+ghost use Rattle.hx_vary.specs.Vary.{is_star};
+ghost use Rattle.hx_allow.specs.Matching.{policy_of};
+ghost use Rattle.hx_reuse.specs.Rules.{decision_of};
+ghost use Rattle.proxy_core.specs.declared.event.Event.TheVariants.{Answer};
+ghost use Rattle.proxy_core.specs.Outcomes.{sent_refreshed, revalidated};
+ghost use Rattle.proxy_core.specs.Pending.{reply_of, outcome_after, AfterLeaves, AfterFits, IsPlainAfter, IsRefresh};
+ghost use Rattle.proxy_core.specs.Validating.{is_answered, asked_about, validated, refreshed, as_get, head_of, kept_facts, is_kept};
+
+use crate::core_state::Core;
+use crate::open::exchange::Exchange;
+use crate::replies::origin_answer::OriginAnswer;
+use crate::replies::pending::{AfterAnswer, Change, PendingReply};
+use crate::replies::stored_reply::{CacheStatusInfo, StoredReply};
+use crate::steps::judging::judge;
+use crate::steps::sending::forward_text;
+use http::Method;
+use hx_age::Times;
+use hx_allow::Config;
+use hx_directives::Directives;
+use hx_framing::Response;
+use hx_hop::{Answered, Asked, lists_cache_field};
+use hx_reuse::{Decision, lifetime_under};
+use hx_status::Detail;
+use hx_storable::{Facts, first_rule_against};
+use hx_store::{Entry, Serials, Shelf};
+use hx_target::equal_keys_are_one;
+use hx_validate::{answers, freshened, has_validator, leaves_room};
+use hx_vary::{Nominated, Nomination};
+use std::alloc::{AllocError, Global};
+
+/// Whether an answer with this head answers a held response.
+fn is_answered(answer: &OriginAnswer<'_>, head: &Answered, entry: &Entry) -> bool
+    requires { head.now ≡ answered_of answer.now.response.now answer.now.response_time }
+    ensures { result ≡ is_answered answer.now.exchange.now answer.now.response.now answer.now.response_time entry.now }
+{
+    match &answer.exchange.condition {
+        Some(condition) => {
+            answer.response.status == 304
+                && (condition.serial == entry.serial && answers(entry, &condition.sent, head))
+        }
+        None => false,
+    }
+}
+
+/// The held response that an exchange asks about.
+fn asked_about<'a, S: Shelf>(shelf: &'a S, exchange: &Exchange) -> Option<&'a Entry>
+    ensures { option_copied result ≡ asked_about (S.entries shelf.now) exchange.now }
+{
+    match &exchange.condition {
+        Some(condition) => shelf.peek(condition.serial),
+        None => None,
+    }
+}
+
+/// The held response that a 304 answers.
+fn validated<'a, S: Shelf>(
+    shelf: &'a S,
+    answer: &OriginAnswer<'_>,
+    head: &Answered,
+) -> Option<&'a Entry>
+    requires { head.now ≡ answered_of answer.now.response.now answer.now.response_time }
+    ensures { option_copied result ≡ validated (S.entries shelf.now) answer.now.exchange.now answer.now.response.now answer.now.response_time }
+{
+    match asked_about(shelf, answer.exchange) {
+        Some(entry) if is_answered(answer, head, entry) => Some(entry),
+        _ => None,
+    }
+}
+
+/// What the held response becomes that a 304 answers.
+fn refreshed(
+    alloc: Global,
+    answer: &OriginAnswer<'_>,
+    head: &Answered,
+    entry: &Entry,
+) -> Result<Entry, AllocError>
+    requires { head.now ≡ answered_of answer.now.response.now answer.now.response_time }
+    ensures { IfOk result (λ fresh. fresh ≡ refreshed answer.now.exchange.now answer.now.response.now answer.now.response_time entry.now) }
+{
+    let exchange = answer.exchange;
+    let times = Times::of(&head.fields, exchange.request_time, answer.response_time);
+    freshened(alloc, entry, head, &exchange.asked, times)
+}
+
+/// The same request, of method GET.
+fn as_get(alloc: Global, asked: &Asked) -> Result<Asked, AllocError>
+    ensures { IfOk result (λ get. get ≡ as_get asked.now) }
+{
+    let mut get = asked.copy(alloc)?;
+    get.method = Method::GET;
+    Ok(get)
+}
+
+fn head_of(alloc: Global, entry: &Entry) -> Result<Answered, AllocError>
+    ensures { IfOk result (λ head. head ≡ head_of entry.now) }
+{
+    Ok(Answered {
+        status: entry.status,
+        fields: entry.fields.copy(alloc)?,
+    })
+}
+
+/// What the storing rules ask of a freshened response.
+fn kept_facts(
+    alloc: Global,
+    config: &Config,
+    exchange: &Exchange,
+    response: &Response,
+    entry: &Entry,
+) -> Result<Facts, AllocError>
+    ensures { IfOk result (λ facts. facts ≡ kept_facts config.now exchange.now response.now entry.now) }
+{
+    let policy = config.policy(exchange.line);
+    let lifetime = lifetime_under(policy, entry.status, &entry.fields, &entry.directives);
+    Ok(Facts {
+        policy,
+        vary_star: is_star(alloc, &exchange.asked, entry)?,
+        listed: lists_cache_field(&response.fields),
+        explicit: lifetime.explicit,
+        validator: has_validator(&entry.fields),
+        too_large: entry.content.len() as u64 > config.max_stored(),
+        overtaken: false,
+        no_serial: false,
+    })
+}
+
+/// Whether no request but its own may be answered by a response (RFC 9111, section 4.1).
+fn is_star(alloc: Global, asked: &Asked, entry: &Entry) -> Result<bool, AllocError>
+    ensures { IfOk result (λ is. is ≡ is_star entry.now.fields) }
+{
+    match Nominated::of(alloc, &entry.fields, &asked.fields)? {
+        Nomination::Star => Ok(true),
+        Nomination::Names(_) => Ok(false),
+    }
+}
+
+/// Whether a freshened response is kept: its head leaves room for what is added to it, and no storing rule stands against it.
+fn is_kept(
+    alloc: Global,
+    config: &Config,
+    exchange: &Exchange,
+    response: &Response,
+    entry: &Entry,
+) -> Result<bool, AllocError>
+    ensures { IfOk result (λ is. is ≡ is_kept config.now exchange.now response.now entry.now) }
+{
+    if !leaves_room(&entry.fields) {
+        return Ok(false);
+    }
+    let asked = as_get(alloc, &exchange.asked)?;
+    let asked_directives = Directives::of(alloc, &asked.fields)?;
+    let head = head_of(alloc, entry)?;
+    let facts = kept_facts(alloc, config, exchange, response, entry)?;
+    let rule = first_rule_against(&asked, &asked_directives, &head, &entry.directives, facts);
+    Ok(rule.is_none())
+}
+
+/// What becomes of a freshened response: it is kept where it may be kept.
+fn change_after(entry: Entry, kept: bool) -> Change
+    ensures { IsRefresh kept entry result }
+{
+    if kept {
+        Change::Freshen(entry)
+    } else {
+        Change::Remove(entry.serial)
+    }
+}
+
+/// The serials that a freshened response takes with it: its own, where it isn't kept.
+fn removed_after(alloc: Global, serial: u64, kept: bool) -> Result<Serials, AllocError>
+    ensures { IfOk result (λ removed. removed ≡ cond kept [] (serial ∷ [])) }
+{
+    let mut removed = Serials::new(alloc);
+    if !kept {
+        removed.push(serial)?;
+    }
+    Ok(removed)
+}
+
+impl<S: Shelf> Core<S> {
+    /// Sends a freshened response, and keeps it where it may be kept.
+    fn send_refreshed(
+        &self,
+        alloc: Global,
+        answer: &OriginAnswer<'_>,
+        entry: Entry,
+    ) -> Result<PendingReply, AllocError>
+        ensures outcome { IfOk result (λ pending. reply_of pending ≡ sent_refreshed self.now.table answer.now.exchange.now answer.now.response.now answer.now.response_time entry) }
+        ensures change { IfOk result (λ pending. IsRefresh (is_kept self.now.table answer.now.exchange.now answer.now.response.now entry) entry pending.change) }
+    {
+        let exchange = answer.exchange;
+        let response = answer.response;
+        let kept = is_kept(alloc, &self.config, exchange, response, &entry)?;
+        let removed = removed_after(alloc, entry.serial, kept)?;
+        let policy = self.config.policy(exchange.line);
+        let reply = StoredReply {
+            name: self.config.name(),
+            entry: &entry,
+            asked: &exchange.asked,
+            info: CacheStatusInfo::forwarded(policy, exchange, Some(response.status), None),
+            sent_at: answer.response_time,
+        };
+        let bytes = reply.text(alloc)?;
+        Ok(PendingReply {
+            bytes,
+            close: exchange.asked.close,
+            change: change_after(entry, kept),
+            removed,
+        })
+    }
+
+    /// What follows a 304 to the proxy's conditions.
+    pub(crate) fn after_304(
+        &self,
+        alloc: Global,
+        answer: &OriginAnswer<'_>,
+    ) -> Result<AfterAnswer, AllocError>
+        requires { answer.now.response_time < 253_402_300_800 }
+        ensures outcome { IfOk result (λ after. outcome_after answer.now.exchange.now after ≡ revalidated self.now.table self.now.entries answer.now.response_time answer.now.exchange.now answer.now.response.now (validated self.now.entries answer.now.exchange.now answer.now.response.now answer.now.response_time) (decision_of (policy_of self.now.table.lines answer.now.exchange.now.line) self.now.entries answer.now.exchange.now.asked answer.now.response_time)) }
+        ensures leaves { IfOk result (λ after. AfterLeaves self.now.limit self.now.entries answer.now.exchange.now (Answer answer.now.response_time answer.now.exchange.now.id answer.now.response.now) after) }
+        ensures fits { IfOk result (λ after. AfterFits self.now.next self.now.entries after) }
+    {
+        let head = answer.head(alloc)?;
+        equal_keys_are_one();
+        match validated(&self.shelf, answer, &head) {
+            Some(entry) => {
+                let fresh = refreshed(alloc, answer, &head, entry)?;
+                let pending = self.send_refreshed(alloc, answer, fresh)?;
+                Ok(AfterAnswer::Ends(pending))
+            }
+            None => self.reuse_or_go_on(alloc, answer),
+        }
+    }
+
+    /// What follows a 304 that answers no held response.
+    fn reuse_or_go_on(
+        &self,
+        alloc: Global,
+        answer: &OriginAnswer<'_>,
+    ) -> Result<AfterAnswer, AllocError>
+        ensures outcome { IfOk result (λ after. outcome_after answer.now.exchange.now after ≡ revalidated self.now.table self.now.entries answer.now.response_time answer.now.exchange.now answer.now.response.now None (decision_of (policy_of self.now.table.lines answer.now.exchange.now.line) self.now.entries answer.now.exchange.now.asked answer.now.response_time)) }
+        ensures plain { IfOk result IsPlainAfter }
+    {
+        let exchange = answer.exchange;
+        let asked = &exchange.asked;
+        let now = answer.response_time;
+        let policy = self.config.policy(exchange.line);
+        match judge(alloc, &self.shelf, asked, now, policy)? {
+            Decision::Hit(serial) => {
+                let came = Some(answer.response.status);
+                let detail = Some(Detail::ReuseAfter304);
+                let info = CacheStatusInfo::forwarded(policy, exchange, came, detail);
+                let pending = self.send(alloc, serial, now, info, asked)?;
+                Ok(AfterAnswer::Ends(pending))
+            }
+            Decision::Forward(_, _) => {
+                let bytes = forward_text(alloc, &self.config, asked, None)?;
+                Ok(AfterAnswer::GoesOn(bytes))
+            }
+        }
+    }
+}

@@ -1,0 +1,94 @@
+//! A request that waited for the answer to another is judged anew.
+ghost use Rattle.std.specs.Prelude.{◌≡◌, ◌<◌, map, IfOk, IfErr, OnErr};
+ghost use Rattle.hx_allow.specs.Matching.{policy_of};
+ghost use Rattle.hx_reuse.specs.Rules.{decision_of};
+ghost use Rattle.hx_reuse.specs.declared.decision.Decision.TheVariants as decision;
+ghost use Rattle.proxy_core.specs.Outcomes.{woken};
+ghost use Rattle.proxy_core.specs.Pending.{IsPlain};
+ghost use Rattle.proxy_core.specs.Waking.{IsWoken};
+ghost use Rattle.proxy_core.specs.declared.event.Event.TheVariants.{Wake};
+ghost use Rattle.proxy_core.specs.State.{Steps, Refuses, sent_out};
+
+use crate::core_state::{Core, not_ready};
+use crate::fault::CoreFault;
+use crate::moments::moment_fault;
+use crate::open::exchange::Exchange;
+use crate::outcome::Outcome;
+use crate::replies::pending::PendingReply;
+use crate::replies::stored_reply::CacheStatusInfo;
+use crate::steps::condition::{Condition, condition_at};
+use crate::steps::judging::judge;
+use crate::steps::sending::forward_text;
+use hx_fields::Bytes;
+use hx_reuse::{Decision, ReuseRule};
+use hx_store::Shelf;
+use std::alloc::{AllocError, Global};
+
+/// What follows a wake.
+#[derive(Drop)]
+pub(crate) enum AfterWake {
+    /// A stored response is sent.
+    Ends(PendingReply),
+    /// The request goes forward, with this rule and these conditions of the proxy.
+    GoesOut(ReuseRule, Option<Condition>, Bytes),
+}
+
+impl<S: Shelf> Core<S> {
+    /// What a request that waited gets now.
+    fn after_wake(
+        &self,
+        alloc: Global,
+        exchange: &Exchange,
+        now: u64,
+    ) -> Result<AfterWake, AllocError>
+        ensures { IfOk result (λ after. IsWoken self.now.table self.now.entries now exchange.now (decision_of (policy_of self.now.table.lines exchange.now.line) self.now.entries exchange.now.asked now) after) }
+    {
+        let asked = &exchange.asked;
+        let policy = self.config.policy(exchange.line);
+        match judge(alloc, &self.shelf, asked, now, policy)? {
+            Decision::Hit(serial) => {
+                let info = CacheStatusInfo::collapsed(policy, exchange);
+                let pending = self.send(alloc, serial, now, info, asked)?;
+                Ok(AfterWake::Ends(pending))
+            }
+            Decision::Forward(rule, named) => {
+                let condition = condition_at(alloc, &self.shelf, named)?;
+                let bytes = forward_text(alloc, &self.config, asked, condition.as_ref())?;
+                Ok(AfterWake::GoesOut(rule, condition, bytes))
+            }
+        }
+    }
+
+    /// The exchange that a request waited for has ended: a stored response is sent where no reuse rule stands now, else the
+    /// request goes forward. `now` is in Unix seconds.
+    pub fn wake(&mut self, alloc: Global, now: u64, id: u64) -> Result<Outcome, CoreFault>
+        ensures ok { IfOk result (λ outcome. Steps self.old (Wake now id) outcome self.new) }
+        ensures err { IfErr result (λ fault. Refuses self.old (Wake now id) fault) }
+        ensures unchanged { OnErr result (self.new ≡ self.old) }
+    {
+        let x = match self.exchanges.find(id) {
+            Some(x) => x,
+            None => return Err(CoreFault::UnknownId),
+        };
+        match moment_fault(now) {
+            None => {}
+            Some(fault) => return Err(fault),
+        }
+        match not_ready(x.stage) {
+            None => {}
+            Some(fault) => return Err(fault),
+        }
+        let line = x.line;
+        match self.after_wake(alloc, x, now) {
+            Ok(AfterWake::Ends(pending)) => match self.finish(id, pending, None) {
+                Ok(outcome) => Ok(outcome),
+                Err(_) => Err(CoreFault::OutOfMemory),
+            },
+            Ok(AfterWake::GoesOut(rule, condition, bytes)) => {
+                self.exchanges.send_out(id, now, rule, condition);
+                Ok(Outcome::Forward(line, bytes))
+            }
+            Err(_) => Err(CoreFault::OutOfMemory),
+        }
+    }
+}

@@ -1,0 +1,153 @@
+-- A stored response is sent as one response.
+use Rattle.std.proofs.Common.{◌≡◌, ℕ, ◌<◌, ◌^◌, ◌||◌, ◌==◌, Bool, true, false, not, cond, List, [], ◌∷◌, ◌++◌, length, refl, ◌∙◌, arith}
+use Rattle.std.specs.Prelude.{All, IfSome, None, Some, codes, decimal}
+use Rattle.std.specs.List.{filter, list_all}
+use Rattle.std.proofs.lemmas.Bool.{or_from}
+use Rattle.std.proofs.lemmas.List.Elements.{All-nil, All-cons, All-append, All-filter}
+use Rattle.std.proofs.lemmas.List.Folds.{list_any-append}
+use Rattle.httparse.specs.Grammar.{IsToken, is_token_byte}
+use Rattle.hx_fields.specs.declared.limits.TheConstants.{END_OF_TIME}
+use Rattle.hx_fields.specs.declared.field_line.Field.{Field}
+use Rattle.hx_fields.specs.Lines.{has, is_named}
+use Rattle.hx_framing.specs.declared.messages.Response.{Response}
+use Rattle.hx_framing.specs.Lengths.{is_interim, is_without_content}
+use Rattle.hx_framing.specs.Written.{IsWritableField}
+use Rattle.hx_framing.proofs.WrittenResponses.{response_is_read_back}
+use Rattle.hx_age.specs.Age.{age_of}
+use Rattle.hx_hop.specs.Answering.{dated_of}
+use Rattle.hx_hop.specs.Stripping.{is_hop_line, stripped}
+use Rattle.hx_hop.proofs.Lines.{list_any_fewer}
+use Rattle.hx_status.specs.declared.status.Status.{Status}
+use Rattle.hx_status.specs.Member.{member_text}
+use Rattle.hx_store.specs.Stored.{Stored}
+use Rattle.hx_validate.specs.Answering.{freshened_of, is_brought, is_replaced}
+use Rattle.hx_validate.specs.NotModified.{is_carried, not_modified_of}
+use Rattle.hx_hop_laws.proofs.SentRequests.{line_of}
+use Rattle.hx_hop_laws.proofs.SentResponses.{IsCleanAnswer, clean, dated_fit, dated_without, stripped_without}
+use Rattle.proxy_core.specs.Replies.{content_sent, is_head, line}
+use Rattle.proxy_core_laws.specs.StoredReplies.{FreshensSendable, SendsA304AsOne, SendsWholeAsOne, StoresSendable, lines_told, sent_as_304, sent_whole}
+use Rattle.proxy_core_laws.proofs.ReplyValues.{decimal_value, member_value}
+
+-- ---- what is stored
+
+pub widened : (h : Bool) (status : ℕ) → is_without_content false status ≡ true → is_without_content h status ≡ true
+widened true status none = refl
+widened false status none = none
+
+module _ (h : Bool) (r : Response) (now : ℕ) (is : IsCleanAnswer h r) (early : now < END_OF_TIME) where
+  answer_fits : All IsWritableField (dated_of (stripped r.fields) now)
+  answer_fits = dated_fit (stripped r.fields) now early (All-filter (λ f. not (is_hop_line r.fields f)) IsWritableField r.fields is.fields)
+
+  answer_without : (name : List ℕ) → has r.fields name ≡ false → is_named name (line (codes "Date") []) ≡ false → has (dated_of (stripped r.fields) now) name ≡ false
+  answer_without name none other = dated_without (stripped r.fields) now name (stripped_without r.fields name none) other
+
+pub stores_sendable : StoresSendable
+stores_sendable max_body serial now h ended bytes rest x r reads early =
+    let is = clean max_body h ended bytes r rest reads in
+    let answer : List Field = dated_of (stripped r.fields) now in record {
+      status = is.status;
+      fields = All-filter (λ f. not (is_named (codes "Age") f)) IsWritableField answer (answer_fits h r now is early);
+      lengths = list_any_fewer (λ f. not (is_named (codes "Age") f)) (is_named (codes "content-length")) answer (answer_without h r now is early (codes "content-length") is.lengths refl);
+      codings = list_any_fewer (λ f. not (is_named (codes "Age") f)) (is_named (codes "transfer-encoding")) answer (answer_without h r now is early (codes "transfer-encoding") is.codings refl);
+      without = λ none. is.without (widened h r.status none);
+    }
+
+kept_without : (stored answer : List Field) (name : List ℕ) → has stored name ≡ false → has answer name ≡ false
+    → has (filter (λ line. not (is_replaced answer line)) stored ++ filter is_brought answer) name ≡ false
+kept_without stored answer name none other =
+    list_any-append (is_named name) (filter (λ line. not (is_replaced answer line)) stored) (filter is_brought answer)
+    ∙ or_from _ _ (list_any_fewer (λ line. not (is_replaced answer line)) (is_named name) stored none) (list_any_fewer is_brought (is_named name) answer other)
+
+pub freshens_sendable : FreshensSendable
+unfolding freshened_of
+freshens_sendable max_body now h ended bytes rest e r asked times sendable reads early =
+    let is = clean max_body h ended bytes r rest reads in
+    let answer : List Field = dated_of (stripped r.fields) now in record {
+      status = sendable.status;
+      fields = All-append IsWritableField (filter (λ line. not (is_replaced answer line)) e.fields) (filter is_brought answer)
+          (All-filter (λ line. not (is_replaced answer line)) IsWritableField e.fields sendable.fields)
+          (All-filter is_brought IsWritableField answer (answer_fits h r now is early));
+      lengths = kept_without e.fields answer (codes "content-length") sendable.lengths (answer_without h r now is early (codes "content-length") is.lengths refl);
+      codings = kept_without e.fields answer (codes "transfer-encoding") sendable.codings (answer_without h r now is early (codes "transfer-encoding") is.codings refl);
+      without = sendable.without;
+    }
+
+-- ---- what is sent
+
+age_name : list_all is_token_byte (codes "Age") ≡ true
+unfolding is_token_byte
+age_name = refl
+
+status_name : list_all is_token_byte (codes "Cache-Status") ≡ true
+unfolding is_token_byte
+status_name = refl
+
+module _ (name : List ℕ) (fields : List Field) (e : Stored) (now : ℕ) (told : Status) where
+  lines_fit : IsToken name → All IsWritableField fields → All IsWritableField (lines_told name fields e now told)
+  lines_fit token all =
+      All-append IsWritableField (fields ++ line (codes "Age") (decimal (age_of e.times now)) ∷ []) (line (codes "Cache-Status") (member_text name told) ∷ [])
+      (All-append IsWritableField fields (line (codes "Age") (decimal (age_of e.times now)) ∷ []) all
+      (All-cons IsWritableField (line (codes "Age") (decimal (age_of e.times now))) []
+      (line_of (codes "Age") (decimal (age_of e.times now)) age_name (omega arith) (decimal_value (age_of e.times now))) (All-nil IsWritableField)))
+      (All-cons IsWritableField (line (codes "Cache-Status") (member_text name told)) []
+      (line_of (codes "Cache-Status") (member_text name told) status_name (omega arith) (member_value name told token)) (All-nil IsWritableField))
+
+  lines_without : (other : List ℕ) → has fields other ≡ false → is_named other (line (codes "Age") (decimal (age_of e.times now))) ≡ false
+      → is_named other (line (codes "Cache-Status") (member_text name told)) ≡ false → has (lines_told name fields e now told) other ≡ false
+  lines_without other none no_age no_status =
+      list_any-append (is_named other) (fields ++ line (codes "Age") (decimal (age_of e.times now)) ∷ []) (line (codes "Cache-Status") (member_text name told) ∷ [])
+      ∙ or_from _ _ (list_any-append (is_named other) fields (line (codes "Age") (decimal (age_of e.times now)) ∷ []) ∙ or_from _ _ none (or_from _ _ no_age refl)) (or_from _ _ no_status refl)
+
+pub sends_whole_as_one : SendsWholeAsOne
+sends_whole_as_one most now name e told asked sendable token small limits over behind =
+    response_is_read_back (is_head asked) (sent_whole name e now told asked) most over behind (record {
+      status = sendable.status;
+      fields = lines_fit name e.fields e now told token sendable.fields;
+      lengths = lines_without name e.fields e now told (codes "content-length") sendable.lengths refl refl;
+      codings = lines_without name e.fields e now told (codes "transfer-encoding") sendable.codings refl refl;
+      small = told_small ((e.status == 204) || (e.status == 304));
+      without = none_sent (is_head asked);
+      behind = announced (is_head asked);
+      few = limits.few;
+      short = limits.short;
+    }) limits.content
+  where
+    told_small : (t : Bool) → IfSome (cond t None (Some (length e.content))) (λ n. n < 2 ^ 64)
+    told_small true = tt
+    told_small false = small
+
+    none_sent : (h : Bool) → is_without_content h e.status ≡ true → content_sent h e.content ≡ []
+    none_sent true none = refl
+    none_sent false none = sendable.without none
+
+    announced : (h : Bool) → is_without_content h e.status ≡ false
+        → cond ((e.status == 204) || (e.status == 304)) None (Some (length e.content)) ≡ Some (length (content_sent h e.content))
+    announced true some = absurd cc
+    announced false some = by_tests (is_interim e.status) (e.status == 204) (e.status == 304) some
+      where
+        by_tests : (i s t : Bool) → (false || i || s || t) ≡ false → cond (s || t) None (Some (length e.content)) ≡ Some (length e.content)
+        by_tests true s t h = absurd cc
+        by_tests false true t h = absurd cc
+        by_tests false false true h = absurd cc
+        by_tests false false false h = refl
+
+pub sends_a_304_as_one : SendsA304AsOne
+sends_a_304_as_one most now name e told asked sendable token limits over behind =
+    response_is_read_back (is_head asked) (sent_as_304 name e now told asked) most over behind (record {
+      status = (omega arith, omega arith);
+      fields = lines_fit name (not_modified_of e.fields) e now told token (All-filter carried IsWritableField e.fields sendable.fields);
+      lengths = lines_without name (not_modified_of e.fields) e now told (codes "content-length") (list_any_fewer carried (is_named (codes "content-length")) e.fields sendable.lengths) refl refl;
+      codings = lines_without name (not_modified_of e.fields) e now told (codes "transfer-encoding") (list_any_fewer carried (is_named (codes "transfer-encoding")) e.fields sendable.codings) refl refl;
+      small = tt;
+      without = λ none. refl;
+      behind = λ some. absurd (never (is_head asked) some);
+      few = limits.few;
+      short = limits.short;
+    }) limits.content
+  where
+    carried : Field → Bool
+    carried = is_carried (has e.fields (codes "ETag"))
+
+    never : (h : Bool) → is_without_content h 304 ≡ false → ⊥
+    never true some = cc
+    never false some = cc

@@ -1,0 +1,61 @@
+-- What a client gets is one response (RFC 9112, sections 6.3 and 11.1): an answer of the origin that is passed on, and
+-- an answer of the proxy's own.
+use Rattle.std.specs.Prelude.{ℕ, ◌<◌, ◌^◌, ◌++◌, Bool, List, [], ◌∷◌, length, codes, Option, Some}
+use Rattle.httparse.specs.Grammar.{IsToken}
+use Rattle.hx_fields.specs.declared.limits.TheConstants.{END_OF_TIME}
+use Rattle.hx_framing.specs.declared.messages.Response.{Response}
+use Rattle.hx_framing.specs.Reading.{Spelled}
+use Rattle.hx_framing.specs.ResponseReading.{Reads}
+use Rattle.hx_framing.specs.WrittenResponse.{SentResponse, response_back}
+use Rattle.hx_policy.specs.declared.words.Policy.{Policy}
+use Rattle.hx_hop.specs.Answering.{answered_of}
+use Rattle.hx_hop.specs.Moments.{date_text_of}
+use Rattle.hx_storable.specs.declared.rule.StoreRule.{StoreRule}
+use Rattle.hx_status.specs.declared.cause.Cause.{Cause}
+use Rattle.hx_status.specs.Member.{member_text}
+use Rattle.hx_status.specs.Refusals.{status_of, text_of}
+use Rattle.hx_hop_laws.specs.OneResponse.{FitsAReader, sent_on}
+use Rattle.proxy_core.specs.declared.open.exchange.Exchange.{Exchange}
+use Rattle.proxy_core.specs.Replies.{content_sent, is_head, line, lines_refused, passed_text, refused_text}
+use Rattle.proxy_core.specs.Replies.{status_passed}
+
+-- an answer with the line of Cache-Status behind its own
+abbrev pub passed_on : Policy → List ℕ → Exchange → Response → ℕ → Bool → Option StoreRule → SentResponse
+passed_on policy name x r now stored rule =
+    sent_on (is_head x.asked) r now
+    (line (codes "Cache-Status") (member_text name
+    (status_passed policy x r.status (answered_of r now).fields now stored rule)) ∷ []) x.asked.close
+
+-- the proxy's own answer
+abbrev pub told_by_the_proxy : ℕ → Cause → Bool → Bool → SentResponse
+told_by_the_proxy now cause close head = record {
+  status = status_of cause;
+  fields = lines_refused (date_text_of now) (text_of cause);
+  told = Some (length (text_of cause));
+  close = close;
+  content = content_sent head (text_of cause);
+}
+
+-- ---- the statements
+
+-- What was read of an answer, to a HEAD or not, and is passed on to an open exchange is read by the client as it was
+-- sent, whatever stands behind it, within the limits of a reader. The name is the table's, which is a token.
+abbrev pub PassesOneResponse : Type 0
+PassesOneResponse =
+    (max_body most now : ℕ) (to_head ended stored : Bool) (bytes rest name : List ℕ) (policy : Policy)
+    (rule : Option StoreRule) (x : Exchange) (r : Response)
+    → Reads max_body to_head ended bytes (Spelled r rest) → now < END_OF_TIME → IsToken name → most < 2 ^ 64
+    → FitsAReader most (passed_on policy name x r now stored rule)
+    → (over : Bool) (behind : List ℕ)
+    → Reads most (is_head x.asked) over (passed_text policy name x r now stored rule ++ behind)
+    (Spelled (response_back (is_head x.asked) (passed_on policy name x r now stored rule)) behind)
+
+-- so is what the proxy answers by itself
+abbrev pub RefusesAsOneResponse : Type 0
+RefusesAsOneResponse =
+    (most now : ℕ) (cause : Cause) (close head : Bool)
+    → now < END_OF_TIME → most < 2 ^ 64 → length (text_of cause) < 2 ^ 64
+    → FitsAReader most (told_by_the_proxy now cause close head)
+    → (over : Bool) (behind : List ℕ)
+    → Reads most head over (refused_text (date_text_of now) cause close head ++ behind)
+    (Spelled (response_back head (told_by_the_proxy now cause close head)) behind)

@@ -1,0 +1,12 @@
+//! Laws on what the definitions of `proxy_core` come to, in the words of the RFCs, beside those that stand there. Each
+//! function's contract is a law, and its body is empty. Nothing here runs.
+#![tactic(auto)]
+
+mod answer_laws;
+mod message_laws;
+
+pub use crate::answer_laws::{
+    a_client_gets_its_304_where_it_may, a_client_gets_one_response, a_held_head_has_a_bound,
+    a_stored_response_is_sent_as_one, what_leaves_room_is_sent_as_one,
+};
+pub use crate::message_laws::{a_core_sends_one_message_each_time, what_was_read_can_be_sent};

@@ -1,0 +1,116 @@
+-- What a client's stream asks for, done on both sides.
+use Rattle.std.proofs.Common.{◌≡◌, ℕ, List, [], ◌∷◌, ◌++◌, refl, sym, ap, ◌∙◌, subst, Bool, false, Option, Some, Result, Ok, Err, IfOk, IfErr, OnOk, OnErr}
+use Rattle.hx_framing.specs.declared.messages.Request.{Request}
+use Rattle.hx_framing.specs.declared.fault.FrameFault.{FrameFault}
+use Rattle.hx_framing.specs.declared.fault.FrameFault.TheVariants as frame
+use Rattle.hx_framing.specs.declared.messages.Next.{Next}
+use Rattle.hx_framing.specs.declared.messages.Next.TheVariants as next
+use Rattle.hx_hop.specs.declared.request_view.Asked.{Asked}
+use Rattle.hx_status.specs.declared.cause.Cause.{Cause}
+use Rattle.hx_status.specs.declared.cause.Cause.TheVariants as cause
+use Rattle.proxy_script.specs.declared.effect_list.Effect.{Effect}
+use Rattle.proxy_engine.specs.Admitted.{IsAdmitted}
+use Rattle.proxy_engine.specs.EngineModel.{EngineModel}
+use Rattle.proxy_engine.specs.Due.{Finish}
+use Rattle.proxy_engine.specs.Acts.{Refuses, Closes, Served}
+use Rattle.proxy_engine.specs.State.{action_at, finish_at}
+use Rattle.proxy_engine.specs.Actions.{IsMessageAction, IsAction, action_by}
+use Rattle.proxy_engine.specs.declared.steps.actions.Action.{Action}
+use Rattle.proxy_engine.specs.declared.steps.actions.Action.TheVariants as action
+use Rattle.proxy_engine.specs.declared.endpoints.ends.Connection.{Connection}
+use Rattle.proxy_engine.specs.declared.endpoints.ends.Link.{Link}
+
+-- the only effect
+pub told_one : (before now : List Effect) (e : Effect) → now ≡ before ++ e ∷ [] → before ≡ [] → now ≡ e ∷ []
+told_one before now e is none = is ∙ ap (λ (b : List Effect). b ++ e ∷ []) none
+
+refuses_same : (s : EngineModel) (now i : ℕ) (a b : Cause) (c d : Bool) (told : List Effect) (after : EngineModel) → action.Refuse a c ≡ action.Refuse b d → Refuses s now i a c told after → Refuses s now i b d told after
+refuses_same s now i a b c d told after e h =
+    let why : a ≡ b = cc in
+    let head : c ≡ d = cc in
+    subst (λ (x : Bool). Refuses s now i b x told after) head (subst (λ (x : Cause). Refuses s now i x c told after) why h)
+
+refused_frame : (s : EngineModel) (now i : ℕ) (f : FrameFault) (why : Cause) (head : Bool) (told : List Effect) (after : EngineModel) → action.Refuse why head ≡ action_by f → Refuses s now i why head told after → Served s now i (next.Refused f) told after
+refused_frame s now i frame.Truncated why head told after e h = cc
+refused_frame s now i frame.Head why head told after e h = refuses_same s now i why (cause.Frame frame.Head) head false told after e h
+refused_frame s now i frame.Version why head told after e h = refuses_same s now i why (cause.Frame frame.Version) head false told after e h
+refused_frame s now i frame.BothLengths why head told after e h = refuses_same s now i why (cause.Frame frame.BothLengths) head false told after e h
+refused_frame s now i frame.Length why head told after e h = refuses_same s now i why (cause.Frame frame.Length) head false told after e h
+refused_frame s now i frame.Coding why head told after e h = refuses_same s now i why (cause.Frame frame.Coding) head false told after e h
+refused_frame s now i frame.Chunk why head told after e h = refuses_same s now i why (cause.Frame frame.Chunk) head false told after e h
+refused_frame s now i frame.TooLarge why head told after e h = refuses_same s now i why (cause.Frame frame.TooLarge) head false told after e h
+refused_frame s now i frame.Expect why head told after e h = refuses_same s now i why (cause.Frame frame.Expect) head false told after e h
+refused_frame s now i frame.Status why head told after e h = refuses_same s now i why (cause.Frame frame.Status) head false told after e h
+
+pub refused_served : (s : EngineModel) (now i : ℕ) (a : Next Request) (why : Cause) (head : Bool) (told : List Effect) (after : EngineModel) → IsAction a (action.Refuse why head) → Refuses s now i why head told after → Served s now i a told after
+refused_served s now i next.More why head told after w h = absurd w
+refused_served s now i next.NeedsContinue why head told after w h = cc
+refused_served s now i (next.Message r) why head told after w h =
+    (Err (record { why = why; head = head }), w, h)
+refused_served s now i (next.Refused f) why head told after w h = refused_frame s now i f why head told after w h
+refused_served s now i next.End why head told after w h = cc
+
+closed_frame : (s : EngineModel) (now i : ℕ) (f : FrameFault) (told : List Effect) (after : EngineModel) → action.Close ≡ action_by f → Closes s i told after → Served s now i (next.Refused f) told after
+closed_frame s now i frame.Truncated told after e h = h
+closed_frame s now i frame.Head told after e h = cc
+closed_frame s now i frame.Version told after e h = cc
+closed_frame s now i frame.BothLengths told after e h = cc
+closed_frame s now i frame.Length told after e h = cc
+closed_frame s now i frame.Coding told after e h = cc
+closed_frame s now i frame.Chunk told after e h = cc
+closed_frame s now i frame.TooLarge told after e h = cc
+closed_frame s now i frame.Expect told after e h = cc
+closed_frame s now i frame.Status told after e h = cc
+
+pub closed_served : (s : EngineModel) (now i : ℕ) (a : Next Request) (told : List Effect) (after : EngineModel) → IsAction a action.Close → Closes s i told after → Served s now i a told after
+closed_served s now i next.More told after w h = absurd w
+closed_served s now i next.NeedsContinue told after w h = cc
+closed_served s now i (next.Message r) told after w h = absurd w
+closed_served s now i (next.Refused f) told after w h = closed_frame s now i f told after w h
+closed_served s now i next.End told after w h = h
+
+no_arrival : (f : FrameFault) (asked : Asked) {C : Type 0} → action.Arrive asked ≡ action_by f → C
+no_arrival frame.Truncated asked e = cc
+no_arrival frame.Head asked e = cc
+no_arrival frame.Version asked e = cc
+no_arrival frame.BothLengths asked e = cc
+no_arrival frame.Length asked e = cc
+no_arrival frame.Coding asked e = cc
+no_arrival frame.Chunk asked e = cc
+no_arrival frame.TooLarge asked e = cc
+no_arrival frame.Expect asked e = cc
+no_arrival frame.Status asked e = cc
+
+-- what arrives is a message that was read
+pub arrival_action : (a : Next Request) (w : Action) (asked : Asked) → w ≡ action.Arrive asked → IsAction a w → (r : Request) × (a ≡ next.Message r) × IsAdmitted r (Ok asked)
+arrival_action next.More w asked e h = absurd h
+arrival_action next.NeedsContinue w asked e h = cc
+arrival_action (next.Message r) w asked e h = (r, refl, subst (λ (v : Action). IsMessageAction r v) e h)
+arrival_action (next.Refused f) w asked e h = no_arrival f asked (sym e ∙ h)
+arrival_action next.End w asked e h = cc
+
+some_same : {B : Type 0} {a b : B} → Some a ≡ Some b → a ≡ b
+some_same h = cc
+
+-- what is due is due once
+pub one_action : (o : Option Connection) (a b : Next Request) → action_at o ≡ Some a → action_at o ≡ Some b → b ≡ a
+one_action o a b here there = some_same (sym there ∙ here)
+
+pub one_finish : (o : Option Link) (f g : Finish) → finish_at o ≡ Some f → finish_at o ≡ Some g → g ≡ f
+one_finish o f g here there = some_same (sym there ∙ here)
+
+pub on_ok : {A E : Type 0} (r : Result A E) (P Q : A → Type 0) → ((a : A) → P a → Q a) → IfOk r P → IfOk r Q
+on_ok (Ok a) P Q f p = f a p
+on_ok (Err e) P Q f p = tt
+
+pub does_ok : {A E : Type 0} (r : Result A E) (P Q : Type 0) → (P → Q) → OnOk r P → OnOk r Q
+does_ok (Ok a) P Q f p = f p
+does_ok (Err e) P Q f p = tt
+
+pub on_err : {A E : Type 0} (r : Result A E) (P Q : E → Type 0) → ((e : E) → P e → Q e) → IfErr r P → IfErr r Q
+on_err (Ok a) P Q f p = tt
+on_err (Err e) P Q f p = f e p
+
+pub stays_err : {A E : Type 0} (r : Result A E) (P Q : Type 0) → (P → Q) → OnErr r P → OnErr r Q
+stays_err (Ok a) P Q f p = tt
+stays_err (Err e) P Q f p = f p

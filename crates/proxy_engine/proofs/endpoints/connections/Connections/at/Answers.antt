@@ -1,0 +1,17 @@
+use Rattle.std.proofs.Common.{sym, ap, ◌∙◌, is_some}
+use Rattle.proxy_engine.specs.Marked.{EndList}
+use Rattle.proxy_engine.specs.declared.endpoints.ends.Connection.{Connection}
+use Rattle.proxy_engine.proofs.Keeping.{seen_at, inside}
+use Rattle.proxy_engine.proofs.endpoints.connections.Connections.at.Goals as goal
+
+pub index-requires : goal.index-requires
+index-requires c =
+    let xs = c.args.self.now.items in
+    let seen = seen_at c.self.inside.ends c.self.inside.count c.args.i xs (ap (λ (v : EndList Connection). v.items) c.self.view_is) (inside xs c.args.i c.requires) in
+    ap is_some seen.1 ∙ c.requires
+
+pub returns : goal.returns
+returns c =
+    let xs = c.args.self.now.items in
+    let seen = seen_at c.self.inside.ends c.self.inside.count c.args.i xs (ap (λ (v : EndList Connection). v.items) c.self.view_is) (inside xs c.args.i c.requires) in
+    sym seen.1 ∙ c.index.ensures

@@ -1,0 +1,27 @@
+use Rattle.std.proofs.Common.{◌+◌, List, ℕ, ◌∷◌, [], refl, ap, ◌∙◌, arith}
+use Rattle.hx_framing.specs.declared.messages.Next.TheVariants.{NeedsContinue}
+use Rattle.proxy_script.specs.declared.effect_list.Effect.TheVariants.{Client}
+use Rattle.proxy_engine.specs.EngineModel.{with_connection}
+use Rattle.proxy_engine.specs.Acts.{passing}
+use Rattle.proxy_engine.specs.State.{action_load}
+use Rattle.proxy_engine.proofs.Keeping.{inside}
+use Rattle.proxy_engine.proofs.Changes.{free_there, action_free}
+use Rattle.proxy_engine.proofs.Acting.{told_one}
+use Rattle.proxy_engine.proofs.steps.serving.send_continue.Goals as goal
+
+pub prove-unreachable-requires : goal.prove-unreachable-requires
+prove-unreachable-requires c =
+    let within = inside c.args.connections.now.items c.args.i (free_there _ (action_free _ c.requires)) in
+    absurd (omega (arith, within, c.if-prove.true, c.len-count.ensures))
+
+pub returns-clause-ok : goal.returns-clause-ok
+returns-clause-ok c = λ s links core first now due h. record {
+  after = with_connection s c.args.i (passing NeedsContinue);
+  does = (told_one c.in_ok-effects.effects.items c.put.new.effects.items _ c.put.ensures.items c.in_ok-effects.ensures.items ∙ ap (λ (b : List ℕ). Client (c.args.i + 1) b ∷ []) c.in_ok-bytes.ensures, refl);
+  stands = c.pass_at.ensures.stands s NeedsContinue links core first due h;
+}
+
+pub returns-clause-less : goal.returns-clause-less
+returns-clause-less c = λ due.
+    let one = ap action_load due in
+    omega (arith, one, c.pass_at.ensures.load)

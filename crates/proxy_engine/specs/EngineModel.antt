@@ -1,0 +1,147 @@
+-- What an engine has lived through: whole streams, the messages of them that were used, and the marks. No reader
+-- and no memory stand in it.
+--
+-- EngineModel: connections, links and the core      heard: what a happening adds      fault_of: why one isn't taken
+-- keeps: whether anything of a happening is kept
+use Rattle.std.specs.Prelude.{ℕ, ◌+◌, ◌-◌, List, [], ◌∷◌, ◌++◌, length, Bool, true, false, ◌&&◌, ◌||◌, ◌==◌, not}
+use Rattle.std.specs.Prelude.{nat_lt, nat_le, Option, None, Some, is_some, if◌then◌else◌, slice_set, slice_index_or}
+use Rattle.hx_framing.specs.declared.messages.Request.{Request}
+use Rattle.hx_framing.specs.declared.messages.Response.{Response}
+use Rattle.hx_framing.specs.Progress.{Progress, start, fed, finished}
+use Rattle.hx_status.specs.declared.cause.FailKind.{FailKind}
+use Rattle.proxy_core.specs.State.{State as CoreState}
+use Rattle.proxy_engine.specs.Happenings.{Said, Accepts, Sends, Hears, Ends, Leaves, Shuts, Fails}
+use Rattle.proxy_engine.specs.declared.endpoints.activities.Activity.{Activity}
+use Rattle.proxy_engine.specs.declared.endpoints.activities.Activity.TheVariants.{Free}
+use Rattle.proxy_engine.specs.declared.work.EngineFault.{EngineFault}
+use Rattle.proxy_engine.specs.declared.work.EngineFault.TheVariants.{WrongNumber, NotAccepted}
+
+pub record ConnectionModel : Type 0 where
+  pub progress : Progress Request
+  pub gone : Bool
+  pub closed : Bool
+  pub activity : Activity
+
+pub record LinkModel : Type 0 where
+  pub progress : Progress Response
+  pub failed : Option FailKind
+  pub dropped : Bool
+  pub connection : ℕ
+
+-- the connections in the order of their numbers from 1, the links in that of their numbers from first
+pub record EngineModel : Type 0 where
+  pub connections : List ConnectionModel
+  pub links : List LinkModel
+  pub core : CoreState
+  pub first : ℕ
+
+abbrev pub accepted : ℕ → ConnectionModel
+accepted max_body = record { progress = start max_body false; gone = false; closed = false; activity = Free }
+
+abbrev pub opened : ℕ → Bool → ℕ → LinkModel
+opened max_body to_head i = record { progress = start max_body to_head; failed = None; dropped = false; connection = i }
+
+-- stand-ins beyond the lists
+abbrev pub no_connection : ConnectionModel
+no_connection = record { progress = start 0 false; gone = true; closed = true; activity = Free }
+
+abbrev pub no_link : LinkModel
+no_link = record { progress = start 0 false; failed = None; dropped = true; connection = 0 }
+
+abbrev pub connection_at : EngineModel → ℕ → ConnectionModel
+connection_at s i = slice_index_or s.connections i no_connection
+
+abbrev pub link_at : EngineModel → ℕ → LinkModel
+link_at s j = slice_index_or s.links j no_link
+
+-- ---- what happens
+
+abbrev pub connection_fault : ℕ → ℕ → Option EngineFault
+connection_fault count n = if nat_lt 0 n && nat_le n count then None else Some NotAccepted
+
+abbrev pub link_fault : ℕ → ℕ → ℕ → Option EngineFault
+link_fault first count l = if nat_le first l && nat_lt (l - first) count then None else Some WrongNumber
+
+-- why a happening isn't taken
+abbrev pub fault_of : EngineModel → Said → Option EngineFault
+fault_of s (Accepts n) = if n == length s.connections + 1 then None else Some WrongNumber
+fault_of s (Sends n bytes) = connection_fault (length s.connections) n
+fault_of s (Ends n) = connection_fault (length s.connections) n
+fault_of s (Leaves n) = connection_fault (length s.connections) n
+fault_of s (Hears l bytes) = link_fault s.first (length s.links) l
+fault_of s (Shuts l) = link_fault s.first (length s.links) l
+fault_of s (Fails l kind) = link_fault s.first (length s.links) l
+
+-- what comes for a connection that is closed, gone or ended changes nothing
+abbrev pub sent : List ℕ → ConnectionModel → ConnectionModel
+sent bytes c = if c.gone || (c.closed || c.progress.ended) then c else record c { progress = fed c.progress bytes }
+
+abbrev pub ended : ConnectionModel → ConnectionModel
+ended c = if c.gone || c.closed then c else record c { progress = finished c.progress }
+
+abbrev pub left : ConnectionModel → ConnectionModel
+left c = if c.closed then c else record c { gone = true }
+
+-- nor does what comes for a link that is dropped, failed or shut
+abbrev pub heard_by : List ℕ → LinkModel → LinkModel
+heard_by bytes k =
+    if k.dropped || (is_some k.failed || k.progress.ended) then k else record k { progress = fed k.progress bytes }
+
+abbrev pub shut : LinkModel → LinkModel
+shut k = if k.dropped || is_some k.failed then k else record k { progress = finished k.progress }
+
+abbrev pub failed_by : FailKind → LinkModel → LinkModel
+failed_by kind k = if k.dropped || is_some k.failed then k else record k { failed = Some kind }
+
+-- bytes are kept of a connection that isn't closed, gone or ended, and of a link that isn't dropped, failed or shut
+abbrev pub keeps_bytes : ConnectionModel → Bool
+keeps_bytes c = not (c.gone || (c.closed || c.progress.ended))
+
+abbrev pub keeps_answer : LinkModel → Bool
+keeps_answer k = not (k.dropped || (is_some k.failed || k.progress.ended))
+
+-- a connection is kept, and bytes where they are; marks take no memory
+abbrev pub keeps : EngineModel → Said → Bool
+keeps s (Accepts n) = true
+keeps s (Sends n bytes) = keeps_bytes (connection_at s (n - 1))
+keeps s (Hears l bytes) = keeps_answer (link_at s (l - s.first))
+keeps s (Ends n) = false
+keeps s (Leaves n) = false
+keeps s (Shuts l) = false
+keeps s (Fails l kind) = false
+
+abbrev pub with_connection : EngineModel → ℕ → (ConnectionModel → ConnectionModel) → EngineModel
+with_connection s i f =
+    record {
+      connections = slice_set s.connections i (f (connection_at s i));
+      links = s.links;
+      core = s.core;
+      first = s.first;
+    }
+
+abbrev pub with_link : EngineModel → ℕ → (LinkModel → LinkModel) → EngineModel
+with_link s j f =
+    record {
+      connections = s.connections;
+      links = slice_set s.links j (f (link_at s j));
+      core = s.core;
+      first = s.first;
+    }
+
+abbrev pub with_core : EngineModel → CoreState → EngineModel
+with_core s core = record { connections = s.connections; links = s.links; core = core; first = s.first }
+
+abbrev pub heard : EngineModel → Said → EngineModel
+heard s (Accepts n) =
+    record {
+      connections = s.connections ++ accepted s.core.table.max_body ∷ [];
+      links = s.links;
+      core = s.core;
+      first = s.first;
+    }
+heard s (Sends n bytes) = with_connection s (n - 1) (sent bytes)
+heard s (Ends n) = with_connection s (n - 1) ended
+heard s (Leaves n) = with_connection s (n - 1) left
+heard s (Hears l bytes) = with_link s (l - s.first) (heard_by bytes)
+heard s (Shuts l) = with_link s (l - s.first) shut
+heard s (Fails l kind) = with_link s (l - s.first) (failed_by kind)

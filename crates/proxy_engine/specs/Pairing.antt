@@ -1,0 +1,73 @@
+-- Which connection's request went forward on which link, and which exchanges of the core are open: the three agree.
+--
+-- activities_after, owners_after: what an outcome of the core adds
+-- forwarded_at: whether an exchange is open, and its request at the origin
+-- Paired: connections, links and open exchanges belong together     IsPaired: those of an engine do
+use Rattle.std.specs.Prelude.{◌≡◌, ℕ, ◌+◌, Bool, List, [], ◌∷◌, ◌++◌, map, Option, None, Some, slice_set}
+use Rattle.std.specs.Prelude.{slice_index_or}
+use Rattle.std.specs.Option.{option_map}
+use Rattle.proxy_core.specs.Leading.{is_forwarded}
+use Rattle.proxy_core.specs.Outcomes.{find_exchange}
+use Rattle.proxy_core.specs.declared.open.exchange.Exchange.{Exchange}
+use Rattle.proxy_core.specs.declared.outcome.Outcome.{Outcome}
+use Rattle.proxy_core.specs.declared.outcome.Outcome.TheVariants.{Reply, Forward, Waits, Ended}
+use Rattle.proxy_engine.specs.Activities.{link_of, forwarded_in}
+use Rattle.proxy_engine.specs.State.{State}
+use Rattle.proxy_engine.specs.declared.endpoints.activities.Activity.{Activity}
+use Rattle.proxy_engine.specs.declared.endpoints.activities.Activity.TheVariants.{Free, Forwarded, Waiting}
+use Rattle.proxy_engine.specs.declared.endpoints.ends.Connection.{Connection}
+use Rattle.proxy_engine.specs.declared.endpoints.ends.Link.{Link}
+
+-- what a connection does; one that is over is free
+abbrev pub activity_of : Option Connection → Activity
+activity_of None = Free
+activity_of (Some c) = c.activity
+
+-- the place of the connection that an open link belongs to
+abbrev pub owner_of : Option Link → Option ℕ
+owner_of None = None
+owner_of (Some k) = Some k.connection
+
+-- what the connections do behind an outcome for the connection at i, where the next link has the place n
+abbrev pub activities_after : ℕ → ℕ → Outcome → List Activity → List Activity
+activities_after i n (Reply r) activities = activities
+activities_after i n (Forward line bytes) activities = slice_set activities i (Forwarded n)
+activities_after i n (Waits leader) activities = slice_set activities i Waiting
+activities_after i n Ended activities = activities
+
+-- the connections of the links
+abbrev pub owners_after : ℕ → Outcome → List (Option ℕ) → List (Option ℕ)
+owners_after i (Reply r) owners = owners
+owners_after i (Forward line bytes) owners = owners ++ Some i ∷ []
+owners_after i (Waits leader) owners = owners
+owners_after i Ended owners = owners
+
+-- what the connection at a place does; beyond the list none has an exchange
+abbrev pub activity_at : List Activity → ℕ → Activity
+activity_at activities i = slice_index_or activities i Free
+
+-- what stands at a place, or nothing beyond the list
+abbrev pub at : List (Option ℕ) → ℕ → Option ℕ
+at xs i = slice_index_or xs i None
+
+-- the exchange of an id is open, and its request is at the origin or waits
+abbrev pub forwarded_at : ℕ → List Exchange → Option Bool
+forwarded_at id exchanges = option_map (λ (x : Exchange). is_forwarded x.stage) (find_exchange id exchanges)
+
+-- An open link and its connection name each other; the exchange of a connection's number is open exactly where the
+-- connection has one, and its request is at the origin exactly where that has a link; and no exchange has a number that
+-- no connection has.
+pub record Paired (activities : List Activity) (owners : List (Option ℕ)) (exchanges : List Exchange) : Type 0 where
+  pub owned : (i j : ℕ) → link_of (activity_at activities i) ≡ Some j → at owners j ≡ Some i
+  pub linked : (i j : ℕ) → at owners j ≡ Some i → link_of (activity_at activities i) ≡ Some j
+  pub opened : (i : ℕ) → forwarded_at (i + 1) exchanges ≡ forwarded_in (activity_at activities i)
+  pub numbered : forwarded_at 0 exchanges ≡ None
+
+abbrev pub activities_of : List (Option Connection) → List Activity
+activities_of connections = map activity_of connections
+
+abbrev pub owners_of : List (Option Link) → List (Option ℕ)
+owners_of links = map owner_of links
+
+abbrev pub IsPaired : State → Type 0
+IsPaired e = Paired (activities_of e.connections) (owners_of e.links) e.core.exchanges

@@ -1,0 +1,256 @@
+//! The connections of clients by their places, and at which of them something may be due.
+ghost use Rattle.std.specs.Prelude.{◌≡◌, ◌+◌, ◌<◌, ◌≤◌, ◌^◌, ◌++◌, ◌∷◌, [], List, length, map, nat_lt, if◌then◌else◌};
+ghost use Rattle.std.specs.Prelude.{sum_by, true, is_some, IsOk, IfOk, IfSome, IfNone, OnOk, OnErr, Some, None};
+ghost use Rattle.std.specs.Prelude.{slice_index_or, slice_set};
+ghost use Rattle.std.specs.Option.{option_copied_mut};
+ghost use Rattle.std.specs.Borrow.{LendsIf, sem};
+ghost use Rattle.proxy_engine.specs.EngineModel.{ConnectionModel, no_connection};
+ghost use Rattle.proxy_engine.specs.Due.{IsFirst, Lost};
+ghost use Rattle.proxy_engine.specs.Reading.{places_with, is_open, is_read, client_end, IsBetween};
+ghost use Rattle.proxy_engine.specs.Room.{IsRoomy, piece};
+ghost use Rattle.proxy_engine.specs.Activities.{link_of, has_exchange};
+ghost use Rattle.proxy_engine.specs.Pairing.{activity_at, activity_of, activities_of};
+ghost use Rattle.proxy_engine.specs.State.{Both, ConnectionRepresents, gone_at, NoneLost, FoundConnections};
+ghost use Rattle.proxy_engine.specs.State.{connection_load};
+
+use crate::endpoints::activities::Activity;
+use crate::endpoints::ends::Connection;
+use crate::endpoints::peeked::Peeked;
+use crate::endpoints::ready_list::ReadyList;
+use crate::reading;
+use crate::steps::finds::{first_due, first_lost};
+use crate::work::End;
+use hx_framing::RequestReader;
+use std::alloc::{AllocError, Global};
+use std::collections::BTreeMap;
+use std::marker::Model;
+
+/// The connections that aren't over, and how many were ever accepted. Where one may be gone with an open exchange, or
+/// its stream may ask for something, its place is marked; whatever changes one marks it. So a search looks at marked
+/// places alone. Behind the last stands an empty one where there is room for one more.
+#[derive(Drop)]
+pub(crate) struct Connections {
+    ends: BTreeMap<u64, Connection>,
+    count: u64,
+    lost: ReadyList,
+    waiting: ReadyList,
+}
+
+impl Model for Connections {
+    ghost use Rattle.std.specs.Prelude.{◌&&◌, ◌+◌, ◌^◌, nat_lt, is_some};
+    ghost use Rattle.std.specs.Ordering.{nat_cmp};
+    ghost use Rattle.std.specs.BTreeMap.{get};
+    ghost use Rattle.proxy_engine.specs.ReadyList.{listed, AllBelow, IsMarked};
+    ghost use Rattle.proxy_engine.specs.Marked.{EndList, may_be_lost, may_want};
+    ghost use Rattle.proxy_engine.specs.declared.endpoints.ends.Connection.{Connection};
+
+    ghost Value = { EndList Connection };
+
+    ghost view = { λ c. record {
+      items = listed c.ends c.count;
+      has_room = nat_lt (c.count + 1) (2 ^ 64)
+          && is_some (get nat_cmp c.ends c.count);
+    } };
+
+    ghost invariant = { λ c. IsMarked may_be_lost c.ends c.lost × AllBelow c.count c.lost.places
+        × IsMarked may_want c.ends c.waiting × AllBelow c.count c.waiting.places };
+}
+
+impl Connections {
+    ghost use Rattle.proxy_engine.specs.contracts.endpoints.connections.Connections.{the_row};
+    ghost use Rattle.proxy_engine.specs.contracts.endpoints.ends.Connection.{the_row as connection_row};
+
+    pub(crate) fn new(alloc: Global) -> Self
+        ensures { result.items ≡ [] }
+    {
+        Connections {
+            ends: BTreeMap::new(alloc),
+            count: 0,
+            lost: ReadyList::new(alloc),
+            waiting: ReadyList::new(alloc),
+        }
+    }
+
+    /// How many were ever accepted.
+    pub(crate) fn len(&self) -> u64
+        ensures { result ≡ length self.now.items }
+    {
+        self.count
+    }
+
+    /// The connection at a place, which isn't over.
+    pub(crate) fn at(&self, i: u64) -> &Connection
+        requires { is_some (slice_index_or self.now.items i None) ≡ true }
+        ensures { slice_index_or self.now.items i None ≡ Some result.now }
+    {
+        &self.ends[&i]
+    }
+
+    /// Whether the connection at a place has an open exchange.
+    pub(crate) fn has_exchange(&self, i: u64) -> bool
+        requires { i < length self.now.items }
+        ensures { result ≡ has_exchange (activity_of (slice_index_or self.now.items i None)) }
+    {
+        match self.ends.get(&i) {
+            Some(connection) => connection.activity.has_exchange(),
+            None => false,
+        }
+    }
+
+    /// Whether the client at a place is between two requests.
+    pub(crate) fn is_between(&self, i: u64) -> bool
+        ensures { (ss : List ConnectionModel) → Both ConnectionRepresents self.now.items ss → result ≡ true
+            → IsBetween (slice_index_or ss i no_connection) }
+    {
+        if i >= self.count {
+            return false;
+        }
+        match self.ends.get(&i) {
+            Some(connection) => reading::is_between(connection),
+            None => false,
+        }
+    }
+
+    /// The connection at a place, to be changed, if it isn't over. Something may be due there afterwards.
+    pub(crate) fn at_mut(&mut self, i: u64) -> Option<&mut Connection>
+        requires { i < length self.old.items }
+        ensures* writes_back { sem 𝓛 (LendsIf the_row connection_row self.entry result
+            (λ w. record { items = slice_set self.old.items i (Some w); has_room = self.old.has_room }) self.old) }
+        ensures value { option_copied_mut result ≡ slice_index_or self.old.items i None }
+    {
+        if !self.ends.contains_key(&i) {
+            return None;
+        }
+        self.lost.put(i);
+        self.waiting.put(i);
+        self.ends.get_mut(&i)
+    }
+
+    /// Makes room for one more, and for the marks at its place. An empty connection stands there until then.
+    pub(crate) fn reserve_one(&mut self, alloc: Global) -> Result<(), AllocError>
+        requires { length self.old.items + 1 < 2 ^ 64 }
+        ensures items { self.new.items ≡ self.old.items }
+        ensures ok { OnOk result (self.new.has_room ≡ true) }
+        ensures reserved { self.old.has_room ≡ true → IsOk result }
+        ensures err { OnErr result (self.new ≡ self.old) }
+    {
+        let place = self.count;
+        if self.ends.contains_key(&place) {
+            return Ok(());
+        }
+        self.lost.reserve_beside(&self.ends)?;
+        self.waiting.reserve_beside(&self.ends)?;
+        let empty = Connection {
+            reader: Peeked::new(RequestReader::new(alloc, 0)),
+            ended: false,
+            gone: true,
+            activity: Activity::Free,
+        };
+        self.ends.insert(place, empty)?;
+        Ok(())
+    }
+
+    /// Puts a connection at the place behind the last, and marks it. There is room, so no memory is taken.
+    pub(crate) fn put(&mut self, connection: Connection)
+        requires { self.old.has_room ≡ true }
+        ensures { self.new.items ≡ self.old.items ++ Some connection ∷ [] }
+    {
+        let place = self.count;
+        self.lost.put(place);
+        self.waiting.put(place);
+        let _ = self.ends.insert(place, connection);
+        self.count = place + 1;
+    }
+
+    /// Puts a connection at the place behind the last. Where there is room for it, memory isn't wanted.
+    pub(crate) fn accept(&mut self, alloc: Global, connection: Connection) -> Result<(), AllocError>
+        requires { length self.old.items + 1 < 2 ^ 64 }
+        ensures ok { OnOk result (self.new.items ≡ self.old.items ++ Some connection ∷ []) }
+        ensures reserved { self.old.has_room ≡ true → IsOk result }
+        ensures err { OnErr result (self.new ≡ self.old) }
+    {
+        self.reserve_one(alloc)?;
+        self.put(connection);
+        Ok(())
+    }
+
+    /// The number of the next connection, if one is left.
+    pub(crate) fn next_number(&self) -> Option<u64>
+        ensures { result ≡ (if nat_lt (length self.now.items + 1)
+            (2 ^ 64) then Some (length self.now.items + 1) else None) }
+    {
+        self.count.checked_add(1)
+    }
+
+    /// How many are open: neither closed nor gone.
+    pub(crate) fn open_count(&self) -> usize
+        ensures { (ss : List ConnectionModel) → Both ConnectionRepresents self.now.items ss → result
+            ≡ length (places_with is_open 0 ss) }
+    {
+        reading::open_count(&self.ends, self.count)
+    }
+
+    /// Whether fewer than this are open.
+    pub(crate) fn are_fewer_open(&self, most: usize) -> bool
+        ensures { (ss : List ConnectionModel) → Both ConnectionRepresents self.now.items ss → result
+            ≡ nat_lt (length (places_with is_open 0 ss)) most }
+    {
+        reading::are_fewer_open(&self.ends, self.count, most)
+    }
+
+    /// Adds the clients from which bytes may come.
+    pub(crate) fn push_readable(&self, ends: &mut Vec<End>) -> Result<(), AllocError>
+        ensures { OnOk result ((ss : List ConnectionModel) → Both ConnectionRepresents self.now.items ss
+            → ends.new.items ≡ ends.old.items ++ map client_end (places_with is_read 0 ss)) }
+    {
+        reading::push_clients(&self.ends, self.count, ends)
+    }
+
+    /// Makes room for one piece of the client's bytes at a place, if the connection isn't over.
+    pub(crate) fn reserve_piece(&mut self, i: u64) -> Result<(), AllocError>
+        ensures ok { OnOk result (IsRoomy (slice_index_or self.new.items i None) piece) }
+        ensures stands { (ss : List ConnectionModel) → Both ConnectionRepresents self.old.items ss
+            → Both ConnectionRepresents self.new.items ss }
+        ensures activities { activities_of self.new.items ≡ activities_of self.old.items }
+        ensures err { OnErr result (self.new ≡ self.old) }
+    {
+        if i >= self.count {
+            return Ok(());
+        }
+        reading::reserve_at(&mut self.ends, i)
+    }
+
+    /// Lets go of the connection at a place, which is over.
+    pub(crate) fn let_go(&mut self, i: u64)
+        requires { i < length self.old.items }
+        ensures { self.new.items ≡ slice_set self.old.items i None }
+    {
+        let _ = self.ends.remove(&i);
+        self.lost.remove(i);
+        self.waiting.remove(i);
+    }
+
+    /// The first connection that is gone with an open exchange, and its link, if its request went forward.
+    pub(crate) fn find_lost(&mut self) -> Option<(u64, Option<u64>)>
+        ensures same { self.new.items ≡ self.old.items }
+        ensures first { (ss : List ConnectionModel) → Both ConnectionRepresents self.old.items ss
+            → IsFirst Lost no_connection ss result }
+        ensures none { IfNone result (NoneLost self.old.items) }
+        ensures open { IfSome result (λ p. has_exchange (activity_at (activities_of self.old.items) p.0) ≡ true) }
+        ensures linked { IfSome result (λ p. link_of (activity_at (activities_of self.old.items) p.0) ≡ p.1) }
+        ensures gone { IfSome result (λ p. gone_at (slice_index_or self.old.items p.0 None) ≡ Some true) }
+    {
+        first_lost(&self.ends, &mut self.lost)
+    }
+
+    /// The first connection on which something is due.
+    pub(crate) fn find_due(&mut self, alloc: Global) -> Result<Option<u64>, AllocError>
+        ensures stands { (ss : List ConnectionModel) → Both ConnectionRepresents self.old.items ss
+            → Both ConnectionRepresents self.new.items ss }
+        ensures found { IfOk result (λ found. FoundConnections self.new.items found) }
+        ensures activities { activities_of self.new.items ≡ activities_of self.old.items }
+        ensures load { sum_by connection_load self.new.items ≤ sum_by connection_load self.old.items }
+    {
+        first_due(&mut self.ends, &mut self.waiting, alloc)
+    }
+}

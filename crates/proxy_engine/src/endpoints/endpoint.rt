@@ -1,0 +1,139 @@
+//! What a connection and a link have in common: something may be due there, and bytes may come.
+ghost use Rattle.std.specs.Prelude.{◌≡◌, ℕ, ◌≤◌, Bool, true, false, Option, Some, IfOk, OnOk, OnErr};
+
+use crate::endpoints::ends::{Connection, Link};
+use std::alloc::{AllocError, Global};
+
+/// A connection that isn't over, or a link that isn't dropped.
+pub(crate) trait Endpoint: Drop {
+    /// Something may be due there.
+    ghost may_show: { Self → Bool };
+
+    /// Something is due there, and `poll` has found it.
+    ghost IsShown: { Option Self → Type 0 };
+
+    /// What `poll` may change: the new one represents the same models, and no more is to come of it.
+    ghost LooksLike: { Self → Self → Type 0 };
+
+    /// What is left where room for bytes is made.
+    ghost Grows: { Self → Self → Type 0 };
+
+    /// For how many bytes there is room.
+    ghost spare: { Self → ℕ };
+
+    /// Nothing is known of it: it wasn't asked, or found no memory.
+    ghost is_unknown: { Self → Bool };
+
+    /// Whether something is due there. What is found is kept, so nothing is read twice.
+    fn poll(&mut self, alloc: Global) -> Result<bool, AllocError>
+        ensures alike { LooksLike self.old self.new }
+        ensures yes { IfOk result (λ b. b ≡ true → IsShown (Some self.new)) }
+        ensures no { IfOk result (λ b. b ≡ false → may_show self.new ≡ false) }
+        ensures failed { OnErr result (is_unknown self.new ≡ true) };
+
+    /// Makes room for so many bytes. An `Err` changes nothing.
+    fn reserve(&mut self, n: usize) -> Result<(), AllocError>
+        ensures grows { Grows self.old self.new }
+        ensures ok { OnOk result (n ≤ spare self.new) }
+        ensures err { OnErr result (self.new ≡ self.old) };
+
+    ghost looks_like_itself: { (x : Self) → LooksLike x x };
+
+    ghost looks_on: { (x y z : Self) → LooksLike x y → LooksLike y z → LooksLike x z };
+
+    ghost grows_by_nothing: { (x : Self) → Grows x x };
+}
+
+impl Endpoint for Connection {
+    ghost use Rattle.proxy_engine.specs.Held.{GrowsConnection};
+    ghost use Rattle.proxy_engine.specs.Marked.{may_want, LooksLikeConnection, WantsThere};
+    ghost use Rattle.proxy_engine.specs.Spent.{connection_unknown};
+    ghost use Rattle.std.proofs.Common.{refl, ◌∙◌};
+    ghost use Rattle.std.proofs.Math.Nat.{le_refl, le_trans};
+
+    ghost may_show = { may_want };
+
+    ghost IsShown = { WantsThere };
+
+    ghost LooksLike = { LooksLikeConnection };
+
+    ghost Grows = { GrowsConnection };
+
+    ghost spare = { λ c. c.reader.inner.spare };
+
+    ghost is_unknown = { connection_unknown };
+
+    fn poll(&mut self, alloc: Global) -> Result<bool, AllocError> {
+        if self.gone || self.activity.has_exchange() {
+            return Ok(false);
+        }
+        self.reader.look_ahead(alloc)?;
+        Ok(self.reader.peek().is_some())
+    }
+
+    fn reserve(&mut self, n: usize) -> Result<(), AllocError> {
+        self.reader.reserve(n)
+    }
+
+    ghost looks_like_itself = { λ c. record { stands = λ s h. h; gone = refl; activity = refl; load = le_refl _ } };
+
+    ghost looks_on = { λ x y z r q. record {
+      stands = λ s h. q.stands s (r.stands s h);
+      gone = q.gone ∙ r.gone;
+      activity = q.activity ∙ r.activity;
+      load = le_trans q.load r.load;
+    } };
+
+    ghost grows_by_nothing = { λ c. record {
+      alike = record {
+        stands = λ s h. h;
+        gone = refl;
+        activity = refl;
+        load = le_refl _;
+      };
+      ahead = refl;
+    } };
+}
+
+impl Endpoint for Link {
+    ghost use Rattle.proxy_engine.specs.Held.{GrowsLink};
+    ghost use Rattle.proxy_engine.specs.Marked.{may_stand, LooksLikeLink, StandsThere};
+    ghost use Rattle.proxy_engine.specs.Spent.{link_unknown};
+    ghost use Rattle.std.proofs.Common.{refl, ◌∙◌};
+    ghost use Rattle.std.proofs.Math.Nat.{le_refl, le_trans};
+
+    ghost may_show = { may_stand };
+
+    ghost IsShown = { StandsThere };
+
+    ghost LooksLike = { LooksLikeLink };
+
+    ghost Grows = { GrowsLink };
+
+    ghost spare = { λ k. k.reader.inner.spare };
+
+    ghost is_unknown = { link_unknown };
+
+    fn poll(&mut self, alloc: Global) -> Result<bool, AllocError> {
+        self.reader.look_ahead(alloc)?;
+        Ok(self.reader.peek().is_some() || self.failed.is_some())
+    }
+
+    fn reserve(&mut self, n: usize) -> Result<(), AllocError> {
+        self.reader.reserve(n)
+    }
+
+    ghost looks_like_itself = { λ k. record { stands = λ s h. h; connection = refl; load = le_refl _ } };
+
+    ghost looks_on = { λ x y z r q. record {
+      stands = λ s h. q.stands s (r.stands s h);
+      connection = q.connection ∙ r.connection;
+      load = le_trans q.load r.load;
+    } };
+
+    ghost grows_by_nothing = { λ k. record {
+      alike = record { stands = λ s h. h; connection = refl; load = le_refl _ };
+      ahead = refl;
+      failed = refl;
+    } };
+}

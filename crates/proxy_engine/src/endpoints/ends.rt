@@ -1,0 +1,51 @@
+//! The proxy's ends: connections of clients, and links to origins. Only those that aren't over are kept.
+
+use crate::endpoints::activities::Activity;
+use crate::endpoints::peeked::Peeked;
+use hx_framing::{RequestReader, ResponseReader};
+use hx_status::FailKind;
+
+/// A client's connection that isn't closed, and isn't gone without an open exchange.
+pub(crate) struct Connection {
+    pub(crate) reader: Peeked<RequestReader>,
+    /// The client sends no more.
+    pub(crate) ended: bool,
+    /// The client went away.
+    pub(crate) gone: bool,
+    /// Whether its exchange is open, and on which link.
+    pub(crate) activity: Activity,
+}
+
+/// One call drops it, wherever that is.
+impl Drop for Connection {
+    fn drop(self) {
+        let Connection {
+            reader: _,
+            ended: _,
+            gone: _,
+            activity: _,
+        } = self;
+    }
+}
+
+/// A link to an origin that isn't dropped.
+pub(crate) struct Link {
+    pub(crate) reader: Peeked<ResponseReader>,
+    /// The origin closed it.
+    pub(crate) ended: bool,
+    pub(crate) failed: Option<FailKind>,
+    /// The place of the connection whose request went forward on it.
+    pub(crate) connection: u64,
+}
+
+/// One call drops it, wherever that is.
+impl Drop for Link {
+    fn drop(self) {
+        let Link {
+            reader: _,
+            ended: _,
+            failed: _,
+            connection: _,
+        } = self;
+    }
+}

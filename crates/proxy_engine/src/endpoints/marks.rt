@@ -1,0 +1,150 @@
+//! Changes of one connection. None takes memory.
+ghost use Rattle.std.specs.Prelude.{◌≡◌, ℕ, ◌+◌, ◌*◌, ◌<◌, ◌≤◌, List, sum_by, true, false, Option, Some, None, is_some};
+ghost use Rattle.std.specs.Prelude.{slice_index_or, slice_set};
+ghost use Rattle.hx_framing.specs.declared.messages.Request.{Request};
+ghost use Rattle.hx_framing.specs.declared.messages.Next.{Next};
+ghost use Rattle.proxy_core.specs.State.{State as CoreState};
+ghost use Rattle.proxy_engine.specs.declared.endpoints.lookahead.Lookahead.TheVariants.{Due};
+ghost use Rattle.proxy_engine.specs.Lookahead.{known};
+ghost use Rattle.proxy_engine.specs.EngineModel.{EngineModel, ConnectionModel, with_connection};
+ghost use Rattle.proxy_engine.specs.Acts.{closing, doing, passing};
+ghost use Rattle.proxy_engine.specs.Pairing.{activity_of, activities_of};
+ghost use Rattle.proxy_engine.specs.State.{Represents, ConnectionRepresents, state, action_at, gone_at, is_free};
+ghost use Rattle.proxy_engine.specs.State.{connection_load, wait_load, action_load};
+ghost use Rattle.proxy_engine.specs.declared.endpoints.ends.Link.{Link};
+
+use crate::endpoints::activities::Activity;
+use crate::endpoints::connections::Connections;
+use crate::endpoints::ends::Connection;
+
+/// The connection, which isn't gone, has no open exchange any more.
+fn unlink(connection: &mut Connection)
+    requires { connection.old.gone ≡ false }
+    ensures stands { (c : ConnectionModel) → ConnectionRepresents (Some connection.old) c
+        → ConnectionRepresents (Some connection.new) (doing Activity.Free c) }
+    ensures activity { connection.new.activity ≡ Activity.Free }
+    ensures gone { connection.new.gone ≡ false }
+    ensures load { connection_load (Some connection.new) + wait_load connection.old.activity
+        ≡ connection_load (Some connection.old) }
+{
+    connection.activity = Activity::Free;
+}
+
+/// The connection's request, which isn't gone, waits for the answer to another.
+fn queue(connection: &mut Connection)
+    requires { connection.old.activity ≡ Activity.Free }
+    ensures stands { (c : ConnectionModel) → ConnectionRepresents (Some connection.old) c
+        → ConnectionRepresents (Some connection.new) (doing Activity.Waiting c) }
+    ensures activity { connection.new.activity ≡ Activity.Waiting }
+    ensures load { connection_load (Some connection.new) ≡ connection_load (Some connection.old) + 2 }
+{
+    connection.activity = Activity::Waiting;
+}
+
+/// The connection's request went forward on the link at a place.
+fn link_to(connection: &mut Connection, place: u64)
+    requires { connection.old.activity ≡ Activity.Free }
+    ensures stands { (c : ConnectionModel) → ConnectionRepresents (Some connection.old) c
+        → ConnectionRepresents (Some connection.new) (doing (Activity.Forwarded place) c) }
+    ensures activity { connection.new.activity ≡ Activity.Forwarded place }
+    ensures load { connection_load (Some connection.new) ≡ connection_load (Some connection.old) }
+{
+    connection.activity = Activity::Forwarded(place);
+}
+
+/// What was due on the connection is done.
+fn pass(connection: &mut Connection)
+    ensures stands { (c : ConnectionModel) → (a : Next Request) → connection.old.reader.ahead ≡ Due a
+        → ConnectionRepresents (Some connection.old) c → ConnectionRepresents (Some connection.new) (passing a c) }
+    ensures activity { connection.new.activity ≡ connection.old.activity }
+    ensures gone { connection.new.gone ≡ connection.old.gone }
+    ensures load { connection_load (Some connection.new) + 3 * known connection.old.reader.ahead ≤ connection_load
+        (Some connection.old) }
+{
+    connection.reader.pass();
+}
+
+/// What was due on the connection at a place is done.
+pub(crate) fn pass_at(connections: &mut Connections, i: u64)
+    requires { is_some (action_at (slice_index_or connections.old.items i None)) ≡ true }
+    ensures stands { (s : EngineModel) → (a : Next Request) → (links : List (Option Link)) → (core : CoreState)
+        → (first : ℕ) → action_at (slice_index_or connections.old.items i None) ≡ Some a
+        → Represents (state connections.old.items links core first) s
+        → Represents (state connections.new.items links core first) (with_connection s i (passing a)) }
+    ensures activities { activities_of connections.new.items ≡ activities_of connections.old.items }
+    ensures free { is_free (slice_index_or connections.new.items i None) ≡ true }
+    ensures load { sum_by connection_load connections.new.items + 3 * action_load
+        (action_at (slice_index_or connections.old.items i None)) ≤ sum_by connection_load connections.old.items }
+{
+    match connections.at_mut(i) {
+        Some(connection) => pass(connection),
+        None => unreachable!(),
+    }
+}
+
+/// The connection at a place has the link at another one.
+pub(crate) fn link_at(connections: &mut Connections, i: u64, place: u64)
+    requires { is_free (slice_index_or connections.old.items i None) ≡ true }
+    ensures stands { (s : EngineModel) → (links : List (Option Link)) → (core : CoreState) → (first : ℕ)
+        → Represents (state connections.old.items links core first) s
+        → Represents (state connections.new.items links core first)
+        (with_connection s i (doing (Activity.Forwarded place))) }
+    ensures activities { activities_of connections.new.items
+        ≡ slice_set (activities_of connections.old.items) i (Activity.Forwarded place) }
+    ensures load { sum_by connection_load connections.new.items ≡ sum_by connection_load connections.old.items }
+{
+    match connections.at_mut(i) {
+        Some(connection) => link_to(connection, place),
+        None => unreachable!(),
+    }
+}
+
+/// The request of the connection at a place waits for the answer to another.
+pub(crate) fn queue_at(connections: &mut Connections, i: u64)
+    requires { is_free (slice_index_or connections.old.items i None) ≡ true }
+    ensures stands { (s : EngineModel) → (links : List (Option Link)) → (core : CoreState) → (first : ℕ)
+        → Represents (state connections.old.items links core first) s
+        → Represents (state connections.new.items links core first) (with_connection s i (doing Activity.Waiting)) }
+    ensures activities { activities_of connections.new.items
+        ≡ slice_set (activities_of connections.old.items) i Activity.Waiting }
+    ensures load { sum_by connection_load connections.new.items ≡ sum_by connection_load connections.old.items + 2 }
+{
+    match connections.at_mut(i) {
+        Some(connection) => queue(connection),
+        None => unreachable!(),
+    }
+}
+
+/// The connection at a place, which isn't gone, has no open exchange any more.
+pub(crate) fn unlink_at(connections: &mut Connections, i: u64)
+    requires { gone_at (slice_index_or connections.old.items i None) ≡ Some false }
+    ensures stands { (s : EngineModel) → (links : List (Option Link)) → (core : CoreState) → (first : ℕ)
+        → Represents (state connections.old.items links core first) s
+        → Represents (state connections.new.items links core first) (with_connection s i (doing Activity.Free)) }
+    ensures activities { activities_of connections.new.items
+        ≡ slice_set (activities_of connections.old.items) i Activity.Free }
+    ensures free { is_free (slice_index_or connections.new.items i None) ≡ true }
+    ensures load { sum_by connection_load connections.new.items + wait_load
+        (activity_of (slice_index_or connections.old.items i None)) ≡ sum_by connection_load connections.old.items }
+{
+    match connections.at_mut(i) {
+        Some(connection) => unlink(connection),
+        None => unreachable!(),
+    }
+}
+
+/// The proxy closes the connection at a place, which is over then, or leaves it as it is.
+pub(crate) fn close_at(connections: &mut Connections, i: u64, close: bool)
+    requires free { is_free (slice_index_or connections.old.items i None) ≡ true }
+    ensures stands { (s : EngineModel) → (links : List (Option Link)) → (core : CoreState) → (first : ℕ)
+        → Represents (state connections.old.items links core first) s
+        → Represents (state connections.new.items links core first) (with_connection s i (closing close)) }
+    ensures activities { activities_of connections.new.items ≡ activities_of connections.old.items }
+    ensures load { sum_by connection_load connections.new.items ≤ sum_by connection_load connections.old.items }
+    ensures less { close ≡ true
+        → sum_by connection_load connections.new.items < sum_by connection_load connections.old.items }
+{
+    if close {
+        connections.let_go(i);
+    }
+}

@@ -1,0 +1,159 @@
+//! A reader that is asked ahead: its answer is kept until it is used, so that no act reads bytes twice, and a message
+//! that finds no memory on its way isn't lost.
+ghost use Rattle.std.specs.Prelude.{◌≡◌, ◌+◌, ◌*◌, ◌≤◌, [], length, true, false, IsOk, OnOk, OnErr, IfSome, is_some};
+ghost use Rattle.hx_framing.specs.Progress.{Progress, fed, finished, moved};
+ghost use Rattle.hx_framing.specs.declared.messages.Next.{Next};
+ghost use Rattle.hx_framing.specs.declared.messages.Next.TheVariants as next;
+ghost use Rattle.proxy_engine.specs.Lookahead.{Shows, is_due, known, unsettled};
+ghost use Rattle.hx_framing.specs.declared.messages.Request.{Request};
+ghost use Rattle.hx_framing.specs.RequestStream.{StreamSpells};
+ghost use Rattle.proxy_engine.specs.Peeked.{Represents, RequestStands, load};
+ghost use Rattle.proxy_engine.specs.Spent.{is_unknown};
+
+use crate::endpoints::lookahead::Lookahead;
+use crate::endpoints::readers::Reader;
+use hx_framing::{Next, RequestReader};
+use std::alloc::{AllocError, Global};
+
+/// A reader whose next answer is kept until it is used.
+pub struct Peeked<R: Reader> {
+    inner: R,
+    ahead: Lookahead<R::Message>,
+}
+
+/// One call drops it, wherever that is.
+impl<R: Reader> Drop for Peeked<R> {
+    fn drop(self) {
+        let Peeked { inner: _, ahead: _ } = self;
+    }
+}
+
+impl<R: Reader> Peeked<R> {
+    /// Of a reader to which nothing has come, so that nothing is due.
+    pub fn new(reader: R) -> Self
+        ensures stands { (p : Progress R.Message) → R.StandsFor reader p → R.Answers p next.More
+            → Represents R.StandsFor R.Answers result p }
+        ensures load { load R.weight result ≡ R.weight reader }
+        ensures quiet { result.ahead ≡ Lookahead.Quiet }
+    {
+        Peeked {
+            inner: reader,
+            ahead: Lookahead::Quiet,
+        }
+    }
+
+    /// Makes room, so that one `feed` of at most n bytes finds its memory. An `Err` changes nothing.
+    pub fn reserve(&mut self, n: usize) -> Result<(), AllocError>
+        ensures ok { OnOk result (n ≤ R.spare self.new.inner) }
+        ensures stands { (p : Progress R.Message) → Represents R.StandsFor R.Answers self.old p
+            → Represents R.StandsFor R.Answers self.new p }
+        ensures ahead { self.new.ahead ≡ self.old.ahead }
+        ensures load { load R.weight self.new ≡ load R.weight self.old }
+        ensures err { OnErr result (self.new ≡ self.old) }
+    {
+        self.inner.reserve(n)
+    }
+
+    /// Takes the next piece of the stream, before `finish`. An `Err` changes nothing.
+    pub fn feed(&mut self, piece: &[u8]) -> Result<(), AllocError>
+        ensures stands { OnOk result ((p : Progress R.Message) → Represents R.StandsFor R.Answers self.old p → p.ended
+            ≡ false → Represents R.StandsFor R.Answers self.new (fed p piece.now)) }
+        ensures load { load R.weight self.new ≤ load R.weight self.old + 2 * length piece.now }
+        ensures reserved { length piece.now ≤ R.spare self.old.inner → IsOk result }
+        ensures err { OnErr result (self.new ≡ self.old) }
+    {
+        self.inner.feed(piece)?;
+        self.ahead.ask_again();
+        Ok(())
+    }
+
+    /// The stream has ended. No memory is taken.
+    pub fn finish(&mut self)
+        ensures stands { (p : Progress R.Message) → Represents R.StandsFor R.Answers self.old p
+            → Represents R.StandsFor R.Answers self.new (finished p) }
+        ensures load { load R.weight self.new ≤ load R.weight self.old + R.end_weight }
+    {
+        self.inner.finish();
+        self.ahead.ask_again();
+    }
+
+    /// Sees what is due next, and keeps it. Whatever it answers, it stands for the same streams.
+    pub fn look_ahead(&mut self, alloc: Global) -> Result<(), AllocError>
+        ensures stands { (p : Progress R.Message) → Represents R.StandsFor R.Answers self.old p
+            → Represents R.StandsFor R.Answers self.new p }
+        ensures looked { OnOk result ((a : Next R.Message) × Shows self.new.ahead a) }
+        ensures unknown { OnErr result (is_unknown self.new.ahead ≡ true) }
+        ensures load { load R.weight self.new ≤ load R.weight self.old }
+        ensures unsettled { unsettled self.new.ahead ≤ unsettled self.old.ahead }
+    {
+        match self.ahead {
+            Lookahead::Unknown => {
+                if self.inner.is_quiet() {
+                    self.ahead = Lookahead::Quiet;
+                    Ok(())
+                } else {
+                    self.read(alloc)
+                }
+            }
+            Lookahead::Quiet => Ok(()),
+            Lookahead::Due(_) => Ok(()),
+        }
+    }
+
+    /// Reads what is due next, of which nothing is known.
+    fn read(&mut self, alloc: Global) -> Result<(), AllocError>
+        requires { self.old.ahead ≡ Lookahead.Unknown }
+        ensures stands { (p : Progress R.Message) → Represents R.StandsFor R.Answers self.old p
+            → Represents R.StandsFor R.Answers self.new p }
+        ensures looked { OnOk result ((a : Next R.Message) × Shows self.new.ahead a) }
+        ensures unknown { OnErr result (is_unknown self.new.ahead ≡ true) }
+        ensures load { load R.weight self.new ≤ load R.weight self.old }
+        ensures unsettled { unsettled self.new.ahead ≤ unsettled self.old.ahead }
+    {
+        match self.inner.next(alloc) {
+            Ok(next) => {
+                match self.ahead {
+                    // Told once more, so that nothing is moved out to be dropped.
+                    Lookahead::Unknown => {
+                        self.ahead = Lookahead::from_next(next);
+                    }
+                    Lookahead::Quiet => unreachable!(),
+                    Lookahead::Due(_) => unreachable!(),
+                }
+                Ok(())
+            }
+            Err(fault) => Err(fault),
+        }
+    }
+
+    /// What is due next, if `look_ahead` has found something.
+    pub fn peek(&self) -> Option<&Next<R::Message>>
+        ensures variant { is_some result ≡ is_due self.now.ahead }
+        ensures value { IfSome result (λ next. self.now.ahead ≡ Lookahead.Due next.now) }
+    {
+        self.ahead.due()
+    }
+
+    /// Goes on behind what is due.
+    pub fn pass(&mut self)
+        ensures stands { (p : Progress R.Message) → (a : Next R.Message) → self.old.ahead ≡ Lookahead.Due a
+            → Represents R.StandsFor R.Answers self.old p → Represents R.StandsFor R.Answers self.new (moved p a) }
+        ensures load { load R.weight self.new + known self.old.ahead ≤ load R.weight self.old }
+    {
+        self.ahead = Lookahead::Unknown;
+    }
+}
+
+impl Peeked<RequestReader> {
+    /// Whether each byte of the stream belongs to a request that was used.
+    pub(crate) fn is_between_requests(&self) -> bool
+        ensures { (p : Progress Request) → RequestStands self.now p → result ≡ true
+            → StreamSpells p.max_body p.stream p.given [] }
+    {
+        match self.ahead {
+            Lookahead::Unknown => self.inner.is_between_requests(),
+            Lookahead::Quiet => self.inner.is_between_requests(),
+            Lookahead::Due(_) => false,
+        }
+    }
+}

@@ -1,0 +1,73 @@
+//! What is to be done on a connection where something is due.
+ghost use Rattle.std.specs.Prelude.{◌≡◌, true, IfOk, Some, is_some, codes, bytes_eq};
+ghost use Rattle.hx_framing.specs.declared.messages.Request.{Request as Spelled};
+ghost use Rattle.hx_framing.specs.declared.messages.Next.{Next as Told};
+ghost use Rattle.hx_framing.specs.declared.messages.Next.TheVariants as next;
+ghost use Rattle.proxy_engine.specs.declared.endpoints.lookahead.Lookahead.TheVariants.{Due};
+ghost use Rattle.proxy_engine.specs.State.{action_at};
+ghost use Rattle.proxy_engine.specs.Actions.{IsMessageAction, IsAction, action_by};
+
+use crate::endpoints::ends::Connection;
+use hx_framing::{FrameFault, Next, Request};
+use hx_hop::{Asked, ask};
+use hx_status::Cause;
+use hx_target::TargetFault;
+use std::alloc::{AllocError, Global};
+
+/// What is to be done on a connection.
+#[derive(Drop)]
+pub(crate) enum Action {
+    /// The client waits for a continue before it sends content (RFC 9110, section 10.1.1).
+    Continue,
+    /// A request arrives.
+    Arrive(Asked),
+    /// The proxy answers by itself and closes. The flag says whether a HEAD is answered.
+    Refuse(Cause, bool),
+    /// The connection is closed without an answer.
+    Close,
+}
+
+fn is_head(request: &Request) -> bool
+    ensures { result ≡ bytes_eq request.now.method (codes "HEAD") }
+{
+    request.method.as_str().as_bytes() == b"HEAD".as_slice()
+}
+
+/// A message arrives as a request, or is refused.
+fn message_action(alloc: Global, request: &Request) -> Result<Action, AllocError>
+    ensures { IfOk result (λ action. IsMessageAction request.now action) }
+{
+    match ask(alloc, request) {
+        Ok(asked) => Ok(Action::Arrive(asked)),
+        Err(TargetFault::OutOfMemory) => Err(AllocError),
+        Err(fault) => Ok(Action::Refuse(Cause::Target(fault), is_head(request))),
+    }
+}
+
+/// A stream that was cut off gets no answer.
+fn fault_action(fault: FrameFault) -> Action
+    ensures { result ≡ action_by fault }
+{
+    match fault {
+        FrameFault::Truncated => Action::Close,
+        _ => Action::Refuse(Cause::Frame(fault), false),
+    }
+}
+
+/// What is to be done on a connection on which something is due.
+pub(crate) fn action_of(connection: &Connection, alloc: Global) -> Result<Action, AllocError>
+    requires { is_some (action_at (Some connection.now)) ≡ true }
+    ensures { IfOk result (λ action. (a : Told Spelled) × (action_at (Some connection.now) ≡ Some a)
+        × (connection.now.reader.ahead ≡ Due a) × IsAction a action) }
+{
+    match connection.reader.peek() {
+        Some(next) => match next {
+            Next::NeedsContinue => Ok(Action::Continue),
+            Next::Message(request) => message_action(alloc, request),
+            Next::Refused(fault) => Ok(fault_action(*fault)),
+            Next::End => Ok(Action::Close),
+            Next::More => unreachable!(),
+        },
+        None => unreachable!(),
+    }
+}

@@ -1,0 +1,253 @@
+//! An exchange ends: its origin has answered or failed, or its client is gone.
+ghost use Rattle.std.specs.Prelude.{◌≡◌, ℕ, ◌+◌, ◌<◌, ◌≤◌, ◌^◌, nat_le, List, [], None, length, vec_len, vec_capacity};
+ghost use Rattle.std.specs.Prelude.{true, false, Some, is_some, IfOk, IfErr, OnOk, OnErr, slice_index_or};
+ghost use Rattle.hx_fields.specs.declared.limits.TheConstants.{END_OF_TIME};
+ghost use Rattle.hx_framing.specs.declared.messages.Response.{Response as Told};
+ghost use Rattle.hx_framing.specs.declared.messages.Next.{Next as Answer};
+ghost use Rattle.proxy_core.specs.declared.event.Event.TheVariants.{Fail};
+ghost use Rattle.proxy_core.specs.State.{State as CoreState, Steps};
+ghost use Rattle.proxy_engine.specs.EngineModel.{EngineModel};
+ghost use Rattle.proxy_engine.specs.Due.{Abandons, Finish, Finishes, kind_of, IsDueFirst};
+ghost use Rattle.proxy_engine.specs.State.{Represents, finish_at, gone_at, NoneLost, load_at, Done, Failed};
+ghost use Rattle.proxy_core.specs.Outcomes.{find_exchange};
+ghost use Rattle.proxy_engine.specs.Activities.{link_of, has_exchange};
+ghost use Rattle.proxy_engine.specs.Pairing.{activity_at, activities_of, forwarded_at};
+ghost use Rattle.proxy_engine.specs.Acts.{asks_head, HasRoomFor};
+ghost use Rattle.proxy_engine.specs.Actions.{IsFinishedBy, gives, EndFault};
+ghost use Rattle.proxy_engine.specs.declared.endpoints.ends.Connection.{Connection};
+
+use crate::endpoints::activities::Activity;
+use crate::endpoints::ends::Link;
+use crate::engine::Engine;
+use crate::steps::outcomes::{Upstream, free, free_lost, lacks_memory, let_go_waiting, put, room};
+use crate::work::EngineFault;
+use hx_framing::{FrameFault, Next};
+use hx_status::FailKind;
+use hx_store::Shelf;
+use proxy_core::{Core, Outcome};
+use proxy_script::Effect;
+use std::alloc::{AllocError, Global};
+use std::mem::replace;
+
+/// The failure that a fault in an answer is.
+fn kind_of(fault: FrameFault) -> FailKind
+    ensures { result ≡ kind_of fault }
+{
+    match fault {
+        FrameFault::Truncated => FailKind::Closed,
+        FrameFault::TooLarge => FailKind::TooLarge,
+        _ => FailKind::BadAnswer,
+    }
+}
+
+/// How the request of an open exchange goes forward once more, if it does.
+pub(crate) fn upstream_again<S: Shelf>(
+    core: &Core<S>,
+    address: Vec<u8>,
+    id: u64,
+) -> Result<Upstream, AllocError>
+    requires { is_some (find_exchange id core.now.exchanges) ≡ true }
+    ensures empty { IfOk result (λ upstream. (upstream.address.items ≡ []) × (vec_len upstream.address ≡ 0)) }
+    ensures room { IfOk result (λ upstream. HasRoomFor core.now.table (vec_capacity upstream.address)) }
+    ensures max_body { IfOk result (λ upstream. upstream.max_body ≡ core.now.table.max_body) }
+    ensures to_head { IfOk result (λ upstream. upstream.to_head ≡ asks_head (find_exchange id core.now.exchanges)) }
+{
+    let Some(exchange) = core.exchange(id) else {
+        unreachable!()
+    };
+    Upstream::new(address, core.config(), &exchange.asked)
+}
+
+/// The origin failed.
+fn fail<S: Shelf>(
+    core: &mut Core<S>,
+    alloc: Global,
+    now: u64,
+    id: u64,
+    kind: FailKind,
+) -> Result<Outcome, AllocError>
+    requires open { forwarded_at id core.old.exchanges ≡ Some true }
+    requires early { now < END_OF_TIME }
+    ensures ok { IfOk result (λ outcome. Steps core.old (Fail now id kind) outcome core.new) }
+    ensures err { OnErr result (core.new ≡ core.old) }
+{
+    match core.fail(alloc, now, id, kind) {
+        Ok(outcome) => Ok(outcome),
+        Err(fault) => Err(lacks_memory(fault)),
+    }
+}
+
+/// The core's step for what stands on a link.
+fn end<S: Shelf>(
+    link: &Link,
+    core: &mut Core<S>,
+    alloc: Global,
+    now: u64,
+    id: u64,
+) -> Result<Outcome, AllocError>
+    requires due { is_some (finish_at (Some link.now)) ≡ true }
+    requires open { forwarded_at id core.old.exchanges ≡ Some true }
+    requires early { now < END_OF_TIME }
+    ensures ok { IfOk result (λ outcome. (f : Finish) × (finish_at (Some link.now) ≡ Some f)
+        × IsFinishedBy core.old now id f outcome core.new) }
+    ensures err { OnErr result (core.new ≡ core.old) }
+{
+    match link.reader.peek() {
+        Some(next) => match next {
+            Next::Message(response) => match core.answer(alloc, now, id, response) {
+                Ok(outcome) => Ok(outcome),
+                Err(fault) => Err(lacks_memory(fault)),
+            },
+            Next::Refused(fault) => fail(core, alloc, now, id, kind_of(*fault)),
+            Next::NeedsContinue => fail(core, alloc, now, id, FailKind::BadAnswer),
+            Next::End => fail(core, alloc, now, id, FailKind::Closed),
+            Next::More => unreachable!(),
+        },
+        None => match link.failed {
+            Some(kind) => fail(core, alloc, now, id, kind),
+            None => unreachable!(),
+        },
+    }
+}
+
+/// Whether a whole answer stands on a link. Its exchange may go forward once more, and then needs a link.
+fn is_answered(link: &Link) -> bool
+    requires { is_some (finish_at (Some link.now)) ≡ true }
+    ensures { (f : Finish) → finish_at (Some link.now) ≡ Some f → result ≡ gives f }
+{
+    match link.reader.peek() {
+        Some(next) => match next {
+            Next::Message(_) => true,
+            Next::Refused(_) => false,
+            Next::NeedsContinue => false,
+            Next::End => false,
+            Next::More => false,
+        },
+        None => false,
+    }
+}
+
+impl<S: Shelf> Engine<S> {
+    /// The exchange of a connection that is gone is abandoned, and its link is dropped, if its request went forward.
+    pub(crate) fn abandon(
+        &mut self,
+        alloc: Global,
+        i: u64,
+        link: Option<u64>,
+    ) -> Result<Vec<Effect>, AllocError>
+        requires open { has_exchange (activity_at (activities_of self.old.connections) i) ≡ true }
+        requires linked { link_of (activity_at (activities_of self.old.connections) i) ≡ link }
+        requires gone { gone_at (slice_index_or self.old.connections i None) ≡ Some true }
+        ensures ok { IfOk result (λ effects. (s : EngineModel) → (now : ℕ) → Represents self.old s
+            → Done s now (Abandons i link) effects.items self.new) }
+        ensures less { OnOk result (load_at self.new < load_at self.old) }
+        ensures err { OnErr result (self.new ≡ self.old) }
+    {
+        match link {
+            Some(l) => self.abandon_link(alloc, i, l),
+            None => self.abandon_waiting(alloc, i),
+        }
+    }
+
+    /// The exchange of a connection that is gone is abandoned, whose request waits.
+    fn abandon_waiting(&mut self, alloc: Global, i: u64) -> Result<Vec<Effect>, AllocError>
+        requires waiting { activity_at (activities_of self.old.connections) i ≡ Activity.Waiting }
+        requires gone { gone_at (slice_index_or self.old.connections i None) ≡ Some true }
+        ensures ok { IfOk result (λ effects. (s : EngineModel) → (now : ℕ) → Represents self.old s
+            → Done s now (Abandons i None) effects.items self.new) }
+        ensures less { OnOk result (load_at self.new < load_at self.old) }
+        ensures err { OnErr result (self.new ≡ self.old) }
+    {
+        let effects = room(alloc)?;
+        let count = self.ends.connections.len();
+        prove!(i < count);
+        match self.core.abandon(i + 1) {
+            Ok(_) => {}
+            Err(_) => unreachable!(),
+        }
+        let_go_waiting(&mut self.ends.connections, i);
+        Ok(effects)
+    }
+
+    /// The exchange of a connection that is gone is abandoned, and its link is dropped.
+    fn abandon_link(&mut self, alloc: Global, i: u64, l: u64) -> Result<Vec<Effect>, AllocError>
+        requires linked { link_of (activity_at (activities_of self.old.connections) i) ≡ Some l }
+        requires gone { gone_at (slice_index_or self.old.connections i None) ≡ Some true }
+        ensures ok { IfOk result (λ effects. (s : EngineModel) → (now : ℕ) → Represents self.old s
+            → Done s now (Abandons i (Some l)) effects.items self.new) }
+        ensures less { OnOk result (load_at self.new < load_at self.old) }
+        ensures err { OnErr result (self.new ≡ self.old) }
+    {
+        let mut effects = room(alloc)?;
+        let count = self.ends.connections.len();
+        prove!(i < count);
+        match self.core.abandon(i + 1) {
+            Ok(_) => {}
+            Err(_) => unreachable!(),
+        }
+        free_lost(&mut self.ends.connections, &mut self.ends.links, l, i);
+        put(&mut effects, Effect::Drop(self.ends.number_at(l)));
+        Ok(effects)
+    }
+
+    /// The exchange of a link is finished by what stands on it, or goes forward once more on a new one; the link is
+    /// dropped. There is a number for it.
+    fn complete(&mut self, alloc: Global, now: u64, j: u64) -> Result<Vec<Effect>, AllocError>
+        requires due { is_some (finish_at (slice_index_or self.old.links j None)) ≡ true }
+        requires here { NoneLost self.old.connections }
+        requires left { (f : Finish) → finish_at (slice_index_or self.old.links j None) ≡ Some f → gives f ≡ true
+            → self.old.first + length self.old.links < 2 ^ 64 }
+        requires early { now < END_OF_TIME }
+        ensures ok { IfOk result (λ effects. (s : EngineModel) → (f : Finish)
+            → finish_at (slice_index_or self.old.links j None) ≡ Some f
+            → Represents self.old s → Done s now (Finishes j f) effects.items self.new) }
+        ensures less { OnOk result (load_at self.new < load_at self.old) }
+        ensures err { OnErr result (self.new ≡ self.old) }
+    {
+        let mut effects = room(alloc)?;
+        self.ends.links.reserve_one(alloc)?;
+        let i = self.ends.links.at(j).connection;
+        let count = self.ends.connections.len();
+        prove!(i < count);
+        let address = replace(&mut self.ends.address, Vec::new(alloc));
+        let mut upstream = upstream_again(&self.core, address, i + 1)?;
+        let outcome = end(self.ends.links.at(j), &mut self.core, alloc, now, i + 1)?;
+        upstream.set_address(self.core.config(), &outcome);
+        free(&mut self.ends.connections, &mut self.ends.links, j, i);
+        put(&mut effects, Effect::Drop(self.ends.number_at(j)));
+        self.ends
+            .carry_out(&mut effects, alloc, i, upstream, outcome);
+        Ok(effects)
+    }
+
+    /// The exchange of a link is finished, unless it may go forward once more and no link number is left. That is told
+    /// before any memory is asked for.
+    pub(crate) fn finish(
+        &mut self,
+        alloc: Global,
+        now: u64,
+        j: u64,
+    ) -> Result<Vec<Effect>, EngineFault>
+        requires due { is_some (finish_at (slice_index_or self.old.links j None)) ≡ true }
+        requires here { NoneLost self.old.connections }
+        requires early { now < END_OF_TIME }
+        ensures ok { IfOk result (λ effects. (s : EngineModel) → (f : Finish)
+            → finish_at (slice_index_or self.old.links j None) ≡ Some f
+            → Represents self.old s → Done s now (Finishes j f) effects.items self.new) }
+        ensures less { OnOk result (load_at self.new < load_at self.old) }
+        ensures spent { IfErr result (λ fault. (f : Finish) → finish_at (slice_index_or self.old.links j None) ≡ Some f
+            → EndFault (nat_le (2 ^ 64) (self.old.first + length self.old.links)) f fault) }
+        ensures fault { IfErr result (λ fault. (s : EngineModel) → (f : Finish)
+            → finish_at (slice_index_or self.old.links j None) ≡ Some f → IsDueFirst s (Some (Finishes j f))
+            → Represents self.old s → Failed s fault) }
+        ensures err { OnErr result (self.new ≡ self.old) }
+    {
+        if self.ends.is_spent() && is_answered(self.ends.links.at(j)) {
+            return Err(EngineFault::Spent);
+        }
+        match self.complete(alloc, now, j) {
+            Ok(effects) => Ok(effects),
+            Err(_) => Err(EngineFault::OutOfMemory),
+        }
+    }
+}

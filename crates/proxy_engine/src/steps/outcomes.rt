@@ -1,0 +1,290 @@
+//! What an outcome of the core does on the proxy's ends. Room is made first, so none of this takes memory.
+ghost use Rattle.std.specs.Prelude.{◌≡◌, ℕ, ◌+◌, ◌<◌, ◌≤◌, ◌^◌, nat_le, ◌++◌, ◌∷◌, [], List, Bool, length, sum_by};
+ghost use Rattle.std.specs.Prelude.{true, false, is_some, Option, IfOk, OnOk, None, Some, vec_len, vec_capacity};
+ghost use Rattle.std.specs.Prelude.{slice_index_or, slice_set};
+ghost use Rattle.proxy_core.specs.Replies.{is_head};
+ghost use Rattle.proxy_core.specs.State.{State as CoreState};
+ghost use Rattle.proxy_engine.specs.EngineModel.{EngineModel, ConnectionModel, with_connection};
+ghost use Rattle.proxy_engine.specs.Acts.{closing, doing, came_at, came, HasRoomFor, effects_on, after_on, freed};
+ghost use Rattle.proxy_engine.specs.Acts.{with_opened};
+ghost use Rattle.proxy_engine.specs.Acts.Came.{Replies};
+ghost use Rattle.proxy_engine.specs.Pairing.{activities_of, owners_of, activities_after, owners_after};
+ghost use Rattle.proxy_engine.specs.Actions.{goes_forward, outcome_load};
+ghost use Rattle.proxy_engine.specs.State.{Represents, ConnectionRepresents, state, is_free, gone_at, connection_load};
+ghost use Rattle.proxy_engine.specs.State.{link_load, load_of};
+ghost use Rattle.proxy_engine.specs.OpenEnds.{state_of, load_on};
+ghost use Rattle.proxy_engine.specs.declared.endpoints.ends.Connection.{Connection};
+
+use crate::endpoints::activities::Activity;
+use crate::endpoints::connections::Connections;
+use crate::endpoints::ends::Link;
+use crate::endpoints::links::Links;
+use crate::endpoints::marks;
+use crate::endpoints::open_ends::Ends;
+use crate::endpoints::peeked::Peeked;
+use hx_allow::Config;
+use hx_fields::Bytes;
+use hx_framing::ResponseReader;
+use hx_hop::Asked;
+use proxy_core::{CoreFault, Outcome};
+use proxy_script::Effect;
+use std::alloc::{AllocError, Global};
+
+/// Puts an effect at the end.
+pub(crate) fn put(effects: &mut Vec<Effect>, effect: Effect)
+    requires { vec_len effects.old < vec_capacity effects.old }
+    ensures items { effects.new.items ≡ effects.old.items ++ effect ∷ [] }
+    ensures len { vec_len effects.new ≡ vec_len effects.old + 1 }
+    ensures capacity { vec_capacity effects.old ≤ vec_capacity effects.new }
+{
+    let _ = effects.push(effect);
+}
+
+/// Room for the effects of one act.
+pub(crate) fn room(alloc: Global) -> Result<Vec<Effect>, AllocError>
+    ensures items { IfOk result (λ v. v.items ≡ []) }
+    ensures room { IfOk result (λ v. vec_len v + 3 ≤ vec_capacity v) }
+{
+    Vec::with_capacity(alloc, 3)
+}
+
+/// A step of the core that is refused found no memory: the engine asks for no step that another fault stands against.
+pub(crate) fn lacks_memory(fault: CoreFault) -> AllocError
+    requires { fault ≡ CoreFault.OutOfMemory }
+{
+    match fault {
+        CoreFault::OutOfMemory => AllocError,
+        CoreFault::IdTaken => unreachable!(),
+        CoreFault::UnknownId => unreachable!(),
+        CoreFault::MomentTooLate => unreachable!(),
+        CoreFault::NotForwarded => unreachable!(),
+        CoreFault::NotReady => unreachable!(),
+    }
+}
+
+/// Bytes go to the client, and the connection closes behind them or doesn't.
+pub(crate) fn send_reply(
+    connections: &mut Connections,
+    effects: &mut Vec<Effect>,
+    i: u64,
+    bytes: Bytes,
+    close: bool,
+)
+    requires free { is_free (slice_index_or connections.old.items i None) ≡ true }
+    requires room { vec_len effects.old + 2 ≤ vec_capacity effects.old }
+    ensures effects { effects.new.items ≡ effects.old.items ++ effects_on i 0 (Replies bytes close) }
+    ensures stands { (s : EngineModel) → (links : List (Option Link)) → (core : CoreState) → (first : ℕ)
+        → Represents (state connections.old.items links core first) s
+        → Represents (state connections.new.items links core first) (with_connection s i (closing close)) }
+    ensures activities { activities_of connections.new.items ≡ activities_of connections.old.items }
+    ensures load { sum_by connection_load connections.new.items ≤ sum_by connection_load connections.old.items }
+    ensures less { close ≡ true
+        → sum_by connection_load connections.new.items < sum_by connection_load connections.old.items }
+{
+    let count = connections.len();
+    prove!(i < count);
+    marks::close_at(connections, i, close);
+    put(effects, Effect::Client(i + 1, bytes));
+    if close {
+        put(effects, Effect::Close(i + 1));
+    }
+}
+
+/// A link is opened for the connection at a place. It answers a HEAD or not.
+fn open_link(
+    connections: &mut Connections,
+    links: &mut Links,
+    alloc: Global,
+    max_body: u64,
+    to_head: bool,
+    i: u64,
+)
+    requires free { is_free (slice_index_or connections.old.items i None) ≡ true }
+    requires room { links.old.has_room ≡ true }
+    ensures stands { (s : EngineModel) → (core : CoreState) → (first : ℕ) → core.table.max_body ≡ max_body
+        → first + length links.old.items < 2 ^ 64
+        → Represents (state connections.old.items links.old.items core first) s
+        → Represents (state connections.new.items links.new.items core first) (with_opened s i to_head) }
+    ensures activities { activities_of connections.new.items
+        ≡ slice_set (activities_of connections.old.items) i (Activity.Forwarded (length links.old.items)) }
+    ensures owners { owners_of links.new.items ≡ owners_of links.old.items ++ Some i ∷ [] }
+    ensures load { load_of connections.new.items links.new.items ≤ load_of connections.old.items links.old.items + 1 }
+{
+    marks::link_at(connections, i, links.len());
+    links.put(Link {
+        reader: Peeked::new(ResponseReader::new(alloc, max_body, to_head)),
+        ended: false,
+        failed: None,
+        connection: i,
+    });
+}
+
+fn is_head(asked: &Asked) -> bool
+    ensures { result ≡ is_head asked.now }
+{
+    asked.method.as_str().as_bytes() == b"HEAD".as_slice()
+}
+
+/// Where a request goes, if it goes forward, and what its link reads. Room for the address is made before the core's
+/// step, whose outcome names the line.
+#[derive(Drop)]
+pub(crate) struct Upstream {
+    pub(crate) address: Vec<u8>,
+    /// The most bytes of the answer's content.
+    pub(crate) max_body: u64,
+    pub(crate) to_head: bool,
+}
+
+impl Upstream {
+    /// With room for the address of each line's origin, made of the room that is there.
+    pub(crate) fn new(
+        mut address: Vec<u8>,
+        config: &Config,
+        asked: &Asked,
+    ) -> Result<Upstream, AllocError>
+        ensures empty { IfOk result (λ upstream. (upstream.address.items ≡ []) × (vec_len upstream.address ≡ 0)) }
+        ensures room { IfOk result (λ upstream. HasRoomFor config.now (vec_capacity upstream.address)) }
+        ensures max_body { IfOk result (λ upstream. upstream.max_body ≡ config.now.max_body) }
+        ensures to_head { IfOk result (λ upstream. upstream.to_head ≡ is_head asked.now) }
+    {
+        address.clear();
+        address.reserve_exact(config.longest_origin())?;
+        Ok(Upstream {
+            address,
+            max_body: config.max_body(),
+            to_head: is_head(asked),
+        })
+    }
+
+    /// Puts down the address of the line that an outcome names, if it names one. No memory is taken.
+    pub(crate) fn set_address(&mut self, config: &Config, outcome: &Outcome)
+        requires empty { (self.old.address.items ≡ []) × (vec_len self.old.address ≡ 0) }
+        requires room { HasRoomFor config.now (vec_capacity self.old.address) }
+        ensures came { came_at self.new.address.items outcome.now ≡ came config.now outcome.now }
+        ensures max_body { self.new.max_body ≡ self.old.max_body }
+        ensures to_head { self.new.to_head ≡ self.old.to_head }
+    {
+        if let Outcome::Forward(line, _) = outcome {
+            let _ = self
+                .address
+                .extend_from_slice(config.origin(*line).as_bytes());
+        }
+    }
+}
+
+/// The exchange of a link is over, and its connection goes on.
+pub(crate) fn free(connections: &mut Connections, links: &mut Links, j: u64, i: u64)
+    requires link { is_some (slice_index_or links.old.items j None) ≡ true }
+    requires connection { gone_at (slice_index_or connections.old.items i None) ≡ Some false }
+    ensures stands { (s : EngineModel) → (core : CoreState) → (first : ℕ)
+        → Represents (state connections.old.items links.old.items core first) s
+        → Represents (state connections.new.items links.new.items core first) (freed s j i) }
+    ensures activities { activities_of connections.new.items
+        ≡ slice_set (activities_of connections.old.items) i Activity.Free }
+    ensures owners { owners_of links.new.items ≡ slice_set (owners_of links.old.items) j None }
+    ensures load { load_of connections.new.items links.new.items + link_load
+        (slice_index_or links.old.items j None) ≤ load_of connections.old.items links.old.items }
+    ensures free { is_free (slice_index_or connections.new.items i None) ≡ true }
+    ensures room { links.new.has_room ≡ links.old.has_room }
+    ensures links { length links.new.items ≡ length links.old.items }
+{
+    links.let_go(j);
+    marks::unlink_at(connections, i);
+}
+
+/// The exchange of a request that waited is over, and so is its connection, which is gone.
+pub(crate) fn let_go_waiting(connections: &mut Connections, i: u64)
+    requires { gone_at (slice_index_or connections.old.items i None) ≡ Some true }
+    ensures stands { (s : EngineModel) → (links : List (Option Link)) → (core : CoreState) → (first : ℕ)
+        → Represents (state connections.old.items links core first) s
+        → Represents (state connections.new.items links core first) (with_connection s i (doing Activity.Free)) }
+    ensures activities { activities_of connections.new.items
+        ≡ slice_set (activities_of connections.old.items) i Activity.Free }
+    ensures load { sum_by connection_load connections.new.items < sum_by connection_load connections.old.items }
+{
+    connections.let_go(i);
+}
+
+/// The exchange of a link is over, and so is its connection, which is gone.
+pub(crate) fn free_lost(connections: &mut Connections, links: &mut Links, j: u64, i: u64)
+    requires link { is_some (slice_index_or links.old.items j None) ≡ true }
+    requires connection { gone_at (slice_index_or connections.old.items i None) ≡ Some true }
+    ensures stands { (s : EngineModel) → (core : CoreState) → (first : ℕ)
+        → Represents (state connections.old.items links.old.items core first) s
+        → Represents (state connections.new.items links.new.items core first) (freed s j i) }
+    ensures activities { activities_of connections.new.items
+        ≡ slice_set (activities_of connections.old.items) i Activity.Free }
+    ensures owners { owners_of links.new.items ≡ slice_set (owners_of links.old.items) j None }
+    ensures load { load_of connections.new.items links.new.items < load_of connections.old.items links.old.items }
+{
+    links.let_go(j);
+    connections.let_go(i);
+}
+
+impl Ends {
+    /// The number of the link at a place.
+    pub(crate) fn number_at(&self, place: u64) -> u64
+        ensures { self.now.first_link + place < 2 ^ 64 → result ≡ self.now.first_link + place }
+    {
+        self.first_link.wrapping_add(place)
+    }
+
+    /// Whether no link number is left.
+    pub(crate) fn is_spent(&self) -> bool
+        ensures { result ≡ nat_le (2 ^ 64) (self.now.first_link + length self.now.links.items) }
+    {
+        self.links.len() > u64::MAX - self.first_link
+    }
+
+    /// Does what an outcome says, for the connection at a place.
+    pub(crate) fn carry_out(
+        &mut self,
+        effects: &mut Vec<Effect>,
+        alloc: Global,
+        i: u64,
+        upstream: Upstream,
+        outcome: Outcome,
+    )
+        requires free { is_free (slice_index_or self.old.connections.items i None) ≡ true }
+        requires room_for_link { self.old.links.has_room ≡ true }
+        requires room { vec_len effects.old + 2 ≤ vec_capacity effects.old }
+        requires left { goes_forward outcome ≡ true → self.old.first_link + length self.old.links.items < 2 ^ 64 }
+        ensures effects { effects.new.items ≡ effects.old.items
+            ++ effects_on i (self.old.first_link + length self.old.links.items)
+            (came_at upstream.address.items outcome) }
+        ensures stands { (s : EngineModel) → (core : CoreState) → core.table.max_body ≡ upstream.max_body
+            → Represents (state_of self.old core) s
+            → Represents (state_of self.new core)
+            (after_on i upstream.to_head (came_at upstream.address.items outcome) s) }
+        ensures first { self.new.first_link ≡ self.old.first_link }
+        ensures activities { activities_of self.new.connections.items
+            ≡ activities_after i (length self.old.links.items) outcome (activities_of self.old.connections.items) }
+        ensures owners { owners_of self.new.links.items ≡ owners_after i outcome (owners_of self.old.links.items) }
+        ensures load { load_on self.new ≤ load_on self.old + outcome_load outcome }
+    {
+        match outcome {
+            Outcome::Reply(reply) => {
+                self.address = upstream.address;
+                send_reply(&mut self.connections, effects, i, reply.bytes, reply.close);
+            }
+            Outcome::Forward(_, bytes) => {
+                let number = self.number_at(self.links.len());
+                open_link(
+                    &mut self.connections,
+                    &mut self.links,
+                    alloc,
+                    upstream.max_body,
+                    upstream.to_head,
+                    i,
+                );
+                let address = Bytes::from_vec(upstream.address);
+                put(effects, Effect::Forward(number, address, bytes));
+            }
+            Outcome::Waits(_) => {
+                self.address = upstream.address;
+                marks::queue_at(&mut self.connections, i);
+            }
+            Outcome::Ended => self.address = upstream.address,
+        }
+    }
+}

@@ -1,0 +1,231 @@
+//! What a client's stream asks for is done.
+ghost use Rattle.std.specs.Prelude.{◌≡◌, ℕ, ◌+◌, ◌<◌, ◌≤◌, ◌^◌, List, length, sum_by, true, false, Option, None, Some};
+ghost use Rattle.std.specs.Prelude.{is_some, IfOk, IfErr, OnOk, OnErr, Ok, Err, slice_index_or};
+ghost use Rattle.hx_fields.specs.declared.limits.TheConstants.{END_OF_TIME};
+ghost use Rattle.hx_framing.specs.declared.messages.Request.{Request};
+ghost use Rattle.hx_framing.specs.declared.messages.Next.{Next};
+ghost use Rattle.hx_framing.specs.declared.messages.Next.TheVariants as next;
+ghost use Rattle.proxy_engine.specs.Admitted.{IsAdmitted};
+ghost use Rattle.hx_hop.specs.Moments.{date_text_of};
+ghost use Rattle.proxy_core.specs.Replies.{refused_text, is_head};
+ghost use Rattle.proxy_core.specs.State.{State as CoreState};
+ghost use Rattle.proxy_engine.specs.declared.endpoints.lookahead.Lookahead.TheVariants.{Due};
+ghost use Rattle.proxy_engine.specs.EngineModel.{EngineModel};
+ghost use Rattle.proxy_engine.specs.Due.{Serves, IsDueFirst};
+ghost use Rattle.proxy_engine.specs.State.{Represents, state, action_at, is_free, connection_load, load_at, Done};
+ghost use Rattle.proxy_engine.specs.State.{Failed};
+ghost use Rattle.proxy_engine.specs.Pairing.{activities_of};
+ghost use Rattle.proxy_engine.specs.Actions.{IsAction};
+ghost use Rattle.proxy_engine.specs.declared.endpoints.ends.Connection.{Connection};
+ghost use Rattle.proxy_engine.specs.declared.endpoints.ends.Link.{Link};
+
+use crate::endpoints::connections::Connections;
+use crate::endpoints::marks;
+use crate::engine::Engine;
+use crate::steps::actions::{Action, action_of};
+use crate::steps::outcomes::{Upstream, lacks_memory, put, room, send_reply};
+use crate::work::EngineFault;
+use hx_fields::Bytes;
+use hx_hop::Asked;
+use hx_status::Cause;
+use hx_store::Shelf;
+use proxy_core::refused;
+use proxy_script::Effect;
+use std::alloc::{AllocError, Global};
+use std::mem::replace;
+
+/// The client may send the content of its request.
+fn send_continue(
+    connections: &mut Connections,
+    alloc: Global,
+    i: u64,
+) -> Result<Vec<Effect>, AllocError>
+    requires { is_some (action_at (slice_index_or connections.old.items i None)) ≡ true }
+    ensures ok { IfOk result (λ effects. (s : EngineModel) → (links : List (Option Link)) → (core : CoreState)
+        → (first now : ℕ) → action_at (slice_index_or connections.old.items i None) ≡ Some next.NeedsContinue
+        → Represents (state connections.old.items links core first) s
+        → Done s now (Serves i next.NeedsContinue) effects.items (state connections.new.items links core first)) }
+    ensures less { OnOk result (action_at (slice_index_or connections.old.items i None) ≡ Some next.NeedsContinue
+        → sum_by connection_load connections.new.items < sum_by connection_load connections.old.items) }
+    ensures activities { activities_of connections.new.items ≡ activities_of connections.old.items }
+    ensures err { OnErr result (connections.new ≡ connections.old) }
+{
+    let mut effects = room(alloc)?;
+    let count = connections.len();
+    prove!(i < count);
+    let bytes = Bytes::copy_of(alloc, b"HTTP/1.1 100 Continue\r\n\r\n")?;
+    marks::pass_at(connections, i);
+    put(&mut effects, Effect::Client(i + 1, bytes));
+    Ok(effects)
+}
+
+/// The proxy's own answer, which closes the connection.
+fn own_answer(alloc: Global, now: u64, why: Cause, head: bool) -> Result<Bytes, AllocError>
+    requires { now < END_OF_TIME }
+    ensures { IfOk result (λ text. text ≡ refused_text (date_text_of now) why true head) }
+{
+    refused(alloc, now, why, true, head)
+}
+
+/// The proxy answers by itself, and closes.
+fn refuse(
+    connections: &mut Connections,
+    alloc: Global,
+    now: u64,
+    i: u64,
+    why: Cause,
+    head: bool,
+) -> Result<Vec<Effect>, AllocError>
+    requires free { is_free (slice_index_or connections.old.items i None) ≡ true }
+    requires early { now < END_OF_TIME }
+    ensures ok { IfOk result (λ effects. (s : EngineModel) → (links : List (Option Link)) → (core : CoreState)
+        → (first : ℕ) → (a : Next Request) → IsAction a (Action.Refuse why head)
+        → Represents (state connections.old.items links core first) s
+        → Done s now (Serves i a) effects.items (state connections.new.items links core first)) }
+    ensures less { OnOk result
+        (sum_by connection_load connections.new.items < sum_by connection_load connections.old.items) }
+    ensures activities { activities_of connections.new.items ≡ activities_of connections.old.items }
+    ensures err { OnErr result (connections.new ≡ connections.old) }
+{
+    let mut effects = room(alloc)?;
+    let bytes = own_answer(alloc, now, why, head)?;
+    send_reply(connections, &mut effects, i, bytes, true);
+    Ok(effects)
+}
+
+/// The connection is closed without an answer.
+fn shut(connections: &mut Connections, alloc: Global, i: u64) -> Result<Vec<Effect>, AllocError>
+    requires { is_free (slice_index_or connections.old.items i None) ≡ true }
+    ensures ok { IfOk result (λ effects. (s : EngineModel) → (links : List (Option Link)) → (core : CoreState)
+        → (first now : ℕ) → (a : Next Request) → IsAction a Action.Close
+        → Represents (state connections.old.items links core first) s
+        → Done s now (Serves i a) effects.items (state connections.new.items links core first)) }
+    ensures less { OnOk result
+        (sum_by connection_load connections.new.items < sum_by connection_load connections.old.items) }
+    ensures activities { activities_of connections.new.items ≡ activities_of connections.old.items }
+    ensures err { OnErr result (connections.new ≡ connections.old) }
+{
+    let mut effects = room(alloc)?;
+    let count = connections.len();
+    prove!(i < count);
+    marks::close_at(connections, i, true);
+    put(&mut effects, Effect::Close(i + 1));
+    Ok(effects)
+}
+
+impl<S: Shelf> Engine<S> {
+    /// A request arrives at the core, where a link number is left for it. All that can fail comes before the core's
+    /// step, or is that step.
+    fn admit(
+        &mut self,
+        alloc: Global,
+        now: u64,
+        i: u64,
+        asked: &Asked,
+    ) -> Result<Vec<Effect>, AllocError>
+        requires due { is_some (action_at (slice_index_or self.old.connections i None)) ≡ true }
+        requires left { self.old.first + length self.old.links < 2 ^ 64 }
+        requires early { now < END_OF_TIME }
+        ensures ok { IfOk result (λ effects. (s : EngineModel) → (r : Request) → IsAdmitted r (Ok asked.now)
+            → action_at (slice_index_or self.old.connections i None) ≡ Some (next.Message r)
+            → Represents self.old s → Done s now (Serves i (next.Message r)) effects.items self.new) }
+        ensures less { OnOk result ((r : Request) → action_at (slice_index_or self.old.connections i None)
+            ≡ Some (next.Message r)
+            → load_at self.new < load_at self.old) }
+        ensures err { OnErr result (self.new ≡ self.old) }
+    {
+        let mut effects = room(alloc)?;
+        self.ends.links.reserve_one(alloc)?;
+        let address = replace(&mut self.ends.address, Vec::new(alloc));
+        let mut upstream = Upstream::new(address, self.core.config(), asked)?;
+        let count = self.ends.connections.len();
+        prove!(i < count);
+        let outcome = match self.core.arrive(alloc, now, i + 1, asked) {
+            Ok(outcome) => outcome,
+            Err(fault) => return Err(lacks_memory(fault)),
+        };
+        upstream.set_address(self.core.config(), &outcome);
+        marks::pass_at(&mut self.ends.connections, i);
+        self.ends
+            .carry_out(&mut effects, alloc, i, upstream, outcome);
+        Ok(effects)
+    }
+
+    /// A request arrives at the core, unless no link number is left for it. That is told before any memory is asked
+    /// for.
+    fn arrive(
+        &mut self,
+        alloc: Global,
+        now: u64,
+        i: u64,
+        asked: &Asked,
+    ) -> Result<Vec<Effect>, EngineFault>
+        requires due { is_some (action_at (slice_index_or self.old.connections i None)) ≡ true }
+        requires early { now < END_OF_TIME }
+        ensures ok { IfOk result (λ effects. (s : EngineModel) → (r : Request) → IsAdmitted r (Ok asked.now)
+            → action_at (slice_index_or self.old.connections i None) ≡ Some (next.Message r)
+            → Represents self.old s → Done s now (Serves i (next.Message r)) effects.items self.new) }
+        ensures less { OnOk result ((r : Request) → action_at (slice_index_or self.old.connections i None)
+            ≡ Some (next.Message r)
+            → load_at self.new < load_at self.old) }
+        ensures spent { result ≡ Err EngineFault.OutOfMemory → self.old.first + length self.old.links < 2 ^ 64 }
+        ensures fault { IfErr result (λ fault. (s : EngineModel) → (r : Request) → IsAdmitted r (Ok asked.now)
+            → IsDueFirst s (Some (Serves i (next.Message r)))
+            → Represents self.old s → Failed s fault) }
+        ensures err { OnErr result (self.new ≡ self.old) }
+    {
+        if self.ends.is_spent() {
+            return Err(EngineFault::Spent);
+        }
+        match self.admit(alloc, now, i, asked) {
+            Ok(effects) => Ok(effects),
+            Err(_) => Err(EngineFault::OutOfMemory),
+        }
+    }
+
+    /// Does what is due on the connection at a place.
+    pub(crate) fn serve(
+        &mut self,
+        alloc: Global,
+        now: u64,
+        i: u64,
+    ) -> Result<Vec<Effect>, EngineFault>
+        requires due { is_some (action_at (slice_index_or self.old.connections i None)) ≡ true }
+        requires early { now < END_OF_TIME }
+        ensures ok { IfOk result (λ effects. (s : EngineModel) → (a : Next Request)
+            → action_at (slice_index_or self.old.connections i None) ≡ Some a
+            → Represents self.old s → Done s now (Serves i a) effects.items self.new) }
+        ensures less { OnOk result (load_at self.new < load_at self.old) }
+        ensures fault { IfErr result (λ fault. (s : EngineModel) → (a : Next Request)
+            → action_at (slice_index_or self.old.connections i None) ≡ Some a → IsDueFirst s (Some (Serves i a))
+            → Represents self.old s → Failed s fault) }
+        ensures err { OnErr result (self.new ≡ self.old) }
+    {
+        let action = match action_of(self.ends.connections.at(i), alloc) {
+            Ok(action) => action,
+            Err(_) => return Err(EngineFault::OutOfMemory),
+        };
+        match action {
+            Action::Continue => match send_continue(&mut self.ends.connections, alloc, i) {
+                Ok(effects) => Ok(effects),
+                Err(_) => Err(EngineFault::OutOfMemory),
+            },
+            Action::Arrive(asked) => self.arrive(alloc, now, i, &asked),
+            Action::Refuse(why, head) => match refuse(
+                &mut self.ends.connections,
+                alloc,
+                now,
+                i,
+                why,
+                head,
+            ) {
+                Ok(effects) => Ok(effects),
+                Err(_) => Err(EngineFault::OutOfMemory),
+            },
+            Action::Close => match shut(&mut self.ends.connections, alloc, i) {
+                Ok(effects) => Ok(effects),
+                Err(_) => Err(EngineFault::OutOfMemory),
+            },
+        }
+    }
+}

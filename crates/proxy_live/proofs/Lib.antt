@@ -1,6 +1,0 @@
-mod AskedLemmas
-mod Living
-mod Passing
-mod Peering
-mod Scripts
-mod TurnRecords

@@ -1,5 +1,0 @@
-use Rattle.proxy_messages.proofs.HandedOver.{hands_what_was_read}
-use Rattle.proxy_messages.proofs.a_core_is_handed_what_was_read.Goals as goal
-
-pub returns : goal.returns
-returns c = hands_what_was_read

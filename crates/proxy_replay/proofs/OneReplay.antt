@@ -1,0 +1,36 @@
+-- A replay refuses what its script doesn't spell.
+use Rattle.std.proofs.Common.{◌≡◌, ℕ, List, [], ◌∷◌, ◌++◌, false, true, sym, ◌∙◌, ap, subst, append-nil}
+use Rattle.std.proofs.lemmas.Bool.{false≢true}
+use Rattle.proxy_script.specs.Script.{IsScript}
+use Rattle.proxy_script.specs.Effects.{effects_text}
+use Rattle.proxy_replay.specs.Replay.{LeadsTo, IsReplayed, HasOneText}
+use Rattle.proxy_replay.specs.OneReplay.{NoOtherText, NotBeforeItsEnd, NoReadFailsAtTheEnd, NothingByARefusedTable}
+
+-- bytes that lead to their end are a script
+replayed : (script written : List ℕ) → LeadsTo script (λ items rest effects last. (rest ≡ []) × (written ≡ effects_text effects)) → IsReplayed script written
+replayed script written to =
+    let whole : script ≡ to.leads.front = to.leads.bytes_are ∙ ap (λ (z : List ℕ). to.leads.front ++ z) to.holds.0 ∙ append-nil to.leads.front in
+    record {
+      table = to.leads.table;
+      items = to.items;
+      is_script = subst (λ (z : List ℕ). IsScript z to.leads.table to.items) (sym whole) to.leads.script;
+      config = to.leads.config;
+      reads = to.leads.reads;
+      effects = to.effects;
+      last = to.last;
+      plays = to.leads.plays;
+      run = to.leads.run;
+      told = to.holds.1;
+    }
+
+pub no_other_text : HasOneText → NoOtherText
+no_other_text one script written other h differ k = differ (one script written other (replayed script written h.1) (replayed script other k.1))
+
+pub not_before_its_end : NotBeforeItsEnd
+not_before_its_end bytes written h = false≢true h.0
+
+pub no_read_fails_at_the_end : NoReadFailsAtTheEnd
+no_read_fails_at_the_end bytes written h = false≢true (sym h.0)
+
+pub nothing_by_a_refused_table : NothingByARefusedTable
+nothing_by_a_refused_table bytes written byte ended fault h = let never : byte ∷ written ≡ [] = h.4 in absurd (cc)

@@ -1,0 +1,252 @@
+-- A script's items so far, one item further, and how a replay ends.
+use Rattle.std.proofs.Common.{take-add, ◌≡◌, ℕ, ◌+◌, List, [], ◌∷◌, ◌++◌, length, take, drop, refl, ap, sym, ◌∙◌, subst, Bool, true, false, Option, Some, Result, Ok, Err, arith, append_assoc}
+use Rattle.std.specs.Io.KnownBytes.{Appends, Consumes}
+use Rattle.std.specs.List.{flat_map, AllByRecursion}
+use Rattle.std.proofs.KnownBytes.{Appends-trans, Appends-nil}
+use Rattle.std.proofs.lemmas.Grind.{flat_map-append}
+use Rattle.std.proofs.lemmas.List.{append-nil, length_push, take_at, drop_at}
+use Rattle.hx_allow.specs.Lines.{Table}
+use Rattle.proxy_script.specs.Script.{Said as Item, spelled, Fits, IsPlaced, IsScript, Found, Cut, Wrong, item_at}
+use Rattle.proxy_script.specs.Script as item
+use Rattle.proxy_script.specs.Effects.{effect_text, effects_text}
+use Rattle.proxy_script.specs.declared.effect_list.Effect.{Effect}
+use Rattle.proxy_engine.specs.State.{State, Represents}
+use Rattle.proxy_replay.specs.Bytes.{WasRead, limit}
+use Rattle.proxy_replay.specs.Played.{Scene, beginning, happening_of, moment_after, PlaysItem, Plays, Refuses}
+use Rattle.proxy_replay.proofs.Running.{plays_run}
+use Rattle.proxy_replay.specs.Replay.{StandsAt, IsWrong, Leads, LeadsTo, EndsAt, Fails, Tells, IsReplay, IsReplayed, IsRefused}
+use Rattle.proxy_replay.specs.Steps.{Opens, Told, Untold, StepFails}
+use Rattle.proxy_replay.specs.declared.faults.ReplayFault.{ReplayFault}
+use Rattle.proxy_replay.specs.declared.faults.ReplayFault.TheVariants as faults
+use Rattle.proxy_replay.proofs.Fronts.{ends_first}
+
+-- one item further
+
+plays_more : (items : List Item) (a b c : Scene) (effects more : List Effect) (h : Item) → Plays a items effects b → PlaysItem b h more c → Plays a (items ++ h ∷ []) (effects ++ more) c
+plays_more [] a b c effects more h before one =
+    (c, more, [], subst (λ x. PlaysItem x h more c) before.1 one, (refl, refl), ap (λ es. es ++ more) before.0 ∙ sym (append-nil more))
+plays_more (first ∷ items) a b c effects more h before one = (
+  before.0,
+  before.1,
+  before.2 ++ more,
+  before.3,
+  plays_more items before.0 b c before.2 more h before.4 one,
+  ap (λ es. es ++ more) before.5 ∙ append_assoc before.1 before.2 more,
+)
+
+all_push : (P : Item → Type 0) (items : List Item) (h : Item) → AllByRecursion P items → P h → AllByRecursion P (items ++ h ∷ [])
+all_push P [] h all one = (one, tt)
+all_push P (first ∷ items) h all one = (all.0, all_push P items h all.1 one)
+
+script_more : (front table : List ℕ) (items : List Item) (h : Item) → IsScript front table items → Fits h → IsPlaced false h → IsScript (front ++ spelled h) table (items ++ h ∷ [])
+script_more front table items h script fits placed = record {
+  script = ap (λ xs. xs ++ spelled h) script.script
+      ∙ (append_assoc (spelled (item.Table table)) (flat_map spelled items) (spelled h)
+      ∙ ap (λ xs. spelled (item.Table table) ++ xs) (ap (λ xs. flat_map spelled items ++ xs) (sym (append-nil (spelled h))) ∙ sym (flat_map-append spelled items (h ∷ []))));
+  table_fits = script.table_fits;
+  items_fit = all_push Fits items h script.items_fit fits;
+  one_table = all_push (IsPlaced false) items h script.one_table placed;
+}
+
+leads_more : (bytes rest more : List ℕ) (items : List Item) (h : Item) (effects others : List Effect) (b c : Scene) → Leads bytes items rest effects b → StandsAt false rest h more → PlaysItem b h others c → Leads bytes (items ++ h ∷ []) more (effects ++ others) c
+leads_more bytes rest more items h effects others b c leads stands one = let longer = plays_more items (beginning leads.config) b c effects others h leads.plays one in record {
+  front = leads.front ++ spelled h;
+  bytes_are = leads.bytes_are ∙ (ap (λ xs. leads.front ++ xs) stands.0 ∙ sym (append_assoc leads.front (spelled h) more));
+  table = leads.table;
+  script = script_more leads.front leads.table items h leads.script stands.1 stands.2;
+  config = leads.config;
+  reads = leads.reads;
+  plays = longer;
+  run = plays_run leads.config (items ++ h ∷ []) (effects ++ others) c longer;
+}
+
+-- what was played so far, at this moment and line, by an engine that stands for it
+pub record SoFar (bytes rest : List ℕ) (now line : ℕ) (e : State) (old current : Option (List ℕ)) : Type 0 where
+  pub items : List Item
+  pub effects : List Effect
+  pub last : Scene
+  pub leads : Leads bytes items rest effects last
+  pub moment : last.now ≡ now
+  pub line_is : line ≡ length items + 2
+  pub stands : Represents e last.model
+  pub appends : Appends old current (effects_text effects)
+
+pub so_far_first : (bytes rest : List ℕ) (table : Table) (e : State) (old : Option (List ℕ)) → Opens bytes table rest → Represents e (beginning table).model → SoFar bytes rest 0 2 e old old
+so_far_first bytes rest table e old opens stands = record {
+  items = [];
+  effects = [];
+  last = beginning table;
+  leads = record {
+    front = spelled (item.Table opens.text);
+    bytes_are = opens.stands.0;
+    table = opens.text;
+    script = record { script = sym (append-nil (spelled (item.Table opens.text))); table_fits = opens.stands.1; items_fit = tt; one_table = tt };
+    config = table;
+    reads = opens.reads;
+    plays = (refl, refl);
+    run = plays_run table [] [] (beginning table) (refl, refl);
+  };
+  moment = refl;
+  line_is = refl;
+  stands = stands;
+  appends = Appends-nil old;
+}
+
+-- an item was played
+played : (a : Scene) (now : ℕ) (h : Item) (e : State) (old new : Option (List ℕ)) (told : Told a.model (moment_after now h) (happening_of h) e old new) → a.now ≡ now → PlaysItem a h told.effects (record { model = told.last; now = moment_after now h })
+played a now h e old new told same = record { moment = ap (λ m. moment_after m h) (sym same); happened = told.happened }
+
+pub so_far_more : (bytes rest more : List ℕ) (now line : ℕ) (h : Item) (e f : State) (old mid new : Option (List ℕ)) → (before : SoFar bytes rest now line e old mid) → StandsAt false rest h more → Told before.last.model (moment_after now h) (happening_of h) f mid new → SoFar bytes more (moment_after now h) (line + 1) f old new
+so_far_more bytes rest more now line h e f old mid new before stands told = record {
+  items = before.items ++ h ∷ [];
+  effects = before.effects ++ told.effects;
+  last = record { model = told.last; now = moment_after now h };
+  leads = leads_more bytes rest more before.items h before.effects told.effects before.last _ before.leads stands (played before.last now h f mid new told before.moment);
+  moment = refl;
+  line_is = rw length_push (omega (arith, before.line_is));
+  stands = told.stands;
+  appends = subst (Appends old new) (sym (flat_map-append effect_text before.effects told.effects)) (Appends-trans old mid new (effects_text before.effects) (effects_text told.effects) before.appends told.appends);
+}
+
+-- how a replay ends
+
+leads_so_far : (P : List Item → List ℕ → List Effect → Scene → Type 0) (bytes rest : List ℕ) (now line : ℕ) (e : State) (old current : Option (List ℕ)) → (before : SoFar bytes rest now line e old current) → P before.items rest before.effects before.last → LeadsTo bytes P
+leads_so_far P bytes rest now line e old current before holds = record { items = before.items; rest = rest; effects = before.effects; last = before.last; leads = before.leads; holds = holds }
+
+-- behind what was played so far
+ends_here : (P : Bool → List ℕ → ℕ → Type 0) (bytes rest : List ℕ) (now line : ℕ) (e : State) (old current : Option (List ℕ)) → (before : SoFar bytes rest now line e old current) → P false rest line → EndsAt bytes (effects_text before.effects) P
+ends_here P bytes rest now line e old current before holds = record {
+  first = false;
+  rest = rest;
+  line = line;
+  effects = before.effects;
+  reaches = leads_so_far _ bytes rest now line e old current before (refl, refl, before.line_is);
+  told = refl;
+  holds = holds;
+}
+
+-- in front of the table
+pub tells_first : (bytes : List ℕ) (ended : Bool) (fault : ReplayFault) (old : Option (List ℕ)) → Fails bytes ended [] fault → Tells bytes ended old old (Err fault)
+tells_first bytes ended fault old fails = record { written = []; appends = Appends-nil old; replays = fails }
+
+-- at a line or a block that is wrong
+pub tells_wrong : (bytes rest : List ℕ) (ended : Bool) (now line : ℕ) (e : State) (old current : Option (List ℕ)) → SoFar bytes rest now line e old current → IsWrong false ended rest → Tells bytes ended old current (Err (faults.Line line))
+tells_wrong bytes rest ended now line e old current before wrong = record {
+  written = effects_text before.effects;
+  appends = before.appends;
+  replays = ends_here _ bytes rest now line e old current before (wrong, refl);
+}
+
+-- where the reader failed in the middle of an item
+pub tells_cut : (bytes rest : List ℕ) (ended : Bool) (now line : ℕ) (e : State) (old current : Option (List ℕ)) → SoFar bytes rest now line e old current → ended ≡ false → item_at false rest ≡ Cut → Tells bytes ended old current (Err faults.Read)
+tells_cut bytes rest ended now line e old current before more cut = record {
+  written = effects_text before.effects;
+  appends = before.appends;
+  replays = (more, ends_here _ bytes rest now line e old current before cut);
+}
+
+-- at the script's end
+pub tells_whole : (bytes rest : List ℕ) (ended : Bool) (now line : ℕ) (e : State) (old current : Option (List ℕ)) → SoFar bytes rest now line e old current → ended ≡ true → rest ≡ [] → Tells bytes ended old current (Ok tt)
+tells_whole bytes rest ended now line e old current before whole none = record {
+  written = effects_text before.effects;
+  appends = before.appends;
+  replays = (whole, leads_so_far _ bytes rest now line e old current before (none, refl));
+}
+
+take_past : (xs ys : List ℕ) (k : ℕ) → take (length xs + k) (xs ++ ys) ≡ xs ++ take k ys
+take_past xs ys k = take-add (length xs) k (xs ++ ys) ∙ (ap (λ a. a ++ take k (drop (length xs) (xs ++ ys))) (take_at xs ys (length xs) refl) ∙ ap (λ b. xs ++ take k b) (drop_at xs ys (length xs) refl))
+
+-- at an item that isn't taken, or whose text isn't written
+fails_by : (bytes rest more : List ℕ) (h : Item) (ended : Bool) (now line : ℕ) (e : State) (old mid : Option (List ℕ)) (written : List ℕ) (fault : ReplayFault) → (before : SoFar bytes rest now line e old mid) → StandsAt false rest h more → StepFails before.last.model (moment_after now h) (happening_of h) written fault → Fails bytes ended (effects_text before.effects ++ written) fault
+fails_by bytes rest more h ended now line e old mid written (faults.Engine fault) before stands fails =
+    leads_so_far _ bytes rest now line e old mid before (
+      h,
+      more,
+      stands,
+      (fails.0, fails.1, subst (λ m. Refuses before.last.model (moment_after m h) fails.0 fault) (sym before.moment) fails.2),
+      ap (λ w. effects_text before.effects ++ w) fails.3 ∙ append-nil (effects_text before.effects),
+    )
+fails_by bytes rest more h ended now line e old mid written faults.OutOfMemory before stands fails =
+    subst (λ w. EndsAt bytes w (λ first rest line. Unit {0})) (sym (append-nil (effects_text before.effects)) ∙ ap (λ w. effects_text before.effects ++ w) (sym fails)) (ends_here _ bytes rest now line e old mid before tt)
+fails_by bytes rest more h ended now line e old mid written faults.Write before stands fails = record {
+  items = before.items ++ h ∷ [];
+  rest = more;
+  effects = before.effects ++ fails.0;
+  last = record { model = fails.1; now = moment_after now h };
+  leads = leads_more bytes rest more before.items h before.effects fails.0 before.last _ before.leads stands (record { moment = ap (λ m. moment_after m h) (sym before.moment); happened = fails.2 });
+  holds = (
+    length (effects_text before.effects) + fails.3,
+    ap (λ w. effects_text before.effects ++ w) fails.4 ∙ (sym (take_past (effects_text before.effects) (effects_text fails.0) fails.3)
+        ∙ ap (take (length (effects_text before.effects) + fails.3)) (sym (flat_map-append effect_text before.effects fails.0))),
+  );
+}
+fails_by bytes rest more h ended now line e old mid written (faults.Config fault) before stands fails = absurd fails
+fails_by bytes rest more h ended now line e old mid written (faults.Line n) before stands fails = absurd fails
+fails_by bytes rest more h ended now line e old mid written faults.Read before stands fails = absurd fails
+
+pub tells_untold : (bytes rest more : List ℕ) (h : Item) (ended : Bool) (now line : ℕ) (e : State) (old mid new : Option (List ℕ)) (fault : ReplayFault) → (before : SoFar bytes rest now line e old mid) → StandsAt false rest h more → Untold before.last.model (moment_after now h) (happening_of h) fault mid new → Tells bytes ended old new (Err fault)
+tells_untold bytes rest more h ended now line e old mid new fault before stands untold = record {
+  written = effects_text before.effects ++ untold.written;
+  appends = Appends-trans old mid new (effects_text before.effects) untold.written before.appends untold.appends;
+  replays = fails_by bytes rest more h ended now line e old mid untold.written fault before stands untold.fails;
+}
+
+-- the whole
+
+-- memory ran out while the script was read
+pub ends_unread : (old new before : Option (List ℕ)) (read : List ℕ) → Consumes old new read → IsReplay old new before before (Err faults.OutOfMemory)
+ends_unread old new before read consumes = record {
+  bytes = [];
+  over = read;
+  ended = false;
+  consumes = consumes;
+  few = omega arith;
+  whole = λ e. cc;
+  full = λ e other. absurd (other refl);
+  tells = tells_first [] false faults.OutOfMemory before (ends_first _ [] tt);
+}
+
+pub ends_read : (bytes : List ℕ) (ended : Bool) (old new before after : Option (List ℕ)) (r : Result (Unit {0}) ReplayFault) → WasRead limit bytes ended old new → Tells bytes ended before after r → IsReplay old new before after r
+ends_read bytes ended old new before after r was tells = record {
+  bytes = bytes;
+  over = was.over;
+  ended = ended;
+  consumes = was.consumes;
+  few = was.few;
+  whole = was.whole;
+  full = λ e other. was.full e;
+  tells = tells;
+}
+
+-- over memory
+pub replayed_by : (script rest before text : List ℕ) → before ≡ [] → IsReplay (Some script) (Some rest) (Some before) (Some text) (Ok tt) → IsReplayed script text
+replayed_by script rest before text none replay =
+    let led = replay.tells.replays.1 in
+    let whole = replay.whole replay.tells.replays.0 in
+    let read : script ≡ replay.bytes = replay.consumes
+    ∙ (ap (λ xs. (replay.bytes ++ replay.over) ++ xs) whole.1
+    ∙ (append-nil (replay.bytes ++ replay.over) ∙ (ap (λ xs. replay.bytes ++ xs) whole.0 ∙ append-nil replay.bytes))) in
+    let front : replay.bytes ≡ led.leads.front = led.leads.bytes_are ∙ (ap (λ xs. led.leads.front ++ xs) led.holds.0 ∙ append-nil led.leads.front) in
+    record {
+      table = led.leads.table;
+      items = led.items;
+      is_script = subst (λ xs. IsScript xs led.leads.table led.items) (sym (read ∙ front)) led.leads.script;
+      config = led.leads.config;
+      reads = led.leads.reads;
+      effects = led.effects;
+      last = led.last;
+      plays = led.leads.plays;
+      run = led.leads.run;
+      told = replay.tells.appends ∙ (ap (λ xs. xs ++ replay.tells.written) none ∙ led.holds.1);
+    }
+
+pub refused_by : (script rest before text : List ℕ) (fault : ReplayFault) → IsReplay (Some script) (Some rest) (Some before) (Some text) (Err fault) → IsRefused script fault
+refused_by script rest before text fault replay = record {
+  bytes = replay.bytes;
+  more = replay.over ++ rest;
+  split = replay.consumes ∙ append_assoc replay.bytes replay.over rest;
+  ended = replay.ended;
+  whole = λ e. ap (λ xs. xs ++ rest) (replay.whole e).0 ∙ (replay.whole e).1;
+  written = replay.tells.written;
+  fails = replay.tells.replays;
+}

@@ -1,0 +1,115 @@
+-- One act further, what an item tells the engine, and why it isn't done.
+use Rattle.std.proofs.Common.{◌≡◌, ◌≢◌, inl, inr, ℕ, List, [], ◌∷◌, ◌++◌, take, refl, ap, sym, ◌∙◌, subst, Option, None, Some}
+use Rattle.std.specs.Io.KnownBytes.{Appends}
+use Rattle.std.proofs.KnownBytes.{Appends-nil}
+use Rattle.std.proofs.lemmas.Grind.{flat_map-append}
+use Rattle.std.proofs.lemmas.List.{append-nil}
+use Rattle.std.specs.declared.vec.Vec.{Vec}
+use Rattle.std.specs.declared.alloc.Global.{Global}
+use Rattle.proxy_script.specs.Effects.{effects_text}
+use Rattle.proxy_script.specs.declared.effect_list.Effect.{Effect}
+use Rattle.proxy_engine.specs.Happenings.{Said as Happening}
+use Rattle.proxy_engine.specs.EngineModel.{EngineModel, heard, fault_of}
+use Rattle.proxy_engine.specs.Due.{IsDueFirst}
+use Rattle.proxy_engine.specs.Acts.{Does}
+use Rattle.proxy_engine.specs.State.{State, Represents, IsRefusal, TakeFault, Did, Failed}
+use Rattle.proxy_engine.specs.declared.work.EngineFault.{EngineFault}
+use Rattle.proxy_engine.specs.declared.work.EngineFault.TheVariants as engine
+use Rattle.proxy_engine.specs.declared.work.Work.{Work}
+use Rattle.proxy_engine.specs.declared.work.Work.TheVariants as work
+use Rattle.proxy_replay.specs.declared.faults.ReplayFault.TheVariants as faults
+use Rattle.proxy_replay.specs.Played.{DoneAct, Works, effects_of, Breaks, Refuses}
+use Rattle.proxy_replay.specs.Steps.{of_engine, Worked, Settled, Told, StepFails, Untold}
+
+-- acts that were done
+
+works_more : (done_acts : List DoneAct) (s : EngineModel) (now : ℕ) (done_act : DoneAct) (t u : EngineModel) → Works s now done_acts t → IsDueFirst t (Some done_act.act) → Does t now done_act.act done_act.effects u → Works s now (done_acts ++ done_act ∷ []) u
+works_more [] s now done_act t u here due does =
+    (u, subst (λ x. IsDueFirst x (Some done_act.act)) here due, subst (λ x. Does x now done_act.act done_act.effects u) here does, refl)
+works_more (first ∷ done_acts) s now done_act t u before due does =
+    (before.0, before.1, before.2, works_more done_acts before.0 now done_act t u before.3 due does)
+
+pub worked_first : (s : EngineModel) (now : ℕ) (e : State) → Represents e s → Worked s now [] e
+worked_first s now e stands = record { done_acts = []; last = s; works = refl; told = refl; stands = stands }
+
+pub worked_more : (s : EngineModel) (now : ℕ) (effects : List Effect) (e new : State) (w : Work) (more : Vec Effect Global) → (before : Worked s now effects e) → w ≡ work.Did more → Did before.last now w new → Worked s now (effects ++ more.items) new
+worked_more s now effects e new w more before is did =
+    let one = subst (λ w. Did before.last now w new) is did in
+    let done_act : DoneAct = record { act = one.0; effects = more.items } in
+    record {
+      done_acts = before.done_acts ++ done_act ∷ [];
+      last = one.2.after;
+      works = works_more before.done_acts s now done_act before.last one.2.after before.works one.1 one.2.does;
+      told = ap (λ es. es ++ more.items) before.told
+          ∙ (ap (λ es. effects_of before.done_acts ++ es) (sym (append-nil more.items))
+          ∙ sym (flat_map-append (λ (d : DoneAct). d.effects) before.done_acts (done_act ∷ [])));
+      stands = one.2.stands;
+    }
+
+pub settled_by : (s : EngineModel) (now : ℕ) (effects : List Effect) (e new : State) (w : Work) → (before : Worked s now effects e) → w ≡ work.Idle → Did before.last now w new → Settled s now effects new
+settled_by s now effects e new w before is did =
+    let idle = subst (λ w. Did before.last now w new) is did in
+    record {
+      worked = record { done_acts = before.done_acts; last = before.last; works = before.works; told = before.told; stands = idle.1 };
+      idle = idle.0;
+    }
+
+pub broke_by : (s : EngineModel) (now : ℕ) (effects : List Effect) (e : State) (fault : EngineFault) → (before : Worked s now effects e) → Failed before.last fault → Breaks s now fault
+broke_by s now effects e fault before failed = record { done_acts = before.done_acts; last = before.last; works = before.works; failed = failed }
+
+-- what an item tells the engine
+
+pub told_by : (s : EngineModel) (now : ℕ) (h : Happening) (effects : List Effect) (e : State) (old new : Option (List ℕ)) → fault_of s h ≡ None → Settled (heard s h) now effects e → Appends old new (effects_text effects) → Told s now (Some h) e old new
+told_by s now h effects e old new free settled appends = record {
+  effects = effects;
+  last = settled.worked.last;
+  happened = record { free = free; done_acts = settled.worked.done_acts; settles = (settled.worked.works, settled.idle); told = settled.worked.told };
+  stands = settled.worked.stands;
+  appends = appends;
+}
+
+pub told_nothing : (s : EngineModel) (now : ℕ) (e : State) (h : Option Happening) (old : Option (List ℕ)) → None ≡ h → Represents e s → Told s now h e old old
+told_nothing s now e h old none stands = subst (λ h. Told s now h e old old) none (record {
+  effects = [];
+  last = s;
+  happened = (refl, refl);
+  stands = stands;
+  appends = Appends-nil old;
+})
+
+-- why it wasn't done
+
+refuses_by : (s : EngineModel) (now : ℕ) (h : Happening) (o : Option EngineFault) (fault : EngineFault) → fault_of s h ≡ o → IsRefusal o fault → fault ≢ engine.OutOfMemory → Refuses s now h fault
+refuses_by s now h None fault is refusal other = absurd (other refusal)
+refuses_by s now h (Some f) fault is refusal other = inl (is ∙ ap Some (sym refusal))
+
+refused_by : (s : EngineModel) (now : ℕ) (h : Happening) (fault : EngineFault) → TakeFault s h fault → StepFails s now (Some h) [] (of_engine fault)
+refused_by s now h engine.WrongNumber refusal = (h, refl, refuses_by s now h (fault_of s h) engine.WrongNumber refl refusal (λ e. cc), refl)
+refused_by s now h engine.NotAccepted refusal = (h, refl, refuses_by s now h (fault_of s h) engine.NotAccepted refl refusal (λ e. cc), refl)
+refused_by s now h engine.OutOfMemory refusal = refl
+refused_by s now h engine.Spent refusal = (h, refl, refuses_by s now h (fault_of s h) engine.Spent refl refusal (λ e. cc), refl)
+
+pub untaken : (s : EngineModel) (now : ℕ) (h : Happening) (fault : EngineFault) (old : Option (List ℕ)) → TakeFault s h fault → Untold s now (Some h) (of_engine fault) old old
+untaken s now h fault old refusal = record { written = []; appends = Appends-nil old; fails = refused_by s now h fault refusal }
+
+breaks_by : (s : EngineModel) (now : ℕ) (h : Happening) (fault : EngineFault) → fault_of s h ≡ None → Breaks (heard s h) now fault → StepFails s now (Some h) [] (of_engine fault)
+breaks_by s now h engine.WrongNumber free breaks = absurd breaks.failed
+breaks_by s now h engine.NotAccepted free breaks = absurd breaks.failed
+breaks_by s now h engine.OutOfMemory free breaks = refl
+breaks_by s now h engine.Spent free breaks = (h, refl, inr (refl, free, breaks), refl)
+
+pub unsettled : (s : EngineModel) (now : ℕ) (h : Happening) (fault : EngineFault) (old : Option (List ℕ)) → fault_of s h ≡ None → Breaks (heard s h) now fault → Untold s now (Some h) (of_engine fault) old old
+unsettled s now h fault old free breaks = record { written = []; appends = Appends-nil old; fails = breaks_by s now h fault free breaks }
+
+pub unwritten : (s : EngineModel) (now : ℕ) (h : Happening) (effects : List Effect) (e : State) (text : List ℕ) (old new : Option (List ℕ)) (k : ℕ) → fault_of s h ≡ None → Settled (heard s h) now effects e → text ≡ effects_text effects → Appends old new (take k text) → Untold s now (Some h) faults.Write old new
+unwritten s now h effects e text old new k free settled is appends = record {
+  written = take k text;
+  appends = appends;
+  fails = (
+    effects,
+    settled.worked.last,
+    record { free = free; done_acts = settled.worked.done_acts; settles = (settled.worked.works, settled.idle); told = settled.worked.told },
+    k,
+    ap (take k) is,
+  );
+}

@@ -1,0 +1,5 @@
+use Rattle.proxy_replay.proofs.Playing.{ends_unread}
+use Rattle.proxy_replay.proofs.play.replay_on.Goals as goal
+
+pub returns-in-Err : goal.returns-in-Err
+returns-in-Err g c = ends_unread _ _ _ c.in-Err.ensures.err.0 c.in-Err.ensures.err.1

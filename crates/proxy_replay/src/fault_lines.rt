@@ -1,0 +1,104 @@
+//! The line that names a fault on standard error, and the program's exit status. Neither takes memory.
+ghost use Rattle.std.specs.Prelude.{◌≡◌, Some, codes, ◌++◌};
+ghost use Rattle.std.specs.Fmt.{WritesOnOk};
+ghost use Rattle.proxy_replay.specs.FaultLines.{shown_byte, shown, config_line, engine_line, fault_line, status_of};
+
+use crate::faults::ReplayFault;
+use hx_allow::ConfigFault;
+use proxy_engine::EngineFault;
+use std::fmt;
+use std::fmt::Formatter;
+
+fn shown_byte(byte: u8) -> u8
+    ensures { result ≡ shown_byte byte }
+{
+    if 0x21 <= byte && byte <= 0x7e {
+        byte
+    } else {
+        b'?'
+    }
+}
+
+/// Writes the bytes of a key, those that aren't printable as question marks.
+fn write_key<W: fmt::Write>(f: &mut Formatter<W>, key: &[u8]) -> fmt::Result
+    ensures { WritesOnOk W.write_str_gives f.old result (shown key.now) f.new }
+{
+    for byte in key {
+        f.write_char(char::from(shown_byte(*byte)))?;
+    }
+    Ok(())
+}
+
+fn write_config_fault<W: fmt::Write>(f: &mut Formatter<W>, fault: &ConfigFault) -> fmt::Result
+    ensures { WritesOnOk W.write_str_gives f.old result (config_line fault.now) f.new }
+{
+    match fault {
+        ConfigFault::NotToml => f.write_str("config fault 1"),
+        ConfigFault::UnknownKey(key) => {
+            f.write_str("config fault 2 key ")?;
+            write_key(f, key.as_slice())
+        }
+        ConfigFault::BadName => f.write_str("config fault 3"),
+        ConfigFault::BadNumber(key) => {
+            f.write_str("config fault 4 key ")?;
+            f.write_str(key.as_str())
+        }
+        ConfigFault::BadHost(line) => write!(f, "config fault 5 line {line}"),
+        ConfigFault::BadMethod(line) => write!(f, "config fault 6 line {line}"),
+        ConfigFault::BadPath(line) => write!(f, "config fault 7 line {line}"),
+        ConfigFault::BadOrigin(line) => write!(f, "config fault 8 line {line}"),
+        ConfigFault::NoLines => f.write_str("config fault 9"),
+        ConfigFault::OutOfMemory => f.write_str("no memory"),
+        ConfigFault::BadCache(line) => write!(f, "config fault 11 line {line}"),
+        ConfigFault::BadWord(line, word) => {
+            write!(f, "config fault 12 line {line} key ")?;
+            f.write_str(word.as_str())
+        }
+    }
+}
+
+fn engine_text(fault: EngineFault) -> &'static str
+    ensures { result.now ≡ engine_line fault }
+{
+    match fault {
+        EngineFault::WrongNumber => "engine fault 1",
+        EngineFault::NotAccepted => "engine fault 2",
+        EngineFault::OutOfMemory => "no memory",
+        EngineFault::Spent => "engine fault 4",
+    }
+}
+
+impl fmt::Display for ReplayFault {
+    ghost use Rattle.std.specs.Prelude.{Some};
+    ghost use Rattle.proxy_replay.specs.FaultLines.{fault_line};
+
+    ghost output = { λ fault. Some (fault_line fault) };
+
+    fn fmt<W: fmt::Write>(&self, f: &mut Formatter<W>) -> fmt::Result {
+        match self {
+            ReplayFault::Config(fault) => write_config_fault(f, fault),
+            ReplayFault::Line(line) => write!(f, "script fault line {line}"),
+            ReplayFault::Engine(fault) => f.write_str(engine_text(*fault)),
+            ReplayFault::Read => f.write_str("read fault"),
+            ReplayFault::Write => f.write_str("write fault"),
+            ReplayFault::OutOfMemory => f.write_str("no memory"),
+        }
+    }
+}
+
+impl ReplayFault {
+    /// The program's exit status: 2 where the table is at fault, else 1.
+    pub fn exit_status(&self) -> u8
+        ensures { result ≡ status_of self.now }
+    {
+        match self {
+            ReplayFault::Config(ConfigFault::OutOfMemory) => 1,
+            ReplayFault::Config(_) => 2,
+            ReplayFault::Line(_) => 1,
+            ReplayFault::Engine(_) => 1,
+            ReplayFault::Read => 1,
+            ReplayFault::Write => 1,
+            ReplayFault::OutOfMemory => 1,
+        }
+    }
+}

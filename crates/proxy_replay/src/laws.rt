@@ -1,0 +1,63 @@
+//! Laws on the definitions that the contracts cite.
+ghost use Rattle.std.specs.Prelude.{List};
+ghost use Rattle.hx_allow.specs.Lines.{Table};
+ghost use Rattle.proxy_script.specs.Script.{Said as Item};
+ghost use Rattle.proxy_script.specs.declared.effect_list.Effect.{Effect};
+ghost use Rattle.proxy_replay.specs.Played.{Scene, Plays, beginning};
+ghost use Rattle.proxy_replay.specs.Closes.{NothingFollowsAClose, NothingFollowsAGone, EachLinkIsDroppedOnce};
+ghost use Rattle.proxy_replay.specs.Runs.{IsRun, HasOnePlay};
+ghost use Rattle.proxy_replay.specs.Replay.{HasOneText};
+
+use hx_allow::a_table_is_read_in_one_way;
+use proxy_engine::{
+    an_act_has_three_effects_at_most, an_act_is_done_in_one_way, due_once, each_drop_is_told,
+    effects_name_open_ends, what_ends_stays_ended,
+};
+use proxy_script::items_are_found_as_they_are_spelled;
+
+/// Whatever a script plays, the steps of the core that its items lead to, in their order and at their moments, are a
+/// good run with the headline: each outcome is that of its case over what is held by the count over the steps before
+/// it, and what was written is what the steps gave.
+pub fn a_play_is_a_run()
+    ensures { (table : Table) → (items : List Item) → (effects : List Effect) → (last : Scene)
+        → Plays (beginning table) items effects last → IsRun table items effects last }
+{}
+
+/// A script has one play, and so one text of its effects.
+pub fn a_script_has_one_play()
+    ensures play { HasOnePlay }
+    ensures text { HasOneText }
+{
+    due_once();
+    an_act_is_done_in_one_way();
+    a_table_is_read_in_one_way();
+    items_are_found_as_they_are_spelled();
+}
+
+/// Whatever a script plays, nothing goes to a client behind the close of its connection, and none is closed twice.
+pub fn nothing_follows_a_close()
+    ensures { NothingFollowsAClose }
+{
+    effects_name_open_ends();
+    what_ends_stays_ended();
+    an_act_has_three_effects_at_most();
+}
+
+/// Whatever a script plays, no effect names a client's connection once it went away.
+pub fn nothing_follows_a_gone()
+    ensures { NothingFollowsAGone }
+{
+    effects_name_open_ends();
+    what_ends_stays_ended();
+    an_act_has_three_effects_at_most();
+}
+
+/// Whatever a script plays, each link that ends is dropped, and once; behind that no effect names it.
+pub fn each_link_is_dropped_once()
+    ensures { EachLinkIsDroppedOnce }
+{
+    effects_name_open_ends();
+    what_ends_stays_ended();
+    an_act_has_three_effects_at_most();
+    each_drop_is_told();
+}

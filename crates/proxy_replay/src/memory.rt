@@ -1,0 +1,20 @@
+//! Replays over memory, where each byte that is read and written is known.
+ghost use Rattle.std.specs.Prelude.{IfOk, IfErr};
+ghost use Rattle.proxy_replay.specs.Replay.{IsReplayed, IsRefused};
+
+use crate::faults::ReplayFault;
+use crate::play::replay;
+use std::alloc::Global;
+
+/// The text of the effects of a whole script.
+pub fn replayed(alloc: Global, script: &[u8]) -> Result<Vec<u8>, ReplayFault>
+    ensures ok { IfOk result (λ text. IsReplayed script.now text.items) }
+    ensures fault { IfErr result (λ fault. IsRefused script.now fault) }
+{
+    let mut reader = script;
+    let mut text = Vec::new(alloc);
+    match replay(alloc, &mut reader, &mut text) {
+        Ok(()) => Ok(text),
+        Err(fault) => Err(fault),
+    }
+}

@@ -1,5 +1,0 @@
-use Rattle.proxy_server.proofs.Running.{plays_run}
-use Rattle.proxy_server.proofs.laws.a_play_is_a_run.Goals as goal
-
-pub returns : goal.returns
-returns c = plays_run

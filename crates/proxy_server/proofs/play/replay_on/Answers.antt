@@ -1,5 +1,0 @@
-use Rattle.proxy_server.proofs.Playing.{ends_unread}
-use Rattle.proxy_server.proofs.play.replay_on.Goals as goal
-
-pub returns-in-Err : goal.returns-in-Err
-returns-in-Err g c = ends_unread _ _ _ c.in-Err.ensures.err.0 c.in-Err.ensures.err.1

@@ -1,0 +1,345 @@
+//! A client's stream: where it stands, what it asks for, and what a log needs of it.
+ghost use Rattle.std.specs.Prelude.{◌≡◌, ◌<◌, ◌≤◌, length, false, Some, None, IfOk};
+ghost use Rattle.proxy_server.specs.Patience.{has_left, is_longer};
+ghost use Rattle.proxy_turn.specs.Received.{IsReceived};
+ghost use Rattle.proxy_server.specs.Logging.{IsAbout, has_log, address_of};
+ghost use Rattle.proxy_server.specs.Places.{IsOpened};
+ghost use Rattle.proxy_server.specs.Streams.{has_early, may_give};
+
+use crate::early::{Came, Early};
+use crate::lines::Line;
+use crate::peer::Peer;
+use crate::pieces::{LEAST, head_end};
+use crate::stream::Stream;
+use crate::telling::Reply;
+use hx_fields::Bytes;
+use mio::net::TcpStream;
+use proxy_log::{Asked, Seen, line_about};
+use proxy_turn::Received;
+use std::alloc::{AllocError, Global};
+use std::io;
+use std::net::SocketAddr;
+
+/// Where a client's stream stands.
+#[derive(Clone, Copy, Debug, PartialEq, Eq)]
+pub(crate) enum Place {
+    /// The engine knows it by this number.
+    Open(u64),
+    /// In a line, since it had this stamp.
+    In(Line, u64),
+}
+
+/// What came of a read before a request has a place.
+#[derive(Clone, Copy, Debug, PartialEq, Eq)]
+pub(crate) enum Heard {
+    Nothing,
+    /// More of a request, or its end.
+    Something,
+    /// It has failed, or has ended and sent nothing.
+    Gone,
+    /// What came couldn't be kept.
+    NoMemory,
+}
+
+/// What a log needs of a client.
+#[derive(Drop)]
+struct Logged {
+    address: SocketAddr,
+    /// What it asks for, where it has a place.
+    asked: Option<Asked>,
+}
+
+/// A client's stream.
+#[derive(Drop)]
+pub(crate) struct Client<S: Stream + Drop = TcpStream> {
+    pub(crate) peer: Peer<S>,
+    alloc: Global,
+    pub(crate) place: Place,
+    /// What came and wasn't handed in yet.
+    early: Option<Early>,
+    /// When the first byte of its request came, if its request is incomplete.
+    pub(crate) asked: Option<u64>,
+    /// Something of a request was handed in that wasn't answered yet.
+    is_begun: bool,
+    /// When its end was seen.
+    pub(crate) left: Option<u64>,
+    /// It has sent a request, in all.
+    pub(crate) has_asked: bool,
+    /// When it was closed.
+    pub(crate) closed: u64,
+    logged: Option<Logged>,
+}
+
+impl<S: Stream + Drop> Client<S> {
+    /// A client from which nothing has come, in the line of those.
+    pub(crate) fn new(alloc: Global, peer: Peer<S>, stamp: u64) -> Client<S> {
+        Client {
+            peer,
+            alloc,
+            place: Place::In(Line::Idle, stamp),
+            early: None,
+            asked: None,
+            is_begun: false,
+            left: None,
+            has_asked: false,
+            closed: 0,
+            logged: None,
+        }
+    }
+
+    /// Who it is, for a log.
+    pub(crate) fn keep_log(&mut self, address: SocketAddr)
+        ensures { address_of self.new.logged ≡ Some address }
+    {
+        self.logged = Some(Logged {
+            address,
+            asked: None,
+        });
+    }
+
+    /// It has a place: what it asks for is read for a log too, where one is kept.
+    pub(crate) fn open(&mut self, n: u64, max_body: u64)
+        ensures { IsOpened n max_body self.old self.new }
+    {
+        self.place = Place::Open(n);
+        self.has_asked = true;
+        if let Some(logged) = &mut self.logged {
+            logged.asked = Some(Asked::new(self.alloc, max_body));
+        }
+    }
+
+    /// It has no place any more, between two requests.
+    pub(crate) fn rest(&mut self)
+        ensures { address_of self.new.logged ≡ address_of self.old.logged }
+    {
+        self.answered();
+        if let Some(logged) = &mut self.logged {
+            logged.asked = None;
+        }
+    }
+
+    /// Takes what came, for a log.
+    pub(crate) fn hear(&mut self, piece: &[u8])
+        ensures { address_of self.new.logged ≡ address_of self.old.logged }
+    {
+        let alloc = self.alloc;
+        if let Some(logged) = &mut self.logged {
+            if let Some(asked) = &mut logged.asked {
+                // Without memory for it, lines about what follows on this connection don't name what was asked.
+                let _ = asked.hear(alloc, piece);
+            }
+        }
+    }
+
+    /// Milliseconds since the first byte of the request came that is being answered.
+    pub(crate) fn took(&self, now: u64) -> u64 {
+        match self.asked {
+            Some(asked) => now.saturating_sub(asked),
+            None => 0,
+        }
+    }
+
+    /// The line about a reply, where a log is kept and the client has a place.
+    pub(crate) fn line_about(
+        &mut self,
+        reply: &Reply<'_>,
+    ) -> Result<Option<proxy_log::Line>, AllocError>
+        ensures about { IfOk result (IsAbout self.old.logged reply.now) }
+        ensures without { has_log self.old.logged ≡ false → result ≡ Ok None }
+    {
+        let alloc = self.alloc;
+        let Some(logged) = &mut self.logged else {
+            return Ok(None);
+        };
+        let Some(asked) = &mut logged.asked else {
+            return Ok(None);
+        };
+        let question = asked.next_question(alloc);
+        let address = logged.address.to_string(alloc)?;
+        let seen = Seen {
+            moment: reply.moment,
+            client: address.as_str().as_bytes(),
+            took: reply.took,
+            origin: reply.origin,
+        };
+        Ok(Some(line_about(alloc, question, &reply.told, &seen)?))
+    }
+
+    /// Keeps what came and isn't handed in yet.
+    pub(crate) fn keep_early(&mut self, piece: &[u8]) -> Result<(), AllocError> {
+        let mut early = match self.early.take() {
+            Some(early) => early,
+            None => Early::new(self.alloc),
+        };
+        early.keep(piece)?;
+        self.early = Some(early);
+        Ok(())
+    }
+
+    /// Whether more of its request is to be kept before it has a place.
+    pub(crate) fn takes_early(&self) -> bool {
+        match &self.early {
+            Some(early) => !early.is_full(),
+            None => true,
+        }
+    }
+
+    /// Whether something has come that wasn't handed in yet.
+    pub(crate) fn has_early(&self) -> bool
+        ensures { result ≡ has_early self.now.early }
+    {
+        match &self.early {
+            Some(early) => !early.is_empty(),
+            None => false,
+        }
+    }
+
+    /// Drops what has come and wasn't handed in.
+    pub(crate) fn drop_early(&mut self) {
+        self.early = None;
+    }
+
+    /// Whether its request has come whole, as far as what was kept tells.
+    pub(crate) fn look(&mut self, max_body: u64) -> Result<Came, AllocError> {
+        let alloc = self.alloc;
+        match &mut self.early {
+            Some(early) => early.look(alloc, max_body),
+            None => Ok(Came::Part),
+        }
+    }
+
+    /// Whether its request has been incomplete for more than so many milliseconds.
+    pub(crate) fn is_late(&self, now: u64, limit: u64) -> bool
+        ensures { result ≡ is_longer now self.now.asked limit }
+    {
+        match self.asked {
+            Some(asked) => now.saturating_sub(asked) > limit,
+            None => false,
+        }
+    }
+
+    /// Whether it has sent its end, and for more than so many milliseconds nothing was written since; or at all, where
+    /// places are short.
+    pub(crate) fn has_left(&self, now: u64, limit: u64, short: bool) -> bool
+        ensures { result ≡ has_left now self.now.left self.now.peer.heard limit short }
+    {
+        match self.left {
+            Some(left) => short || now.saturating_sub(left.max(self.peer.heard)) > limit,
+            None => false,
+        }
+    }
+
+    /// Whether there is something that a read would give, or may.
+    pub(crate) fn may_give(&self) -> bool
+        ensures { result ≡ may_give self.now }
+    {
+        !self.peer.has_unsent() && (self.peer.readable || self.has_early())
+    }
+
+    /// Something of a request is handed in.
+    fn ask(&mut self, now: u64) {
+        self.is_begun = true;
+        if self.asked.is_none() {
+            self.asked = Some(now);
+        }
+    }
+
+    /// Its request was answered.
+    pub(crate) fn answered(&mut self)
+        ensures { self.new.logged ≡ self.old.logged }
+    {
+        self.asked = None;
+        self.is_begun = false;
+    }
+
+    /// How many bytes are handed in at least, where so many have come.
+    fn least(&self) -> usize {
+        if self.is_begun { LEAST } else { 0 }
+    }
+
+    /// Keeps what stands behind the head of a request for the next reads; answers how many bytes stand in front. Where
+    /// there is no memory for it, all are handed in.
+    fn keep_rest(&mut self, piece: &[u8], least: usize) -> usize
+        ensures { result ≤ length piece.now }
+    {
+        let end = head_end(piece, least);
+        if end == 0 || end == piece.len() {
+            return piece.len();
+        }
+        match self.keep_early(&piece[end..]) {
+            Ok(()) => end,
+            Err(_) => piece.len(),
+        }
+    }
+
+    /// Reads a piece of what has come, if anything may have, behind what was kept. From one that still has to take what
+    /// was written nothing is read.
+    pub(crate) fn read_on(&mut self, buf: &mut [u8], now: u64) -> io::Result<Received>
+        ensures within { IfOk result (IsReceived (length buf.old)) }
+        ensures length { length buf.new ≡ length buf.old }
+        ensures takes_first { 0 < length self.old.peer.unsent.bytes → (self.new ≡ self.old)
+            × (result ≡ Ok Received.Nothing) }
+    {
+        if !self.peer.has_unsent() {
+            return self.peer.read(buf, now);
+        }
+        Ok(Received::Nothing)
+    }
+
+    /// Reads a piece of what has come before its request has a place, and keeps it. Of one that still has to take what
+    /// was written nothing is read.
+    pub(crate) fn hear_early(&mut self, now: u64) -> Heard
+        ensures takes_first { 0 < length self.old.peer.unsent.bytes → (self.new ≡ self.old) × (result ≡ Heard.Nothing) }
+    {
+        let mut buf = [0u8; 4096];
+        match self.read_on(&mut buf, now) {
+            Ok(Received::Nothing) => Heard::Nothing,
+            Ok(Received::Bytes(n)) => {
+                if self.keep_early(&buf[..n]).is_err() {
+                    return Heard::NoMemory;
+                }
+                if self.asked.is_none() {
+                    self.asked = Some(now);
+                }
+                Heard::Something
+            }
+            Ok(Received::End) if self.has_early() => {
+                // The engine is told of the end behind what came before it.
+                self.peer.readable = true;
+                Heard::Something
+            }
+            Ok(Received::End) => Heard::Gone,
+            Err(_) => Heard::Gone,
+        }
+    }
+
+    /// Reads what has come, if anything may have, as far as the head of one request: what was kept comes first. From
+    /// one that still has to take what was written nothing is read.
+    pub(crate) fn read(&mut self, buf: &mut [u8], now: u64) -> io::Result<Received>
+        ensures within { IfOk result (IsReceived (length buf.old)) }
+        ensures length { length buf.new ≡ length buf.old }
+        ensures takes_first { 0 < length self.old.peer.unsent.bytes → self.new ≡ self.old }
+    {
+        if self.peer.has_unsent() {
+            return Ok(Received::Nothing);
+        }
+        let least = self.least();
+        if let Some(early) = &mut self.early {
+            let n = early.give(buf, least);
+            if early.is_empty() {
+                self.early = None;
+            }
+            if n > 0 {
+                self.ask(now);
+                return Ok(Received::Bytes(n));
+            }
+        }
+        match self.read_on(buf, now)? {
+            Received::Bytes(n) => {
+                self.ask(now);
+                Ok(Received::Bytes(self.keep_rest(&buf[..n], least)))
+            }
+            received => Ok(received),
+        }
+    }
+}

@@ -1,0 +1,27 @@
+//! Counts, which only rise.
+ghost use Rattle.std.specs.Prelude.{◌≡◌};
+ghost use Rattle.proxy_server.specs.Counts.{one_more, counted};
+
+/// One more, up to the most that a count has.
+pub(crate) fn one_more(n: u64) -> u64
+    ensures { result ≡ one_more n }
+{
+    if n < u64::MAX { n + 1 } else { u64::MAX }
+}
+
+/// Counts one more at a place; where there is none, nothing.
+pub(crate) fn count(counts: &mut [u64], at: usize)
+    ensures { counts.new ≡ counted counts.old at }
+{
+    if at < counts.len() {
+        counts[at] = one_more(counts[at]);
+    }
+}
+
+/// What stands at a place of counts.
+pub(crate) fn count_at(counts: &[u64], at: usize) -> u64 {
+    match counts.get(at) {
+        Some(n) => *n,
+        None => 0,
+    }
+}

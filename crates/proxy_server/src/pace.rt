@@ -1,0 +1,70 @@
+//! Whether the next turn waits, and what clocks tell.
+ghost use Rattle.std.specs.Prelude.{◌≡◌};
+ghost use Rattle.proxy_server.specs.Paces.{behind, has_freed, moment_of, milliseconds_of};
+
+use hx_fields::END_OF_TIME;
+use proxy_turn::{MOST_WORKS, Report, TurnFault};
+use std::time::Duration;
+
+/// The last moment.
+pub(crate) const LATEST: u64 = END_OF_TIME - 1;
+
+/// What a turn leaves to the next.
+#[derive(Clone, Copy, Debug, PartialEq, Eq)]
+pub(crate) struct Pace {
+    /// There may be something to do that no event will tell of.
+    pub(crate) busy: bool,
+    /// Nothing is due from the last turn.
+    pub(crate) settled: bool,
+    /// Ends whose time is over are to be looked for.
+    pub(crate) sweeping: bool,
+}
+
+impl Pace {
+    /// Takes what a turn told. `unread` says that more may be read where the turn freed an end, `more`
+    /// that there is something else to take.
+    pub(crate) fn note(&mut self, told: Result<Report, TurnFault>, unread: bool, more: bool)
+        ensures { self.new ≡ behind self.old told unread more }
+    {
+        match told {
+            Ok(report) => {
+                self.settled = report.works < MOST_WORKS;
+                self.busy = !self.settled || has_freed(told) && unread || self.sweeping || more;
+            }
+            // Memory may be there a little later.
+            Err(TurnFault::NoMemory) => {
+                self.settled = false;
+                self.busy = false;
+            }
+            Err(_) => {
+                self.settled = false;
+                self.busy = true;
+            }
+        }
+    }
+}
+
+/// Whether a turn may have freed an end.
+pub(crate) fn has_freed(told: Result<Report, TurnFault>) -> bool
+    ensures { result ≡ has_freed told }
+{
+    match told {
+        Ok(report) => report.works > 0 || report.faults > 0,
+        Err(_) => false,
+    }
+}
+
+/// A time since 1970 as a moment, and its milliseconds.
+pub(crate) fn moment_of(time: Duration) -> (u64, u64)
+    ensures { result ≡ moment_of time }
+{
+    (time.as_secs().min(LATEST), u64::from(time.subsec_millis()))
+}
+
+/// A time in milliseconds.
+pub(crate) fn milliseconds_of(time: Duration) -> u64
+    ensures { result ≡ milliseconds_of time }
+{
+    let whole = time.as_secs().saturating_mul(1000);
+    whole.saturating_add(u64::from(time.subsec_millis()))
+}

@@ -1,0 +1,302 @@
+//! Sockets whose calls are recorded.
+//!
+//! A script has all that is due done behind each happening, a turn behind all that it took. So while a record is
+//! written, at most one end gives something in a turn, and none before all is done that was due; then a replay does the
+//! same acts in the same order. Which end comes next goes round.
+ghost use Rattle.std.specs.Prelude.{◌≡◌, ◌≤◌, List, [], ◌∷◌, ◌++◌, length, IfOk, true, false, refl, Some, None};
+ghost use Rattle.std.specs.Prelude.{is_some, is_ok, not, ◌||◌, cond, option_map};
+ghost use Rattle.proxy_server.specs.Records.{Record};
+ghost use Rattle.proxy_server.specs.Recorded.{PassedOn, passed_on, NotesIf, IsNoted, is_recording, may_arrive};
+ghost use Rattle.proxy_server.specs.Recorded.{noted_none, noted_on, unfailed};
+ghost use Rattle.proxy_script.specs.Happenings.{said};
+ghost use Rattle.proxy_turn.specs.Calls.{Call, given_of};
+ghost use Rattle.proxy_turn.specs.Turn.{said_by, lost};
+ghost use Rattle.proxy_turn.specs.Counts.{IsRise, failed};
+ghost use Rattle.proxy_turn.specs.Received.{IsReceived};
+
+use crate::recorder::{RecordFault, Recorder};
+use hx_status::FailKind;
+use proxy_script::Happening;
+use proxy_turn::{End, Received, SocketFailed, Sockets, arrival, ending, loss};
+use std::io::Write;
+
+/// Sockets, and the record of what they give, where one is written.
+#[derive(Drop)]
+pub struct Recording<K: Sockets + Drop, W: Write + Drop> {
+    pub(crate) sockets: K,
+    recorder: Option<Recorder<W>>,
+    fault: Option<RecordFault>,
+    /// The moment of the turn.
+    moment: u64,
+    /// Something has happened in this turn, or something is due from the last one.
+    taken: bool,
+    /// The end that gave something last.
+    last: Option<End>,
+    /// An end was passed over in this turn.
+    passed: bool,
+    accepts: u64,
+    reads: u64,
+    failures: u64,
+}
+
+/// Where an end stands among those that a turn reads: links before clients, and both by their numbers.
+fn place(end: End) -> (u8, u64) {
+    match end {
+        End::Listener => (0, 0),
+        End::Link(l) => (1, l),
+        End::Client(n) => (2, n),
+    }
+}
+
+/// What a read comes to.
+fn happening_of<'a>(
+    end: End,
+    received: &Result<Received, SocketFailed>,
+    buf: &'a [u8],
+) -> Option<Happening<'a>>
+    ensures { option_map said result ≡ said_by end (given_of received.now buf.now) }
+{
+    match received {
+        Ok(Received::Nothing) => None,
+        Ok(Received::Bytes(n)) => arrival(end, buf.get(..*n).unwrap_or(buf)),
+        Ok(Received::End) => ending(end),
+        Err(_) => loss(end, FailKind::Closed),
+    }
+}
+
+/// Records what happens, where a record is written. Whether it may be taken: not where it couldn't be recorded.
+fn note<W: Write + Drop>(
+    recorder: &mut Option<Recorder<W>>,
+    fault: &mut Option<RecordFault>,
+    now: u64,
+    happening: Happening<'_>,
+) -> bool
+    ensures told { result ≡ false → is_some fault.new ≡ true }
+    ensures kept { is_some fault.old ≡ true → is_some fault.new ≡ true }
+    ensures noted { is_some fault.new ≡ false → NotesIf now (Some (said happening.entry)) recorder.old recorder.new }
+{
+    if let Some(recorder) = recorder {
+        if let Err(e) = recorder.happens(now, happening) {
+            *fault = Some(e);
+            return false;
+        }
+    }
+    true
+}
+
+impl<K: Sockets + Drop, W: Write + Drop> Recording<K, W> {
+    pub fn new(sockets: K, recorder: Option<Recorder<W>>) -> Recording<K, W> {
+        Recording {
+            sockets,
+            recorder,
+            fault: None,
+            moment: 0,
+            taken: false,
+            last: None,
+            passed: false,
+            accepts: 0,
+            reads: 0,
+            failures: 0,
+        }
+    }
+
+    /// The sockets, and the end of the record.
+    pub fn into_sockets(self) -> K {
+        self.sockets
+    }
+
+    /// Begins a turn at a moment. `settled` says that nothing is due from the one before. Gives the moment of the turn,
+    /// which is that of the one before until what was due then is done.
+    pub fn begin(&mut self, now: u64, settled: bool) -> u64
+        ensures moment { result ≡ self.new.moment }
+        ensures now { self.new.moment ≡ cond (settled || not (is_recording self.old.recorder)) now self.old.moment }
+        ensures recorder { self.new.recorder ≡ self.old.recorder }
+        ensures fault { self.new.fault ≡ self.old.fault }
+        ensures taken { self.new.taken ≡ not settled }
+    {
+        if settled || !self.is_recording() {
+            self.moment = now;
+        }
+        if !self.taken {
+            self.last = None;
+        }
+        self.taken = !settled;
+        self.passed = false;
+        self.moment
+    }
+
+    /// Whether a record is being written.
+    pub fn is_recording(&self) -> bool
+        ensures { result ≡ is_recording self.now.recorder }
+    {
+        match &self.recorder {
+            Some(recorder) => !recorder.is_over(),
+            None => false,
+        }
+    }
+
+    /// Whether a record has ended before the limit of a script.
+    pub fn has_ended(&self) -> bool {
+        match &self.recorder {
+            Some(recorder) => recorder.is_over(),
+            None => false,
+        }
+    }
+
+    /// Why recording failed. From then on nothing is given.
+    pub fn fault(&self) -> Option<RecordFault> {
+        self.fault
+    }
+
+    /// Whether an end was passed over in this turn that may have something.
+    pub fn has_passed(&self) -> bool
+        ensures { result ≡ self.now.passed }
+    {
+        self.passed
+    }
+
+    /// Whether something may still happen in this turn.
+    pub fn may_happen(&self) -> bool
+        ensures { result ≡ may_arrive (is_some self.now.fault) self.now.taken (is_recording self.now.recorder) }
+    {
+        self.fault.is_none() && (!self.taken || !self.is_recording())
+    }
+
+    /// Records what happens between two turns, as the one thing that happens.
+    pub fn note_between(&mut self, happening: Happening<'_>) -> bool
+        ensures told { result ≡ false → is_some self.new.fault ≡ true }
+        ensures noted { is_some self.new.fault ≡ false
+            → NotesIf self.old.moment (Some (said happening.entry)) self.old.recorder self.new.recorder }
+        ensures now { self.new.moment ≡ self.old.moment }
+        ensures taken { self.new.taken ≡ true }
+    {
+        self.taken = true;
+        note(&mut self.recorder, &mut self.fault, self.moment, happening)
+    }
+
+    /// Whether an end has to wait for another turn.
+    fn has_to_wait(&self, end: End) -> bool
+        ensures { result ≡ false
+            → may_arrive (is_some self.now.fault) self.now.taken (is_recording self.now.recorder) ≡ true }
+    {
+        if !self.may_happen() {
+            return true;
+        }
+        match self.last {
+            Some(last) if self.is_recording() => place(end) <= place(last),
+            _ => false,
+        }
+    }
+
+    /// Passes on what a call answered. One that failed is counted, and its end recorded as lost, which is taken in any
+    /// case.
+    fn pass_on(
+        &mut self,
+        done: Result<(), SocketFailed>,
+        end: End,
+        kind: FailKind,
+    ) -> Result<(), SocketFailed>
+        ensures value { result ≡ done }
+        ensures sockets { self.new.sockets ≡ self.old.sockets }
+        ensures fault { is_some self.old.fault ≡ true → is_some self.new.fault ≡ true }
+        ensures accepts { self.new.accepts ≡ self.old.accepts }
+        ensures reads { self.new.reads ≡ self.old.reads }
+        ensures failures { IsRise self.old.failures self.new.failures (failed done) }
+        ensures noted { is_some self.new.fault ≡ false
+            → NotesIf self.old.moment (cond (is_ok done) None (lost end kind)) self.old.recorder self.new.recorder }
+        ensures now { self.new.moment ≡ self.old.moment }
+        ensures taken { self.new.taken ≡ self.old.taken }
+    {
+        if done.is_err() {
+            self.failures = self.failures.saturating_add(1);
+            if let Some(happening) = loss(end, kind) {
+                let _ = note(&mut self.recorder, &mut self.fault, self.moment, happening);
+            }
+        }
+        done
+    }
+}
+
+impl<K: Sockets + Drop, W: Write + Drop> Sockets for Recording<K, W> {
+    ghost Did = { λ s made t. (is_some s.fault ≡ true → is_some t.fault ≡ true) × (below : List Call)
+        × K.Did s.sockets below t.sockets × PassedOn (is_some t.fault) made below
+        × (is_some t.fault ≡ false → IsNoted s.moment s.recorder s.taken made t.moment t.recorder t.taken) };
+
+    ghost accepts = { λ s. s.accepts };
+
+    ghost reads = { λ s. s.reads };
+
+    ghost failures = { λ s. s.failures };
+
+    ghost none = { λ s. (λ failed. failed, [], K.none s.sockets, refl, λ ok. noted_none s.moment s.recorder s.taken) };
+
+    ghost joined = { λ s t u a b first then. (
+      λ failed. then.0 (first.0 failed),
+      first.1
+          ++ then.1,
+      K.joined s.sockets t.sockets u.sockets first.1 then.1 first.2 then.2,
+      passed_on (is_some t.fault)
+          (is_some u.fault) a b first.1 then.1 then.0 first.3 then.3,
+      λ ok. noted_on s.moment t.moment u.moment s.recorder t.recorder u.recorder s.taken t.taken u.taken a b
+          (first.4 (unfailed (is_some t.fault) (is_some u.fault) then.0 ok)) (then.4 ok),
+    ) };
+
+    fn accept(&mut self, n: u64) -> Result<bool, SocketFailed> {
+        self.accepts = self.accepts.saturating_add(1);
+        if !self.may_happen() {
+            self.passed = true;
+            return Ok(false);
+        }
+        match self.sockets.accept(n) {
+            Ok(true) => Ok(note(
+                &mut self.recorder,
+                &mut self.fault,
+                self.moment,
+                Happening::Accept(n),
+            )),
+            Ok(false) => Ok(false),
+            Err(failed) => {
+                self.failures = self.failures.saturating_add(1);
+                Err(failed)
+            }
+        }
+    }
+
+    fn read(&mut self, end: End, buf: &mut [u8]) -> Result<Received, SocketFailed> {
+        self.reads = self.reads.saturating_add(1);
+        if self.has_to_wait(end) {
+            self.passed = true;
+            return Ok(Received::Nothing);
+        }
+        let received = self.sockets.read(end, buf);
+        match happening_of(end, &received, buf) {
+            Some(happening) => {
+                self.taken = true;
+                self.last = Some(end);
+                if !note(&mut self.recorder, &mut self.fault, self.moment, happening) {
+                    return Ok(Received::Nothing);
+                }
+            }
+            None => {}
+        }
+        if received.is_err() {
+            self.failures = self.failures.saturating_add(1);
+        }
+        received
+    }
+
+    fn write(&mut self, end: End, bytes: &[u8]) -> Result<(), SocketFailed> {
+        let written = self.sockets.write(end, bytes);
+        self.pass_on(written, end, FailKind::Closed)
+    }
+
+    fn connect(&mut self, link: u64, address: &[u8]) -> Result<(), SocketFailed> {
+        let connected = self.sockets.connect(link, address);
+        self.pass_on(connected, End::Link(link), FailKind::Refused)
+    }
+
+    fn shut(&mut self, end: End) -> Result<(), SocketFailed> {
+        let shut = self.sockets.shut(end);
+        self.pass_on(shut, end, FailKind::Closed)
+    }
+}

@@ -1,0 +1,40 @@
+//! How many turns were served, and how many of them ended early.
+ghost use Rattle.std.specs.Prelude.{◌≡◌};
+
+use crate::counts::one_more;
+use proxy_turn::{Report, TurnFault};
+
+/// Counts of turns.
+#[derive(Clone, Copy, Debug)]
+pub(crate) struct Turns {
+    pub(crate) served: u64,
+    /// They could accept nobody.
+    pub(crate) without_listener: u64,
+    pub(crate) without_memory: u64,
+}
+
+impl Turns {
+    ghost use Rattle.proxy_server.specs.TurnCounts.{counted_turn};
+
+    pub(crate) fn new() -> Turns
+        ensures { result ≡ record { served = 0; without_listener = 0; without_memory = 0 } }
+    {
+        Turns {
+            served: 0,
+            without_listener: 0,
+            without_memory: 0,
+        }
+    }
+
+    /// Counts a turn, by what it told.
+    pub(crate) fn count(&mut self, told: Result<Report, TurnFault>)
+        ensures { self.new ≡ counted_turn self.old told }
+    {
+        self.served = one_more(self.served);
+        match told {
+            Err(TurnFault::Listener) => self.without_listener = one_more(self.without_listener),
+            Err(TurnFault::NoMemory) => self.without_memory = one_more(self.without_memory),
+            _ => {}
+        }
+    }
+}
