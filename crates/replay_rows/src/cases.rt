@@ -17,8 +17,8 @@ use std::alloc::{AllocError, Global};
 use std::str;
 
 /// What the proxy does where a script is replayed; a fault counts as the last effect.
-fn told(alloc: Global, script: &[u8]) -> Result<Vec<u8>, AllocError> {
-    let (mut text, line, status) = Played::of(alloc, script)?.into_parts();
+fn told(alloc: Global, played: Played) -> Result<Vec<u8>, AllocError> {
+    let (mut text, line, status) = played.into_parts();
     if status != 0 {
         let line = format!(in alloc; "stops with status {status}: {line}")?;
         Effect::Stop(line.as_bytes()).push_text(&mut text)?;
@@ -132,7 +132,7 @@ impl Play {
     fn happen(&mut self, line: usize, item: Item<'_>) -> Result<(), CaseFault> {
         self.settle()?;
         push_item(&mut self.script, item)?;
-        self.told = told(self.alloc, self.script.as_slice())?;
+        self.told = told(self.alloc, Played::of(self.alloc, self.script.as_slice())?)?;
         self.line = line;
         Ok(())
     }
@@ -161,10 +161,9 @@ impl Play {
         self.settle()
     }
 
-    /// Plays what has happened once more with all bytes one at a time. All that is expected comes in one.
-    fn play_cut(&mut self, said: &[Said<'_>]) -> Result<(), CaseFault> {
-        let pieces = byte_by_byte(self.alloc, self.script.as_slice())?;
-        self.told = told(self.alloc, pieces.as_slice())?;
+    /// All that is expected comes in one, and nothing else.
+    fn expect_all(&mut self, said: &[Said<'_>], played: Played) -> Result<(), CaseFault> {
+        self.told = told(self.alloc, played)?;
         self.expected.clear();
         for one in said {
             if let Statement::Expects(effect) = one.statement {
@@ -172,6 +171,19 @@ impl Play {
             }
         }
         self.settle()
+    }
+
+    /// Plays what has happened once more with all bytes one at a time.
+    fn play_cut(&mut self, said: &[Said<'_>]) -> Result<(), CaseFault> {
+        let pieces = byte_by_byte(self.alloc, self.script.as_slice())?;
+        let played = Played::of(self.alloc, pieces.as_slice())?;
+        self.expect_all(said, played)
+    }
+
+    /// Plays what has happened once more over a shelf that is a list.
+    fn play_on_list(&mut self, said: &[Said<'_>]) -> Result<(), CaseFault> {
+        let played = Played::on_list(self.alloc, self.script.as_slice())?;
+        self.expect_all(said, played)
     }
 }
 
@@ -193,5 +205,6 @@ pub fn judge(alloc: Global, file: &[u8]) -> Result<Spelled, CaseFault> {
     let mut play = Play::new(alloc);
     play.play(said.as_slice())?;
     play.play_cut(said.as_slice())?;
+    play.play_on_list(said.as_slice())?;
     Ok(play.into_spelled())
 }

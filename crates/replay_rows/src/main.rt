@@ -2,8 +2,8 @@
 //!
 //! A row NAME is a script, NAME.script, and the text of its effects, NAME.effects. Where the replay is to end by a
 //! fault, NAME.stderr has its line and NAME.status the exit status. A case NAME.case has both in one, written for
-//! people; data/README.md has its form. Each is played once more with all bytes one at a time: the text is to be the
-//! same. A row is also played over a shelf that is a list. A line a row and a case is printed, in the order of names.
+//! people; data/README.md has its form. Each is played once more with all bytes one at a time, and over a shelf that is
+//! a list: the text is to be the same. A line a row and a case is printed, in the order of names.
 #![tactic(auto)]
 
 mod case_lines;
