@@ -27,6 +27,8 @@ AT_ONCE = 40
 WRITING = threading.Lock()
 # The laws are asked in these steps: those on no file of lemmas, first the nearest to the change, on at most so many, and on any number.
 NEAREST, COMPUTED, ON_FEW, ON_MANY = STEPS = range(4)
+# a module that a file of laws declares
+MOD = r"^(?:pub(?:\(crate\))? )?mod \w+;\n"
 LAYERS, FEW = 2, 1
 
 
@@ -111,8 +113,18 @@ class Copy:
         text = re.sub(rf"\bRattle\.{name}\.((?:specs|proofs)\.\w+)", by_dots, text)
         text = re.sub(rf"\b(?:crate|{name})::(specs|proofs)::(\w+)", by_colons, text)
         for law in laws:
-            text = text.replace(f"Rattle.{name}.proofs.{law.replace('/', '.')}.", f"Rattle.{name}.proofs.{law.replace('/', '.')}{mark}.")
+            dots, others = law.replace("/", "."), "".join(rf"(?!{it}\b)" for it in self.inside(law))
+            text = re.sub(rf"\bRattle\.{name}\.proofs\.{re.escape(dots)}\.{others}", f"Rattle.{name}.proofs.{dots}{mark}.", text)
         return text
+
+    def inside(self, law):
+        """The files of laws in the folder of this one, by their own names."""
+        return [it.removeprefix(f"{law}/") for it in self.laws if it.startswith(f"{law}/")]
+
+    def with_proofs(self, law):
+        """The paths of a file of laws and of its proofs, without those of the files in its folder."""
+        inside = tuple(f"proofs/{law}/{it}/" for it in self.inside(law))
+        return [it for it in self.files if it == f"src/{law}.rt" or it.startswith(f"proofs/{law}/") and not it.startswith(inside)]
 
     def step_of(self, texts, own):
         """The step in which a law is asked whose proof is these texts, in a folder of that name."""
@@ -155,7 +167,7 @@ class Copy:
 
     def needed(self, laws, modules):
         """Those of these modules that the files of these laws name, at once or by others."""
-        texts = lambda law: [text for path, text in self.files.items() if path == f"src/{law}.rt" or path.startswith(f"proofs/{law}/")]
+        texts = lambda law: [self.files[it] for it in self.with_proofs(law)]
         by_module = {self.module(path): text for path, text in self.files.items() if self.module(path)}
         found, new = set(), {it for law in laws for text in texts(law) for it in self.named(text)}
         while new := (new & modules) - found:
@@ -170,14 +182,14 @@ class Copy:
         functions = self.asked(changed)
         laws = [it for it in self.laws if functions[it]]
         modules = self.needed(laws, self.moved(changed)) | changed
-        with_proofs = lambda law: [it for it in self.files if it == f"src/{law}.rt" or it.startswith(f"proofs/{law}/")]
         for path in self.files:
             if self.module(path) in modules:
                 files[path.replace(".antt", f"{mark}.antt")] = self.renamed(texts.get(path, self.files[path]), modules, laws, mark)
         for law in laws:
-            for path in with_proofs(law):
+            for path in self.with_proofs(law):
                 to = path.replace(f"/{law}.rt", f"/{law}{mark}.rt").replace(f"proofs/{law}/", f"proofs/{law}{mark}/")
-                files[to] = self.renamed(self.files[path], modules, laws, mark)
+                text = self.renamed(self.files[path], modules, laws, mark)
+                files[to] = re.sub(MOD, "", text, flags=re.M) if to.endswith(".rt") else text
         return files, [f"{law}{mark}/{name}" for law in laws for name in functions[law]]
 
     def write(self, room, sets):
@@ -194,7 +206,7 @@ class Copy:
             folder, _, name = path.removeprefix("src/").removesuffix(".rt").rpartition("/")
             above = f"src/{folder}.rt" if folder else "src/lib.rt"
             plain = re.sub(r"_m\d+$", "", name)
-            files[above] = re.sub(rf"^((?:pub )?mod ){plain};$", rf"\g<0>\n\g<1>{name};", files[above], count=1, flags=re.M)
+            files[above] = re.sub(rf"^((?:pub(?:\(crate\))? )?mod ){plain};$", rf"\g<0>\n\g<1>{name};", files[above], count=1, flags=re.M)
         for path, text in files.items():
             os.makedirs(os.path.dirname(f"{room}/{path}"), exist_ok=True)
             with open(f"{room}/{path}", "w", encoding="utf-8") as it:
