@@ -48,7 +48,7 @@ class Mutant:
 
 
 def mutants_of(rt, crate):
-    return [Mutant(rt, crate, it) for it in sorted(glob.glob(f"{crate.folder}/mutants/definitions/*.edit"))]
+    return [Mutant(rt, crate, it) for it in sorted(glob.glob(f"{crate.folder}/mutants/definitions/**/*.edit", recursive=True))]
 
 
 class Copy:
