@@ -21,7 +21,8 @@ use Rattle.hx_store.specs.Index.{AreMarks, IsIndexOf, IsMarked, IsMarkedAnew, Is
 use Rattle.hx_store.proofs.EntryLists.{eqb_comm, not_only, without_none, without_gone, find_none, find-serial, find_holds, Distinct-filter, length-filter_le, length-without}
 use Rattle.hx_store.proofs.FoundSerials.{is_in-insert, finds_ascending, below_less}
 use Rattle.hx_store.proofs.KeyedEntries.{is_some-find, distinct-front}
-use Rattle.hx_store.proofs.Indices.{one_key, not_nothing}
+use Rattle.hx_target.specs.KeyHash.{one_key}
+use Rattle.hx_store.proofs.Indices.{not_nothing}
 use Rattle.hx_store.proofs.MarkLists.{IsPart, keys-marked, keys-put, keys-removed, marks-anew, marks-more, marks-part, marks-put, marks-removed, part-front, part-without}
 
 -- ---- lists of serials

@@ -1,49 +1,34 @@
 -- What a map from keys to maps of marks says of the serials at each key.
-use Rattle.std.proofs.Common.{None, Some, ◌≡◌, ℕ, Bool, true, false, cond, ◌&&◌, Option, List, [], ◌∷◌, refl, sym, ◌∙◌, ap, inl, inr}
+use Rattle.std.proofs.Common.{None, Some, ◌≡◌, ℕ, Bool, true, false, cond, Option, List, [], ◌∷◌, refl, sym, ◌∙◌, ap, inl, inr}
 use Rattle.std.specs.Prelude.{unwrap_or}
 use Rattle.std.specs.Option.{ForSome}
 use Rattle.std.specs.Ordering.{nat_cmp, match_ordering}
 use Rattle.std.specs.declared.cmp.Ordering.{Ordering}
 use Rattle.std.specs.declared.cmp.Ordering.TheVariants.{Less, Equal, Greater}
-use Rattle.std.specs.Cmp.Lexicographic.{bytes_decides}
-use Rattle.std.specs.BTreeMap.{get, insert_entry, is_at}
+use Rattle.std.specs.BTreeMap.{insert_entry}
+use Rattle.std.specs.HashMap.{get}
 use Rattle.std.proofs.lemmas.Bool.{cases_Bool, false≢true, eqb-true, eq-eqb, or_left}
 use Rattle.std.specs.Map.{lookup}
 use Rattle.std.proofs.lemmas.Option.{same_Some}
 use Rattle.hx_vary.specs.declared.marks.Mark.{Mark}
 use Rattle.hx_target.specs.declared.keys.Key.{Key}
 use Rattle.hx_target.specs.Keys.{same_key}
-use Rattle.hx_target.specs.KeyOrder.{key_cmp, key_ties}
+use Rattle.hx_target.specs.KeyHash.{one_key}
 use Rattle.hx_store.specs.declared.key_index.KeyIndex.{KeyIndex}
 use Rattle.hx_store.specs.Serials.{is_in, insert_ascending}
 use Rattle.hx_store.specs.Index.{marks_at, IsSameIndex, IsTrim, IsTrimBeside}
 use Rattle.hx_store.proofs.FoundSerials.{is_in-insert}
-
-both : (a b : Bool) → (a && b) ≡ true → (a ≡ true) × (b ≡ true)
-both true b h = (refl, h)
-both false b h = absurd (false≢true h)
-
--- keys that are the same are one
-pub one_key : (a b : Key) → same_key a b ≡ true → a ≡ b
-one_key a b h =
-    let p = both _ _ h in
-    let q = both _ _ p.0 in
-    let host = (bytes_decides a.host b.host).0 q.0 in
-    let port = eqb-true a.port b.port q.1 in
-    let path_query = (bytes_decides a.path_query b.path_query).0 p.1 in
-    λ i. record { host = host i; port = port i; path_query = path_query i }
 
 abbrev pub entries_or_none : Option (List (ℕ × Mark)) → List (ℕ × Mark)
 entries_or_none o = unwrap_or o []
 
 -- a map that has w at a key, and else what it had
 pub written : (key : Key) (old new : KeyIndex) (w : Option (List (ℕ × Mark))) →
-    ((q : Key) → get key_cmp new.serials q ≡ cond (is_at (key_cmp key) q) w (get key_cmp old.serials q)) →
+    ((q : Key) → get same_key new.serials q ≡ cond (same_key key q) w (get same_key old.serials q)) →
     (q : Key) → marks_at new q ≡ cond (same_key key q) (entries_or_none w) (marks_at old q)
 written key old new w h q =
-    let g = get key_cmp old.serials q in
+    let g = get same_key old.serials q in
     ap entries_or_none (h q)
-    ∙ ap (λ b. entries_or_none (cond b w g)) (sym (key_ties key q))
     ∙ (elim (same_key key q) as (λ b. entries_or_none (cond b w g) ≡ cond b (entries_or_none w) (entries_or_none g)) [ true ↦ refl | false ↦ refl ])
 
 -- what is at the key is what f makes of what was there
@@ -91,31 +76,31 @@ pub some_has : (set : List (ℕ × Mark)) → HasSome set → ForSome (Some set)
 some_has set n x e k = n (same_Some set x e ∙ k)
 
 pub trim-written : (key : Key) (old new : KeyIndex) (w : Option (List (ℕ × Mark))) →
-    ((q : Key) → get key_cmp new.serials q ≡ cond (is_at (key_cmp key) q) w (get key_cmp old.serials q)) → ForSome w HasSome → IsTrim old → IsTrim new
+    ((q : Key) → get same_key new.serials q ≡ cond (same_key key q) w (get same_key old.serials q)) → ForSome w HasSome → IsTrim old → IsTrim new
 trim-written key old new w h n o q set e k =
-    let g = get key_cmp old.serials q in
-    elim (cases_Bool (is_at (key_cmp key) q)) [
+    let g = get same_key old.serials q in
+    elim (cases_Bool (same_key key q)) [
       | inl t ↦ n set (sym (h q ∙ ap (λ b. cond b w g) t) ∙ e) k
       | inr f ↦ o q set (sym (h q ∙ ap (λ b. cond b w g) f) ∙ e) k
     ]
 
 pub trim-beside : (key : Key) (old new : KeyIndex) (w : Option (List (ℕ × Mark))) →
-    ((q : Key) → get key_cmp new.serials q ≡ cond (is_at (key_cmp key) q) w (get key_cmp old.serials q)) → IsTrim old → IsTrimBeside key new
+    ((q : Key) → get same_key new.serials q ≡ cond (same_key key q) w (get same_key old.serials q)) → IsTrim old → IsTrimBeside key new
 trim-beside key old new w h o q f set e k =
-    let g = get key_cmp old.serials q in
-    o q set (sym (h q ∙ ap (λ b. cond b w g) (sym (key_ties key q) ∙ f)) ∙ e) k
+    let g = get same_key old.serials q in
+    o q set (sym (h q ∙ ap (λ b. cond b w g) f) ∙ e) k
 
 pub trim-removed : (key : Key) (mid new : KeyIndex) →
-    ((q : Key) → get key_cmp new.serials q ≡ cond (is_at (key_cmp key) q) None (get key_cmp mid.serials q)) → IsTrimBeside key mid → IsTrim new
+    ((q : Key) → get same_key new.serials q ≡ cond (same_key key q) None (get same_key mid.serials q)) → IsTrimBeside key mid → IsTrim new
 trim-removed key mid new h b q set e k =
-    let g = get key_cmp mid.serials q in
-    elim (cases_Bool (is_at (key_cmp key) q)) [
+    let g = get same_key mid.serials q in
+    elim (cases_Bool (same_key key q)) [
       | inl t ↦ (
           let n : None ≡ Some set = sym (h q ∙ ap (λ b. cond b None g) t) ∙ e in
           absurd (cc)
           )
-      | inr f ↦ b q (key_ties key q ∙ f) set (sym (h q ∙ ap (λ b. cond b None g) f) ∙ e) k
+      | inr f ↦ b q f set (sym (h q ∙ ap (λ b. cond b None g) f) ∙ e) k
     ]
 
 pub trim-same : (old new : KeyIndex) → new.serials.entries ≡ old.serials.entries → IsTrim old → IsTrim new
-trim-same old new s o q set e k = o q set (ap (lookup (is_at (key_cmp q))) (sym s) ∙ e) k
+trim-same old new s o q set e k = o q set (ap (lookup (same_key q)) (sym s) ∙ e) k

@@ -4,10 +4,10 @@ use Rattle.std.specs.List.{filter}
 use Rattle.std.specs.Map.{keys_of, remove_entry, set_value}
 use Rattle.std.specs.Option.{ForSome}
 use Rattle.std.specs.Ordering.{nat_cmp}
-use Rattle.std.specs.BTreeMap.{BTreeMap, get, insert_entry, is_at}
+use Rattle.std.specs.BTreeMap.{BTreeMap, insert_entry, is_at}
+use Rattle.std.specs.HashMap.{get}
 use Rattle.hx_target.specs.declared.keys.Key.{Key}
 use Rattle.hx_target.specs.Keys.{same_key}
-use Rattle.hx_target.specs.KeyOrder.{key_cmp}
 use Rattle.hx_store.specs.declared.key_index.KeyIndex.{KeyIndex}
 use Rattle.hx_vary.specs.Marks.{mark_of, may_match}
 use Rattle.hx_vary.specs.declared.marks.Mark.{Mark}
@@ -18,7 +18,7 @@ use Rattle.hx_store.specs.Shelf.{find_entry, serials_of}
 
 -- the serials that the index has at a key, beside their marks
 abbrev pub marks_at : KeyIndex → Key → List (ℕ × Mark)
-marks_at index key = unwrap_or (get key_cmp index.serials key) []
+marks_at index key = unwrap_or (get same_key index.serials key) []
 
 -- the serials alone
 abbrev pub indexed : KeyIndex → Key → List ℕ
@@ -62,11 +62,11 @@ IsPutInIf false old key s mark new = IsSameIndex old new × (marks_at old key �
 
 -- no key is in the index for nothing
 abbrev pub IsTrim : KeyIndex → Type 0
-IsTrim index = (q : Key) → ForSome (get key_cmp index.serials q) (λ marks. marks ≡ [] → ⊥)
+IsTrim index = (q : Key) → ForSome (get same_key index.serials q) (λ marks. marks ≡ [] → ⊥)
 
 -- the same of each key but this one
 abbrev pub IsTrimBeside : Key → KeyIndex → Type 0
-IsTrimBeside key index = (q : Key) → same_key key q ≡ false → ForSome (get key_cmp index.serials q) (λ marks. marks ≡ [] → ⊥)
+IsTrimBeside key index = (q : Key) → same_key key q ≡ false → ForSome (get same_key index.serials q) (λ marks. marks ≡ [] → ⊥)
 
 -- the index has the serials of these entries at each key
 abbrev pub IsIndexOf : List Stored → KeyIndex → Type 0

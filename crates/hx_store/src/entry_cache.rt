@@ -4,10 +4,12 @@
 
 ghost use Rattle.std.specs.Prelude.{◌≡◌, ◌-◌, ◌∷◌, [], false, true, length, take, slice_get, option_copied, IfOk, IfErr, OnErr, OnOk, Some};
 ghost use Rattle.std.specs.List.{filter, list_all};
-ghost use Rattle.hx_store.specs.Index.{is_match_by};
+ghost use Rattle.std.specs.Map.{keys_of};
+ghost use Rattle.hx_store.specs.Index.{is_match_by, AreMarks};
 ghost use Rattle.hx_store.specs.Shelf.{holds, find_entry, is_match, without, promoted};
 
 use crate::entries::Entry;
+use crate::key_marks::KeyMarks;
 use crate::serial_list::Serials;
 use hx_fields::Fields;
 use hx_vary::{RequestValues, matches};
@@ -75,7 +77,7 @@ impl EntryCache {
 
     /// Those of some serials whose entries nominate what the request has. Mostly all do, and no other list is made. Fails for
     /// want of memory alone.
-    pub(crate) fn matching(
+    fn matching(
         &self,
         alloc: Global,
         serials: Serials,
@@ -133,8 +135,29 @@ impl EntryCache {
         }
     }
 
+    /// Those of the serials of one key whose entries nominate what the request has. Where there are several, an entry is looked at
+    /// only where its mark may match. Fails only where memory runs out.
+    pub(crate) fn matching_of(
+        &self,
+        alloc: Global,
+        marks: &KeyMarks,
+        request: &Fields,
+        seed: u64,
+    ) -> Result<Serials, AllocError>
+        requires { AreMarks seed self.now marks.now }
+        ensures { IfOk result (λ found. found ≡ filter (λ s. is_match request.now (find_entry s self.now)) (keys_of marks.now)) }
+    {
+        if !marks.is_several() {
+            let found = marks.list(alloc)?;
+            return self.matching(alloc, found, request);
+        }
+        let asked = RequestValues::of(alloc, request, seed)?;
+        let marked = marks.list_marked(alloc, &asked)?;
+        self.matching_by(alloc, marked.as_slice(), &asked)
+    }
+
     /// Those of some serials whose entries nominate what these values have. Fails for want of memory alone.
-    pub(crate) fn matching_by(
+    fn matching_by(
         &self,
         alloc: Global,
         serials: &[u64],

@@ -15,7 +15,6 @@ use crate::key_index::KeyIndex;
 use crate::serial_list::Serials;
 use hx_fields::Fields;
 use hx_target::Key;
-use hx_vary::RequestValues;
 use std::alloc::{AllocError, Global};
 use std::marker::Model;
 
@@ -63,7 +62,7 @@ impl IndexedEntries {
             alloc,
             seed,
             entries: EntryCache::new(alloc)?,
-            index: KeyIndex::new(alloc),
+            index: KeyIndex::new(alloc, seed),
         })
     }
 
@@ -122,13 +121,12 @@ impl IndexedEntries {
         ensures found { IfOk result (λ found. found ≡ matching_serials key.now request.now self.now) }
         ensures distinct { Distinct (serials self.now) }
     {
-        if !self.index.has_several(key) {
-            let found = self.index.find(alloc, key)?;
-            return self.entries.matching(alloc, found, request);
+        match self.index.at(key) {
+            Some(marks) => self
+                .entries
+                .matching_of(alloc, marks, request, self.seed),
+            None => Ok(Serials::new(alloc)),
         }
-        let asked = RequestValues::of(alloc, request, self.seed)?;
-        let marked = self.index.find_marked(alloc, key, &asked)?;
-        self.entries.matching_by(alloc, marked.as_slice(), &asked)
     }
 
     /// Puts an entry first. Want of memory changes nothing and hands it back.

@@ -1,5 +1,5 @@
-//! A shelf whose entries are found by serial and by key. A call costs at most the logarithm of what is held, beside
-//! what it hands back or takes out, and moves no entry.
+//! A shelf whose entries are found by hashes of their serials and keys. What a call costs goes by what it hands back or takes
+//! out, and by the variants of one key, not by what is held; and it moves no entry.
 
 ghost use Rattle.std.specs.Prelude.{◌≡◌, [], IfOk};
 
@@ -48,8 +48,9 @@ impl IndexedShelf {
         IndexedShelf::seeded(alloc, capacity, 0)
     }
 
-    /// The same, with a seed for what tells variants apart before they are looked at. It changes no answer; where nobody knows
-    /// it, nobody can choose requests that cost more than others. Fails for want of memory alone.
+    /// The same, with a seed for the hashes by which entries are found, and variants told apart before they are looked at. It
+    /// changes no answer; where nobody knows it, nobody can choose requests that cost more than others. Fails only where memory
+    /// runs out.
     pub fn seeded(alloc: Global, capacity: usize, seed: u64) -> Result<IndexedShelf, AllocError>
         ensures { IfOk result (λ shelf. shelf ≡ record { limit = capacity; entries = []; room = 0 }) }
     {

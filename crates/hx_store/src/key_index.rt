@@ -1,25 +1,27 @@
 //! Serials by the keys of their entries, ascending at each key, each beside the mark of its entry.
 //!
-//! A call costs the logarithm of what is held, but that `find` also costs what it finds, and `find_marked` a comparison of
-//! numbers for each serial at the key.
+//! A key is found by its hash, whatever is held, and among its serials by the logarithm of how many they are. `find` also costs
+//! what it finds, and `find_marked` a comparison of numbers for each serial at the key.
 
-ghost use Rattle.std.specs.Prelude.{◌≡◌, ◌==◌, nat_eq, nat_lt, [], not, length, IfOk, OnOk, OnErr, slice_get};
+ghost use Rattle.std.specs.Prelude.{◌≡◌, ◌==◌, [], not, length, option_copied, IfOk, OnOk, OnErr, slice_get};
 ghost use Rattle.std.specs.Bool.{OnFalse, OnTrue};
 ghost use Rattle.hx_target.specs.declared.keys.Key.{Key as StoreKey};
-ghost use Rattle.std.specs.HashSet.{contains};
+ghost use Rattle.std.specs.HashMap.{get};
+ghost use Rattle.hx_target.specs.Keys.{same_key};
 ghost use Rattle.std.specs.Ordering.{nat_cmp};
-ghost use Rattle.hx_store.specs.Index.{indexed, marks_at, may_be_of, IsMarkedAnew, IsPutIn, IsPutInIf, IsTakenOut, IsSameIndex, IsTrim, IsTrimBeside};
+ghost use Rattle.hx_store.specs.Index.{indexed, marks_at, IsMarkedAnew, IsPutIn, IsPutInIf, IsTakenOut, IsSameIndex, IsTrim, IsTrimBeside};
 
+use crate::key_hashing::KeyHashing;
 use crate::key_marks::KeyMarks;
 use crate::serial_list::Serials;
 use hx_target::Key;
-use hx_vary::{Mark, RequestValues};
+use hx_vary::Mark;
 use std::alloc::{AllocError, Global};
-use std::collections::BTreeMap;
+use std::collections::HashMap;
 
 /// Serials by keys, of which none stands there without a serial.
 pub(crate) struct KeyIndex {
-    serials: BTreeMap<Key, KeyMarks>,
+    serials: HashMap<Key, KeyMarks, KeyHashing>,
 }
 
 /// One call drops it, wherever that is.
@@ -30,47 +32,29 @@ impl Drop for KeyIndex {
 }
 
 impl KeyIndex {
-    /// No serials.
-    pub(crate) fn new(alloc: Global) -> KeyIndex
+    /// No serials. Keys are hashed by the seed, so nobody who doesn't know it can choose keys of one hash.
+    pub(crate) fn new(alloc: Global, seed: u64) -> KeyIndex
         ensures empty { (key : StoreKey) → marks_at result key ≡ [] }
         ensures trim { IsTrim result }
     {
         KeyIndex {
-            serials: BTreeMap::new(alloc),
+            serials: HashMap::with_hasher(alloc, KeyHashing::new(seed)),
         }
     }
 
-    /// The serials at a key, ascending. Fails for want of memory alone.
+    /// What stands at a key.
+    pub(crate) fn at(&self, key: &Key) -> Option<&KeyMarks>
+        ensures { option_copied result ≡ get same_key self.now.serials key.now }
+    {
+        self.serials.get(key)
+    }
+
+    /// The serials at a key, ascending. Fails only where memory runs out.
     pub(crate) fn find(&self, alloc: Global, key: &Key) -> Result<Serials, AllocError>
         ensures { IfOk result (λ found. found ≡ indexed self.now key.now) }
     {
-        match self.serials.get(key) {
+        match self.at(key) {
             Some(marks) => marks.list(alloc),
-            None => Ok(Serials::new(alloc)),
-        }
-    }
-
-    /// Whether several serials stand at a key.
-    pub(crate) fn has_several(&self, key: &Key) -> bool
-        ensures { result ≡ nat_lt 1 (length (marks_at self.now key.now)) }
-    {
-        match self.serials.get(key) {
-            Some(marks) => marks.is_several(),
-            None => false,
-        }
-    }
-
-    /// The serials at a key whose marks don't keep the request from matching, ascending. Fails for want of memory alone.
-    pub(crate) fn find_marked(
-        &self,
-        alloc: Global,
-        key: &Key,
-        asked: &RequestValues,
-    ) -> Result<Serials, AllocError>
-        ensures { IfOk result (λ found. found ≡ may_be_of (contains nat_eq asked.now.tags) (marks_at self.now key.now)) }
-    {
-        match self.serials.get(key) {
-            Some(marks) => marks.list_marked(alloc, asked),
             None => Ok(Serials::new(alloc)),
         }
     }
@@ -79,7 +63,7 @@ impl KeyIndex {
     pub(crate) fn first(&self, key: &Key) -> Option<u64>
         ensures { result ≡ slice_get (indexed self.now key.now) 0 }
     {
-        match self.serials.get(key) {
+        match self.at(key) {
             Some(marks) => marks.first(),
             None => None,
         }
@@ -92,7 +76,7 @@ impl KeyIndex {
         self.first(key).is_some()
     }
 
-    /// Puts a serial in at a key, with its mark. Want of memory changes nothing.
+    /// Puts a serial in at a key, with its mark. Out of memory changes nothing.
     pub(crate) fn insert(
         &mut self,
         alloc: Global,

@@ -9,6 +9,7 @@ mod entries;
 mod entry_cache;
 mod indexed_entries;
 mod indexed_shelf;
+mod key_hashing;
 mod key_index;
 mod key_marks;
 mod laws;

@@ -4,4 +4,5 @@ pub mod Judgement
 pub mod Keys
 pub mod Examples
 pub mod KeyOrder
+pub mod KeyHash
 pub mod FaultTexts

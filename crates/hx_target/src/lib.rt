@@ -8,6 +8,7 @@
 mod escapes;
 mod faults;
 mod hosts;
+mod key_hash;
 mod key_order;
 mod keys;
 mod laws;

@@ -1,9 +1,9 @@
 use Rattle.std.proofs.Common.{rules, ◌≡◌, cond, ap, subst, sym, ◌∙◌, Some, []}
 use Rattle.std.specs.Ordering.{nat_cmp}
-use Rattle.std.specs.BTreeMap.{get, insert_entry, is_at}
+use Rattle.std.specs.BTreeMap.{insert_entry, is_at}
+use Rattle.std.specs.HashMap.{get}
 use Rattle.hx_target.specs.declared.keys.Key.{Key}
 use Rattle.hx_target.specs.Keys.{same_key}
-use Rattle.hx_target.specs.KeyOrder.{key_cmp}
 use Rattle.hx_store.specs.declared.key_index.KeyIndex.{KeyIndex}
 use Rattle.hx_store.specs.Index.{marks_at, IsSameIndex}
 use Rattle.hx_store.proofs.Indices.{changed, not_unmarked, some_has, trim-same, trim-written, written}
@@ -16,8 +16,8 @@ returns-clause-ok c =
     let new : KeyIndex = record { serials = c.insert.new.self } in
     let b : IsSameIndex old mid × (marks_at old c.args.key.now ≡ []) = search rules in
     let k : c.in_ok-key.key ≡ c.args.key.now = search rules in
-    let u : (q : Key) → get key_cmp c.insert.new.self q ≡ cond (is_at (key_cmp c.args.key.now) q) (Some c.one.result) (get key_cmp mid.serials q) =
-    subst (λ z. (q : Key) → get key_cmp c.insert.new.self q ≡ cond (is_at (key_cmp z) q) (Some c.one.result) (get key_cmp mid.serials q)) k c.in_ok-insert.ensures.updates.0 in
+    let u : (q : Key) → get same_key c.insert.new.self q ≡ cond (same_key c.args.key.now q) (Some c.one.result) (get same_key mid.serials q) =
+    subst (λ z. (q : Key) → get same_key c.insert.new.self q ≡ cond (same_key z q) (Some c.one.result) (get same_key mid.serials q)) k c.in_ok-insert.ensures.updates.0 in
     let w = written c.args.key.now mid new (Some c.one.result) u in
     let s : c.one.result ≡ insert_entry nat_cmp (marks_at old c.args.key.now) c.args.serial c.args.mark =
     c.one.ensures ∙ ap (λ ps. insert_entry nat_cmp ps c.args.serial c.args.mark) (sym b.1) in

@@ -1,7 +1,8 @@
 use Rattle.std.proofs.Common.{rules, ◌≡◌, ap, sym, ◌∙◌, Some, is_some}
 use Rattle.std.specs.Ordering.{nat_cmp}
-use Rattle.std.specs.BTreeMap.{WritesThrough, get_by, insert_entry}
-use Rattle.hx_target.specs.KeyOrder.{key_cmp}
+use Rattle.std.specs.BTreeMap.{insert_entry}
+use Rattle.std.specs.HashMap.{WritesThrough, get_by}
+use Rattle.hx_target.specs.Keys.{same_key}
 use Rattle.hx_store.specs.declared.key_index.KeyIndex.{KeyIndex}
 use Rattle.hx_store.specs.Index.{marks_at, IsSameIndex}
 use Rattle.hx_store.proofs.Indices.{changed, not_unmarked, some_has, trim-same, trim-written, unchanged, written}
@@ -12,8 +13,8 @@ returns-in_err-insert-in-Some-clause-err c =
     let old = c.args.self.now in
     let set = c.insert.new.self in
     let new : KeyIndex = record { serials = c.get_mut.follows.lender set } in
-    let u : WritesThrough key_cmp (key_cmp c.args.key.now) old.serials set new.serials = search rules in
-    let m : get_by (key_cmp c.args.key.now) old.serials ≡ Some c.in-Some.marks.now = search rules in
+    let u : WritesThrough same_key (same_key c.args.key.now) old.serials set new.serials = search rules in
+    let m : get_by (same_key c.args.key.now) old.serials ≡ Some c.in-Some.marks.now = search rules in
     let e : marks_at old c.args.key.now ≡ c.in-Some.marks.now = search rules in
     let k : set ≡ marks_at old c.args.key.now = c.in_err-insert-in-Some.ensures.err ∙ sym e in
     let same : IsSameIndex old new = unchanged c.args.key.now old new _ (written c.args.key.now old new (Some set) (u.3 (ap is_some m)).0) k in
@@ -24,8 +25,8 @@ returns-in_ok-insert-in-Some-clause-ok c =
     let old = c.args.self.now in
     let set = c.insert.new.self in
     let new : KeyIndex = record { serials = c.get_mut.follows.lender set } in
-    let u : WritesThrough key_cmp (key_cmp c.args.key.now) old.serials set new.serials = search rules in
-    let m : get_by (key_cmp c.args.key.now) old.serials ≡ Some c.in-Some.marks.now = search rules in
+    let u : WritesThrough same_key (same_key c.args.key.now) old.serials set new.serials = search rules in
+    let m : get_by (same_key c.args.key.now) old.serials ≡ Some c.in-Some.marks.now = search rules in
     let e : marks_at old c.args.key.now ≡ c.in-Some.marks.now = search rules in
     let k : set ≡ insert_entry nat_cmp (marks_at old c.args.key.now) c.args.serial c.args.mark =
     c.in_ok-insert-in-Some.ensures.ok ∙ ap (λ ps. insert_entry nat_cmp ps c.args.serial c.args.mark) (sym e) in
@@ -36,8 +37,8 @@ returns-in_err-insert-in-Some-clause-trim c o =
     let old = c.args.self.now in
     let set = c.insert.new.self in
     let new : KeyIndex = record { serials = c.get_mut.follows.lender set } in
-    let u : WritesThrough key_cmp (key_cmp c.args.key.now) old.serials set new.serials = search rules in
-    let m : get_by (key_cmp c.args.key.now) old.serials ≡ Some c.in-Some.marks.now = search rules in
+    let u : WritesThrough same_key (same_key c.args.key.now) old.serials set new.serials = search rules in
+    let m : get_by (same_key c.args.key.now) old.serials ≡ Some c.in-Some.marks.now = search rules in
     trim-written c.args.key.now old new (Some set) (u.3 (ap is_some m)).0
     (some_has set (λ k. o c.args.key.now c.in-Some.marks.now m (sym c.in_err-insert-in-Some.ensures.err ∙ k))) o
 
@@ -46,8 +47,8 @@ returns-in_ok-insert-in-Some-clause-trim c o =
     let old = c.args.self.now in
     let set = c.insert.new.self in
     let new : KeyIndex = record { serials = c.get_mut.follows.lender set } in
-    let u : WritesThrough key_cmp (key_cmp c.args.key.now) old.serials set new.serials = search rules in
-    let m : get_by (key_cmp c.args.key.now) old.serials ≡ Some c.in-Some.marks.now = search rules in
+    let u : WritesThrough same_key (same_key c.args.key.now) old.serials set new.serials = search rules in
+    let m : get_by (same_key c.args.key.now) old.serials ≡ Some c.in-Some.marks.now = search rules in
     trim-written c.args.key.now old new (Some set) (u.3 (ap is_some m)).0
     (some_has set (λ k. not_unmarked c.args.serial c.args.mark c.in-Some.marks.now (sym c.in_ok-insert-in-Some.ensures.ok ∙ k))) o
 

@@ -1,8 +1,9 @@
 use Rattle.std.proofs.Common.{rules, ◌≡◌, ap, sym, ◌∙◌, Some, is_some}
 use Rattle.std.specs.Ordering.{nat_cmp}
 use Rattle.std.specs.Map.{set_value}
-use Rattle.std.specs.BTreeMap.{WritesThrough, get_by, is_at}
-use Rattle.hx_target.specs.KeyOrder.{key_cmp}
+use Rattle.std.specs.BTreeMap.{is_at}
+use Rattle.std.specs.HashMap.{WritesThrough, get_by}
+use Rattle.hx_target.specs.Keys.{same_key}
 use Rattle.hx_store.specs.declared.key_index.KeyIndex.{KeyIndex}
 use Rattle.hx_store.specs.Index.{marks_at}
 use Rattle.hx_store.proofs.Indices.{changed, some_has, trim-same, trim-written, written}
@@ -14,8 +15,8 @@ returns-in-Some-clause-marked c =
     let old = c.args.self.now in
     let map = c.set_mark.new.self in
     let new : KeyIndex = record { serials = c.get_mut.follows.lender map } in
-    let u : WritesThrough key_cmp (key_cmp c.args.key.now) old.serials map new.serials = search rules in
-    let m : get_by (key_cmp c.args.key.now) old.serials ≡ Some c.in-Some.marks.now = search rules in
+    let u : WritesThrough same_key (same_key c.args.key.now) old.serials map new.serials = search rules in
+    let m : get_by (same_key c.args.key.now) old.serials ≡ Some c.in-Some.marks.now = search rules in
     let e : marks_at old c.args.key.now ≡ c.in-Some.marks.now = search rules in
     let k : map ≡ set_value (is_at (nat_cmp c.args.serial)) (marks_at old c.args.key.now) c.args.mark =
     c.set_mark.ensures ∙ ap (λ ps. set_value (is_at (nat_cmp c.args.serial)) ps c.args.mark) (sym e) in
@@ -27,8 +28,8 @@ returns-in-Some-clause-trim c o =
     let old = c.args.self.now in
     let map = c.set_mark.new.self in
     let new : KeyIndex = record { serials = c.get_mut.follows.lender map } in
-    let u : WritesThrough key_cmp (key_cmp c.args.key.now) old.serials map new.serials = search rules in
-    let m : get_by (key_cmp c.args.key.now) old.serials ≡ Some c.in-Some.marks.now = search rules in
+    let u : WritesThrough same_key (same_key c.args.key.now) old.serials map new.serials = search rules in
+    let m : get_by (same_key c.args.key.now) old.serials ≡ Some c.in-Some.marks.now = search rules in
     trim-written c.args.key.now old new (Some map) (u.3 (ap is_some m)).0
     (some_has map (λ k. o c.args.key.now c.in-Some.marks.now m
     (set_nothing (is_at (nat_cmp c.args.serial)) c.in-Some.marks.now c.args.mark (sym c.set_mark.ensures ∙ k)))) o

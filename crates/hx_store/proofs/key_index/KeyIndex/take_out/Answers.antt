@@ -4,8 +4,9 @@ use Rattle.std.specs.Prelude.{◌==◌}
 use Rattle.std.proofs.Common.{rules, ◌≡◌, Bool, true, false, refl, length, ap, sym, ◌∙◌, Some, is_some}
 use Rattle.std.specs.Ordering.{nat_cmp}
 use Rattle.std.specs.Map.{remove_entry}
-use Rattle.std.specs.BTreeMap.{WritesThrough, get_by, is_at}
-use Rattle.hx_target.specs.KeyOrder.{key_cmp}
+use Rattle.std.specs.BTreeMap.{is_at}
+use Rattle.std.specs.HashMap.{WritesThrough, get_by}
+use Rattle.hx_target.specs.Keys.{same_key}
 use Rattle.hx_store.specs.declared.key_index.KeyIndex.{KeyIndex}
 use Rattle.hx_store.specs.Index.{marks_at, IsTrim}
 use Rattle.hx_store.proofs.Indices.{changed, some_has, trim-beside, trim-same, trim-written, written}
@@ -14,8 +15,8 @@ use Rattle.hx_store.proofs.key_index.KeyIndex.take_out.Goals as goal
 pub returns-in-Some-clause-taken : goal.returns-in-Some-clause-taken
 returns-in-Some-clause-taken c =
     let new : KeyIndex = record { serials = c.get_mut.follows.lender c.remove.new.self } in
-    let u : WritesThrough key_cmp (key_cmp c.args.key.now) c.args.self.now.serials c.remove.new.self new.serials = search rules in
-    let m : get_by (key_cmp c.args.key.now) c.args.self.now.serials ≡ Some c.in-Some.marks.now = search rules in
+    let u : WritesThrough same_key (same_key c.args.key.now) c.args.self.now.serials c.remove.new.self new.serials = search rules in
+    let m : get_by (same_key c.args.key.now) c.args.self.now.serials ≡ Some c.in-Some.marks.now = search rules in
     let e : marks_at c.args.self.now c.args.key.now ≡ c.in-Some.marks.now = search rules in
     let k : c.remove.new.self ≡ remove_entry (is_at (nat_cmp c.args.serial)) (marks_at c.args.self.now c.args.key.now) =
     c.remove.ensures ∙ ap (remove_entry (is_at (nat_cmp c.args.serial))) (sym e) in
@@ -25,8 +26,8 @@ returns-in-Some-clause-taken c =
 pub returns-in-Some-clause-trim_beside : goal.returns-in-Some-clause-trim_beside
 returns-in-Some-clause-trim_beside c o =
     let new : KeyIndex = record { serials = c.get_mut.follows.lender c.remove.new.self } in
-    let u : WritesThrough key_cmp (key_cmp c.args.key.now) c.args.self.now.serials c.remove.new.self new.serials = search rules in
-    let m : get_by (key_cmp c.args.key.now) c.args.self.now.serials ≡ Some c.in-Some.marks.now = search rules in
+    let u : WritesThrough same_key (same_key c.args.key.now) c.args.self.now.serials c.remove.new.self new.serials = search rules in
+    let m : get_by (same_key c.args.key.now) c.args.self.now.serials ≡ Some c.in-Some.marks.now = search rules in
     trim-beside c.args.key.now c.args.self.now new (Some c.remove.new.self) (u.3 (ap is_some m)).0 o
 
 on_false : (b : Bool) (P : Type 0) → (b ≡ false → P) → OnFalse b P
@@ -36,8 +37,8 @@ on_false false P f = f refl
 pub returns-in-Some-clause-trim : goal.returns-in-Some-clause-trim
 returns-in-Some-clause-trim c o =
     let new : KeyIndex = record { serials = c.get_mut.follows.lender c.remove.new.self } in
-    let u : WritesThrough key_cmp (key_cmp c.args.key.now) c.args.self.now.serials c.remove.new.self new.serials = search rules in
-    let m : get_by (key_cmp c.args.key.now) c.args.self.now.serials ≡ Some c.in-Some.marks.now = search rules in
+    let u : WritesThrough same_key (same_key c.args.key.now) c.args.self.now.serials c.remove.new.self new.serials = search rules in
+    let m : get_by (same_key c.args.key.now) c.args.self.now.serials ≡ Some c.in-Some.marks.now = search rules in
     on_false c.is_empty.result (IsTrim new) (λ f. trim-written c.args.key.now c.args.self.now new (Some c.remove.new.self) (u.3 (ap is_some m)).0
     (some_has c.remove.new.self (λ k. false≢true (sym f ∙ c.is_empty.ensures ∙ ap (λ ps. length ps == 0) k))) o)
 

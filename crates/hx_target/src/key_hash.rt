@@ -1,0 +1,19 @@
+//! What a hash function is fed of a key, by which a shelf finds its entries. Keys that are one feed it the same
+//! (`specs/KeyHash.antt`).
+ghost use Rattle.hx_target.specs.KeyHash.{key_writes, one_hash};
+
+use crate::keys::Key;
+use std::hash::{Hash, Hasher};
+
+impl Hash for Key {
+    ghost hash_input = { key_writes };
+
+    ghost respects_eq = { one_hash };
+
+    // The port stands between path and host, so that no byte of one counts as a byte of the other.
+    fn hash<H: Hasher>(&self, state: &mut H) {
+        state.write(self.path_query.as_slice());
+        state.write_u16(self.port);
+        state.write(self.host.as_slice());
+    }
+}
