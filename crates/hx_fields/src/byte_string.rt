@@ -4,6 +4,7 @@
 ghost use Rattle.std.specs.Prelude.{◌≡◌, ◌≤◌, ◌==◌, ◌++◌, [], length, IfOk, OnOk, OnErr, slice_range};
 ghost use Rattle.hx_fields.specs.Kept.{bytes_kept};
 
+use crate::limits::LEAST_SHARED_BYTES;
 use std::alloc::{AllocError, Global};
 use std::marker::Model;
 use std::rc::Rc;
@@ -116,6 +117,29 @@ impl Bytes {
     {
         Bytes {
             kept: Kept::Whole(bytes),
+        }
+    }
+
+    /// The bytes of a vector. Where they are many, their copies and parts share them, and no more memory is kept than they need;
+    /// where memory for that runs out they are whole all the same.
+    pub fn shared_from_vec(alloc: Global, bytes: Vec<u8>) -> Bytes
+        ensures { result ≡ bytes.items }
+    {
+        if bytes.len() < LEAST_SHARED_BYTES {
+            return Bytes::from_vec(bytes);
+        }
+        let mut exact = bytes;
+        exact.shrink_to_fit();
+        let end = exact.len();
+        match Rc::new(alloc, exact) {
+            Ok(buffer) => Bytes {
+                kept: Kept::Part(Part {
+                    buffer,
+                    start: 0,
+                    end,
+                }),
+            },
+            Err(refused) => Bytes::from_vec(refused.value),
         }
     }
 

@@ -135,7 +135,10 @@ impl Fields {
     pub fn remove_named(&mut self, name: &[u8])
         ensures { self.new ≡ without_named self.old name.now }
     {
-        retain_others(&mut self.lines, name);
+        // Mostly no line has the name, and a look at the lines costs less than to go through them with leave to move them.
+        if self.has(name) {
+            retain_others(&mut self.lines, name);
+        }
     }
 
     /// The combined value of this name, if a line has it.

@@ -5,3 +5,4 @@ pub mod Dating
 pub mod Forwards
 pub mod SentLines
 pub mod NamedLemmas
+mod Kept

@@ -1,5 +1,6 @@
 pub mod Answering
 pub mod Asking
+pub mod Kept
 pub mod Bypass
 pub mod Examples
 pub mod Forwarding

@@ -1,13 +1,15 @@
 //! From a request that was read to one that rules see.
-ghost use Rattle.std.specs.Prelude.{◌≡◌, codes, Err, false, IfErr, IfOk};
+ghost use Rattle.std.specs.Prelude.{◌≡◌, codes, filter, Err, false, IfErr, IfOk};
 ghost use Rattle.hx_fields.specs.Lines.{values_of};
 ghost use Rattle.hx_target.specs.Judgement.{is_malformed};
 ghost use Rattle.hx_hop.specs.Asking.{kept_fields, closes, asked_of, asked_by, IsAsked};
+ghost use Rattle.hx_hop.specs.Kept.{is_kept};
 
 use crate::Asked;
 use crate::request_view::copy_content;
-use crate::stripping::{connection_names, strip};
-use hx_fields::Fields;
+use crate::named_lines::{has_many_members, strip_many};
+use crate::stripping::{connection_names, is_among, is_hop_name};
+use hx_fields::{Field, Fields, Members, is_same_name};
 use hx_framing::Request;
 use hx_target::{Target, TargetFault, read_target};
 use std::alloc::{AllocError, Global};
@@ -16,10 +18,45 @@ use std::alloc::{AllocError, Global};
 fn kept_fields(alloc: Global, fields: &Fields) -> Result<Fields, AllocError>
     ensures { IfOk result (λ kept. kept ≡ kept_fields fields.now) }
 {
-    let mut kept = strip(alloc, fields)?;
+    if has_many_members(fields) {
+        return kept_beside_many(alloc, fields);
+    }
+    let named = fields.members(alloc, b"Connection")?;
+    keep_few(alloc, fields, &named)
+}
+
+/// The same where Connection has many members.
+fn kept_beside_many(alloc: Global, fields: &Fields) -> Result<Fields, AllocError>
+    ensures { IfOk result (λ kept. kept ≡ kept_fields fields.now) }
+{
+    let mut kept = strip_many(alloc, fields)?;
     kept.remove_named(b"Host");
     kept.remove_named(b"Expect");
     Ok(kept)
+}
+
+/// The lines that go on beside these members of Connection, in one walk over them.
+fn keep_few(alloc: Global, fields: &Fields, named: &Members) -> Result<Fields, AllocError>
+    ensures { IfOk result (λ kept. kept ≡ filter (is_kept named.now) fields.now) }
+{
+    let mut kept = Fields::with_capacity(alloc, fields.len())?;
+    for line in fields.as_slice() {
+        if is_kept(named, line) {
+            kept.push_line(line.copy(alloc)?)?;
+        }
+    }
+    Ok(kept)
+}
+
+/// Whether a line goes on.
+fn is_kept(named: &Members, line: &Field) -> bool
+    ensures { result ≡ is_kept named.now line.now }
+{
+    let name = line.name.as_slice();
+    !is_same_name(name, b"Host")
+        && !is_same_name(name, b"Expect")
+        && !is_hop_name(name)
+        && !is_among(named, name)
 }
 
 /// Whether the client's connection closes after the answer.

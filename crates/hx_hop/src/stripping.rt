@@ -55,7 +55,7 @@ pub(crate) fn is_hop_name(name: &[u8]) -> bool
 }
 
 /// Whether one of these is the name.
-fn is_among(names: &Members, name: &[u8]) -> bool
+pub(crate) fn is_among(names: &Members, name: &[u8]) -> bool
     ensures { result ≡ is_among names.now name.now }
 {
     names

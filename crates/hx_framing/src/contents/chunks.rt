@@ -64,10 +64,10 @@ impl Chunks {
         Ok(take_tokens(&mut self.place, &mut self.content, bytes, searched))
     }
 
-    /// The data so far. No memory is taken.
+    /// The data so far, which its copies share where they are many.
     pub(crate) fn take_content(&mut self, alloc: Global) -> Bytes
         ensures { result ≡ self.old.content }
     {
-        Bytes::from_vec(mem::replace(&mut self.content, Vec::new(alloc)))
+        Bytes::shared_from_vec(alloc, mem::replace(&mut self.content, Vec::new(alloc)))
     }
 }

@@ -54,11 +54,11 @@ impl Plain {
         Ok(())
     }
 
-    /// The content so far. No memory is taken.
+    /// The content so far, which its copies share where it is large.
     fn take_content(&mut self, alloc: Global) -> Bytes
         ensures { result ≡ self.old.content }
     {
-        Bytes::from_vec(mem::replace(&mut self.content, Vec::new(alloc)))
+        Bytes::shared_from_vec(alloc, mem::replace(&mut self.content, Vec::new(alloc)))
     }
 
     /// Goes on with a content of a length that was announced. An `Err` changes nothing.
