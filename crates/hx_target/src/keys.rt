@@ -23,9 +23,10 @@ impl Key {
     pub fn is_same(&self, other: &Key) -> bool
         ensures { result ≡ same_key self.now other.now }
     {
-        self.host.as_slice() == other.host.as_slice()
+        // Paths tell most keys apart, and mostly by their lengths alone.
+        self.path_query.as_slice() == other.path_query.as_slice()
+            && self.host.as_slice() == other.host.as_slice()
             && self.port == other.port
-            && self.path_query.as_slice() == other.path_query.as_slice()
     }
 
     /// A key of the same bytes. Its only error is want of memory.
