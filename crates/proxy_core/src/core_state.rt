@@ -77,7 +77,13 @@ impl<S: Shelf> Model for Core<S> {
 
     ghost Value = { State };
 
-    ghost view = { λ c. record { table = c.config; limit = S.limit c.shelf; entries = S.entries c.shelf; exchanges = c.exchanges; next = c.next } };
+    ghost view = { λ c. record {
+      table = c.config;
+      limit = S.limit c.shelf;
+      entries = S.entries c.shelf;
+      exchanges = c.exchanges;
+      next = c.next;
+    } };
 
     ghost invariant = { λ c. NoneFrom c.next (S.entries c.shelf) };
 }
@@ -86,7 +92,8 @@ impl<S: Shelf> Core<S> {
     /// A core with an empty shelf of the configured capacity. Serials begin at `first_serial`, 1 or more.
     pub fn new(alloc: Global, config: Config, shelf: S, first_serial: u64) -> Self
         requires { S.entries shelf ≡ [] }
-        ensures { result ≡ record { table = config; limit = S.limit shelf; entries = []; exchanges = []; next = Some first_serial } }
+        ensures { result
+            ≡ record { table = config; limit = S.limit shelf; entries = []; exchanges = []; next = Some first_serial } }
     {
         Core {
             config,

@@ -1,10 +1,12 @@
 //! The open exchanges, in the order of arrival.
 //!
-//! Each has the number of its arrival, and a second map tells the number of an id. So one is found, opened and closed in
-//! the logarithm of how many are open, and each that a close releases costs that too. The first that may be woken is known:
-//! `first_ready` costs that logarithm where there is one, and nothing where there is none (see `released`). `leader` looks
-//! through the GETs of its key up to the one that leads. `ready` and an invalidation go through all of them.
-ghost use Rattle.std.specs.Prelude.{◌≡◌, ◌<◌, ◌++◌, ◌∷◌, [], map, filter, not, ◌==◌, None, IfOk, OnOk, OnErr, option_copied, slice_get, IfSome};
+//! Each has the number of its arrival, and a second map tells the number of an id. So one is found,
+//! opened and closed in the logarithm of how many are open, and each that a close releases costs
+//! that too. The first that may be woken is known: `first_ready` costs that logarithm where there
+//! is one, and nothing where there is none (see `released`). `leader` looks through the GETs of its
+//! key up to the one that leads. `ready` and an invalidation go through all of them.
+ghost use Rattle.std.specs.Prelude.{◌≡◌, ◌<◌, ◌++◌, ◌∷◌, [], map, filter, not, ◌==◌, None, IfOk, OnOk, OnErr};
+ghost use Rattle.std.specs.Prelude.{option_copied, slice_get, IfSome};
 ghost use Rattle.proxy_core.specs.Waiting.{IsReady};
 ghost use Rattle.std.specs.List.{All};
 ghost use Rattle.std.specs.Ordering.{nat_cmp};
@@ -71,7 +73,8 @@ impl Model for Exchanges {
 
     ghost view = { λ x. values x.by_arrival };
 
-    ghost invariant = { λ x. AreKept x.by_arrival.entries (λ id. get nat_cmp x.arrivals id) x.waiting x.released x.gets };
+    ghost invariant = { λ x. AreKept x.by_arrival.entries (λ id. get nat_cmp x.arrivals id) x.waiting
+        x.released x.gets };
 }
 
 impl Exchanges {
@@ -122,8 +125,9 @@ impl Exchanges {
         }
     }
 
-    /// The first exchange to arrive for whose answer GETs of this key wait that go forward by this rule, over a line of this
-    /// policy. It looks through the open GETs of that key up to that one, which mostly is the first of them.
+    /// The first exchange to arrive for whose answer GETs of this key wait that go forward by this
+    /// rule, over a line of this policy. It looks through the open GETs of that key up to that one,
+    /// which mostly is the first of them.
     pub(crate) fn leader(&self, policy: Policy, rule: ReuseRule, key: &Key) -> Option<u64>
         ensures { result ≡ leader policy rule key.now self.now }
     {
@@ -318,7 +322,8 @@ fn remove(
 )
     ensures entries { by_arrival.new.entries ≡ remove_entry (is_at (nat_cmp arrival)) by_arrival.old.entries }
     ensures left { ForSome (get nat_cmp by_arrival.old arrival) (λ x. HasLeft x.stage arrival waiting.old waiting.new) }
-    ensures asks_no_more { ForSome (get nat_cmp by_arrival.old arrival) (λ x. GetHasLeft x.asked arrival gets.old gets.new) }
+    ensures asks_no_more { ForSome (get nat_cmp by_arrival.old arrival)
+        (λ x. GetHasLeft x.asked arrival gets.old gets.new) }
     ensures waits_still { ForNone (get nat_cmp by_arrival.old arrival) (IsSameIndex waiting.old waiting.new) }
     ensures asks_still { ForNone (get nat_cmp by_arrival.old arrival) (AreSame gets.old gets.new) }
     ensures trim_waits { IsTrim waiting.old → IsTrim waiting.new }

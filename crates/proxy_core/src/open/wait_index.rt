@@ -4,7 +4,8 @@
 ghost use Rattle.std.specs.Prelude.{◌≡◌, ℕ, false, IfOk, OnOk, OnErr};
 ghost use Rattle.std.specs.Bool.{OnFalse, OnTrue};
 ghost use Rattle.proxy_core.specs.declared.open.stage.Stage.TheVariants as staged;
-ghost use Rattle.proxy_core.specs.Waiters.{waits_in, set_has, IsEntered, IsEnteredIf, HasLeft, IsEmptied, IsSameIndex, IsTrim, IsTrimBeside, HasNone, HasAll};
+ghost use Rattle.proxy_core.specs.Waiters.{waits_in, set_has, IsEntered, IsEnteredIf, HasLeft, IsEmptied, IsSameIndex};
+ghost use Rattle.proxy_core.specs.Waiters.{IsTrim, IsTrimBeside, HasNone, HasAll};
 
 use crate::open::stage::Stage;
 use std::alloc::{AllocError, Global};
