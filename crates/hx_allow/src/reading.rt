@@ -27,8 +27,10 @@ fn judge_parsed(
     alloc: Global,
     parsed: Result<Table, toml::de::Error>,
 ) -> Result<Config, ConfigFault>
-    ensures judged { IfOk parsed (λ table. ¬ (result ≡ Err ConfigFault.OutOfMemory) → result ≡ judge_table (table_view table)) }
-    ensures memory_last { IfOk parsed (λ table. result ≡ Err ConfigFault.OutOfMemory → wants_memory (table_fault (table_view table)) ≡ true) }
+    ensures judged { IfOk parsed (λ table. ¬ (result ≡ Err ConfigFault.OutOfMemory)
+        → result ≡ judge_table (table_view table)) }
+    ensures memory_last { IfOk parsed (λ table. result ≡ Err ConfigFault.OutOfMemory
+        → wants_memory (table_fault (table_view table)) ≡ true) }
     ensures no_table { IfErr parsed (λ error. ¬ (IsMemory error) → result ≡ Err ConfigFault.NotToml) }
     ensures no_memory { IfErr parsed (λ error. IsMemory error → result ≡ Err ConfigFault.OutOfMemory) }
 {
