@@ -2,7 +2,8 @@
 --
 -- Progress: a stream so far and what was given of it    start, fed, finished, moved: how it goes on
 -- next_of: the answer to a reading    IsDue: there is something to do    cost: what an answer takes of what is to come
--- needs_memory: want of memory may stand in place of the answer    is_no_head: the fault is that of bytes that are no head
+-- needs_memory: want of memory may stand in place of the answer
+-- is_no_head: the fault is that of bytes that are no head
 use Rattle.std.specs.Prelude.{ℕ, Bool, true, false, not, List, [], ◌∷◌, ◌++◌}
 use Rattle.hx_framing.specs.declared.messages.Next.{Next}
 use Rattle.hx_framing.specs.declared.messages.Next.TheVariants as next

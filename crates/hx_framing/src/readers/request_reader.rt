@@ -159,7 +159,8 @@ impl RequestReader {
 
     /// Whether each byte of the stream belongs to a request that was given: nothing of a next one has come.
     pub fn is_between_requests(&self) -> bool
-        ensures { (p : Progress Request) → StandsFor self.now p → result ≡ true → StreamSpells p.max_body p.stream p.given [] }
+        ensures { (p : Progress Request) → StandsFor self.now p → result ≡ true
+            → StreamSpells p.max_body p.stream p.given [] }
     {
         match &self.phase {
             RequestPhase::BeforeHead => self.unread.len() == 0,
