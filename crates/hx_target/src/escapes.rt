@@ -3,7 +3,8 @@
 //! The definitions are in `specs/Paths.antt`. A path is read as it came: nothing here decodes it twice.
 ghost use Rattle.std.specs.Prelude.{◌≡◌, ◌≤◌, ◌++◌, length, drop, IfOk, OnOk, true};
 ghost use Rattle.std.specs.Char.{is_ascii_hexdigit, to_ascii_uppercase};
-ghost use Rattle.hx_target.specs.Paths.{is_unreserved, octet_of, begins_escape, begins_bad_escape, has_bad_escape, normal_escape, table_path_of};
+ghost use Rattle.hx_target.specs.Paths.{is_unreserved, octet_of, begins_escape, begins_bad_escape, has_bad_escape};
+ghost use Rattle.hx_target.specs.Paths.{normal_escape, table_path_of};
 
 use hx_fields::{Bytes, digit_value};
 use std::alloc::{AllocError, Global};
