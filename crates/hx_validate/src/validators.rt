@@ -3,7 +3,8 @@
 //! The definitions are in `specs/Validators.antt`. A validator that is repeated or malformed is none, and no
 //! condition is sent for it.
 ghost use Rattle.std.specs.Prelude.{◌≡◌, IfOk, option_copied};
-ghost use Rattle.hx_validate.specs.Validators.{conditions_of, has_validator, is_date, is_entity_tag, modified_value, tag_value};
+ghost use Rattle.hx_validate.specs.Validators.{conditions_of, has_validator, is_date, is_entity_tag, modified_value};
+ghost use Rattle.hx_validate.specs.Validators.{tag_value};
 
 use crate::entity_tags::EntityTag;
 use httpdate::HttpDate;
