@@ -4,7 +4,8 @@
 ghost use Rattle.std.specs.Prelude.{◌≡◌, codes, IfOk};
 ghost use Rattle.std.specs.List.{list_any};
 ghost use Rattle.hx_fields.specs.Names.{is_same_name, members_of_value};
-ghost use Rattle.hx_hop.specs.Stripping.{cache_names, connection_names, is_among, is_hop_name, lists_cache_field, stripped};
+ghost use Rattle.hx_hop.specs.Stripping.{cache_names, connection_names, is_among, is_hop_name, lists_cache_field};
+ghost use Rattle.hx_hop.specs.Stripping.{stripped};
 
 use crate::named_lines::{has_many_members, strip_many};
 use hx_fields::{Fields, Members, is_same_name, next_member};
