@@ -166,8 +166,8 @@ impl Bytes {
         }
     }
 
-    /// These bytes with others behind them: in the memory that they have where it is theirs alone and enough. Fails for want
-    /// of memory alone.
+    /// These bytes with others behind them: in the memory that they have where it is theirs alone
+    /// and enough. Fails for want of memory alone.
     pub fn followed_by(self, alloc: Global, more: &[u8]) -> Result<Bytes, AllocError>
         ensures { IfOk result (λ all. all ≡ self ++ more.now) }
     {

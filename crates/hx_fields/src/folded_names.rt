@@ -1,4 +1,5 @@
-//! Names in lower case, by which lines are looked up: two names are one exactly where they are folded to the same bytes.
+//! Names in lower case, by which lines are looked up: two names are one exactly where they are
+//! folded to the same bytes.
 ghost use Rattle.std.specs.Prelude.{◌≡◌, [], IfOk, OnOk, OnErr, Some, bytes_eq, refl};
 ghost use Rattle.std.specs.Cmp.{partial_equiv_from_equiv, partial_order_from_agreeing_total};
 ghost use Rattle.std.specs.Cmp.Lexicographic.{nat_list_eq_equiv};
@@ -10,8 +11,9 @@ use std::marker::Model;
 
 /// A name in lower case, of which contracts see the bytes.
 ///
-/// Its order is that of a map in which the lines of a head are found by their names, whatever a peer chose for them: by a number of
-/// each first, which tells most of two apart at once. Names that a peer made to have one number are told apart by their bytes.
+/// Its order is that of a map in which the lines of a head are found by their names, whatever a
+/// peer chose for them: by a number of each first, which tells most of two apart at once. Names
+/// that a peer made to have one number are told apart by their bytes.
 #[derive(Debug, Drop)]
 pub struct FoldedName {
     number: u64,
