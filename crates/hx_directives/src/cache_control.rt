@@ -132,7 +132,8 @@ fn push_value(alloc: Global, found: &mut Vec<Occurrence>, value: &[u8]) -> Resul
 
 /// The first argument of a directive, and the occurrences after it.
 fn next_argument(found: &[Occurrence], directive: Directive) -> Option<(Argument, &[Occurrence])>
-    ensures { MatchOption result (arguments_of found.now directive ≡ []) (λ r. arguments_of found.now directive ≡ r.0 ∷ arguments_of r.1.now directive) }
+    ensures { MatchOption result (arguments_of found.now directive ≡ [])
+        (λ r. arguments_of found.now directive ≡ r.0 ∷ arguments_of r.1.now directive) }
 {
     for (i, o) in found.iter().enumerate() {
         if o.directive == directive {
