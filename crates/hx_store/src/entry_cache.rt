@@ -2,7 +2,8 @@
 //!
 //! A call costs a look-up of the serial, whatever is held, and no entry is moved. It has no bound of its own.
 
-ghost use Rattle.std.specs.Prelude.{◌≡◌, ◌-◌, ◌∷◌, [], false, true, length, take, slice_get, option_copied, IfOk, IfErr, OnErr, OnOk, Some};
+ghost use Rattle.std.specs.Prelude.{◌≡◌, ◌-◌, ◌∷◌, [], false, true, length, take, slice_get, option_copied, IfOk};
+ghost use Rattle.std.specs.Prelude.{IfErr, OnErr, OnOk, Some};
 ghost use Rattle.std.specs.List.{filter, list_all};
 ghost use Rattle.hx_store.specs.Index.{is_match_by};
 ghost use Rattle.hx_store.specs.Shelf.{holds, find_entry, is_match, without, promoted};
@@ -73,8 +74,8 @@ impl EntryCache {
         self.entries.peek(&serial)
     }
 
-    /// Those of some serials whose entries nominate what the request has. Mostly all do, and no other list is made. Fails for
-    /// want of memory alone.
+    /// Those of some serials whose entries nominate what the request has. Mostly all do, and no
+    /// other list is made. Fails for want of memory alone.
     pub(crate) fn matching(
         &self,
         alloc: Global,
@@ -112,7 +113,8 @@ impl EntryCache {
         serials: &[u64],
         request: &Fields,
     ) -> Result<Serials, AllocError>
-        ensures { IfOk result (λ found. found ≡ filter (λ s. is_match request.now (find_entry s self.now)) serials.now) }
+        ensures { IfOk result (λ found. found
+            ≡ filter (λ s. is_match request.now (find_entry s self.now)) serials.now) }
     {
         let mut found = Serials::new(alloc);
         for serial in serials {
@@ -140,7 +142,8 @@ impl EntryCache {
         serials: &[u64],
         asked: &RequestValues,
     ) -> Result<Serials, AllocError>
-        ensures { IfOk result (λ found. found ≡ filter (λ s. is_match_by asked.now.values (find_entry s self.now)) serials.now) }
+        ensures { IfOk result (λ found. found
+            ≡ filter (λ s. is_match_by asked.now.values (find_entry s self.now)) serials.now) }
     {
         let mut found = Serials::new(alloc);
         for serial in serials {

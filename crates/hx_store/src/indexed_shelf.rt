@@ -48,8 +48,9 @@ impl IndexedShelf {
         IndexedShelf::seeded(alloc, capacity, 0)
     }
 
-    /// The same, with a seed for what tells variants apart before they are looked at. It changes no answer; where nobody knows
-    /// it, nobody can choose requests that cost more than others. Fails for want of memory alone.
+    /// The same, with a seed for what tells variants apart before they are looked at. It changes no
+    /// answer; where nobody knows it, nobody can choose requests that cost more than others. Fails
+    /// for want of memory alone.
     pub fn seeded(alloc: Global, capacity: usize, seed: u64) -> Result<IndexedShelf, AllocError>
         ensures { IfOk result (λ shelf. shelf ≡ record { limit = capacity; entries = []; room = 0 }) }
     {
