@@ -66,12 +66,12 @@ impl Model for Config {
 
 impl Config {
     /// Reads a table of version 1, 2 or 3. The first fault in the order of looking is answered;
-    /// want of memory is told in its place where the text or a key couldn't be copied.
+    /// out of memory is told in its place where the text or a key couldn't be copied.
     pub fn read(alloc: Global, bytes: &[u8]) -> Result<Config, ConfigFault>
         ensures table { ¬ (result ≡ Err ConfigFault.OutOfMemory) → ReadsAs bytes.now result }
         // That a text is too long is told without memory. Any other fault may be hidden: the text
         // is read as TOML, which takes memory, before the first of them is looked for. In a table
-        // that was read, want of memory hides only a key that isn't known, whose bytes are copied.
+        // that was read, out of memory hides only a key that isn't known, whose bytes are copied.
         ensures memory_last { result ≡ Err ConfigFault.OutOfMemory → length bytes.now ≤ 1048576 }
     {
         reading::read(alloc, bytes)

@@ -21,7 +21,7 @@ pub fn read(alloc: Global, bytes: &[u8]) -> Result<Config, ConfigFault>
     judge_parsed(alloc, toml::table_from_slice(alloc, bytes))
 }
 
-/// What a table that was parsed says, or the first fault. Want of memory is told where the parser found none, and of a
+/// What a table that was parsed says, or the first fault. Out of memory is told where the parser found none, and of a
 /// table that it read only where no fault of it can be told without.
 fn judge_parsed(
     alloc: Global,

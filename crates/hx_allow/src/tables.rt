@@ -167,7 +167,7 @@ fn config_of(alloc: Global, table: &Table) -> Result<Config, AllocError>
     })
 }
 
-/// The fault of a key that isn't known, whose bytes were copied. Want of memory is told where the copy found none.
+/// The fault of a key that isn't known, whose bytes were copied. Out of memory is told where the copy found none.
 fn fault_of_key(copied: Result<Bytes, AllocError>) -> ConfigFault
     ensures { MatchResult copied (λ key. result ≡ ConfigFault.UnknownKey key) (λ _. result ≡ ConfigFault.OutOfMemory) }
 {

@@ -53,7 +53,7 @@ impl FoldedName {
         }
     }
 
-    /// A name, folded. Fails for want of memory alone.
+    /// A name, folded. Fails only where memory runs out.
     pub fn of(alloc: Global, name: &[u8]) -> Result<FoldedName, AllocError>
         ensures { IfOk result (λ it. it ≡ folded name.now) }
     {
@@ -65,7 +65,7 @@ impl FoldedName {
         })
     }
 
-    /// Becomes another name, in the memory that it has where that is enough. Want of memory changes nothing.
+    /// Becomes another name, in the memory that it has where that is enough. Out of memory changes nothing.
     pub fn set(&mut self, name: &[u8]) -> Result<(), AllocError>
         ensures ok { OnOk result (self.new ≡ folded name.now) }
         ensures err { OnErr result (self.new ≡ self.old) }

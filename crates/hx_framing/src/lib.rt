@@ -11,7 +11,7 @@
 //! | `RequestStream` | which requests a stream spells, | 9112, 2 to 7 and 9.3 |
 //! | | and the one answer that is due behind them | |
 //! | `ResponseStream` | the same of a response, and the end behind it | 9112, 4, 6 and 9.3 |
-//! | `Progress` | a stream so far, what was given of it, and which answers want of memory may hide | |
+//! | `Progress` | a stream so far, what was given of it, and which answers out of memory may hide | |
 //! | `Reading`, `Body` | what may stand at the front of bytes, and behind a head | 9112, 8 |
 //! | `RequestReading` | a head, what it says of its content, its content: | 9112, 2 and 6 |
 //! | | what stands at the front of requests | |

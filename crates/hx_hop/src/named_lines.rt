@@ -33,7 +33,7 @@ fn has_long_line(lines: &[Field]) -> bool
         && is_same_name(line.name.as_slice(), b"Connection"))
 }
 
-/// The lines that go on. Its only error is want of memory.
+/// The lines that go on. Its only error is out of memory.
 pub(crate) fn strip_many(alloc: Global, fields: &Fields) -> Result<Fields, AllocError>
     ensures { IfOk result (λ kept. kept ≡ stripped fields.now) }
 {

@@ -66,7 +66,7 @@ fn is_among(names: &Members, name: &[u8]) -> bool
 }
 
 /// The lines that go on: those of the connection alone are left out, and those that a member of Connection
-/// names. Its only error is want of memory.
+/// names. Its only error is out of memory.
 pub fn strip(alloc: Global, fields: &Fields) -> Result<Fields, AllocError>
     ensures { IfOk result (λ kept. kept ≡ stripped fields.now) }
 {

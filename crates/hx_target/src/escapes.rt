@@ -76,7 +76,7 @@ fn push_escape(found: &mut Vec<u8>, high: u8, low: u8) -> Result<(), AllocError>
 
 /// The path as the operator's table compares it: escapes of letters, digits, `-`, `.`, `_` and `~` are
 /// decoded, the hexadecimal digits of other escapes are in upper case, and a `%` that begins no escape
-/// stands as it is. Its only error is want of memory.
+/// stands as it is. Its only error is out of memory.
 pub fn table_path(alloc: Global, path: &[u8]) -> Result<Bytes, AllocError>
     ensures { IfOk result (λ p. p ≡ table_path_of path.now) }
 {

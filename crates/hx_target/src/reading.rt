@@ -207,7 +207,7 @@ fn judge(alloc: Global, target: &Bytes, uri: &Uri, fields: &Fields) -> Result<Ta
     }
 }
 
-/// What a target asks for that `http_uri` cut or refused, or its least fault. Want of memory is
+/// What a target asks for that `http_uri` cut or refused, or its least fault. Out of memory is
 /// told where `http_uri` found none, or where no fault stands.
 fn judge_cut(
     alloc: Global,

@@ -138,7 +138,7 @@ fn is_carried(line: &Field, tagged: bool) -> bool
         || (!tagged && is_same_name(name, b"Last-Modified"))
 }
 
-/// The lines of the 304 that stands for a stored response. Its only error is want of memory.
+/// The lines of the 304 that stands for a stored response. Its only error is out of memory.
 pub fn not_modified(alloc: Global, entry: &Entry) -> Result<Fields, AllocError>
     ensures { IfOk result (λ fields. fields ≡ not_modified_of entry.now.fields) }
 {

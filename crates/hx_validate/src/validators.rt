@@ -62,7 +62,7 @@ fn copied(alloc: Global, value: Option<&[u8]>) -> Result<Option<Bytes>, AllocErr
 }
 
 /// The conditions that ask an origin whether a stored response is still current: the values of its validators.
-/// Its only error is want of memory.
+/// Its only error is out of memory.
 pub fn conditions(alloc: Global, entry: &Entry) -> Result<Conditions, AllocError>
     ensures { IfOk result (λ conditions. conditions ≡ conditions_of entry.now.fields) }
 {

@@ -70,7 +70,7 @@ IsGoodHistory table limit first (item ∷ past) =
     Accepts table (held_entries table limit past) (open_exchanges table limit past) (next_serial first past) item
     × IsGoodHistory table limit first past
 
--- the next event is refused: by the least fault that stands at it, or where none does for want of memory
+-- the next event is refused: by the least fault that stands at it, or where none does because memory ran out
 abbrev pub StopsAt : List Exchange → Option Event → CoreFault → Type 0
 StopsAt exchanges None fault = ⊥
 StopsAt exchanges (Some event) fault =

@@ -3,7 +3,7 @@
 -- find_exchange: the open exchange of an id        id_of: of an event
 -- fallback_for: what is held instead of an answer  arrived, answered, failed, woken: the cases
 -- outcome_of, outcome_by: of an event
--- fault_by: the least fault that stands, want of memory aside
+-- fault_by: the least fault that stands, out of memory aside
 use Rattle.std.specs.Prelude.{ℕ, ◌==◌, Bool, true, false, ◌||◌, List, [], ◌∷◌, Option, Some, None, cond, is_some}
 use Rattle.hx_policy.specs.declared.words.Policy.{Policy}
 use Rattle.hx_directives.specs.Occurrences.{occurrences_of}
@@ -260,7 +260,7 @@ not_forwarded stage = cond (is_forwarded stage) None (Some NotForwarded)
 abbrev pub not_ready : Stage → Option CoreFault
 not_ready stage = cond (is_released stage) None (Some NotReady)
 
--- the least fault that stands, want of memory aside
+-- the least fault that stands, out of memory aside
 abbrev pub fault_of : Option Exchange → Event → Option CoreFault
 fault_of (Some x) (Arrive now id asked) = Some IdTaken
 fault_of None (Arrive now id asked) = too_late now

@@ -234,7 +234,7 @@ pub record Steps (s : State) (event : Event) (outcome : Outcome) (t : State) : T
   pub outcome_is : outcome ≡ outcome_by s.table s.entries s.exchanges s.next event
   pub leaves : t ≡ after s event outcome
 
--- a step is refused by the least fault that stands, or where none does by want of memory
+-- a step is refused by the least fault that stands, or where none does because memory ran out
 abbrev pub Refuses : State → Event → CoreFault → Type 0
 Refuses s event fault =
     (fault_by s.exchanges event ≡ Some fault) ⊎ ((fault_by s.exchanges event ≡ None) × (fault ≡ OutOfMemory))

@@ -55,7 +55,7 @@ IsGood start (item ∷ past) =
     Accepts start.table (left start past).entries (left start past).exchanges (left start past).next item
     × IsGood start past
 
--- the next event is refused: by the least fault that stands at it, or where none does for want of memory
+-- the next event is refused: by the least fault that stands at it, or where none does because memory ran out
 abbrev pub Stops : State → Option Event → CoreFault → Type 0
 Stops s None fault = ⊥
 Stops s (Some event) fault = Refuses s event fault

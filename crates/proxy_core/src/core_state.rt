@@ -117,7 +117,7 @@ impl<S: Shelf> Core<S> {
         self.exchanges.find(id)
     }
 
-    /// The exchanges that waited and may be woken, in the order of arrival. Fails for want of memory alone.
+    /// The exchanges that waited and may be woken, in the order of arrival. Fails only where memory runs out.
     pub fn ready(&self, alloc: Global) -> Result<Ids, AllocError>
         ensures { IfOk result (λ ids. ids ≡ ready_ids self.now.exchanges) }
     {
@@ -132,7 +132,7 @@ impl<S: Shelf> Core<S> {
         self.exchanges.first_ready()
     }
 
-    /// The least fault that stands at an event, want of memory aside.
+    /// The least fault that stands at an event, out of memory aside.
     pub fn fault(&self, event: &Event) -> Option<CoreFault>
         ensures { result ≡ fault_by self.now.exchanges event.now }
     {

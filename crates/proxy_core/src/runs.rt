@@ -31,7 +31,7 @@ impl<S: Shelf> Core<S> {
 }
 
 /// The steps of the events in order, up to the first fault. The shelf is empty and has the configured capacity;
-/// serials begin at `first_serial`, 1 or more. Want of memory is one of the faults; the outcomes so far stand.
+/// serials begin at `first_serial`, 1 or more. Out of memory is one of the faults; the outcomes so far stand.
 pub fn run<S: Shelf + Drop>(
     alloc: Global,
     config: Config,

@@ -90,7 +90,7 @@ pub fn what_answers_cost()
     ensures over { cost {M = Request} next.End ≡ 0 }
 {}
 
-/// Want of memory may stand in place of what is behind a head, which is copied; neither of the end
+/// Out of memory may stand in place of what is behind a head, which is copied; neither of the end
 /// nor of the refusal of bytes that are no head.
 pub fn what_needs_memory()
     ensures more { needs_memory {M = Request} next.More ≡ true }
@@ -109,7 +109,7 @@ pub fn what_needs_memory()
     ensures status { needs_memory {M = Request} (next.Refused fault.Status) ≡ true }
 {}
 
-/// So no want of memory hides the end of a stream, nor that what stands there is no head.
+/// So out of memory never hides the end of a stream, nor that what stands there is no head.
 pub fn no_want_of_memory_hides_an_end()
     ensures requests { (p : Progress Request) → request.Answers p next.End → ¬ (request.NeedsMemory p) }
     ensures no_request { (p : Progress Request) → request.Answers p (next.Refused fault.Head)

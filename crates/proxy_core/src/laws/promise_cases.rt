@@ -59,7 +59,7 @@ pub fn what_is_invalidated_is_not_sent()
     ensures on_its_way { NothingInvalidatedIsSent invalidated_on_its_way → ⊥ }
 {}
 
-/// No run stops behind its last event, nor at one that no fault stands against, but for want of memory.
+/// No run stops behind its last event, nor at one that no fault stands against, but where memory runs out.
 pub fn no_run_stops_without_a_fault()
     ensures behind_the_last { StopsAt [] None OutOfMemory → ⊥ }
     ensures at_a_good_event { StopsAt [] (Some (Arrive 100 1 get_a)) IdTaken → ⊥ }

@@ -145,7 +145,7 @@ impl Exchanges {
         Some(self.by_arrival.get(&self.released.first()?)?.id)
     }
 
-    /// Those that may be woken, in the order of arrival. Fails for want of memory alone.
+    /// Those that may be woken, in the order of arrival. Fails only where memory runs out.
     pub(crate) fn ready(&self, alloc: Global) -> Result<Ids, AllocError>
         ensures { IfOk result (λ ids. ids ≡ ready_ids self.now) }
     {
@@ -245,7 +245,7 @@ impl Exchanges {
 }
 
 /// The number of the next arrival: one more than that of the last exchange. Where there is none left, that counts as
-/// want of memory: 2^64 exchanges would have to arrive and at no time all be closed.
+/// out of memory: 2^64 exchanges would have to arrive and at no time all be closed.
 fn arrival_after(by_arrival: &BTreeMap<u64, Exchange>) -> Result<u64, AllocError>
     ensures { IfOk result (λ n. All (λ k. k < n) (keys by_arrival.now)) }
 {
@@ -255,7 +255,7 @@ fn arrival_after(by_arrival: &BTreeMap<u64, Exchange>) -> Result<u64, AllocError
     }
 }
 
-/// Puts an exchange behind the others, and into the index of GETs. Want of memory changes nothing.
+/// Puts an exchange behind the others, and into the index of GETs. Out of memory changes nothing.
 fn push(
     by_arrival: &mut BTreeMap<u64, Exchange>,
     gets: &mut GetIndex,
@@ -281,7 +281,7 @@ fn push(
     }
 }
 
-/// Puts an exchange behind the others, and into the indexes of GETs and of those that wait. Want of memory changes
+/// Puts an exchange behind the others, and into the indexes of GETs and of those that wait. Out of memory changes
 /// nothing.
 fn enter(
     by_arrival: &mut BTreeMap<u64, Exchange>,

@@ -49,7 +49,7 @@ impl GetIndex {
         self.arrivals.get(key)
     }
 
-    /// Enters an arrival, if it is a GET. Want of memory changes nothing.
+    /// Enters an arrival, if it is a GET. Out of memory changes nothing.
     pub(crate) fn enter(&mut self, asked: &Asked, arrival: u64) -> Result<(), AllocError>
         ensures ok { OnOk result (IsGetEntered asked.now arrival self.old self.new) }
         ensures err { OnErr result (AreSame self.old self.new) }

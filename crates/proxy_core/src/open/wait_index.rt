@@ -39,7 +39,7 @@ impl WaitIndex {
         }
     }
 
-    /// Enters an arrival, if its exchange waits. Want of memory changes nothing.
+    /// Enters an arrival, if its exchange waits. Out of memory changes nothing.
     pub(crate) fn enter(&mut self, stage: Stage, arrival: u64) -> Result<(), AllocError>
         ensures ok { OnOk result (IsEntered stage arrival self.old self.new) }
         ensures err { OnErr result (IsSameIndex self.old self.new) }
