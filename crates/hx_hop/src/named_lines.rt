@@ -116,8 +116,9 @@ fn keep_unmarked(
     names: &BTreeMap<FoldedName, bool>,
     fields: &Fields,
 ) -> Result<Fields, AllocError>
-    ensures { IfOk result (λ kept. kept ≡ filter (λ line.
-        not (is_hop_name line.name || is_marked (get folded_cmp names.now (folded line.name)))) fields.now) }
+    ensures { IfOk result (λ kept. kept
+        ≡ filter (λ line. not (is_hop_name line.name || is_marked (get folded_cmp names.now (folded line.name))))
+        fields.now) }
 {
     let mut kept = Fields::with_capacity(alloc, fields.len())?;
     let mut name = FoldedName::new(alloc);

@@ -178,8 +178,8 @@ pub fn worked_forms_are_judged()
     ensures authority_form { judged_of
         (record (in_origin_form (codes "h:80") (codes "h")) { authority = Some (codes "h:80") }) ≡ Err Form }
     ensures asterisk_form { judged_of (in_origin_form (codes "*") (codes "h")) ≡ Err Form }
-    ensures scheme_alone { judged_of (record
-        (in_origin_form (codes "mailto:a") (codes "h")) { scheme = Some (codes "mailto") }) ≡ Err Form }
+    ensures scheme_alone { judged_of
+        (record (in_origin_form (codes "mailto:a") (codes "h")) { scheme = Some (codes "mailto") }) ≡ Err Form }
     ensures authority { judged_of (in_absolute_form (codes "http") (codes "H:81") (codes "/%41?b") (codes "x"))
         ≡ Ok (record {
           key = record { host = codes "h"; port = 81; path_query = codes "/%41?b" };

@@ -220,8 +220,8 @@ fn judge_cut(
     requires not_spelled { IfErr cut (λ error. UnlessOutOfMemory error (SpellsNone target.now)) }
     ensures judged { ¬ (result ≡ Err TargetFault.OutOfMemory)
         → Judged target.now (values_of fields.now (codes "Host")) result }
-    ensures memory_last { result ≡ Err TargetFault.OutOfMemory → MatchResult cut (λ uri.
-        first_fault (question_of target.now uri (values_of fields.now (codes "Host"))) ≡ None) IsOutOfMemory }
+    ensures memory_last { result ≡ Err TargetFault.OutOfMemory → MatchResult cut
+        (λ uri. first_fault (question_of target.now uri (values_of fields.now (codes "Host"))) ≡ None) IsOutOfMemory }
 {
     match cut {
         Ok(uri) => judge(alloc, target, &uri, fields),

@@ -236,8 +236,9 @@ outcome_of table es xs x next (Arrive now id asked) =
 outcome_of table es xs (Some x) next (Answer now id r) =
     answered table es now x r next (decision_of (policy_of table.lines x.line) es x.asked now)
 outcome_of table es xs None next (Answer now id r) = Ended
-outcome_of table es xs (Some x) next (Fail now id kind) = failed table es now x kind None (fallback_for
-    (policy_of table.lines x.line) es x.asked now (decision_of (policy_of table.lines x.line) es x.asked now))
+outcome_of table es xs (Some x) next (Fail now id kind) = failed table es now x kind None
+    (fallback_for (policy_of table.lines x.line) es x.asked now
+    (decision_of (policy_of table.lines x.line) es x.asked now))
 outcome_of table es xs None next (Fail now id kind) = Ended
 outcome_of table es xs (Some x) next (Wake now id) =
     woken table es now x (decision_of (policy_of table.lines x.line) es x.asked now)

@@ -112,10 +112,13 @@ impl<S: Shelf> Core<S> {
     /// Passes on an answer, and stores it where it may be.
     fn pass_on(&self, alloc: Global, answer: &OriginAnswer<'_>) -> Result<PendingReply, AllocError>
         requires { answer.now.response_time < 253_402_300_800 }
-        ensures outcome { IfOk result (λ pending. reply_of pending ≡ passed self.now.table self.now.entries
-            answer.now.response_time answer.now.exchange.now answer.now.response.now (rule_told self.now.table
-            answer.now.exchange.now answer.now.response.now answer.now.response_time self.now.next) (stored_serial
-            self.now.table answer.now.exchange.now answer.now.response.now answer.now.response_time self.now.next)) }
+        ensures outcome { IfOk result (λ pending. reply_of pending
+            ≡ passed self.now.table self.now.entries answer.now.response_time answer.now.exchange.now
+            answer.now.response.now
+            (rule_told self.now.table answer.now.exchange.now answer.now.response.now answer.now.response_time
+            self.now.next)
+            (stored_serial self.now.table answer.now.exchange.now answer.now.response.now answer.now.response_time
+            self.now.next)) }
         ensures next { IfOk result (λ pending. IsNext self.now.next pending.change) }
         ensures makes { IfOk result
             (λ pending. Makes answer.now.exchange.now answer.now.response.now answer.now.response_time pending.change) }

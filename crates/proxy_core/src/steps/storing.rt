@@ -133,8 +133,9 @@ impl<S: Shelf> Core<S> {
     ) -> Result<Option<StoreRule>, AllocError>
         requires head { head.now ≡ answered_of answer.now.response.now answer.now.response_time }
         requires nomination { nomination.now ≡ nominated_of head.now.fields answer.now.exchange.now.asked.fields }
-        ensures { IfOk result (λ rule. rule ≡ storage_rule_of answer.now.exchange.now.asked head.now (facts_of
-            self.now.table answer.now.exchange.now answer.now.response.now answer.now.response_time self.now.next)) }
+        ensures { IfOk result (λ rule. rule ≡ storage_rule_of answer.now.exchange.now.asked head.now
+            (facts_of self.now.table answer.now.exchange.now answer.now.response.now answer.now.response_time
+            self.now.next)) }
     {
         let asked = &answer.exchange.asked;
         let directives = Directives::of(alloc, &head.fields)?;

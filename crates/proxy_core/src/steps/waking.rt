@@ -41,8 +41,9 @@ impl<S: Shelf> Core<S> {
         exchange: &Exchange,
         now: u64,
     ) -> Result<AfterWake, AllocError>
-        ensures { IfOk result (λ after. IsWoken self.now.table self.now.entries now exchange.now (decision_of
-            (policy_of self.now.table.lines exchange.now.line) self.now.entries exchange.now.asked now) after) }
+        ensures { IfOk result (λ after. IsWoken self.now.table self.now.entries now exchange.now
+            (decision_of (policy_of self.now.table.lines exchange.now.line) self.now.entries exchange.now.asked now)
+            after) }
     {
         let asked = &exchange.asked;
         let policy = self.config.policy(exchange.line);
