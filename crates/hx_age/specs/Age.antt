@@ -1,6 +1,7 @@
 -- How old a response is, and what that leaves of its lifetime (RFC 9111, sections 4.2 and 4.2.3).
 -- Sums have no bound; `a - b` is 0 where b is greater, but in `ttl_of`.
-use Rattle.std.specs.Prelude.{ℕ, ◌+◌, ◌-◌, max, nat_lt, ℤ, pos, ◌-ℤ◌, Bool, List, codes, unwrap_or, option_map, option_and_then, slice_get}
+use Rattle.std.specs.Prelude.{ℕ, ◌+◌, ◌-◌, max, nat_lt, ℤ, pos, ◌-ℤ◌, Bool, List, codes, unwrap_or, option_map}
+use Rattle.std.specs.Prelude.{option_and_then, slice_get}
 use Rattle.hx_fields.specs.Lines.{members_of}
 use Rattle.hx_fields.specs.declared.field_line.Field.{Field}
 use Rattle.hx_directives.specs.Seconds.{capped, seconds_of}

@@ -60,7 +60,8 @@ pub fn lifetime_ends_by_expires()
         ≡ explicit_of 5 }
 {}
 
-/// The moments of a message without Date and Age, with an Age that is no number, with two, and with two Dates, which are none.
+/// The moments of a message without Date and Age, with an Age that is no number, with two, and with
+/// two Dates, which are none.
 #[tactic(auto, unfolding(httpdate::proofs::OnLiterals::httpdate_on_literals))]
 pub fn moments_are_read()
     ensures none { times_of [] 5 7 ≡ moments 0 0 5 7 }

@@ -1,5 +1,6 @@
 -- Addresses of origins: four decimal numbers and a port.
-use Rattle.std.specs.Prelude.{ℕ, nat_le, ◌==◌, nat_lt, Bool, false, not, ◌&&◌, if◌then◌else◌, List, length, slice_index, Option, Some, None}
+use Rattle.std.specs.Prelude.{ℕ, nat_le, ◌==◌, nat_lt, Bool, false, not, ◌&&◌, if◌then◌else◌, List, length, slice_index}
+use Rattle.std.specs.Prelude.{Option, Some, None}
 use Rattle.std.specs.Option.{option_and_then}
 use Rattle.hx_fields.specs.Names.{cut_at}
 use Rattle.hx_target.specs.Hosts.{short_number}
@@ -26,7 +27,8 @@ after_octet separator text = option_and_then rest_after_octet (cut_at separator 
 -- what follows three numbers with a dot each, and one with a colon
 abbrev pub port_text : List ℕ → Option (List ℕ)
 port_text text =
-    option_and_then (after_octet 58) (option_and_then (after_octet 46) (option_and_then (after_octet 46) (after_octet 46 text)))
+    option_and_then (after_octet 58)
+    (option_and_then (after_octet 46) (option_and_then (after_octet 46) (after_octet 46 text)))
 
 abbrev pub is_port_text : Option (List ℕ) → Bool
 is_port_text None = false

@@ -48,11 +48,13 @@ line_table host name path origin =
 
 -- a line for every host with these keys besides, which come before `host`
 abbrev pub with_keys : List Pair → Members
-with_keys pairs = of_pairs (pairs ++ text (codes "host") (codes "*") ∷ method (codes "GET") ∷ text (codes "origin") (codes "127.0.0.1:8081") ∷ text (codes "path") (codes "/") ∷ [])
+with_keys pairs = of_pairs (pairs ++ text (codes "host") (codes "*") ∷ method (codes "GET")
+    ∷ text (codes "origin") (codes "127.0.0.1:8081") ∷ text (codes "path") (codes "/") ∷ [])
 
 -- such a line, which denies
 abbrev pub denying_with : List Pair → Members
-denying_with pairs = of_pairs (pairs ++ text (codes "host") (codes "*") ∷ method (codes "GET") ∷ text (codes "origin") (codes "deny") ∷ text (codes "path") (codes "/") ∷ [])
+denying_with pairs = of_pairs (pairs ++ text (codes "host") (codes "*") ∷ method (codes "GET")
+    ∷ text (codes "origin") (codes "deny") ∷ text (codes "path") (codes "/") ∷ [])
 
 -- a table of the first run's name and limits with these lines, where its version and capacity are these
 abbrev pub top_table : ℕ → ℕ → Items → Members
@@ -66,7 +68,8 @@ asks host path = record { key = record { host = host; port = 80; path_query = pa
 
 -- a line that is read, with one method
 abbrev pub reads : Option (List ℕ) → List ℕ → List ℕ → Option (List ℕ) → Line
-reads host name path origin = record { host = host; methods = name ∷ []; path = path; origin = origin; policy = plain true }
+reads host name path origin =
+    record { host = host; methods = name ∷ []; path = path; origin = origin; policy = plain true }
 
 -- the origin of the first run
 abbrev pub origin_8081 : Option (List ℕ)
@@ -89,4 +92,5 @@ indexed_lines =
 -- a line without cache, and one with it
 abbrev pub line_without_cache : List Line
 line_without_cache =
-    record (reads None (codes "*") (codes "/live") origin_8081) { policy = plain false } ∷ reads None (codes "GET") (codes "/") origin_8081 ∷ []
+    record (reads None (codes "*") (codes "/live") origin_8081) { policy = plain false }
+    ∷ reads None (codes "GET") (codes "/") origin_8081 ∷ []

@@ -31,7 +31,8 @@ numbers_of lines host = numbers_from 1 lines host
 
 -- the numbers that the index has for a host: its own where a line names it, else those for every other host
 abbrev pub indexed : HostIndex → List ℕ → List ℕ
-indexed index host = option_map_or (λ numbers. numbers.items) (get_by (λ key. slice_cmp nat_cmp host key.items) index.named) index.others.items
+indexed index host = option_map_or (λ numbers. numbers.items)
+    (get_by (λ key. slice_cmp nat_cmp host key.items) index.named) index.others.items
 
 -- the index has for each host exactly the numbers of the lines whose host matches, ascending
 abbrev pub IsIndexOf : List Line → HostIndex → Type 0
@@ -49,4 +50,5 @@ verdict_or n (Some line) method path later = if matches_beside_host line method 
 -- the first of the lines of these numbers that a method and a path match
 abbrev pub verdict_among : List Line → List ℕ → List ℕ → List ℕ → Verdict
 verdict_among lines [] method path = NoLine
-verdict_among lines (n ∷ ns) method path = verdict_or n (numbered lines n) method path (verdict_among lines ns method path)
+verdict_among lines (n ∷ ns) method path =
+    verdict_or n (numbered lines n) method path (verdict_among lines ns method path)

@@ -1,9 +1,12 @@
 -- The keys of numbers and of a line's words, as they stand in the table, and the numbers of faults.
 use Rattle.std.specs.Prelude.{ℕ, List, [], ◌∷◌, codes, map}
 use Rattle.hx_allow.specs.declared.faults.ConfigFault.{ConfigFault}
-use Rattle.hx_allow.specs.declared.faults.ConfigFault.TheVariants.{NotToml, UnknownKey, BadName, BadNumber, BadHost, BadMethod, BadPath, BadOrigin, NoLines, OutOfMemory, BadCache, BadWord}
+use Rattle.hx_allow.specs.declared.faults.ConfigFault.TheVariants.{NotToml, UnknownKey, BadName, BadNumber, BadHost}
+use Rattle.hx_allow.specs.declared.faults.ConfigFault.TheVariants.{BadMethod, BadPath, BadOrigin, NoLines, OutOfMemory}
+use Rattle.hx_allow.specs.declared.faults.ConfigFault.TheVariants.{BadCache, BadWord}
 use Rattle.hx_allow.specs.declared.faults.LineWord.{LineWord}
-use Rattle.hx_allow.specs.declared.faults.LineWord.TheVariants.{Lifetime, StaleIfError, SetCookie, Errors, RequestDirectives, Wait, Explain}
+use Rattle.hx_allow.specs.declared.faults.LineWord.TheVariants.{Lifetime, StaleIfError, SetCookie, Errors}
+use Rattle.hx_allow.specs.declared.faults.LineWord.TheVariants.{RequestDirectives, Wait, Explain}
 use Rattle.hx_allow.specs.declared.faults.NumberKey.{NumberKey}
 use Rattle.hx_allow.specs.declared.faults.NumberKey.TheVariants.{Version, Capacity, MaxBody, MaxStored}
 

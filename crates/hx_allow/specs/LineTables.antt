@@ -1,5 +1,6 @@
 -- What a `[[line]]` table says, or its first fault.
-use Rattle.std.specs.Prelude.{ℕ, ◌+◌, ◌-◌, ◌==◌, nat_le, Bool, not, ◌&&◌, ◌||◌, if◌then◌else◌, List, [], ◌∷◌, length, slice_index, codes, bytes_eq, Option, Some, None, is_none, unwrap_or, option_map}
+use Rattle.std.specs.Prelude.{ℕ, ◌+◌, ◌-◌, ◌==◌, nat_le, Bool, not, ◌&&◌, ◌||◌, if◌then◌else◌, List, [], ◌∷◌, length}
+use Rattle.std.specs.Prelude.{slice_index, codes, bytes_eq, Option, Some, None, is_none, unwrap_or, option_map}
 use Rattle.std.specs.List.{list_any, list_all}
 use Rattle.std.specs.Char.{is_ascii_uppercase}
 use Rattle.http_uri.specs.ByteClasses.{slash, hash_sign, question_mark}
@@ -11,13 +12,15 @@ use Rattle.hx_allow.specs.Addresses.{is_address}
 use Rattle.hx_allow.specs.Lines.{Line as PlainLine}
 use Rattle.hx_allow.specs.LineWords.{first_bad_word, policy_read}
 use Rattle.hx_allow.specs.Matching.{is_never_allowed}
-use Rattle.hx_allow.specs.Values.{first_unknown, text_at, is_some_and, counts_within, all_items, unless_text, texts_of, items_at}
+use Rattle.hx_allow.specs.Values.{first_unknown, text_at, is_some_and, counts_within, all_items, unless_text, texts_of}
+use Rattle.hx_allow.specs.Values.{items_at}
 use Rattle.hx_allow.specs.declared.values.Scope.TheVariants.{Line}
 use Rattle.hx_allow.specs.declared.values.TableVersion.{TableVersion}
 use Rattle.hx_allow.specs.declared.faults.ConfigFault.{ConfigFault}
 use Rattle.hx_allow.specs.declared.faults.FoundFault.{FoundFault}
 use Rattle.hx_allow.specs.declared.faults.FoundFault.TheVariants as found
-use Rattle.hx_allow.specs.declared.faults.ConfigFault.TheVariants.{UnknownKey, BadHost, BadMethod, BadPath, BadOrigin, BadCache, BadWord}
+use Rattle.hx_allow.specs.declared.faults.ConfigFault.TheVariants.{UnknownKey, BadHost, BadMethod, BadPath, BadOrigin}
+use Rattle.hx_allow.specs.declared.faults.ConfigFault.TheVariants.{BadCache, BadWord}
 
 -- `*`, or a host in lower case
 unfoldable pub is_line_host : List ℕ → Bool
@@ -25,7 +28,8 @@ is_line_host text = bytes_eq text (codes "*") || (is_host text && not (list_any 
 
 -- `*`, or a token of at most 15 bytes that a line may name
 unfoldable pub is_line_method : List ℕ → Bool
-is_line_method text = bytes_eq text (codes "*") || (is_token text && nat_le (length text) 15 && not (is_never_allowed text))
+is_line_method text =
+    bytes_eq text (codes "*") || (is_token text && nat_le (length text) 15 && not (is_never_allowed text))
 
 -- 1 to 32 of these
 abbrev pub are_line_methods : Items → Bool

@@ -1,6 +1,7 @@
 -- The words of a line of version 3, and what they say of caching.
 --
--- has_good_word: a word's value is one that it may have, in a line that takes it     first_bad_word: the first that isn't
+-- has_good_word: a word's value is one that it may have, in a line that takes it
+-- first_bad_word: the first that isn't
 -- policy_read: what a line without fault says
 use Rattle.std.specs.Prelude.{ℕ, Bool, not, ◌&&◌, ◌||◌, List, codes, bytes_eq, find, Option, is_some, is_none}
 use Rattle.toml.specs.Data.{Members, get_member}
@@ -8,7 +9,8 @@ use Rattle.hx_policy.specs.declared.words.Policy.{Policy}
 use Rattle.hx_allow.specs.Keys.{line_words, word_key}
 use Rattle.hx_allow.specs.Values.{text_at, is_some_and, number_between}
 use Rattle.hx_allow.specs.declared.faults.LineWord.{LineWord}
-use Rattle.hx_allow.specs.declared.faults.LineWord.TheVariants.{Lifetime, StaleIfError, SetCookie, Errors, RequestDirectives, Wait, Explain}
+use Rattle.hx_allow.specs.declared.faults.LineWord.TheVariants.{Lifetime, StaleIfError, SetCookie, Errors}
+use Rattle.hx_allow.specs.declared.faults.LineWord.TheVariants.{RequestDirectives, Wait, Explain}
 
 -- the most seconds that a lifetime has (RFC 9111, section 1.2.2)
 abbrev pub most_seconds : ℕ

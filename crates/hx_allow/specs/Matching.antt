@@ -3,7 +3,9 @@
 -- matches_line: a line's host, a method and its path match
 -- verdict_of: the first line that matches
 -- origin_of, policy_of: what the line of a number says     longest_origin: the most bytes of an origin's address
-use Rattle.std.specs.Prelude.{◌≤◌, IsSome, ℕ, ◌+◌, ◌-◌, ◌==◌, nat_lt, Bool, true, false, not, ◌&&◌, ◌||◌, if◌then◌else◌, List, [], ◌∷◌, length, max, fold, take, slice_index, slice_get, codes, bytes_eq, Option, Some, None, is_some, unwrap_or, option_map}
+use Rattle.std.specs.Prelude.{◌≤◌, IsSome, ℕ, ◌+◌, ◌-◌, ◌==◌, nat_lt, Bool, true, false, not, ◌&&◌, ◌||◌, if◌then◌else◌}
+use Rattle.std.specs.Prelude.{List, [], ◌∷◌, length, max, fold, take, slice_index, slice_get, codes, bytes_eq, Option}
+use Rattle.std.specs.Prelude.{Some, None, is_some, unwrap_or, option_map}
 use Rattle.std.specs.Option.{option_and_then}
 use Rattle.std.specs.List.{list_any}
 use Rattle.hx_target.specs.declared.targets.Target.{Target}
@@ -32,7 +34,8 @@ matches_method methods method = not (is_never_allowed method) && list_any (is_an
 -- the path of a line begins the asked one, and a slash follows
 abbrev pub is_continued : List ℕ → List ℕ → Bool
 is_continued path asked =
-    nat_lt (length path) (length asked) && bytes_eq (take (length path) asked) path && (slice_index asked (length path) == 47)
+    nat_lt (length path) (length asked) && bytes_eq (take (length path) asked) path
+    && (slice_index asked (length path) == 47)
 
 -- `/` matches all; any other path itself and what continues it with a slash
 abbrev pub matches_path : List ℕ → List ℕ → Bool
@@ -40,7 +43,8 @@ matches_path path asked = bytes_eq path (codes "/") || bytes_eq path asked || is
 
 unfoldable pub matches_line : Line → List ℕ → Target → Bool
 matches_line line method target =
-    matches_host line.host target.key.host && matches_method line.methods method && matches_path line.path target.table_path
+    matches_host line.host target.key.host && matches_method line.methods method
+    && matches_path line.path target.table_path
 
 -- what a line of this number says where it decides
 abbrev pub verdict_by : ℕ → Line → Verdict

@@ -1,7 +1,8 @@
 -- Lines that are never reached, since one in front takes all that they match.
 --
 -- takes_line: a line matches whatever another one does     taken_by: the first line in front that does
-use Rattle.std.specs.Prelude.{ℕ, ◌-◌, Bool, true, false, not, ◌&&◌, ◌||◌, List, take, codes, bytes_eq, Option, Some, None}
+use Rattle.std.specs.Prelude.{ℕ, ◌-◌, Bool, true, false, not, ◌&&◌, ◌||◌, List, take, codes, bytes_eq, Option, Some}
+use Rattle.std.specs.Prelude.{None}
 use Rattle.std.specs.Option.{option_and_then}
 use Rattle.std.specs.List.{list_any, list_all, position_from}
 use Rattle.hx_allow.specs.Lines.{Line}

@@ -1,7 +1,8 @@
 -- What is looked at first of a line's path, since it stands beside the line: a path without it doesn't match.
 --
 -- tail_of: the size of a line's path, and its last byte      may_match: that byte stands there in the asked path
-use Rattle.std.specs.Prelude.{ℕ, ◌-◌, ◌==◌, Bool, ◌||◌, if◌then◌else◌, List, length, slice_get, codes, bytes_eq, unwrap_or}
+use Rattle.std.specs.Prelude.{ℕ, ◌-◌, ◌==◌, Bool, ◌||◌, if◌then◌else◌, List, length, slice_get, codes, bytes_eq}
+use Rattle.std.specs.Prelude.{unwrap_or}
 use Rattle.hx_allow.specs.Values.{is_some_and}
 use Rattle.hx_allow.specs.declared.path_tails.PathTail.{PathTail}
 

@@ -3,7 +3,9 @@
 -- table_fault: the first fault that stands      table_of: what is said where none stands
 -- judge_table: one or the other
 -- ReadsAs: the same of bytes, with the reading of TOML as a relation
-use Rattle.std.specs.Prelude.{◌≡◌, ◌⊎◌, ◌≤◌, ℕ, ◌==◌, nat_le, Bool, true, false, not, ◌&&◌, ◌||◌, if◌then◌else◌, List, [], ◌∷◌, length, slice_index, find, codes, IsUtf8, Option, Some, None, is_some, is_none, unwrap_or, Result, Ok, Err}
+use Rattle.std.specs.Prelude.{◌≡◌, ◌⊎◌, ◌≤◌, ℕ, ◌==◌, nat_le, Bool, true, false, not, ◌&&◌, ◌||◌, if◌then◌else◌, List}
+use Rattle.std.specs.Prelude.{[], ◌∷◌, length, slice_index, find, codes, IsUtf8, Option, Some, None, is_some, is_none}
+use Rattle.std.specs.Prelude.{unwrap_or, Result, Ok, Err}
 use Rattle.std.specs.Option.{option_and_then}
 use Rattle.std.specs.List.{list_all}
 use Rattle.std.specs.Char.{is_ascii_lowercase, is_ascii_digit}
@@ -12,7 +14,8 @@ use Rattle.toml.specs.Parse.{parse_document}
 use Rattle.hx_allow.specs.Keys.{key_text}
 use Rattle.hx_allow.specs.Lines.{Table}
 use Rattle.hx_allow.specs.LineTables.{lines_fault, lines_of}
-use Rattle.hx_allow.specs.Values.{first_unknown, text_at, number_between, is_some_and, counts_within, all_items, items_at}
+use Rattle.hx_allow.specs.Values.{first_unknown, text_at, number_between, is_some_and, counts_within, all_items}
+use Rattle.hx_allow.specs.Values.{items_at}
 use Rattle.hx_allow.specs.declared.values.Scope.TheVariants.{Top}
 use Rattle.hx_allow.specs.declared.values.TableVersion.{TableVersion}
 use Rattle.hx_allow.specs.declared.values.TableVersion.TheVariants.{One, Two, Three}
@@ -79,7 +82,8 @@ table_fault t = after_keys (first_unknown Top t)
   where
     after_name : Option NumberKey → Option ConfigFault
     after_name (Some key) = Some (BadNumber key)
-    after_name None = if is_none (lines_at t) then Some NoLines else lines_fault (version_of t) 1 (unwrap_or (lines_at t) no_items)
+    after_name None = if is_none (lines_at t) then Some NoLines
+        else lines_fault (version_of t) 1 (unwrap_or (lines_at t) no_items)
 
     after_keys : Option (List ℕ) → Option ConfigFault
     after_keys (Some key) = Some (UnknownKey key)

@@ -16,4 +16,5 @@ pub record HasNoWord (ms : Members) : Type 0 where
 
 -- a line has no word of the third version, or it allows and has its cache on
 abbrev pub TakesItsWords : Line → Type 0
-TakesItsWords line = (line.policy ≡ plain line.policy.caches) ⊎ ((is_some line.origin ≡ true) × (line.policy.caches ≡ true))
+TakesItsWords line =
+    (line.policy ≡ plain line.policy.caches) ⊎ ((is_some line.origin ≡ true) × (line.policy.caches ≡ true))

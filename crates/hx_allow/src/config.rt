@@ -52,19 +52,26 @@ impl Model for Config {
 
     ghost Value = { Table };
 
-    ghost view = { λ c. record { name = string_bytes c.name; capacity = c.capacity; max_body = c.max_body; max_stored = c.max_stored; lines = c.lines.items } };
+    ghost view = { λ c. record {
+      name = string_bytes c.name;
+      capacity = c.capacity;
+      max_body = c.max_body;
+      max_stored = c.max_stored;
+      lines = c.lines.items;
+    } };
 
-    ghost invariant = { λ c. (length c.lines.items ≤ 256) × (c.longest_origin ≡ longest_among c.lines.items) × IsIndexOf c.lines.items c.by_host };
+    ghost invariant = { λ c. (length c.lines.items ≤ 256) × (c.longest_origin ≡ longest_among c.lines.items)
+        × IsIndexOf c.lines.items c.by_host };
 }
 
 impl Config {
-    /// Reads a table of version 1, 2 or 3. The first fault in the order of looking is answered; want of memory is told in its place
-    /// where the text or a key couldn't be copied.
+    /// Reads a table of version 1, 2 or 3. The first fault in the order of looking is answered;
+    /// out of memory is told in its place where the text or a key couldn't be copied.
     pub fn read(alloc: Global, bytes: &[u8]) -> Result<Config, ConfigFault>
         ensures table { ¬ (result ≡ Err ConfigFault.OutOfMemory) → ReadsAs bytes.now result }
-        // That a text is too long is told without memory. Any other fault may be hidden: the text is read as TOML, which takes
-        // memory, before the first of them is looked for. In a table that was read, want of memory hides only a key that isn't
-        // known, whose bytes are copied.
+        // That a text is too long is told without memory. Any other fault may be hidden: the text
+        // is read as TOML, which takes memory, before the first of them is looked for. In a table
+        // that was read, out of memory hides only a key that isn't known, whose bytes are copied.
         ensures memory_last { result ≡ Err ConfigFault.OutOfMemory → length bytes.now ≤ 1048576 }
     {
         reading::read(alloc, bytes)
@@ -105,8 +112,9 @@ impl Config {
         self.longest_origin
     }
 
-    /// What a line, counted from 1, says of caching. A line that the table doesn't have caches nothing; one that denies has
-    /// the policy of a line without words, though its requests reach no store.
+    /// What a line, counted from 1, says of caching. A line that the table doesn't have caches
+    /// nothing; one that denies has the policy of a line without words, though its requests reach
+    /// no store.
     #[tactic(auto, unfolding(crate::specs::Matching::policy_of))]
     pub fn policy(&self, line: u16) -> Policy
         ensures { result ≡ policy_of self.now.lines line }
@@ -117,8 +125,8 @@ impl Config {
         }
     }
 
-    /// The first line in front of one, both counted from 1, that takes all that this could match, so that it never decides
-    /// on a request.
+    /// The first line in front of one, both counted from 1, that takes all that this could match,
+    /// so that it never decides on a request.
     pub fn taken_by(&self, line: u16) -> Option<u16>
         ensures { result ≡ taken_by self.now.lines line }
     {

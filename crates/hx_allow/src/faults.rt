@@ -38,8 +38,8 @@ impl NumberKey {
 pub enum LineWord {
     /// The lifetime of what states none, 1 to 2,147,483,648 seconds (RFC 9111, section 4.2.2).
     Lifetime,
-    /// The staleness in which a stored response is sent in place of an error, 0 to 2,147,483,648 seconds (RFC 5861, section
-    /// 4).
+    /// The staleness in which a stored response is sent in place of an error, 0 to 2,147,483,648
+    /// seconds (RFC 5861, section 4).
     StaleIfError,
     /// Whether a response with Set-Cookie is stored (RFC 9111, section 7.3).
     SetCookie,

@@ -28,7 +28,7 @@ impl Drop for HostIndex {
 }
 
 impl HostIndex {
-    /// The index of at most 256 lines. Fails for want of memory alone.
+    /// The index of at most 256 lines. Fails only where memory runs out.
     pub(crate) fn of(alloc: Global, lines: &[Line]) -> Result<HostIndex, AllocError>
         requires { length lines.now ≤ 256 }
         ensures { IfOk result (IsIndexOf lines.now) }

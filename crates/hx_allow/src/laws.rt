@@ -1,6 +1,7 @@
 //! What the definitions of `specs/` say together, and what they give on tables of a few lines: each
 //! function's contract is a law, and its body is empty.
-ghost use Rattle.std.specs.Prelude.{◌≡◌, ◌+◌, ◌++◌, List, ℕ, Result, Ok, Err, Some, None, [], ◌∷◌, true, false, codes, length, option_map};
+ghost use Rattle.std.specs.Prelude.{◌≡◌, ◌+◌, ◌++◌, List, ℕ, Result, Ok, Err, Some, None, [], ◌∷◌, true, false, codes};
+ghost use Rattle.std.specs.Prelude.{length, option_map};
 ghost use Rattle.std.specs.List.{All, position_from};
 ghost use Rattle.toml.specs.Data.{Members, get_member};
 ghost use Rattle.toml.specs.Parse.{parse_document};
@@ -29,39 +30,52 @@ pub fn a_table_is_read_in_one_way()
 
 /// The line that a verdict names is the first that matches; where none is named, none matches.
 pub fn the_first_line_that_matches_decides()
-    ensures { (lines : List Line) (method : List ℕ) (target : Target) → line_number (verdict_of lines method target) ≡ position_from (λ line. matches_line line method target) 1 lines }
+    ensures { (lines : List Line) (method : List ℕ) (target : Target) → line_number (verdict_of lines method target)
+        ≡ position_from (λ line. matches_line line method target) 1 lines }
 {}
 
 /// A verdict rests on a target's host and table path alone, for requests that are read too: whatever its port, its
 /// query and the spelling of its path. What it is compared with is a table path as well: the path of each line of a
 /// table that is read is its own table path.
 pub fn one_verdict_for_each_table_path()
-    ensures alike { (lines : List Line) (method : List ℕ) (a b : Target) → a.key.host ≡ b.key.host → a.table_path ≡ b.table_path → verdict_of lines method a ≡ verdict_of lines method b }
-    ensures read { (lines : List Line) (method : List ℕ) (target also : List ℕ) (hosts others : List (List ℕ)) (a b : Target) → Judged target hosts (Ok a) → Judged also others (Ok b) → a.key.host ≡ b.key.host → a.table_path ≡ b.table_path → verdict_of lines method a ≡ verdict_of lines method b }
-    ensures lines { (bytes : List ℕ) (table : Table) → ReadsAs bytes (Ok table) → All (λ (line : Line). table_path_of line.path ≡ line.path) table.lines }
+    ensures alike { (lines : List Line) (method : List ℕ) (a b : Target) → a.key.host ≡ b.key.host
+        → a.table_path ≡ b.table_path → verdict_of lines method a ≡ verdict_of lines method b }
+    ensures read { (lines : List Line) (method : List ℕ) (target also : List ℕ) (hosts others : List (List ℕ))
+        (a b : Target) → Judged target hosts (Ok a) → Judged also others (Ok b) → a.key.host ≡ b.key.host
+        → a.table_path ≡ b.table_path → verdict_of lines method a ≡ verdict_of lines method b }
+    ensures lines { (bytes : List ℕ) (table : Table) → ReadsAs bytes (Ok table)
+        → All (λ (line : Line). table_path_of line.path ≡ line.path) table.lines }
 {
     normalising_twice_is_once();
 }
 
 /// Where the lines in front have no fault, a fault of a line is told by that line's number, whatever follows.
 pub fn the_first_line_at_fault_is_told()
-    ensures { (version : TableVersion) (before : List Members) (members : Members) (after : List Members) (fault : Fault) → lines_fault version 1 (tables before) ≡ None → line_fault version (1 + length before) members ≡ Some fault → lines_fault version 1 (tables (before ++ members ∷ after)) ≡ Some fault }
+    ensures { (version : TableVersion) (before : List Members) (members : Members) (after : List Members)
+        (fault : Fault) → lines_fault version 1 (tables before) ≡ None → line_fault version (1 + length before) members
+        ≡ Some fault → lines_fault version 1 (tables (before ++ members ∷ after)) ≡ Some fault }
 {}
 
-/// A table of the first version is never refused for `cache`, and each of its lines is cached, without a word of the third.
-/// A line without the keys that later versions add is read alike in all.
+/// A table of the first version is never refused for `cache`, and each of its lines is cached,
+/// without a word of the third. A line without the keys that later versions add is read alike in
+/// all.
 pub fn version_one_reads_as_before()
     ensures never { (t : Members) (line : ℕ) → version_of t ≡ One → ¬ (judge_table t ≡ Err (Fault.BadCache line)) }
-    ensures cached { (t : Members) (table : Table) → version_of t ≡ One → judge_table t ≡ Ok table → All (λ (line : Line). line.policy ≡ plain true) table.lines }
-    ensures alike { (version : TableVersion) (n : ℕ) (members : Members) → get_member (codes "cache") members ≡ None → HasNoWord members → line_fault version n members ≡ line_fault One n members }
+    ensures cached { (t : Members) (table : Table) → version_of t ≡ One → judge_table t ≡ Ok table
+        → All (λ (line : Line). line.policy ≡ plain true) table.lines }
+    ensures alike { (version : TableVersion) (n : ℕ) (members : Members) → get_member (codes "cache") members ≡ None
+        → HasNoWord members → line_fault version n members ≡ line_fault One n members }
 {}
 
-/// A table of the first two versions is never refused for a word of the third, and none of its lines has one. A line without
-/// them is read alike in the last two.
+/// A table of the first two versions is never refused for a word of the third, and none of its
+/// lines has one. A line without them is read alike in the last two.
 pub fn version_two_reads_as_before()
-    ensures never { (t : Members) (line : ℕ) (word : Word) → ¬ (version_of t ≡ Three) → ¬ (judge_table t ≡ Err (Fault.BadWord line word)) }
-    ensures plain { (t : Members) (table : Table) → ¬ (version_of t ≡ Three) → judge_table t ≡ Ok table → All (λ (line : Line). line.policy ≡ plain line.policy.caches) table.lines }
-    ensures alike { (n : ℕ) (members : Members) → HasNoWord members → line_fault Three n members ≡ line_fault Two n members }
+    ensures never { (t : Members) (line : ℕ) (word : Word) → ¬ (version_of t ≡ Three)
+        → ¬ (judge_table t ≡ Err (Fault.BadWord line word)) }
+    ensures plain { (t : Members) (table : Table) → ¬ (version_of t ≡ Three) → judge_table t ≡ Ok table
+        → All (λ (line : Line). line.policy ≡ plain line.policy.caches) table.lines }
+    ensures alike { (n : ℕ) (members : Members) → HasNoWord members
+        → line_fault Three n members ≡ line_fault Two n members }
 {}
 
 /// A line that has a word of the third version allows, and has its cache on.
@@ -71,19 +85,50 @@ pub fn words_stand_where_a_line_caches()
 
 /// A line that one in front of it takes never decides on a request.
 pub fn a_taken_line_never_decides()
-    ensures { (lines : List Line) (method : List ℕ) (target : Target) (n k : ℕ) → taken_by lines n ≡ Some k → line_number (verdict_of lines method target) ≡ Some n → ⊥ }
+    ensures { (lines : List Line) (method : List ℕ) (target : Target) (n k : ℕ) → taken_by lines n ≡ Some k
+        → line_number (verdict_of lines method target) ≡ Some n → ⊥ }
 {}
 
 /// The table of the first example.
 #[tactic(auto, unfolding(toml::proofs::OnLiterals::toml_on_literals, crate::specs::Tables::judge_table, crate::specs::Tables::table_fault, crate::specs::Tables::table_of, crate::specs::Tables::is_name, crate::specs::LineTables::line_fault, crate::specs::LineTables::line_of, crate::specs::LineTables::is_line_host, crate::specs::LineTables::is_line_method, crate::specs::LineTables::is_line_path, crate::specs::Addresses::is_address, hx_target::specs::Hosts::short_number, hx_target::specs::Paths::has_dot_segment))]
 pub fn a_whole_table_is_read()
-    ensures { option_map judge_table (parse_document (codes "version = 1\nname = \"edge\"\ncapacity = 2\nmax_body = 1000\nmax_stored = 1000\n\n[[line]]\nhost = \"*\"\nmethods = [\"GET\", \"HEAD\", \"POST\"]\npath = \"/\"\norigin = \"127.0.0.1:8081\"\n")) ≡ Some (Ok (record { name = codes "edge"; capacity = 2; max_body = 1000; max_stored = 1000; lines = record { host = None; methods = codes "GET" ∷ codes "HEAD" ∷ codes "POST" ∷ []; path = codes "/"; origin = Some (codes "127.0.0.1:8081"); policy = plain true } ∷ [] })) }
+    ensures { option_map judge_table (parse_document (codes "version = 1\nname = \"edge\"\ncapacity = 2\nmax_body = 1000\nmax_stored = 1000\n\n[[line]]\nhost = \"*\"\nmethods = [\"GET\", \"HEAD\", \"POST\"]\npath = \"/\"\norigin = \"127.0.0.1:8081\"\n")) ≡ Some (Ok (record {
+      name = codes "edge";
+      capacity = 2;
+      max_body = 1000;
+      max_stored = 1000;
+      lines = record {
+        host = None;
+        methods = codes "GET" ∷ codes "HEAD" ∷ codes "POST" ∷ [];
+        path = codes "/";
+        origin = Some (codes "127.0.0.1:8081");
+        policy = plain true;
+      } ∷ [];
+    })) }
 {}
 
 /// A table of two lines, in their order: the first denies a path, the second allows what is left.
 #[tactic(auto, unfolding(toml::proofs::OnLiterals::toml_on_literals, crate::specs::Tables::judge_table, crate::specs::Tables::table_fault, crate::specs::Tables::table_of, crate::specs::Tables::is_name, crate::specs::LineTables::line_fault, crate::specs::LineTables::line_of, crate::specs::LineTables::is_line_host, crate::specs::LineTables::is_line_method, crate::specs::LineTables::is_line_path, crate::specs::Addresses::is_address, hx_target::specs::Hosts::is_host, hx_target::specs::Hosts::short_number, hx_target::specs::Paths::has_dot_segment))]
 pub fn a_table_of_two_lines_is_read()
-    ensures { option_map judge_table (parse_document (codes "version = 1\nname = \"edge\"\ncapacity = 2\nmax_body = 1000\nmax_stored = 1000\n\n[[line]]\nhost = \"*\"\nmethods = [\"*\"]\npath = \"/admin\"\norigin = \"deny\"\n\n[[line]]\nhost = \"x\"\nmethods = [\"GET\"]\npath = \"/\"\norigin = \"127.0.0.1:8081\"\n")) ≡ Some (Ok (record { name = codes "edge"; capacity = 2; max_body = 1000; max_stored = 1000; lines = record { host = None; methods = codes "*" ∷ []; path = codes "/admin"; origin = None; policy = plain true } ∷ record { host = Some (codes "x"); methods = codes "GET" ∷ []; path = codes "/"; origin = Some (codes "127.0.0.1:8081"); policy = plain true } ∷ [] })) }
+    ensures { option_map judge_table (parse_document (codes "version = 1\nname = \"edge\"\ncapacity = 2\nmax_body = 1000\nmax_stored = 1000\n\n[[line]]\nhost = \"*\"\nmethods = [\"*\"]\npath = \"/admin\"\norigin = \"deny\"\n\n[[line]]\nhost = \"x\"\nmethods = [\"GET\"]\npath = \"/\"\norigin = \"127.0.0.1:8081\"\n")) ≡ Some (Ok (record {
+      name = codes "edge";
+      capacity = 2;
+      max_body = 1000;
+      max_stored = 1000;
+      lines = record {
+        host = None;
+        methods = codes "*" ∷ [];
+        path = codes "/admin";
+        origin = None;
+        policy = plain true;
+      } ∷ record {
+        host = Some (codes "x");
+        methods = codes "GET" ∷ [];
+        path = codes "/";
+        origin = Some (codes "127.0.0.1:8081");
+        policy = plain true;
+      } ∷ [];
+    })) }
 {}
 
 /// A fault of the second line has its number, and the first in the order of looking is named.
@@ -95,7 +140,31 @@ pub fn a_fault_of_the_second_line_has_its_number()
 /// A table of the second version: a line without cache, one that says that it has one, and one that says nothing.
 #[tactic(auto, unfolding(toml::proofs::OnLiterals::toml_on_literals, crate::specs::Tables::judge_table, crate::specs::Tables::table_fault, crate::specs::Tables::table_of, crate::specs::Tables::is_name, crate::specs::LineTables::line_fault, crate::specs::LineTables::line_of, crate::specs::LineTables::is_line_host, crate::specs::LineTables::is_line_method, crate::specs::LineTables::is_line_path, crate::specs::Addresses::is_address, hx_target::specs::Hosts::is_host, hx_target::specs::Hosts::short_number, hx_target::specs::Paths::has_dot_segment))]
 pub fn lines_without_cache_are_read()
-    ensures { option_map judge_table (parse_document (codes "version = 2\nname = \"edge\"\ncapacity = 2\nmax_body = 1000\nmax_stored = 1000\n\n[[line]]\nhost = \"*\"\nmethods = [\"*\"]\npath = \"/live\"\norigin = \"127.0.0.1:8081\"\ncache = \"off\"\n\n[[line]]\nhost = \"*\"\nmethods = [\"GET\"]\npath = \"/shop\"\norigin = \"127.0.0.1:8081\"\ncache = \"on\"\n\n[[line]]\nhost = \"*\"\nmethods = [\"GET\"]\npath = \"/\"\norigin = \"127.0.0.1:8081\"\n")) ≡ Some (Ok (record { name = codes "edge"; capacity = 2; max_body = 1000; max_stored = 1000; lines = record { host = None; methods = codes "*" ∷ []; path = codes "/live"; origin = Some (codes "127.0.0.1:8081"); policy = plain false } ∷ record { host = None; methods = codes "GET" ∷ []; path = codes "/shop"; origin = Some (codes "127.0.0.1:8081"); policy = plain true } ∷ record { host = None; methods = codes "GET" ∷ []; path = codes "/"; origin = Some (codes "127.0.0.1:8081"); policy = plain true } ∷ [] })) }
+    ensures { option_map judge_table (parse_document (codes "version = 2\nname = \"edge\"\ncapacity = 2\nmax_body = 1000\nmax_stored = 1000\n\n[[line]]\nhost = \"*\"\nmethods = [\"*\"]\npath = \"/live\"\norigin = \"127.0.0.1:8081\"\ncache = \"off\"\n\n[[line]]\nhost = \"*\"\nmethods = [\"GET\"]\npath = \"/shop\"\norigin = \"127.0.0.1:8081\"\ncache = \"on\"\n\n[[line]]\nhost = \"*\"\nmethods = [\"GET\"]\npath = \"/\"\norigin = \"127.0.0.1:8081\"\n")) ≡ Some (Ok (record {
+      name = codes "edge";
+      capacity = 2;
+      max_body = 1000;
+      max_stored = 1000;
+      lines = record {
+        host = None;
+        methods = codes "*" ∷ [];
+        path = codes "/live";
+        origin = Some (codes "127.0.0.1:8081");
+        policy = plain false;
+      } ∷ record {
+        host = None;
+        methods = codes "GET" ∷ [];
+        path = codes "/shop";
+        origin = Some (codes "127.0.0.1:8081");
+        policy = plain true;
+      } ∷ record {
+        host = None;
+        methods = codes "GET" ∷ [];
+        path = codes "/";
+        origin = Some (codes "127.0.0.1:8081");
+        policy = plain true;
+      } ∷ [];
+    })) }
 {}
 
 /// The first fault of tables that differ in their version and in the `cache` of their line: a version that isn't known,

@@ -7,7 +7,9 @@ ghost use Rattle.std.specs.List.{list_any, list_all};
 ghost use Rattle.std.specs.Char.{is_ascii_uppercase};
 ghost use Rattle.toml.specs.View.{table_view, items_view, view};
 ghost use Rattle.hx_allow.specs.Values.{is_some_and, items_at, unless_text, texts_of};
-ghost use Rattle.hx_allow.specs.LineTables.{is_line_host, is_line_method, are_line_methods, is_path_byte, ends_open, is_line_path, is_line_origin, denies, is_cache_word, is_line_cache, line_fault, line_of, lines_fault, lines_of, item_fault, fault_found};
+ghost use Rattle.hx_allow.specs.LineTables.{is_line_host, is_line_method, are_line_methods, is_path_byte, ends_open};
+ghost use Rattle.hx_allow.specs.LineTables.{is_line_path, is_line_origin, denies, is_cache_word, is_line_cache};
+ghost use Rattle.hx_allow.specs.LineTables.{line_fault, line_of, lines_fault, lines_of, item_fault, fault_found};
 
 use crate::ConfigFault;
 use crate::addresses::is_address;
@@ -198,7 +200,8 @@ fn host_rule(alloc: Global, text: Option<&str>) -> Result<Option<Bytes>, AllocEr
 
 /// The address of an origin, but for the word that denies.
 fn origin_rule(alloc: Global, text: Option<&str>) -> Result<Option<String>, AllocError>
-    ensures { IfOk result (λ origin. option_map string_bytes origin ≡ unless_text (codes "deny") (option_copied text.entry)) }
+    ensures { IfOk result (λ origin. option_map string_bytes origin
+        ≡ unless_text (codes "deny") (option_copied text.entry)) }
 {
     match text {
         Some(text) if text != "deny" => Ok(Some(String::from_str(alloc, text)?)),
@@ -229,7 +232,8 @@ fn copy_texts(alloc: Global, values: &[Value]) -> Result<Vec<Bytes>, AllocError>
 }
 
 fn method_texts(alloc: Global, table: &Table) -> Result<Vec<Bytes>, AllocError>
-    ensures { IfOk result (λ texts. texts.items ≡ texts_of (unwrap_or (items_at (codes "methods") (table_view table.now)) no_items)) }
+    ensures { IfOk result (λ texts. texts.items
+        ≡ texts_of (unwrap_or (items_at (codes "methods") (table_view table.now)) no_items)) }
 {
     match array_at(table, "methods") {
         Some(values) => copy_texts(alloc, values),

@@ -1,7 +1,8 @@
 //! The words of a line: the first that can't stand, and what they say of caching.
 ghost use Rattle.std.specs.Prelude.{◌≡◌};
 ghost use Rattle.toml.specs.View.{table_view};
-ghost use Rattle.hx_allow.specs.LineWords.{lifetime_at, stale_if_error_at, has_either, has_good_value, says, takes_words, has_good_word, first_bad_word, policy_read};
+ghost use Rattle.hx_allow.specs.LineWords.{lifetime_at, stale_if_error_at, has_either, has_good_value, says};
+ghost use Rattle.hx_allow.specs.LineWords.{takes_words, has_good_word, first_bad_word, policy_read};
 
 use crate::faults::LineWord;
 use crate::values::{number_between, text_at, value_at};

@@ -2,7 +2,8 @@
 ghost use Rattle.std.specs.Prelude.{◌≡◌, ◌≤◌, [], length, drop, option_map, string_bytes, unwrap_or};
 ghost use Rattle.std.specs.Option.{option_copied};
 ghost use Rattle.std.specs.List.{list_any};
-ghost use Rattle.hx_allow.specs.Matching.{matches_host, is_never_allowed, is_any_or_same, matches_path, is_continued, longest_origin};
+ghost use Rattle.hx_allow.specs.Matching.{matches_host, is_never_allowed, is_any_or_same, matches_path, is_continued};
+ghost use Rattle.hx_allow.specs.Matching.{longest_origin};
 ghost use Rattle.hx_allow.specs.Index.{can_match, matches_beside_host};
 
 use crate::path_tails::PathTail;
@@ -34,7 +35,13 @@ impl Model for Line {
 
     ghost Value = { PlainLine };
 
-    ghost view = { λ l. record { host = l.host; methods = l.methods.items; path = l.path; origin = option_map string_bytes l.origin; policy = l.policy } };
+    ghost view = { λ l. record {
+      host = l.host;
+      methods = l.methods.items;
+      path = l.path;
+      origin = option_map string_bytes l.origin;
+      policy = l.policy;
+    } };
 
     ghost invariant = { λ l. l.tail ≡ tail_of l.path };
 }

@@ -1,6 +1,7 @@
 //! What is looked at first of a line's path.
 //!
-//! It stands in the line itself, so most lines that don't match are passed over without a look at the bytes of their paths.
+//! It stands in the line itself, so most lines that don't match are passed over without a look at
+//! the bytes of their paths.
 ghost use Rattle.std.specs.Prelude.{◌≡◌};
 ghost use Rattle.hx_allow.specs.PathTails.{may_match, tail_of};
 

@@ -21,14 +21,16 @@ pub fn read(alloc: Global, bytes: &[u8]) -> Result<Config, ConfigFault>
     judge_parsed(alloc, toml::table_from_slice(alloc, bytes))
 }
 
-/// What a table that was parsed says, or the first fault. Want of memory is told where the parser found none, and of a
+/// What a table that was parsed says, or the first fault. Out of memory is told where the parser found none, and of a
 /// table that it read only where no fault of it can be told without.
 fn judge_parsed(
     alloc: Global,
     parsed: Result<Table, toml::de::Error>,
 ) -> Result<Config, ConfigFault>
-    ensures judged { IfOk parsed (λ table. ¬ (result ≡ Err ConfigFault.OutOfMemory) → result ≡ judge_table (table_view table)) }
-    ensures memory_last { IfOk parsed (λ table. result ≡ Err ConfigFault.OutOfMemory → wants_memory (table_fault (table_view table)) ≡ true) }
+    ensures judged { IfOk parsed (λ table. ¬ (result ≡ Err ConfigFault.OutOfMemory)
+        → result ≡ judge_table (table_view table)) }
+    ensures memory_last { IfOk parsed (λ table. result ≡ Err ConfigFault.OutOfMemory
+        → wants_memory (table_fault (table_view table)) ≡ true) }
     ensures no_table { IfErr parsed (λ error. ¬ (IsMemory error) → result ≡ Err ConfigFault.NotToml) }
     ensures no_memory { IfErr parsed (λ error. IsMemory error → result ≡ Err ConfigFault.OutOfMemory) }
 {

@@ -6,7 +6,8 @@ ghost use Rattle.toml.specs.Data.{as_table};
 ghost use Rattle.toml.specs.View.{table_view, array_view, items_view, view};
 ghost use Rattle.hx_allow.specs.Values.{is_some_and, text_at};
 ghost use Rattle.hx_allow.specs.LineTables.{fault_found};
-ghost use Rattle.hx_allow.specs.Tables.{is_name_byte, is_name, number_at, version_of, are_lines, lines_at, table_fault, table_of, judge_table, number_fault, wants_memory};
+ghost use Rattle.hx_allow.specs.Tables.{is_name_byte, is_name, number_at, version_of, are_lines, lines_at, table_fault};
+ghost use Rattle.hx_allow.specs.Tables.{table_of, judge_table, number_fault, wants_memory};
 
 use crate::faults::FoundFault;
 use crate::host_index::HostIndex;
@@ -166,7 +167,7 @@ fn config_of(alloc: Global, table: &Table) -> Result<Config, AllocError>
     })
 }
 
-/// The fault of a key that isn't known, whose bytes were copied. Want of memory is told where the copy found none.
+/// The fault of a key that isn't known, whose bytes were copied. Out of memory is told where the copy found none.
 fn fault_of_key(copied: Result<Bytes, AllocError>) -> ConfigFault
     ensures { MatchResult copied (λ key. result ≡ ConfigFault.UnknownKey key) (λ _. result ≡ ConfigFault.OutOfMemory) }
 {
@@ -180,7 +181,8 @@ fn fault_of_key(copied: Result<Bytes, AllocError>) -> ConfigFault
 #[tactic(auto, unfolding(crate::specs::Tables::judge_table))]
 pub fn judge_table(alloc: Global, table: &Table) -> Result<Config, ConfigFault>
     ensures judged { ¬ (result ≡ Err ConfigFault.OutOfMemory) → result ≡ judge_table (table_view table.now) }
-    ensures memory_last { result ≡ Err ConfigFault.OutOfMemory → wants_memory (table_fault (table_view table.now)) ≡ true }
+    ensures memory_last { result ≡ Err ConfigFault.OutOfMemory
+        → wants_memory (table_fault (table_view table.now)) ≡ true }
 {
     match table_fault(table) {
         Some(FoundFault::UnknownKey(key)) => {

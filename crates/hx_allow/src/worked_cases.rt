@@ -1,19 +1,24 @@
-//! What the definitions give on worked cases of values, addresses, lines and matching, computed from them: each function's
-//! contract is the cases, and its body is empty.
+//! What the definitions give on worked cases of values, addresses, lines and matching, computed
+//! from them: each function's contract is the cases, and its body is empty.
 ghost use Rattle.std.specs.Prelude.{◌≡◌, ◌∷◌, ◌++◌, [], Some, None, true, false, codes, pos, negsuc};
 ghost use Rattle.toml.specs.Data.{string, integer, boolean, array, table, no_items, no_members};
 ghost use Rattle.hx_policy.specs.Words.{plain};
 ghost use Rattle.hx_allow.specs.Addresses.{is_address, is_number};
-ghost use Rattle.hx_allow.specs.Examples.{asks, bytes, first_line_denies, indexed_lines, line_without_cache, many, number, of_items, of_pairs, origin_8081, reads, several_lines, text};
+ghost use Rattle.hx_allow.specs.Examples.{asks, bytes, first_line_denies, indexed_lines, line_without_cache, many};
+ghost use Rattle.hx_allow.specs.Examples.{number, of_items, of_pairs, origin_8081, reads, several_lines, text};
 ghost use Rattle.hx_allow.specs.Index.{numbers_of, verdict_among};
 ghost use Rattle.hx_allow.specs.Keys.{fault_number, key_text};
-ghost use Rattle.hx_allow.specs.LineTables.{are_line_methods, is_line_host, is_line_method, is_line_origin, is_line_path};
-ghost use Rattle.hx_allow.specs.Matching.{policy_of, longest_origin, matches_host, matches_method, matches_path, origin_of, verdict_of};
+ghost use Rattle.hx_allow.specs.LineTables.{are_line_methods, is_line_host, is_line_method, is_line_origin};
+ghost use Rattle.hx_allow.specs.LineTables.{is_line_path};
+ghost use Rattle.hx_allow.specs.Matching.{policy_of, longest_origin, matches_host, matches_method, matches_path};
+ghost use Rattle.hx_allow.specs.Matching.{origin_of, verdict_of};
 ghost use Rattle.hx_allow.specs.PathTails.{may_match, tail_of};
 ghost use Rattle.hx_allow.specs.NeverReached.{taken_by, takes_line};
 ghost use Rattle.hx_allow.specs.Tables.{is_name, number_at};
 ghost use Rattle.hx_allow.specs.Values.{is_known, items_at, number_between, text_at};
-ghost use Rattle.hx_allow.specs.declared.faults.ConfigFault.TheVariants.{NotToml, UnknownKey, BadName, BadNumber, BadHost, BadMethod, BadPath, BadOrigin, NoLines, OutOfMemory, BadCache, BadWord};
+ghost use Rattle.hx_allow.specs.declared.faults.ConfigFault.TheVariants.{NotToml, UnknownKey, BadName, BadNumber};
+ghost use Rattle.hx_allow.specs.declared.faults.ConfigFault.TheVariants.{BadHost, BadMethod, BadPath, BadOrigin};
+ghost use Rattle.hx_allow.specs.declared.faults.ConfigFault.TheVariants.{NoLines, OutOfMemory, BadCache, BadWord};
 ghost use Rattle.hx_allow.specs.declared.faults.LineWord.TheVariants.{Lifetime};
 ghost use Rattle.hx_allow.specs.declared.faults.NumberKey.TheVariants.{Version, Capacity, MaxBody, MaxStored};
 ghost use Rattle.hx_allow.specs.declared.values.Scope.TheVariants.{Top, Line};
@@ -76,7 +81,8 @@ pub fn keys_of_a_line()
 
 /// The text of a key is a string; a number isn't one.
 pub fn texts_are_strings()
-    ensures stands { text_at (codes "name") (of_pairs (number (codes "capacity") 2 ∷ text (codes "name") (codes "edge") ∷ [])) ≡ Some (codes "edge") }
+    ensures stands { text_at (codes "name")
+        (of_pairs (number (codes "capacity") 2 ∷ text (codes "name") (codes "edge") ∷ [])) ≡ Some (codes "edge") }
     ensures missing { text_at (codes "name") (of_pairs (number (codes "capacity") 2 ∷ [])) ≡ None }
     ensures a_number { text_at (codes "name") (of_pairs (number (codes "name") 2 ∷ [])) ≡ None }
     ensures a_list { text_at (codes "name") (of_pairs ((codes "name", array (of_items (string (codes "edge") ∷ []))) ∷ [])) ≡ None }
@@ -147,7 +153,8 @@ pub fn hosts_of_lines()
     ensures empty { is_line_host [] ≡ false }
 {}
 
-/// Methods of lines: `*`, or a token of at most 15 bytes (RFC 9110, section 9.1) other than the three that no line allows.
+/// Methods of lines: `*`, or a token of at most 15 bytes (RFC 9110, section 9.1) other than the
+/// three that no line allows.
 #[tactic(auto, unfolding(crate::specs::LineTables::is_line_method))]
 pub fn methods_of_lines()
     ensures any { is_line_method (codes "*") ≡ true }
@@ -304,7 +311,9 @@ pub fn several_lines_decide()
     ensures denied { verdict_of several_lines (codes "GET") (asks (codes "h") (codes "/admin/x")) ≡ DeniedBy 1 }
     ensures allowed { verdict_of several_lines (codes "GET") (asks (codes "x") (codes "/admins")) ≡ Allowed 2 }
     ensures no_line { verdict_of several_lines (codes "GET") (asks (codes "h") (codes "/b")) ≡ NoLine }
-    ensures other_port { verdict_of several_lines (codes "GET") (record (asks (codes "x") (codes "/b")) { key = record { host = codes "x"; port = 8080; path_query = codes "/b?q" } }) ≡ Allowed 2 }
+    ensures other_port { verdict_of several_lines (codes "GET") (record (asks (codes "x") (codes "/b")) {
+      key = record { host = codes "x"; port = 8080; path_query = codes "/b?q" };
+    }) ≡ Allowed 2 }
 {}
 
 /// Lines of one host around one for every host: those that a host can match, and which of them decides.
@@ -340,7 +349,8 @@ pub fn which_origin_a_line_has()
     ensures behind_the_last { origin_of first_line_denies 3 ≡ None }
     ensures none { origin_of line_without_cache 0 ≡ None }
     ensures longest { longest_origin first_line_denies ≡ 14 }
-    ensures longest_of_the_first { longest_origin (reads None (codes "GET") (codes "/") origin_8081 ∷ reads None (codes "GET") (codes "/") None ∷ []) ≡ 14 }
+    ensures longest_of_the_first { longest_origin (reads None (codes "GET") (codes "/") origin_8081
+        ∷ reads None (codes "GET") (codes "/") None ∷ []) ≡ 14 }
     ensures longest_of_none { longest_origin [] ≡ 0 }
 {}
 
@@ -365,20 +375,33 @@ pub fn keys_of_numbers()
 /// A line in front takes another where its host, its methods and its path take those.
 #[tactic(auto, unfolding(crate::specs::NeverReached::takes_line))]
 pub fn which_lines_are_never_reached()
-    ensures same { takes_line (reads None (codes "GET") (codes "/a") origin_8081) (reads None (codes "GET") (codes "/a") None) ≡ true }
-    ensures below { takes_line (reads None (codes "GET") (codes "/a") origin_8081) (reads None (codes "GET") (codes "/a/b") None) ≡ true }
-    ensures above { takes_line (reads None (codes "GET") (codes "/a/b") origin_8081) (reads None (codes "GET") (codes "/a") None) ≡ false }
-    ensures beside { takes_line (reads None (codes "GET") (codes "/a") origin_8081) (reads None (codes "GET") (codes "/ab") None) ≡ false }
-    ensures root { takes_line (reads None (codes "GET") (codes "/") origin_8081) (reads None (codes "GET") (codes "/admin") None) ≡ true }
-    ensures under_root { takes_line (reads None (codes "GET") (codes "/a") origin_8081) (reads None (codes "GET") (codes "/") None) ≡ false }
-    ensures any_method { takes_line (reads None (codes "*") (codes "/") origin_8081) (reads None (codes "POST") (codes "/") None) ≡ true }
-    ensures other_method { takes_line (reads None (codes "GET") (codes "/") origin_8081) (reads None (codes "POST") (codes "/") None) ≡ false }
-    ensures one_of_all { takes_line (reads None (codes "GET") (codes "/") origin_8081) (reads None (codes "*") (codes "/") None) ≡ false }
-    ensures any_host { takes_line (reads None (codes "GET") (codes "/") origin_8081) (reads (Some (codes "x")) (codes "GET") (codes "/") None) ≡ true }
-    ensures one_host { takes_line (reads (Some (codes "x")) (codes "GET") (codes "/") origin_8081) (reads None (codes "GET") (codes "/") None) ≡ false }
-    ensures other_host { takes_line (reads (Some (codes "x")) (codes "GET") (codes "/") origin_8081) (reads (Some (codes "y")) (codes "GET") (codes "/") None) ≡ false }
+    ensures same { takes_line (reads None (codes "GET") (codes "/a") origin_8081)
+        (reads None (codes "GET") (codes "/a") None) ≡ true }
+    ensures below { takes_line (reads None (codes "GET") (codes "/a") origin_8081)
+        (reads None (codes "GET") (codes "/a/b") None) ≡ true }
+    ensures above { takes_line (reads None (codes "GET") (codes "/a/b") origin_8081)
+        (reads None (codes "GET") (codes "/a") None) ≡ false }
+    ensures beside { takes_line (reads None (codes "GET") (codes "/a") origin_8081)
+        (reads None (codes "GET") (codes "/ab") None) ≡ false }
+    ensures root { takes_line (reads None (codes "GET") (codes "/") origin_8081)
+        (reads None (codes "GET") (codes "/admin") None) ≡ true }
+    ensures under_root { takes_line (reads None (codes "GET") (codes "/a") origin_8081)
+        (reads None (codes "GET") (codes "/") None) ≡ false }
+    ensures any_method { takes_line (reads None (codes "*") (codes "/") origin_8081)
+        (reads None (codes "POST") (codes "/") None) ≡ true }
+    ensures other_method { takes_line (reads None (codes "GET") (codes "/") origin_8081)
+        (reads None (codes "POST") (codes "/") None) ≡ false }
+    ensures one_of_all { takes_line (reads None (codes "GET") (codes "/") origin_8081)
+        (reads None (codes "*") (codes "/") None) ≡ false }
+    ensures any_host { takes_line (reads None (codes "GET") (codes "/") origin_8081)
+        (reads (Some (codes "x")) (codes "GET") (codes "/") None) ≡ true }
+    ensures one_host { takes_line (reads (Some (codes "x")) (codes "GET") (codes "/") origin_8081)
+        (reads None (codes "GET") (codes "/") None) ≡ false }
+    ensures other_host { takes_line (reads (Some (codes "x")) (codes "GET") (codes "/") origin_8081)
+        (reads (Some (codes "y")) (codes "GET") (codes "/") None) ≡ false }
     ensures denial_in_front { taken_by first_line_denies 2 ≡ None }
-    ensures denial_behind { taken_by (reads None (codes "*") (codes "/") origin_8081 ∷ reads None (codes "*") (codes "/admin") None ∷ []) 2 ≡ Some 1 }
+    ensures denial_behind { taken_by (reads None (codes "*") (codes "/") origin_8081
+        ∷ reads None (codes "*") (codes "/admin") None ∷ []) 2 ≡ Some 1 }
     ensures first { taken_by first_line_denies 1 ≡ None }
     ensures missing { taken_by first_line_denies 3 ≡ None }
 {}

@@ -1,12 +1,15 @@
 -- Which directives occur in a message's Cache-Control lines, and with which arguments (RFC 9111, section 5.2).
-use Rattle.std.specs.Prelude.{ℕ, ◌+◌, ◌==◌, if◌then◌else◌, Bool, List, [], ◌∷◌, length, find, take, drop, position, unwrap_or, codes, Option, None, option_map}
+use Rattle.std.specs.Prelude.{ℕ, ◌+◌, ◌==◌, if◌then◌else◌, Bool, List, [], ◌∷◌, length, find, take, drop, position}
+use Rattle.std.specs.Prelude.{unwrap_or, codes, Option, None, option_map}
 use Rattle.std.specs.List.{filter_map}
 use Rattle.hx_fields.specs.Names.{is_same_name, trimmed, members_of_value}
 use Rattle.hx_fields.specs.Tokens.{is_token}
 use Rattle.hx_fields.specs.Lines.{members_of}
 use Rattle.hx_fields.specs.declared.field_line.Field.{Field}
 use Rattle.hx_directives.specs.declared.names.Directive.{Directive}
-use Rattle.hx_directives.specs.declared.names.Directive.TheVariants.{MaxAge, SMaxage, MaxStale, MinFresh, StaleIfError, NoCache, NoStore, OnlyIfCached, MustRevalidate, ProxyRevalidate, MustUnderstand, Private, Public}
+use Rattle.hx_directives.specs.declared.names.Directive.TheVariants.{MaxAge, SMaxage, MaxStale, MinFresh, StaleIfError}
+use Rattle.hx_directives.specs.declared.names.Directive.TheVariants.{NoCache, NoStore, OnlyIfCached, MustRevalidate}
+use Rattle.hx_directives.specs.declared.names.Directive.TheVariants.{ProxyRevalidate, MustUnderstand, Private, Public}
 use Rattle.hx_directives.specs.declared.occurrences.Occurrence.{Occurrence}
 use Rattle.hx_directives.specs.Arguments.{argument_of}
 

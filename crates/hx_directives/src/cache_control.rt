@@ -32,7 +32,7 @@ impl Model for Directives {
 }
 
 impl Directives {
-    /// Those that occur in a message's Cache-Control lines. Fails for want of memory alone.
+    /// Those that occur in a message's Cache-Control lines. Fails only where memory runs out.
     pub fn of(alloc: Global, fields: &Fields) -> Result<Directives, AllocError>
         ensures { IfOk result (λ d. d ≡ occurrences_of fields.now) }
     {
@@ -96,7 +96,7 @@ impl Directives {
         MaxStale::Absent
     }
 
-    /// A copy. Fails for want of memory alone.
+    /// A copy. Fails only where memory runs out.
     pub fn copy(&self, alloc: Global) -> Result<Directives, AllocError>
         ensures { IfOk result (λ d. d ≡ self.now) }
     {
@@ -132,7 +132,8 @@ fn push_value(alloc: Global, found: &mut Vec<Occurrence>, value: &[u8]) -> Resul
 
 /// The first argument of a directive, and the occurrences after it.
 fn next_argument(found: &[Occurrence], directive: Directive) -> Option<(Argument, &[Occurrence])>
-    ensures { MatchOption result (arguments_of found.now directive ≡ []) (λ r. arguments_of found.now directive ≡ r.0 ∷ arguments_of r.1.now directive) }
+    ensures { MatchOption result (arguments_of found.now directive ≡ [])
+        (λ r. arguments_of found.now directive ≡ r.0 ∷ arguments_of r.1.now directive) }
 {
     for (i, o) in found.iter().enumerate() {
         if o.directive == directive {

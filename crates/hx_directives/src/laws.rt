@@ -86,7 +86,8 @@ pub fn names_of_directives()
     ensures a_part { directive_of (codes "max") ≡ None }
 {}
 
-/// What stands behind the first equals sign is the argument, without blanks; there may be none, or one that says no seconds.
+/// What stands behind the first equals sign is the argument, without blanks; there may be none, or
+/// one that says no seconds.
 pub fn arguments_are_read()
     ensures none { argument_of None ≡ argument.Absent }
     ensures seconds { argument_of (Some (codes "60")) ≡ argument.Delta 60 }

@@ -5,7 +5,8 @@
 -- is_blank, trimmed: the spaces and tabs round a value
 -- pieces, members_of_value: what stands between the commas of a value
 -- cut_at: a text before and behind a byte
-use Rattle.std.specs.Prelude.{ℕ, ◌-◌, ◌==◌, nat_lt, if◌then◌else◌, Bool, false, ◌||◌, List, [], ◌∷◌, ◌++◌, length, take, drop, map, filter, codes, Option, Some, None}
+use Rattle.std.specs.Prelude.{ℕ, ◌-◌, ◌==◌, nat_lt, if◌then◌else◌, Bool, false, ◌||◌, List, [], ◌∷◌, ◌++◌, length, take}
+use Rattle.std.specs.Prelude.{drop, map, filter, codes, Option, Some, None}
 use Rattle.std.specs.Option.{option_map}
 use Rattle.std.specs.List.{prefix_len, suffix_len, concat}
 use Rattle.std.specs.Str.{str_eq_ignore_ascii_case}
@@ -79,4 +80,5 @@ flatten (xs ∷ xss) = xs ++ flatten xss
 -- what stands before the first of these bytes, and what stands behind it
 abbrev pub cut_at : ℕ → List ℕ → Option (List ℕ × List ℕ)
 cut_at separator [] = None
-cut_at separator (b ∷ bs) = if b == separator then Some ([], bs) else option_map (λ p. (b ∷ p.0, p.1)) (cut_at separator bs)
+cut_at separator (b ∷ bs) =
+    if b == separator then Some ([], bs) else option_map (λ p. (b ∷ p.0, p.1)) (cut_at separator bs)

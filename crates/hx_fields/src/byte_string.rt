@@ -33,7 +33,7 @@ impl Drop for Kept {
 }
 
 impl Kept {
-    /// The vector of these bytes: that which is there, or a copy of the part. Fails for want of memory alone.
+    /// The vector of these bytes: that which is there, or a copy of the part. Fails only where memory runs out.
     fn into_vec(self, alloc: Global) -> Result<Vec<u8>, AllocError>
         ensures { IfOk result (λ bytes. bytes.items ≡ bytes_kept self) }
     {
@@ -78,7 +78,7 @@ impl Part {
         &self.buffer.as_ref().as_slice()[self.start..self.end]
     }
 
-    /// Another owner of the buffer. Fails for want of memory alone.
+    /// Another owner of the buffer. Fails only where memory runs out.
     fn copy(&self) -> Result<Part, AllocError>
         ensures { IfOk result (λ part. part ≡ self.now) }
     {
@@ -89,7 +89,7 @@ impl Part {
         })
     }
 
-    /// Another owner of the buffer, of these bytes of it. Fails for want of memory alone.
+    /// Another owner of the buffer, of these bytes of it. Fails only where memory runs out.
     fn part(&self, start: usize, end: usize) -> Result<Part, AllocError>
         requires order { start ≤ end }
         requires within { end ≤ length self.now }
@@ -190,8 +190,8 @@ impl Bytes {
         }
     }
 
-    /// These bytes with others behind them: in the memory that they have where it is theirs alone and enough. Fails for want
-    /// of memory alone.
+    /// These bytes with others behind them: in the memory that they have where it is theirs alone
+    /// and enough. Fails only where memory runs out.
     pub fn followed_by(self, alloc: Global, more: &[u8]) -> Result<Bytes, AllocError>
         ensures { IfOk result (λ all. all ≡ self ++ more.now) }
     {

@@ -1,8 +1,10 @@
 //! Where a list's members stand in the bytes of a value. No function here takes memory.
-ghost use Rattle.std.specs.Prelude.{◌≡◌, ◌≤◌, ◌-◌, ◌∷◌, ◌==◌, ◌||◌, [], length, take, drop, ◌<◌, ◌+◌, MatchOption, IfSome};
+ghost use Rattle.std.specs.Prelude.{◌≡◌, ◌≤◌, ◌-◌, ◌∷◌, ◌==◌, ◌||◌, [], length, take, drop, ◌<◌, ◌+◌, MatchOption};
+ghost use Rattle.std.specs.Prelude.{IfSome};
 ghost use Rattle.std.specs.Option.{option_map};
 ghost use Rattle.std.specs.List.{prefix_len, suffix_len};
-ghost use Rattle.hx_fields.specs.Names.{is_same_name, pieces, is_blank, trimmed, cuts, next_place, members_of_value, cut_at};
+ghost use Rattle.hx_fields.specs.Names.{is_same_name, pieces, is_blank, trimmed, cuts, next_place, members_of_value};
+ghost use Rattle.hx_fields.specs.Names.{cut_at};
 ghost use Rattle.hx_fields.specs.declared.cutting.QuoteState.{QuoteState};
 
 /// Where a byte of a value stands.
@@ -92,7 +94,8 @@ fn next_place(place: QuoteState, b: u8) -> QuoteState
 fn piece_end(text: &[u8]) -> usize
     ensures within { result ≤ length text.now }
     ensures last { result ≡ length text.now → pieces QuoteState.Outside text.now ≡ text.now ∷ [] }
-    ensures cut { result < length text.now → pieces QuoteState.Outside text.now ≡ take result text.now ∷ pieces QuoteState.Outside (drop (result + 1) text.now) }
+    ensures cut { result < length text.now → pieces QuoteState.Outside text.now
+        ≡ take result text.now ∷ pieces QuoteState.Outside (drop (result + 1) text.now) }
 {
     let mut i = 0;
     while i < text.len() {
@@ -136,7 +139,8 @@ fn skip_separators(value: &[u8]) -> &[u8]
 
 /// The first member of a value, and what stands behind it.
 pub fn next_member(value: &[u8]) -> Option<(&[u8], &[u8])>
-    ensures members { MatchOption result (members_of_value value.now ≡ []) (λ r. members_of_value value.now ≡ r.0.now ∷ members_of_value r.1.now) }
+    ensures members { MatchOption result (members_of_value value.now ≡ [])
+        (λ r. members_of_value value.now ≡ r.0.now ∷ members_of_value r.1.now) }
     ensures shorter { IfSome result (λ r. length r.1.now < length value.now) }
 {
     let mut rest = skip_separators(value);

@@ -17,8 +17,9 @@ pub fn digit_value(b: u8) -> u8
     }
 }
 
-/// The number that these digits spell in base `radix`, where it is at most `most`. There may be any number of them, and zeros in
-/// front. Which bytes are digits is the caller's to see: each counts as `digit_value` has it.
+/// The number that these digits spell in base `radix`, where it is at most `most`. There may be any
+/// number of them, and zeros in front. Which bytes are digits is the caller's to see: each counts
+/// as `digit_value` has it.
 pub fn number_up_to(most: u64, radix: u8, digits: &[u8]) -> Option<u64>
     requires some { 1 ≤ radix }
     requires small { radix ≤ 36 }

@@ -1,6 +1,7 @@
 //! A list of field lines, in the order in which they came.
 ghost use Rattle.std.specs.Prelude.{◌≡◌, ◌++◌, ◌∷◌, [], length, IfOk, OnOk, OnErr, slice_get, count_by, option_copied};
-ghost use Rattle.hx_fields.specs.Lines.{is_named, has, count_of, values_of, only_value, combined_of, members_of, without_named};
+ghost use Rattle.hx_fields.specs.Lines.{is_named, has, count_of, values_of, only_value, combined_of, members_of};
+ghost use Rattle.hx_fields.specs.Lines.{without_named};
 ghost use Rattle.hx_fields.specs.Names.{members_of_value};
 
 use crate::byte_string::Bytes;

@@ -1,4 +1,5 @@
-//! Names in lower case, by which lines are looked up: two names are one exactly where they are folded to the same bytes.
+//! Names in lower case, by which lines are looked up: two names are one exactly where they are
+//! folded to the same bytes.
 ghost use Rattle.std.specs.Prelude.{◌≡◌, [], IfOk, OnOk, OnErr, Some, bytes_eq, refl};
 ghost use Rattle.std.specs.Cmp.{partial_equiv_from_equiv, partial_order_from_agreeing_total};
 ghost use Rattle.std.specs.Cmp.Lexicographic.{nat_list_eq_equiv};
@@ -10,8 +11,9 @@ use std::marker::Model;
 
 /// A name in lower case, of which contracts see the bytes.
 ///
-/// Its order is that of a map in which the lines of a head are found by their names, whatever a peer chose for them: by a number of
-/// each first, which tells most of two apart at once. Names that a peer made to have one number are told apart by their bytes.
+/// Its order is that of a map in which the lines of a head are found by their names, whatever a
+/// peer chose for them: by a number of each first, which tells most of two apart at once. Names
+/// that a peer made to have one number are told apart by their bytes.
 #[derive(Debug, Drop)]
 pub struct FoldedName {
     number: u64,
@@ -51,7 +53,7 @@ impl FoldedName {
         }
     }
 
-    /// A name, folded. Fails for want of memory alone.
+    /// A name, folded. Fails only where memory runs out.
     pub fn of(alloc: Global, name: &[u8]) -> Result<FoldedName, AllocError>
         ensures { IfOk result (λ it. it ≡ folded name.now) }
     {
@@ -63,7 +65,7 @@ impl FoldedName {
         })
     }
 
-    /// Becomes another name, in the memory that it has where that is enough. Want of memory changes nothing.
+    /// Becomes another name, in the memory that it has where that is enough. Out of memory changes nothing.
     pub fn set(&mut self, name: &[u8]) -> Result<(), AllocError>
         ensures ok { OnOk result (self.new ≡ folded name.now) }
         ensures err { OnErr result (self.new ≡ self.old) }

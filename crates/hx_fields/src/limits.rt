@@ -1,7 +1,7 @@
 //! The limit of what a field can say of time, and how many bytes are shared.
 
-/// The first second that no HTTP-date tells, since its year has four digits: the year 10000 begins, in Unix seconds (RFC 9110,
-/// section 5.6.7).
+/// The first second that no HTTP-date tells, since its year has four digits: the year 10000 begins,
+/// in Unix seconds (RFC 9110, section 5.6.7).
 pub const END_OF_TIME: u64 = 253_402_300_800;
 
 /// So many bytes are worth a count of their owners. Fewer are copied at less cost.

@@ -38,7 +38,8 @@ lines_length (line ∷ lines) = length line + 2 + lines_length lines
 
 -- NoSize: a line where a size line has to stand    NoEnd: more bytes than a size line may have, and no LF
 -- Large: a chunk that brings the sum above the limit    BadEnd: no CRLF behind data
--- BadTrailer: a trailer line, or the empty line, that ends by LF alone    LongTrailers: more bytes than trailers may have, and no end
+-- BadTrailer: a trailer line, or the empty line, that ends by LF alone
+-- LongTrailers: more bytes than trailers may have, and no end
 pub data Deviation : Type 0 where
   NoSize NoEnd Large BadEnd BadTrailer LongTrailers : Deviation
 
@@ -53,19 +54,25 @@ pub record BeginsTrailers (bytes : List ℕ) (lines : List (List ℕ)) (line res
 -- sum: how much content stands in front; the bytes that follow deviate so
 abbrev pub Breaks : ℕ → ℕ → List ℕ → Deviation → FrameFault → Type 0
 Breaks max_body sum bytes NoSize f =
-    (f ≡ fault.Chunk) × ((line : List ℕ) × (rest : List ℕ) × (bytes ≡ line ++ 10 ∷ rest) × (has_no_lf line ≡ true) × ¬ (IsSizeLine line))
+    (f ≡ fault.Chunk)
+    × ((line : List ℕ) × (rest : List ℕ) × (bytes ≡ line ++ 10 ∷ rest) × (has_no_lf line ≡ true) × ¬ (IsSizeLine line))
 Breaks max_body sum bytes NoEnd f =
-    (f ≡ fault.Chunk) × ((line : List ℕ) × (rest : List ℕ) × (bytes ≡ line ++ rest) × (has_no_lf line ≡ true) × (most_size_line_bytes < length line))
+    (f ≡ fault.Chunk) × ((line : List ℕ) × (rest : List ℕ) × (bytes ≡ line ++ rest) × (has_no_lf line ≡ true)
+    × (most_size_line_bytes < length line))
 Breaks max_body sum bytes Large f =
-    (f ≡ fault.TooLarge) × ((size : List ℕ) × (n : ℕ) × (rest : List ℕ) × (bytes ≡ size ++ 13 ∷ 10 ∷ rest) × IsSizeText size n × (max_body < sum + n))
+    (f ≡ fault.TooLarge) × ((size : List ℕ) × (n : ℕ) × (rest : List ℕ) × (bytes ≡ size ++ 13 ∷ 10 ∷ rest)
+    × IsSizeText size n × (max_body < sum + n))
 Breaks max_body sum bytes BadEnd f =
-    (f ≡ fault.Chunk) × ((chunk : Chunk) × (rest : List ℕ) × (bytes ≡ chunk.size ++ 13 ∷ 10 ∷ (chunk.bytes ++ rest)) × IsChunk chunk
+    (f ≡ fault.Chunk)
+    × ((chunk : Chunk) × (rest : List ℕ) × (bytes ≡ chunk.size ++ 13 ∷ 10 ∷ (chunk.bytes ++ rest)) × IsChunk chunk
     × (sum + length chunk.bytes ≤ max_body) × (is_no_line_end rest ≡ true))
 Breaks max_body sum bytes BadTrailer f =
-    (f ≡ fault.Chunk) × ((lines : List (List ℕ)) × (line : List ℕ) × (rest : List ℕ) × BeginsTrailers bytes lines line (10 ∷ rest)
+    (f ≡ fault.Chunk)
+    × ((lines : List (List ℕ)) × (line : List ℕ) × (rest : List ℕ) × BeginsTrailers bytes lines line (10 ∷ rest)
     × ¬ (EndsInReturn line))
 Breaks max_body sum bytes LongTrailers f =
-    (f ≡ fault.Chunk) × ((lines : List (List ℕ)) × (line : List ℕ) × (b : ℕ) × (rest : List ℕ) × BeginsTrailers bytes lines line (b ∷ rest)
+    (f ≡ fault.Chunk) × ((lines : List (List ℕ)) × (line : List ℕ) × (b : ℕ) × (rest : List ℕ)
+    × BeginsTrailers bytes lines line (b ∷ rest)
     × (most_trailer_bytes ≤ lines_length lines + length line))
 
 -- behind whole chunks, within the limit, the bytes deviate

@@ -34,7 +34,8 @@ Takes place old bytes new (token.Last n) =
     (n ≤ length bytes)
     × (0 < n)
     × ((more : List ℕ) → chunks_from (bytes ++ more) (chunking_of place old) ≡ Whole (Some new) (drop n bytes ++ more))
-Takes place old bytes new (token.Faulty f) = (more : List ℕ) → chunks_from (bytes ++ more) (chunking_of place old) ≡ Bad f
+Takes place old bytes new (token.Faulty f) =
+    (more : List ℕ) → chunks_from (bytes ++ more) (chunking_of place old) ≡ Bad f
 
 -- how many bytes were taken
 abbrev pub bytes_of : ChunkToken → ℕ

@@ -5,7 +5,8 @@ use Rattle.hx_framing.specs.declared.contents.tokens.Phase.TheVariants as phase
 use Rattle.hx_framing.specs.declared.contents.tokens.ChunkState.{ChunkState}
 
 -- need: bytes of data still to come of this chunk; left: bytes of content that later chunks may have;
--- used: bytes of the whole trailer lines; content: the data so far; line: the bytes of the line so far, or the CR behind data
+-- used: bytes of the whole trailer lines; content: the data so far; line: the bytes of the line so
+-- far, or the CR behind data
 pub record Chunking : Type 0 where
   pub phase : Phase
   pub need : ℕ

@@ -3,7 +3,8 @@
 --
 -- chunks: the content at the front of the bytes    chunks_from: the same, from a state on    step: what a byte does
 -- state_after: the state behind the bytes
-use Rattle.std.specs.Prelude.{ℕ, ◌+◌, ◌-◌, cond, List, [], ◌∷◌, ◌++◌, length, ◌==◌, nat_lt, Option, Some, None, Result, Ok, Err}
+use Rattle.std.specs.Prelude.{ℕ, ◌+◌, ◌-◌, cond, List, [], ◌∷◌, ◌++◌, length, ◌==◌, nat_lt, Option, Some, None, Result}
+use Rattle.std.specs.Prelude.{Ok, Err}
 use Rattle.hx_framing.specs.declared.fault.FrameFault.{FrameFault}
 use Rattle.hx_framing.specs.declared.fault.FrameFault.TheVariants as fault
 use Rattle.hx_framing.specs.declared.contents.tokens.Phase.{Phase}
@@ -38,7 +39,8 @@ abbrev pub size_step : Chunking → ℕ → Step
 size_step s b =
     cond (b == 10)
     (sized s (size_at s.line s.left))
-    (cond (nat_lt (length s.line) most_size_line_bytes) (Go (with_line s phase.Size (s.line ++ b ∷ []))) (Fail fault.Chunk))
+    (cond (nat_lt (length s.line) most_size_line_bytes) (Go (with_line s phase.Size (s.line ++ b ∷ [])))
+    (Fail fault.Chunk))
 
 abbrev pub data_step : Chunking → ℕ → Step
 data_step s b =

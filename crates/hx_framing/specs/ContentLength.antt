@@ -3,7 +3,8 @@
 -- length_pieces: what the lines list    one_number: the number that texts of digits are    length_told: the length
 -- length_up_to, announced_up_to: the length within a limit
 -- significant, is_number: a number compared by its digits, so that it may have any size
-use Rattle.std.specs.Prelude.{ℕ, ◌&&◌, Bool, cond, List, [], ◌∷◌, map, drop, bytes_eq, Option, Some, None, Result, Ok, Err, nat_le, ◌==◌, codes}
+use Rattle.std.specs.Prelude.{ℕ, ◌&&◌, Bool, cond, List, [], ◌∷◌, map, drop, bytes_eq, Option, Some, None, Result, Ok}
+use Rattle.std.specs.Prelude.{Err, nat_le, ◌==◌, codes}
 use Rattle.std.specs.List.{list_all, prefix_len, slice_split}
 use Rattle.std.specs.Char.{is_ascii_digit}
 use Rattle.std.specs.Str.Parse.{digits_value}

@@ -18,6 +18,7 @@ abbrev pub ReadsOn : Bool → Bool → List ℕ → Content → ContentProgress 
 ReadsOn ended closed bytes old (content_progress.Incomplete n) new left =
     (ended ≡ false) × Advances closed bytes old (content_progress.Incomplete n) new × (left ≡ drop n bytes)
 ReadsOn ended closed bytes old (content_progress.Faulty f) new left =
-    (with_body {M = Option (List ℕ)} ended (λ content. content) (body_from old closed bytes) ≡ Faulty f) × (left ≡ bytes)
+    (with_body {M = Option (List ℕ)} ended (λ content. content) (body_from old closed bytes) ≡ Faulty f)
+    × (left ≡ bytes)
 ReadsOn ended closed bytes old (content_progress.Whole c n) new left =
     Advances closed bytes old (content_progress.Whole c n) new × (left ≡ drop n bytes)

@@ -70,4 +70,5 @@ Advances ended bytes old (content_progress.Incomplete n) new =
     × ((more : List ℕ) (e : Bool) → body_from old e (bytes ++ more) ≡ body_from new e (drop n bytes ++ more))
     × IsOpen new (drop n bytes)
 Advances ended bytes old (content_progress.Faulty f) new = body_from old ended bytes ≡ Bad f
-Advances ended bytes old (content_progress.Whole c n) new = (n ≤ length bytes) × (body_from old ended bytes ≡ Whole c (drop n bytes))
+Advances ended bytes old (content_progress.Whole c n) new =
+    (n ≤ length bytes) × (body_from old ended bytes ≡ Whole c (drop n bytes))

@@ -7,8 +7,9 @@ use Rattle.hx_framing.specs.Chunking.{Chunking}
 use Rattle.hx_framing.specs.Chunks.{chunks_from, state_after}
 use Rattle.hx_framing.specs.ChunkTokens.{IsOpenLine}
 
--- from the state old: Incomplete: the bytes lead to the state new and then into a line, or the CRLF behind data, that isn't whole:
--- it is just what isn't taken; Whole: they end the content; Faulty: they are at fault, whatever follows
+-- from the state old: Incomplete: the bytes lead to the state new and then into a line, or the CRLF
+-- behind data, that isn't whole: it is just what isn't taken; Whole: they end the content; Faulty:
+-- they are at fault, whatever follows
 abbrev pub Decodes : Chunking → List ℕ → Chunking → ChunkProgress → Type 0
 Decodes old bytes new (chunk_progress.Incomplete n) =
     (n ≤ length bytes)

@@ -1,7 +1,8 @@
 -- The numbers of the faults of a stream. Of several at one place the least is answered.
 use Rattle.std.specs.Prelude.{ℕ}
 use Rattle.hx_framing.specs.declared.fault.FrameFault.{FrameFault}
-use Rattle.hx_framing.specs.declared.fault.FrameFault.TheVariants.{Head, Version, BothLengths, Length, Coding, Chunk, TooLarge, Expect, Truncated, Status}
+use Rattle.hx_framing.specs.declared.fault.FrameFault.TheVariants.{Head, Version, BothLengths, Length, Coding, Chunk}
+use Rattle.hx_framing.specs.declared.fault.FrameFault.TheVariants.{TooLarge, Expect, Truncated, Status}
 
 abbrev pub number_of : FrameFault → ℕ
 number_of Head = 1

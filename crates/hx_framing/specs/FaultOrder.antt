@@ -1,12 +1,15 @@
--- Which faults stand at the end of a head (RFC 9112, section 6, and RFC 9110, sections 10.1.1 and 15), one equation a fault.
+-- Which faults stand at the end of a head (RFC 9112, section 6, and RFC 9110, sections 10.1.1 and
+-- 15), one equation a fault.
 -- own: of several the one of the least number is answered
 use Rattle.std.specs.Prelude.{◌≡◌, ℕ, ◌≤◌, ◌&&◌, ◌||◌, ◌==◌, Bool, true, false, not}
 use Rattle.hx_framing.specs.declared.fault.FrameFault.{FrameFault}
-use Rattle.hx_framing.specs.declared.fault.FrameFault.TheVariants.{Head, Version, BothLengths, Length, Coding, Chunk, TooLarge, Expect, Truncated, Status}
+use Rattle.hx_framing.specs.declared.fault.FrameFault.TheVariants.{Head, Version, BothLengths, Length, Coding, Chunk}
+use Rattle.hx_framing.specs.declared.fault.FrameFault.TheVariants.{TooLarge, Expect, Truncated, Status}
 use Rattle.hx_framing.specs.declared.heads.request_head.Head.{Head as RequestHead}
 use Rattle.hx_framing.specs.declared.heads.status_head.StatusHead.{StatusHead}
 use Rattle.hx_framing.specs.Fault.{number_of}
-use Rattle.hx_framing.specs.Lengths.{has_both, has_bad_length, has_endless_coding, has_other_coding, is_too_large, has_other_expectation, expectation, is_without_content, is_taken_status}
+use Rattle.hx_framing.specs.Lengths.{has_both, has_bad_length, has_endless_coding, has_other_coding, is_too_large}
+use Rattle.hx_framing.specs.Lengths.{has_other_expectation, expectation, is_without_content, is_taken_status}
 
 -- at the end of a request's head
 abbrev pub stands_in_request : ℕ → RequestHead → FrameFault → Bool

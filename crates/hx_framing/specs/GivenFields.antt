@@ -1,9 +1,11 @@
--- What the lines of a head give as fields (RFC 9112, section 5, and RFC 9110, section 5.5), and what its first line gives.
+-- What the lines of a head give as fields (RFC 9112, section 5, and RFC 9110, section 5.5), and
+-- what its first line gives.
 --
 -- SpellsField: a line spells a field    SpellFields: lines spell fields, one each, in order
 -- GivesFields: the lines of a head give these fields
 -- SpellsRequestLine, SpellsStatusLine: a first line spells the parts of a head
-use Rattle.std.specs.Prelude.{◌≡◌, ℕ, ◌+◌, ◌-◌, ◌≤◌, ◌<◌, ◌++◌, ◌&&◌, ◌||◌, ◌==◌, not, Bool, true, false, List, [], ◌∷◌, length, nat_le, codes, slice_index, Option, Some, None}
+use Rattle.std.specs.Prelude.{◌≡◌, ℕ, ◌+◌, ◌-◌, ◌≤◌, ◌<◌, ◌++◌, ◌&&◌, ◌||◌, ◌==◌, not, Bool, true, false, List, [], ◌∷◌}
+use Rattle.std.specs.Prelude.{length, nat_le, codes, slice_index, Option, Some, None}
 use Rattle.std.specs.List.{list_all}
 use Rattle.std.specs.Char.{is_ascii_digit}
 use Rattle.std.specs.Str.Parse.{digits_value}
@@ -41,7 +43,8 @@ SpellFields [] (field ∷ fields) = ⊥
 SpellFields (line ∷ lines) [] = ⊥
 SpellFields (line ∷ lines) (field ∷ fields) = SpellsField line field × SpellFields lines fields
 
--- behind the start line stand the lines of these fields, none left out and none added, and an empty line that ends the head
+-- behind the start line stand the lines of these fields, none left out and none added, and an empty
+-- line that ends the head
 pub record GivesFields (bytes : List ℕ) (fields : List Field) : Type 0 where
   pub lines : List (List ℕ)
   pub last : List ℕ

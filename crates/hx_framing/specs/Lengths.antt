@@ -6,7 +6,8 @@
 -- framing_of_lengths, request_body_of, framing_of_response: how a head is judged
 -- announced_of, without_lengths: what a message keeps of its length fields
 -- uncoded, framing_of_codings, framing_of_only_coding: the judgement in steps
-use Rattle.std.specs.Prelude.{ℕ, ◌-◌, ◌^◌, ◌&&◌, ◌||◌, Bool, true, false, cond, not, List, [], length, Option, Some, None, is_some, Result, Ok, Err, nat_lt, nat_le, ◌==◌, codes, count_by, slice_index_or}
+use Rattle.std.specs.Prelude.{ℕ, ◌-◌, ◌^◌, ◌&&◌, ◌||◌, Bool, true, false, cond, not, List, [], length, Option, Some}
+use Rattle.std.specs.Prelude.{None, is_some, Result, Ok, Err, nat_lt, nat_le, ◌==◌, codes, count_by, slice_index_or}
 use Rattle.std.specs.List.{list_all}
 use Rattle.hx_fields.specs.declared.field_line.Field.{Field}
 use Rattle.hx_fields.specs.Names.{is_same_name}
@@ -74,7 +75,8 @@ framing_or neither (Some n) = framing.Announced n
 
 -- what faultless length fields say, or what holds where neither stands
 abbrev pub framing_told : Framing → List Field → Framing
-framing_told neither fields = cond (has fields transfer_encoding) framing.Chunked (framing_or neither (length_told fields))
+framing_told neither fields =
+    cond (has fields transfer_encoding) framing.Chunked (framing_or neither (length_told fields))
 
 -- what is expected of a server
 -- own: in HTTP/1.0 Expect is ignored, not only 100-continue (RFC 9110, section 10.1.1)
@@ -151,13 +153,15 @@ with_status status (Ok told) = cond (is_taken_status status) (Ok told) (Err faul
 abbrev pub framing_of_response : ℕ → Bool → StatusHead → Result Framing FrameFault
 framing_of_response max_body to_head head =
     with_status head.status
-    (cond (head.status == 101 || is_without_content to_head head.status) (Ok framing.Nothing) (framing_of_final max_body head))
+    (cond (head.status == 101 || is_without_content to_head head.status) (Ok framing.Nothing)
+    (framing_of_final max_body head))
 
 -- the length that an answer to HEAD announces for the content that it doesn't have (RFC 9110, section 8.6)
 -- own: below 2^64, and not beside Transfer-Encoding
 abbrev pub announced_of : Bool → StatusHead → Option ℕ
 announced_of to_head head =
-    cond (to_head && not (has head.fields transfer_encoding)) (announced_up_to (2 ^ 64 - 1) (length_told head.fields)) None
+    cond (to_head && not (has head.fields transfer_encoding))
+    (announced_up_to (2 ^ 64 - 1) (length_told head.fields)) None
 
 -- the lines that are no length fields
 abbrev pub without_lengths : List Field → List Field

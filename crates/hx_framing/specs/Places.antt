@@ -2,11 +2,13 @@
 -- A byte past the end reads as 0, which no test here wants.
 --
 -- empty_lines_length: the empty lines in front    head_length: they and a head, with the empty line that ends it
-use Rattle.std.specs.Prelude.{◌≡◌, ℕ, ◌+◌, ◌≤◌, ◌&&◌, cond, List, [], ◌∷◌, ◌==◌, Option, Some, None, length, drop, slice_index}
+use Rattle.std.specs.Prelude.{◌≡◌, ℕ, ◌+◌, ◌≤◌, ◌&&◌, cond, List, [], ◌∷◌, ◌==◌, Option, Some, None, length, drop}
+use Rattle.std.specs.Prelude.{slice_index}
 
 -- how many bytes the empty line at the front takes: CRLF or LF, or 0 where there is none
 abbrev pub empty_line_at : List ℕ → ℕ
-empty_line_at bytes = cond (slice_index bytes 0 == 10) 1 (cond (slice_index bytes 0 == 13 && (slice_index bytes 1 == 10)) 2 0)
+empty_line_at bytes =
+    cond (slice_index bytes 0 == 10) 1 (cond (slice_index bytes 0 == 13 && (slice_index bytes 1 == 10)) 2 0)
 
 -- how many bytes a line end and an empty line behind it take: LF LF or LF CR LF, or 0
 -- own: a line may end by LF alone
@@ -18,14 +20,16 @@ head_end_at bytes =
 -- where the first empty line ends, counted from at
 abbrev pub head_end_from : ℕ → List ℕ → Option ℕ
 head_end_from at [] = None
-head_end_from at (b ∷ bytes) = cond (head_end_at (b ∷ bytes) == 0) (head_end_from (at + 1) bytes) (Some (at + head_end_at (b ∷ bytes)))
+head_end_from at (b ∷ bytes) =
+    cond (head_end_at (b ∷ bytes) == 0) (head_end_from (at + 1) bytes) (Some (at + head_end_at (b ∷ bytes)))
 
 -- where the empty lines in front end, counted from at
 abbrev pub empty_lines_from : ℕ → List ℕ → ℕ
 empty_lines_from at [] = at
 empty_lines_from at (b ∷ []) = cond (b == 10) (at + 1) at
 empty_lines_from at (b ∷ c ∷ bytes) =
-    cond (b == 10) (empty_lines_from (at + 1) (c ∷ bytes)) (cond (b == 13 && (c == 10)) (empty_lines_from (at + 2) bytes) at)
+    cond (b == 10) (empty_lines_from (at + 1) (c ∷ bytes))
+    (cond (b == 13 && (c == 10)) (empty_lines_from (at + 2) bytes) at)
 
 -- how many bytes the empty lines in front take
 abbrev pub empty_lines_length : List ℕ → ℕ

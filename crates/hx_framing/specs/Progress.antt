@@ -2,7 +2,8 @@
 --
 -- Progress: a stream so far and what was given of it    start, fed, finished, moved: how it goes on
 -- next_of: the answer to a reading    IsDue: there is something to do    cost: what an answer takes of what is to come
--- needs_memory: want of memory may stand in place of the answer    is_no_head: the fault is that of bytes that are no head
+-- needs_memory: out of memory may stand in place of the answer
+-- is_no_head: the fault is that of bytes that are no head
 use Rattle.std.specs.Prelude.{ℕ, Bool, true, false, not, List, [], ◌∷◌, ◌++◌}
 use Rattle.hx_framing.specs.declared.messages.Next.{Next}
 use Rattle.hx_framing.specs.declared.messages.Next.TheVariants as next
@@ -78,7 +79,7 @@ is_no_head fault.Expect = false
 is_no_head fault.Truncated = false
 is_no_head fault.Status = false
 
--- want of memory may stand in place of this answer: not of the end, nor of a refusal of bytes that are no head
+-- out of memory may stand in place of this answer: not of the end, nor of a refusal of bytes that are no head
 -- own: a fault behind a head may stay hidden, since the head is copied before its content is judged
 abbrev pub needs_memory : {M : Type 0} → Next M → Bool
 needs_memory next.More = true

@@ -14,7 +14,8 @@ use Rattle.hx_framing.specs.RequestReading.{request_of, Reads}
 -- whatever comes, the bytes read as this head with what the unread ones make of its content
 abbrev pub Resumes : ℕ → Bool → Head → Content → List ℕ → List ℕ → Type 0
 Resumes max_body told head content bytes unread = (more : List ℕ) (ended : Bool)
-    → Reads max_body ended told (bytes ++ more) (with_body ended (request_of head) (body_from content false (unread ++ more)))
+    → Reads max_body ended told (bytes ++ more)
+    (with_body ended (request_of head) (body_from content false (unread ++ more)))
 
 -- an index behind at least one of the bytes, and within them
 abbrev pub IsBehind : List ℕ → ℕ → Type 0
@@ -22,13 +23,17 @@ IsBehind bytes n = (0 < n) × (n ≤ length bytes)
 
 -- it is what the bytes read as, before a continue was given
 abbrev pub IsHeadProgress : ℕ → Bool → List ℕ → HeadProgress Head Request → Type 0
-IsHeadProgress max_body ended bytes (head_progress.Incomplete n) = Reads max_body ended false bytes Incomplete × IsOpenHead bytes
+IsHeadProgress max_body ended bytes (head_progress.Incomplete n) =
+    Reads max_body ended false bytes Incomplete × IsOpenHead bytes
 IsHeadProgress max_body ended bytes (head_progress.NeedsContinue head content n) =
-    IsBehind bytes n × Reads max_body ended false bytes Continue × Resumes max_body true head content bytes (drop n bytes)
+    IsBehind bytes n × Reads max_body ended false bytes Continue
+    × Resumes max_body true head content bytes (drop n bytes)
 IsHeadProgress max_body ended bytes (head_progress.InContent head content n) =
-    IsBehind bytes n × Reads max_body ended false bytes Incomplete × Resumes max_body false head content bytes (drop n bytes)
+    IsBehind bytes n × Reads max_body ended false bytes Incomplete
+    × Resumes max_body false head content bytes (drop n bytes)
     × IsOpen content (drop n bytes)
-IsHeadProgress max_body ended bytes (head_progress.Message m n) = IsBehind bytes n × Reads max_body ended false bytes (Spelled m (drop n bytes))
+IsHeadProgress max_body ended bytes (head_progress.Message m n) =
+    IsBehind bytes n × Reads max_body ended false bytes (Spelled m (drop n bytes))
 IsHeadProgress max_body ended bytes (head_progress.Faulty f) = Reads max_body ended false bytes (Faulty f)
 IsHeadProgress max_body ended bytes head_progress.Ended = Reads max_body ended false bytes Over
 

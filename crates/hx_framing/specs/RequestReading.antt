@@ -1,5 +1,6 @@
 -- What stands at the front of the unread bytes of a request stream (RFC 9112, sections 2 and 6).
-use Rattle.std.specs.Prelude.{◌≡◌, ℕ, ◌&&◌, Bool, false, not, cond, List, Option, Some, None, Result, Ok, Err, length, take, drop, nat_lt, ◌==◌}
+use Rattle.std.specs.Prelude.{◌≡◌, ℕ, ◌&&◌, Bool, false, not, cond, List, Option, Some, None, Result, Ok, Err, length}
+use Rattle.std.specs.Prelude.{take, drop, nat_lt, ◌==◌}
 use Rattle.hx_framing.specs.declared.heads.request_head.Head.{Head}
 use Rattle.hx_framing.specs.declared.messages.Request.{Request}
 use Rattle.hx_framing.specs.declared.lengths.framing.RequestBody.{RequestBody}
@@ -26,12 +27,14 @@ request_of head content = record {
 abbrev pub with_request_body : ℕ → Bool → Bool → Head → List ℕ → Result RequestBody FrameFault → Reading Request
 with_request_body max_body ended told head bytes (Err f) = Faulty f
 with_request_body max_body ended told head bytes (Ok body) =
-    cond (body.wants_continue && not told) Continue (with_body ended (request_of head) (body_at max_body body.framing false bytes))
+    cond (body.wants_continue && not told) Continue
+    (with_body ended (request_of head) (body_at max_body body.framing false bytes))
 
 -- behind a judged head
 abbrev pub with_head : ℕ → Bool → Bool → List ℕ → Result Head FrameFault → Reading Request
 with_head max_body ended told bytes (Err f) = Faulty f
-with_head max_body ended told bytes (Ok head) = with_request_body max_body ended told head bytes (request_body_of max_body head)
+with_head max_body ended told bytes (Ok head) =
+    with_request_body max_body ended told head bytes (request_body_of max_body head)
 
 -- no head ends within the limit; empty lines alone are no message
 abbrev pub without_head : Bool → List ℕ → Reading Request
@@ -42,7 +45,8 @@ without_head ended bytes =
 abbrev pub ReadsBy : ℕ → Bool → Bool → List ℕ → Option ℕ → Reading Request → Type 0
 ReadsBy max_body ended told bytes None reading = reading ≡ without_head ended bytes
 ReadsBy max_body ended told bytes (Some n) reading =
-    (judged : Result Head FrameFault) × Judges (take n bytes) judged × (reading ≡ with_head max_body ended told (drop n bytes) judged)
+    (judged : Result Head FrameFault) × Judges (take n bytes) judged
+    × (reading ≡ with_head max_body ended told (drop n bytes) judged)
 
 -- ended: the stream ends behind these bytes; told: the continue of this message was given
 abbrev pub Reads : ℕ → Bool → Bool → List ℕ → Reading Request → Type 0

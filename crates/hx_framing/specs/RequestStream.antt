@@ -24,6 +24,6 @@ pub record Answers (p : Progress Request) (answer : Next Request) : Type 0 where
   pub reads : Reads p.max_body p.ended p.told rest reading
   pub answer_is : answer ≡ next_of reading
 
--- want of memory may stand in place of the answer
+-- out of memory may stand in place of the answer
 abbrev pub NeedsMemory : Progress Request → Type 0
 NeedsMemory p = (answer : Next Request) → Answers p answer → needs_memory answer ≡ true

@@ -1,5 +1,6 @@
 -- What is found at the front of a response stream, and how its content goes on.
-use Rattle.std.specs.Prelude.{◌≡◌, ℕ, ◌+◌, ◌<◌, ◌≤◌, ◌++◌, Bool, false, cond, List, length, take, drop, Some, None, Ok, Err}
+use Rattle.std.specs.Prelude.{◌≡◌, ℕ, ◌+◌, ◌<◌, ◌≤◌, ◌++◌, Bool, false, cond, List, length, take, drop, Some, None, Ok}
+use Rattle.std.specs.Prelude.{Err}
 use Rattle.hx_framing.specs.declared.heads.status_head.StatusHead.{StatusHead}
 use Rattle.hx_framing.specs.declared.messages.Response.{Response}
 use Rattle.hx_framing.specs.declared.contents.content.Content.{Content}
@@ -17,7 +18,8 @@ use Rattle.hx_framing.specs.ResponseReading.{response_of, Passes, Reads}
 -- whatever comes, the bytes read as this head with what the unread ones make of its content
 abbrev pub Resumes : ℕ → Bool → StatusHead → Content → List ℕ → List ℕ → Type 0
 Resumes max_body to_head head content bytes unread = (more : List ℕ) (ended : Bool)
-    → Reads max_body to_head ended (bytes ++ more) (with_body ended (response_of to_head head) (body_from content ended (unread ++ more)))
+    → Reads max_body to_head ended (bytes ++ more)
+    (with_body ended (response_of to_head head) (body_from content ended (unread ++ more)))
 
 -- an index behind at least one of the bytes, and within them
 abbrev pub IsBehind : List ℕ → ℕ → Type 0
@@ -33,17 +35,20 @@ IsFinalHead bytes (final_head.Faulty f) =
     × (head_length (take most_head_bytes rest) ≡ Some n) × Judges (take n rest) (Err f))
 IsFinalHead bytes (final_head.Complete head at) =
     IsBehind bytes at × ((sizes : List ℕ) × (rest : List ℕ) × (n : ℕ) × Passes bytes sizes rest
-    × (head_length (take most_head_bytes rest) ≡ Some n) × Judges (take n rest) (Ok head) × (is_interim head.status ≡ false)
+    × (head_length (take most_head_bytes rest) ≡ Some n) × Judges (take n rest) (Ok head)
+    × (is_interim head.status ≡ false)
     × (drop n rest ≡ drop at bytes))
 
 -- it is what the bytes read as; a response stream never ends without a message or a fault
 abbrev pub IsHeadProgress : ℕ → Bool → Bool → List ℕ → HeadProgress StatusHead Response → Type 0
 IsHeadProgress max_body to_head ended bytes (head_progress.Incomplete n) =
-    (n ≤ length bytes) × Reads max_body to_head ended bytes Incomplete × ((sizes : List ℕ) × Passes bytes sizes (drop n bytes))
+    (n ≤ length bytes) × Reads max_body to_head ended bytes Incomplete
+    × ((sizes : List ℕ) × Passes bytes sizes (drop n bytes))
     × IsOpenHead (drop n bytes)
 IsHeadProgress max_body to_head ended bytes (head_progress.NeedsContinue head content n) = ⊥
 IsHeadProgress max_body to_head ended bytes (head_progress.InContent head content n) =
-    IsBehind bytes n × Reads max_body to_head ended bytes Incomplete × Resumes max_body to_head head content bytes (drop n bytes)
+    IsBehind bytes n × Reads max_body to_head ended bytes Incomplete
+    × Resumes max_body to_head head content bytes (drop n bytes)
     × IsOpen content (drop n bytes)
 IsHeadProgress max_body to_head ended bytes (head_progress.Message m n) =
     IsBehind bytes n × Reads max_body to_head ended bytes (Spelled m (drop n bytes))

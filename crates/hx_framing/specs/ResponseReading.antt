@@ -1,7 +1,8 @@
 -- What stands at the front of a response stream (RFC 9112, sections 4 and 6).
 --
 -- Front: what the bytes behind the interim responses read as    Passes: interim responses in front    Reads: both
-use Rattle.std.specs.Prelude.{◌≡◌, ℕ, Bool, true, false, cond, List, [], ◌∷◌, Option, Some, None, Result, Ok, Err, length, take, drop, nat_lt, ⊤}
+use Rattle.std.specs.Prelude.{◌≡◌, ℕ, Bool, true, false, cond, List, [], ◌∷◌, Option, Some, None, Result, Ok, Err}
+use Rattle.std.specs.Prelude.{length, take, drop, nat_lt, ⊤}
 use Rattle.hx_framing.specs.declared.heads.status_head.StatusHead.{StatusHead}
 use Rattle.hx_framing.specs.declared.messages.Response.{Response}
 use Rattle.hx_framing.specs.declared.lengths.framing.Framing.{Framing}

@@ -51,7 +51,8 @@ IsBegun (phase.InContent head content) bytes = IsOpen content bytes
 IsBegun phase.Given bytes = ⊥
 IsBegun (phase.Faulty f) bytes = ⊥
 
--- no head, interim or final, size line, data byte, CRLF behind data or trailer line is whole in what is kept, so it is bounded
+-- no head, interim or final, size line, data byte, CRLF behind data or trailer line is whole in
+-- what is kept, so it is bounded
 pub record IsUnfinished (s : State) : Type 0 where
   pub begun : IsBegun s.phase (kept s)
   pub bounded : length (kept s) ≤ most_head_bytes

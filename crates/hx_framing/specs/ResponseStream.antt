@@ -27,6 +27,6 @@ pub record Answers (p : Progress Response) (answer : Next Response) : Type 0 whe
   pub spells : IsGiven p p.given
   pub by : AnswersBy p p.given answer
 
--- want of memory may stand in place of the answer
+-- out of memory may stand in place of the answer
 abbrev pub NeedsMemory : Progress Response → Type 0
 NeedsMemory p = (answer : Next Response) → Answers p answer → needs_memory answer ≡ true

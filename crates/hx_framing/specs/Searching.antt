@@ -8,9 +8,11 @@ use Rattle.hx_framing.specs.Places.{empty_lines_from, empty_lines_length, head_e
 -- no end of a head lies where the search has been: whatever bytes follow, it is found by going on from there
 pub record Reaches (bytes : List ℕ) (search : HeadSearch) : Type 0 where
   pub within : search.at ≤ length bytes
-  pub empty_lines : search.in_lines ≡ false → (more : List ℕ) → empty_lines_length (bytes ++ more) ≡ empty_lines_from search.at (drop search.at (bytes ++ more))
+  pub empty_lines : search.in_lines ≡ false → (more : List ℕ)
+      → empty_lines_length (bytes ++ more) ≡ empty_lines_from search.at (drop search.at (bytes ++ more))
   pub room : search.in_lines ≡ true → search.at + 2 ≤ length bytes
-  pub lines : search.in_lines ≡ true → (more : List ℕ) → head_length (bytes ++ more) ≡ head_end_from search.at (drop search.at (bytes ++ more))
+  pub lines : search.in_lines ≡ true → (more : List ℕ)
+      → head_length (bytes ++ more) ≡ head_end_from search.at (drop search.at (bytes ++ more))
 
 abbrev pub IsSearched : List ℕ → Searched → Type 0
 IsSearched bytes (searched.Ended n) = head_length bytes ≡ Some n

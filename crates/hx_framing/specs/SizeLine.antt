@@ -1,5 +1,6 @@
 -- Size lines of chunks (RFC 9112, sections 7.1 and 7.1.1).
-use Rattle.std.specs.Prelude.{ℕ, ◌+◌, ◌-◌, ◌&&◌, ◌||◌, Bool, true, cond, not, List, [], ◌∷◌, length, take, drop, ◌==◌, nat_lt, nat_le, slice_index, Option, Some, None, Result, Err, ok_or}
+use Rattle.std.specs.Prelude.{ℕ, ◌+◌, ◌-◌, ◌&&◌, ◌||◌, Bool, true, cond, not, List, [], ◌∷◌, length, take, drop, ◌==◌}
+use Rattle.std.specs.Prelude.{nat_lt, nat_le, slice_index, Option, Some, None, Result, Err, ok_or}
 use Rattle.std.specs.List.{list_all, prefix_len}
 use Rattle.std.specs.Char.{is_ascii_hexdigit}
 use Rattle.std.specs.Str.Parse.{digits_value}
@@ -39,7 +40,8 @@ hex_length text = prefix_len is_ascii_hexdigit text
 -- chunk-size [ chunk-ext ], with chunk-size = 1*HEXDIG
 abbrev pub is_size : List ℕ → Bool
 is_size text =
-    nat_lt 0 (hex_length text) && nat_le (hex_length text) most_size_digits && is_extension (drop (hex_length text) text)
+    nat_lt 0 (hex_length text) && nat_le (hex_length text) most_size_digits
+    && is_extension (drop (hex_length text) text)
 
 -- the size that the digits spell
 abbrev pub size_of : List ℕ → ℕ

@@ -26,7 +26,8 @@ status_head_at bytes spans r =
 abbrev pub IsStatusHead : List ℕ → ResponseHead → Type 0
 IsStatusHead bytes h = ReadsResponse bytes h [] × (length h.fields ≤ most_field_lines)
 
--- the fault of bytes that are no head: Version takes the place of Head where the status line begins with another version
+-- the fault of bytes that are no head: Version takes the place of Head where the status line begins
+-- with another version
 -- own: whatever else is wrong with the head
 abbrev pub status_head_fault : List ℕ → FrameFault
 status_head_fault bytes = if begins_with_other_version (start_line bytes) then fault.Version else fault.Head

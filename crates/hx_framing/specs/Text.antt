@@ -1,6 +1,7 @@
 -- The bytes of requests and responses that are sent (RFC 9112, sections 3 to 7).
 --
--- field_line, field_lines, line_of, length_line, close_line: lines of a head    request_text, response_text: whole messages
+-- field_line, field_lines, line_of, length_line, close_line: lines of a head
+-- request_text, response_text: whole messages
 use Rattle.std.specs.Prelude.{ℕ, ◌++◌, Bool, true, if◌then◌else◌, List, [], length, codes, decimal, Option, Some, None}
 use Rattle.std.specs.List.{flat_map}
 use Rattle.hx_fields.specs.declared.field_line.Field.{Field}

@@ -1,5 +1,6 @@
 -- Which start lines name a version other than 1.0 and 1.1 (RFC 9112, section 2.3).
-use Rattle.std.specs.Prelude.{ℕ, ◌-◌, ◌&&◌, Bool, cond, not, List, ◌==◌, nat_lt, nat_eq, length, take, drop, codes, slice_index}
+use Rattle.std.specs.Prelude.{ℕ, ◌-◌, ◌&&◌, Bool, cond, not, List, ◌==◌, nat_lt, nat_eq, length, take, drop, codes}
+use Rattle.std.specs.Prelude.{slice_index}
 use Rattle.std.specs.List.{starts_with, before_first}
 use Rattle.std.specs.Char.{is_ascii_digit}
 use Rattle.hx_framing.specs.Places.{empty_lines_length}

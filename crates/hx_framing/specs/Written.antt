@@ -3,14 +3,16 @@
 -- head_text: a request's text up to its content     sent_fields, sent_head: what is read back of it
 -- read_back: the request that is read back
 -- IsWritableField, IsWritable: each part stands in the text as it is
-use Rattle.std.specs.Prelude.{◌≡◌, ℕ, ◌<◌, ◌≤◌, ◌^◌, ◌++◌, true, false, List, [], ◌∷◌, length, codes, decimal, Option, Some, None, All, IsUtf8}
+use Rattle.std.specs.Prelude.{◌≡◌, ℕ, ◌<◌, ◌≤◌, ◌^◌, ◌++◌, true, false, List, [], ◌∷◌, length, codes, decimal, Option}
+use Rattle.std.specs.Prelude.{Some, None, All, IsUtf8}
 use Rattle.httparse.specs.Grammar.{IsToken, AllPass, is_uri_byte, is_value_byte, trim_ows}
 use Rattle.hx_fields.specs.declared.field_line.Field.{Field}
 use Rattle.hx_fields.specs.Lines.{has}
 use Rattle.hx_framing.specs.declared.heads.request_head.Head.{Head}
 use Rattle.hx_framing.specs.declared.messages.Request.{Request}
 use Rattle.hx_framing.specs.Places.{most_head_bytes, most_field_lines}
-use Rattle.hx_framing.specs.Text.{crlf, field_lines, length_line, close_line, content_length, content_bytes, request_line}
+use Rattle.hx_framing.specs.Text.{crlf, field_lines, length_line, close_line, content_length, content_bytes}
+use Rattle.hx_framing.specs.Text.{request_line}
 
 -- the text of a request up to its content
 abbrev pub head_text : Request → List ℕ

@@ -1,9 +1,11 @@
 -- Which responses are read back as they were written (RFC 9112, sections 4 to 6).
 --
--- SentResponse: the parts of a response that is sent     sent_text: its bytes     sent_head_text: those up to its content
+-- SentResponse: the parts of a response that is sent     sent_text: its bytes
+-- sent_head_text: those up to its content
 -- response_fields: the fields that are sent              response_back: the response that is read back
 -- IsWritableResponse: each part stands in the text as it is, and the head tells the content
-use Rattle.std.specs.Prelude.{◌≡◌, ℕ, ◌<◌, ◌≤◌, ◌^◌, ◌++◌, Bool, true, false, if◌then◌else◌, List, [], ◌∷◌, length, codes, Option, Some, None, IfSome, All}
+use Rattle.std.specs.Prelude.{◌≡◌, ℕ, ◌<◌, ◌≤◌, ◌^◌, ◌++◌, Bool, true, false, if◌then◌else◌, List, [], ◌∷◌, length}
+use Rattle.std.specs.Prelude.{codes, Option, Some, None, IfSome, All}
 use Rattle.hx_fields.specs.declared.field_line.Field.{Field}
 use Rattle.hx_fields.specs.Lines.{has}
 use Rattle.hx_framing.specs.declared.messages.Response.{Response}
@@ -34,8 +36,8 @@ close_fields close = if close then close_field ∷ [] else []
 abbrev pub response_fields : SentResponse → List Field
 response_fields m = m.fields ++ length_fields m.told ++ close_fields m.close
 
--- What is read back: what was written, with the line that closes the connection. To a HEAD the length that is told is that of
--- the content which isn't sent (RFC 9110, section 9.3.2).
+-- What is read back: what was written, with the line that closes the connection. To a HEAD the
+-- length that is told is that of the content which isn't sent (RFC 9110, section 9.3.2).
 abbrev pub response_back : Bool → SentResponse → Response
 response_back to_head m = record {
   status = m.status;
@@ -44,9 +46,9 @@ response_back to_head m = record {
   announced = if to_head then m.told else None;
 }
 
--- The status is final, each part stands in the text as it is, and nothing in the fields speaks of the content. Where the request
--- was HEAD, or the status has no content, none stands behind the head; else as much as is told (RFC 9112, section 6.3). The head
--- is within a reader's limits.
+-- The status is final, each part stands in the text as it is, and nothing in the fields speaks of
+-- the content. Where the request was HEAD, or the status has no content, none stands behind the
+-- head; else as much as is told (RFC 9112, section 6.3). The head is within a reader's limits.
 pub record IsWritableResponse (to_head : Bool) (m : SentResponse) : Type 0 where
   pub status : (200 ≤ m.status) × (m.status ≤ 599)
   pub fields : All IsWritableField m.fields

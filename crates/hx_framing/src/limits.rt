@@ -1,5 +1,6 @@
-//! The limits of what is read, and what past each is answered. The definitions have the same in `specs/Places.antt`,
-//! `specs/SizeLine.antt`, `specs/Chunks.antt` and `specs/Lengths.antt`. How long a content may be is the reader's caller to say.
+//! The limits of what is read, and what past each is answered. The definitions have the same in
+//! `specs/Places.antt`, `specs/SizeLine.antt`, `specs/Chunks.antt` and `specs/Lengths.antt`. How
+//! long a content may be is the reader's caller to say.
 
 /// Bytes of a head, with the empty lines in front of it. Each interim head has as many. A longer head is refused as
 /// `Head`; so is the stream at the first byte past it, where no head has ended.
@@ -8,7 +9,8 @@ pub(crate) const MOST_HEAD_BYTES: usize = 32768;
 /// Field lines of a head. A head with more is refused as `Head`.
 pub(crate) const MOST_FIELD_LINES: usize = 100;
 
-/// Field lines for which there is room at first: a short head seldom has more, and room for all would be cleared each time.
+/// Field lines for which there is room at first: a short head seldom has more, and room for all
+/// would be cleared each time.
 pub(crate) const FEW_FIELD_LINES: usize = 32;
 
 /// Bytes of a short head. To clear room for all the lines of a longer one costs little beside reading it.
@@ -20,10 +22,12 @@ pub(crate) const MOST_SIZE_DIGITS: usize = 15;
 /// Bytes behind the digits of a chunk's size, without the CRLF. A line with more is refused as `Chunk`.
 pub(crate) const MOST_EXTENSION_BYTES: usize = 256;
 
-/// Bytes of a size line, with its CRLF. A line that hasn't ended by then is refused as `Chunk` at the first byte past it.
+/// Bytes of a size line, with its CRLF. A line that hasn't ended by then is refused as `Chunk` at
+/// the first byte past it.
 pub(crate) const MOST_SIZE_LINE_BYTES: usize = MOST_SIZE_DIGITS + MOST_EXTENSION_BYTES + 2;
 
-/// Bytes of all trailer lines of a content, with the empty line behind them. The first byte past it is refused as `Chunk`.
+/// Bytes of all trailer lines of a content, with the empty line behind them. The first byte past it
+/// is refused as `Chunk`.
 pub(crate) const MOST_TRAILER_BYTES: usize = 32768;
 
 /// Bytes of content that an answer to HEAD announces. A greater length isn't kept; nothing is refused for it.

@@ -1,6 +1,7 @@
 //! Messages as they are sent. Their bytes are in `specs/Text.antt` (RFC 9112, sections 3 to 7).
 ghost use Rattle.std.specs.Prelude.{◌≡◌, ◌++◌, map, Option, OnOk, IfOk};
-ghost use Rattle.hx_framing.specs.Text.{field_line, field_lines, line_of, length_line, close_line, request_line, status_line, request_text, response_text};
+ghost use Rattle.hx_framing.specs.Text.{field_line, field_lines, line_of, length_line, close_line, request_line};
+ghost use Rattle.hx_framing.specs.Text.{status_line, request_text, response_text};
 
 use crate::messages::Request;
 use hx_fields::{Bytes, Field, Fields};
@@ -26,7 +27,8 @@ pub struct ResponseLines<'a> {
 }
 
 fn write_line(text: &mut Vec<u8>, name: &[u8], value: &[u8]) -> Result<(), AllocError>
-    ensures { OnOk result (text.new.items ≡ text.old.items ++ field_line (record { name = name.now; value = value.now })) }
+    ensures { OnOk result (text.new.items
+        ≡ text.old.items ++ field_line (record { name = name.now; value = value.now })) }
 {
     text.extend_from_slice(name)?;
     text.extend_from_slice(b": ")?;
@@ -116,8 +118,8 @@ pub fn write_request(alloc: Global, request: &Request) -> Result<Bytes, AllocErr
     Ok(Bytes::from_vec(text))
 }
 
-/// How many bytes these lines and a content take, with some more for a status line and a length: room for a message, so that
-/// its memory is asked for once. No clause speaks of it.
+/// How many bytes these lines and a content take, with some more for a status line and a length:
+/// room for a message, so that its memory is asked for once. No clause speaks of it.
 fn room_for(fields: &Fields, content: usize) -> usize {
     let mut room = content.saturating_add(256);
     for line in fields.as_slice() {
@@ -159,7 +161,8 @@ pub fn write_response_with(
     content: &[u8],
 ) -> Result<Bytes, AllocError>
     ensures { IfOk result (λ text. text
-        ≡ response_text status (lines.now.fields.now ++ map line_of lines.now.added.now) lines.now.length lines.now.close content.now) }
+        ≡ response_text status (lines.now.fields.now
+        ++ map line_of lines.now.added.now) lines.now.length lines.now.close content.now) }
 {
     let mut text = Vec::with_capacity(alloc, room_for(lines.fields, content.len()))?;
     write_status_line(&mut text, status)?;

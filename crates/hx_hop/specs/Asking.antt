@@ -36,4 +36,5 @@ asked_by request (Err fault) = Err fault
 -- What is asked: the target is judged with the fields as received, and a request whose target is refused has its fault.
 abbrev pub IsAsked : Request → Result Asked TargetFault → Type 0
 IsAsked request r =
-    (target : Result Target TargetFault) × Judged request.target (values_of request.fields (codes "Host")) target × (r ≡ asked_by request target)
+    (target : Result Target TargetFault) × Judged request.target (values_of request.fields (codes "Host")) target
+    × (r ≡ asked_by request target)

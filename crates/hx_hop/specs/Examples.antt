@@ -39,7 +39,8 @@ absolute_request = record {
   target = codes "http://H:80";
   minor = 1;
   fields
-      = line (codes "Host") (codes "x") ∷ line (codes "Connection") (codes "X-A") ∷ line (codes "X-A") (codes "1") ∷ line (codes "X-B") (codes "2") ∷ [];
+      = line (codes "Host") (codes "x") ∷ line (codes "Connection") (codes "X-A") ∷ line (codes "X-A") (codes "1")
+      ∷ line (codes "X-B") (codes "2") ∷ [];
   content = None;
 }
 

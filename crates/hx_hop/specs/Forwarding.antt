@@ -1,5 +1,6 @@
 -- The request that goes to an origin (RFC 9110, section 7.6).
-use Rattle.std.specs.Prelude.{ℕ, ◌==◌, Bool, not, ◌&&◌, ◌||◌, if◌then◌else◌, List, [], ◌∷◌, ◌++◌, filter, codes, decimal, Option, Some, None, is_some}
+use Rattle.std.specs.Prelude.{ℕ, ◌==◌, Bool, not, ◌&&◌, ◌||◌, if◌then◌else◌, List, [], ◌∷◌, ◌++◌, filter, codes}
+use Rattle.std.specs.Prelude.{decimal, Option, Some, None, is_some}
 use Rattle.hx_fields.specs.declared.field_line.Field.{Field}
 use Rattle.hx_fields.specs.Lines.{is_named}
 use Rattle.hx_framing.specs.declared.messages.Request.{Request}
@@ -39,7 +40,8 @@ condition_lines (Some conditions) =
 -- in order: Host, the client's lines, the proxy's conditions, Via
 abbrev pub forwarded_lines : Asked → List ℕ → Option Conditions → List Field
 forwarded_lines asked name conditions =
-    line (codes "Host") (host_text asked.target.key) ∷ client_lines (is_some conditions) asked.fields ++ condition_lines conditions
+    line (codes "Host") (host_text asked.target.key) ∷ client_lines (is_some conditions) asked.fields
+    ++ condition_lines conditions
     ++ line (codes "Via") (via_text asked.minor name) ∷ []
 
 -- the request that goes to the origin

@@ -1,5 +1,7 @@
--- What stripping, dating and forwarding leave, in the standard's words (RFC 9110, sections 6.6.1, 7.2, 7.6.1 and 7.6.3).
-use Rattle.std.specs.Prelude.{◌≡◌, ◌⊎◌, ℕ, ◌<◌, ◌==◌, true, false, ◌||◌, decimal, List, [], ◌∷◌, ◌++◌, codes, Option, Some}
+-- What stripping, dating and forwarding leave, in the standard's words (RFC 9110, sections 6.6.1,
+-- 7.2, 7.6.1 and 7.6.3).
+use Rattle.std.specs.Prelude.{◌≡◌, ◌⊎◌, ℕ, ◌<◌, ◌==◌, true, false, ◌||◌, decimal, List, [], ◌∷◌, ◌++◌, codes, Option}
+use Rattle.std.specs.Prelude.{Some}
 use Rattle.httpdate.specs.Date.{parse_secs}
 use Rattle.hx_fields.specs.declared.limits.TheConstants.{END_OF_TIME}
 use Rattle.hx_fields.specs.declared.field_line.Field.{Field}
@@ -39,7 +41,8 @@ HasOneDate = (fields : List Field) (now : ℕ) → now < END_OF_TIME → has_one
 
 -- so it isn't dated again
 abbrev pub DatesOnce : Type 0
-DatesOnce = (fields : List Field) (now later : ℕ) → now < END_OF_TIME → dated_of (dated_of fields now) later ≡ dated_of fields now
+DatesOnce = (fields : List Field) (now later : ℕ) → now < END_OF_TIME
+    → dated_of (dated_of fields now) later ≡ dated_of fields now
 
 -- whatever a request had, one Host line goes forward
 abbrev pub SendsOneHost : Type 0
@@ -54,7 +57,8 @@ EndsWithVia = (request : Request) (target : Target) (name : List ℕ) (condition
 
 -- no field of one connection goes forward, whatever the request had (RFC 9110, section 7.6.1)
 abbrev pub SendsNoHopField : Type 0
-SendsNoHopField = (request : Request) (target : Target) (name : List ℕ) (conditions : Option Conditions) (field : List ℕ) →
+SendsNoHopField =
+    (request : Request) (target : Target) (name : List ℕ) (conditions : Option Conditions) (field : List ℕ) →
     is_hop_name field ≡ true → has (forwarded_lines (asked_of request target) name conditions) field ≡ false
 
 -- nor does Expect, which the reader has carried out (RFC 9110, section 10.1.1)
@@ -65,14 +69,16 @@ SendsNoExpect = (request : Request) (target : Target) (name : List ℕ) (conditi
 -- nor a length of the client's, which the reader has taken out, so the writer's stands alone (RFC 9112, section 6.3)
 abbrev pub SendsNoLength : Type 0
 SendsNoLength = (request : Request) (target : Target) (name : List ℕ) (conditions : Option Conditions) →
-    has request.fields (codes "Content-Length") ≡ false → has (forwarded_lines (asked_of request target) name conditions) (codes "Content-Length") ≡ false
+    has request.fields (codes "Content-Length") ≡ false
+    → has (forwarded_lines (asked_of request target) name conditions) (codes "Content-Length") ≡ false
 
 -- method and content go forward as they came, with the path and query of the target, in the proxy's own version
 -- (RFC 9110, sections 2.5 and 7.6; RFC 9112, section 3.2.1)
 abbrev pub SendsWhatWasAsked : Type 0
 SendsWhatWasAsked = (request : Request) (target : Target) (name : List ℕ) (conditions : Option Conditions) →
     let sent = forwarded_of (asked_of request target) name conditions in
-    (sent.method ≡ request.method) × (sent.content ≡ request.content) × (sent.target ≡ target.key.path_query) × (sent.minor ≡ 1)
+    (sent.method ≡ request.method) × (sent.content ≡ request.content) × (sent.target ≡ target.key.path_query)
+    × (sent.minor ≡ 1)
 
 -- Host has the port unless it is the default one of http (RFC 9110, sections 4.2.1 and 7.2)
 abbrev pub LeavesOutTheDefaultPort : Type 0

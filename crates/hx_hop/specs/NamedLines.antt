@@ -1,5 +1,6 @@
 -- Names of lines, and which of them members of Connection give, by folded names.
-use Rattle.std.specs.Prelude.{◌≡◌, ℕ, nat_lt, Bool, false, not, ◌||◌, ◌&&◌, if◌then◌else◌, List, length, codes, bytes_eq, Option, Some, None}
+use Rattle.std.specs.Prelude.{◌≡◌, ℕ, nat_lt, Bool, false, not, ◌||◌, ◌&&◌, if◌then◌else◌, List, length, codes}
+use Rattle.std.specs.Prelude.{bytes_eq, Option, Some, None}
 use Rattle.std.specs.List.{list_any}
 use Rattle.std.specs.BTreeMap.{BTreeMap, get}
 use Rattle.hx_fields.specs.Folded.{folded, folded_cmp}

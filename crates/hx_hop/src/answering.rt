@@ -42,9 +42,9 @@ pub fn date_text(now: u64) -> [u8; 29]
     }
 }
 
-/// The fields with one valid Date: unless one stands, all Date lines go, and one of the moment of receipt comes
-/// last. The moment is in Unix seconds, below the year 10000. Its only error is want of memory, which drops the fields: whoever needs
-/// them afterwards hands in a copy.
+/// The fields with one valid Date: unless one stands, all Date lines go, and one of the moment of
+/// receipt comes last. The moment is in Unix seconds, below the year 10000. Its only error is out
+/// of memory, which drops the fields: whoever needs them afterwards hands in a copy.
 pub fn dated(mut fields: Fields, now: u64) -> Result<Fields, AllocError>
     requires { now < 253_402_300_800 }
     ensures { IfOk result (λ dated. dated ≡ dated_of fields now) }
@@ -58,7 +58,7 @@ pub fn dated(mut fields: Fields, now: u64) -> Result<Fields, AllocError>
 }
 
 /// The head of a response that was received at a moment, in Unix seconds, below the year 10000. Its only error
-/// is want of memory.
+/// is out of memory.
 pub fn answered(alloc: Global, response: &Response, now: u64) -> Result<Answered, AllocError>
     requires { now < 253_402_300_800 }
     ensures { IfOk result (λ answered. answered ≡ answered_of response.now now) }

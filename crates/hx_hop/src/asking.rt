@@ -79,7 +79,8 @@ fn asked_of(alloc: Global, request: &Request, target: Target) -> Result<Asked, A
     })
 }
 
-/// The request with its target, or the fault of its target. Want of memory of its own is told only where the target has none.
+/// The request with its target, or the fault of its target. That it ran out of memory itself is
+/// told only where the target has none.
 fn asked_by(
     alloc: Global,
     request: &Request,

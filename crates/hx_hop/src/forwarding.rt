@@ -1,7 +1,8 @@
 //! From a request that rules saw to the one that goes to the origin.
 ghost use Rattle.std.specs.Prelude.{◌≡◌, ◌++◌, ◌∷◌, [], IfOk, OnOk, codes, is_some};
 ghost use Rattle.std.specs.Option.{option_copied};
-ghost use Rattle.hx_hop.specs.Forwarding.{host_text, via_text, is_condition, client_lines, opt_line, condition_lines, forwarded_lines, forwarded_of};
+ghost use Rattle.hx_hop.specs.Forwarding.{host_text, via_text, is_condition, client_lines, opt_line, condition_lines};
+ghost use Rattle.hx_hop.specs.Forwarding.{forwarded_lines, forwarded_of};
 
 use crate::request_view::copy_content;
 use crate::{Asked, Conditions};

@@ -8,11 +8,16 @@ ghost use Rattle.hx_hop.specs.declared.request_view.Asked.{Asked as AskedFor};
 ghost use Rattle.hx_hop.specs.Answering.{answered_of, dated_of};
 ghost use Rattle.hx_hop.specs.Bypass.{asks_for_range, has_content, has_precondition};
 ghost use Rattle.hx_hop.specs.Asking.{IsAsked, asked_of, closes, kept_fields};
-ghost use Rattle.hx_hop.specs.Examples.{absolute_request, absolute_target, asked_of_content, asked_to_port, asked_with, both_conditions, connected, date_line, first_asked, first_conditions, mixed_fields, response_of};
+ghost use Rattle.hx_hop.specs.Examples.{absolute_request, absolute_target, asked_of_content, asked_to_port, asked_with};
+ghost use Rattle.hx_hop.specs.Examples.{both_conditions, connected, date_line, first_asked, first_conditions};
+ghost use Rattle.hx_hop.specs.Examples.{mixed_fields, response_of};
 ghost use Rattle.hx_hop.specs.Forwarding.{line, host_text, client_lines, via_text, forwarded_lines, forwarded_of};
 ghost use Rattle.hx_hop.specs.Moments.{date_text_of};
 ghost use Rattle.hx_hop.specs.Stripping.{connection_names, is_hop_name, lists_cache_field, stripped};
-ghost use Rattle.hx_hop.specs.Meaning.{TakesOutTheirs, KeepsTheOthers, StripsAtOnce, TellsTheMoment, HasOneDate, DatesOnce, SendsOneHost, EndsWithVia, SendsNoHopField, SendsNoExpect, SendsNoLength, SendsWhatWasAsked, LeavesOutTheDefaultPort, WritesOtherPorts, TellsTheVersion, ClosesWhereTold, StaysOpen, KeepsTheStatus};
+ghost use Rattle.hx_hop.specs.Meaning.{TakesOutTheirs, KeepsTheOthers, StripsAtOnce, TellsTheMoment, HasOneDate};
+ghost use Rattle.hx_hop.specs.Meaning.{DatesOnce, SendsOneHost, EndsWithVia, SendsNoHopField, SendsNoExpect};
+ghost use Rattle.hx_hop.specs.Meaning.{SendsNoLength, SendsWhatWasAsked, LeavesOutTheDefaultPort, WritesOtherPorts};
+ghost use Rattle.hx_hop.specs.Meaning.{TellsTheVersion, ClosesWhereTold, StaysOpen, KeepsTheStatus};
 
 use hx_target::a_target_is_judged_in_one_way;
 
@@ -29,7 +34,8 @@ pub fn the_first_request_is_forwarded()
     ensures text { request_text (forwarded_of first_asked (codes "edge") None) ≡ codes "GET /a HTTP/1.1\r\nHost: h\r\nVia: 1.1 edge\r\nConnection: close\r\n\r\n" }
     ensures size { length (request_text (forwarded_of first_asked (codes "edge") None)) ≡ 62 }
     ensures conditional { request_text (forwarded_of first_asked (codes "edge") (Some first_conditions)) ≡ codes "GET /a HTTP/1.1\r\nHost: h\r\nIf-None-Match: \"v1\"\r\nVia: 1.1 edge\r\nConnection: close\r\n\r\n" }
-    ensures conditional_size { length (request_text (forwarded_of first_asked (codes "edge") (Some first_conditions))) ≡ 83 }
+    ensures conditional_size { length (request_text (forwarded_of first_asked (codes "edge") (Some first_conditions)))
+        ≡ 83 }
     ensures other_port { host_text asked_to_port.target.key ≡ codes "h:" ++ decimal 81 }
     ensures replaced { client_lines true asked_to_port.fields ≡ line (codes "Accept") (codes "*/*") ∷ [] }
     ensures older { via_text asked_to_port.minor (codes "edge") ≡ codes "1.0 edge" }
@@ -61,7 +67,8 @@ pub fn absolute_form_is_rewritten()
     ensures kept { kept_fields absolute_request.fields ≡ line (codes "X-B") (codes "2") ∷ [] }
     ensures text { request_text (forwarded_of (asked_of absolute_request absolute_target) (codes "edge") None)
         ≡ codes "GET / HTTP/1.1\r\nHost: h\r\nX-B: 2\r\nVia: 1.1 edge\r\nConnection: close\r\n\r\n" }
-    ensures size { length (request_text (forwarded_of (asked_of absolute_request absolute_target) (codes "edge") None)) ≡ 69 }
+    ensures size { length (request_text (forwarded_of (asked_of absolute_request absolute_target) (codes "edge") None))
+        ≡ 69 }
     ensures open { closes absolute_request ≡ false }
 {}
 
@@ -95,7 +102,8 @@ pub fn moments_are_told()
     ensures last { date_text_of 253402300799 ≡ codes "Fri, 31 Dec 9999 23:59:59 GMT" }
 {}
 
-/// What concerns the client's connection doesn't go forward, nor do Expect and the client's length; what was asked does.
+/// What concerns the client's connection doesn't go forward, nor do Expect and the client's length;
+/// what was asked does.
 pub fn only_what_was_asked_goes_forward()
     ensures hop { SendsNoHopField }
     ensures expect { SendsNoExpect }
@@ -178,8 +186,8 @@ pub fn cache_fields_are_seen_in_connection()
     ensures not_close { lists_cache_field (connected (codes "close")) ≡ false }
 {}
 
-/// Content, ranges and the preconditions that only the origin can judge (RFC 9110, sections 13.1.1, 13.1.4, 13.1.5 and 14.2);
-/// the two that a cache judges aren't among them.
+/// Content, ranges and the preconditions that only the origin can judge (RFC 9110, sections 13.1.1,
+/// 13.1.4, 13.1.5 and 14.2); the two that a cache judges aren't among them.
 pub fn what_goes_past_the_cache()
     ensures range { asks_for_range (asked_with (codes "Range") (codes "bytes=0-1")) ≡ true }
     ensures if_range { asks_for_range (asked_with (codes "If-Range") (codes "\"e\"")) ≡ true }
@@ -193,8 +201,8 @@ pub fn what_goes_past_the_cache()
     ensures none { has_content (asked_of_content None) ≡ false }
 {}
 
-/// The proxy's conditions stand behind the client's lines, the tag first (RFC 9110, sections 13.1.2 and 13.1.3); without them the
-/// client's own go forward.
+/// The proxy's conditions stand behind the client's lines, the tag first (RFC 9110, sections 13.1.2
+/// and 13.1.3); without them the client's own go forward.
 pub fn conditions_go_forward()
     ensures both { forwarded_lines asked_to_port (codes "edge") (Some both_conditions)
         ≡ line (codes "Host") (codes "h:" ++ decimal 81) ∷ line (codes "Accept") (codes "*/*") ∷ line (codes "If-None-Match") (codes "\"v1\"")
@@ -205,7 +213,8 @@ pub fn conditions_go_forward()
 /// A response is stripped, and dated once Connection's names are gone.
 #[tactic(auto, unfolding(httpdate::proofs::OnLiterals::httpdate_on_literals, crate::specs::Moments::split_off))]
 pub fn stripped_before_it_is_dated()
-    ensures stripped { (answered_of (response_of (line (codes "Connection") (codes "X-A") ∷ line (codes "X-A") (codes "1") ∷ date_line (codes "Sun, 06 Nov 1994 08:49:37 GMT") ∷ [])) 101).fields
+    ensures stripped { (answered_of (response_of (line (codes "Connection") (codes "X-A")
+        ∷ line (codes "X-A") (codes "1") ∷ date_line (codes "Sun, 06 Nov 1994 08:49:37 GMT") ∷ [])) 101).fields
         ≡ date_line (codes "Sun, 06 Nov 1994 08:49:37 GMT") ∷ [] }
     ensures named { (answered_of (response_of (line (codes "Connection") (codes "date") ∷ date_line (codes "Sun, 06 Nov 1994 08:49:37 GMT") ∷ [])) 101).fields
         ≡ date_line (codes "Thu, 01 Jan 1970 00:01:41 GMT") ∷ [] }

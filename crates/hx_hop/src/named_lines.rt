@@ -8,7 +8,8 @@ ghost use Rattle.hx_fields.specs.Folded.{folded, folded_cmp};
 ghost use Rattle.hx_fields.specs.Lines.{count_of, is_named};
 ghost use Rattle.hx_fields.specs.Names.{members_of_value};
 ghost use Rattle.hx_hop.specs.Stripping.{is_hop_name, stripped};
-ghost use Rattle.hx_hop.specs.NamedLines.{AreLineNames, AreMarkedBy, is_marked, is_unmarked, has_many_members, marks_of_members, marks_of_value};
+ghost use Rattle.hx_hop.specs.NamedLines.{AreLineNames, AreMarkedBy, is_marked, is_unmarked, has_many_members};
+ghost use Rattle.hx_hop.specs.NamedLines.{marks_of_members, marks_of_value};
 
 use crate::stripping::is_hop_name;
 use hx_fields::{Field, Fields, FoldedName, is_same_name, next_member};
@@ -32,7 +33,7 @@ fn has_long_line(lines: &[Field]) -> bool
         && is_same_name(line.name.as_slice(), b"Connection"))
 }
 
-/// The lines that go on. Its only error is want of memory.
+/// The lines that go on. Its only error is out of memory.
 pub(crate) fn strip_many(alloc: Global, fields: &Fields) -> Result<Fields, AllocError>
     ensures { IfOk result (λ kept. kept ≡ stripped fields.now) }
 {
@@ -115,7 +116,9 @@ fn keep_unmarked(
     names: &BTreeMap<FoldedName, bool>,
     fields: &Fields,
 ) -> Result<Fields, AllocError>
-    ensures { IfOk result (λ kept. kept ≡ filter (λ line. not (is_hop_name line.name || is_marked (get folded_cmp names.now (folded line.name)))) fields.now) }
+    ensures { IfOk result (λ kept. kept
+        ≡ filter (λ line. not (is_hop_name line.name || is_marked (get folded_cmp names.now (folded line.name))))
+        fields.now) }
 {
     let mut kept = Fields::with_capacity(alloc, fields.len())?;
     let mut name = FoldedName::new(alloc);

@@ -53,7 +53,7 @@ pub(crate) fn copy_content(
 }
 
 impl Asked {
-    /// A request of the same values. Its only error is want of memory.
+    /// A request of the same values. Its only error is out of memory.
     pub fn copy(&self, alloc: Global) -> Result<Asked, AllocError>
         ensures { IfOk result (λ asked. asked ≡ self.now) }
     {

@@ -4,7 +4,8 @@
 ghost use Rattle.std.specs.Prelude.{◌≡◌, codes, IfOk};
 ghost use Rattle.std.specs.List.{list_any};
 ghost use Rattle.hx_fields.specs.Names.{is_same_name, members_of_value};
-ghost use Rattle.hx_hop.specs.Stripping.{cache_names, connection_names, is_among, is_hop_name, lists_cache_field, stripped};
+ghost use Rattle.hx_hop.specs.Stripping.{cache_names, connection_names, is_among, is_hop_name, lists_cache_field};
+ghost use Rattle.hx_hop.specs.Stripping.{stripped};
 
 use crate::named_lines::{has_many_members, strip_many};
 use hx_fields::{Fields, Members, is_same_name, next_member};
@@ -65,7 +66,7 @@ pub(crate) fn is_among(names: &Members, name: &[u8]) -> bool
 }
 
 /// The lines that go on: those of the connection alone are left out, and those that a member of Connection
-/// names. Its only error is want of memory.
+/// names. Its only error is out of memory.
 pub fn strip(alloc: Global, fields: &Fields) -> Result<Fields, AllocError>
     ensures { IfOk result (λ kept. kept ≡ stripped fields.now) }
 {

@@ -1,5 +1,5 @@
--- A message that was read goes on as one message (RFC 9112, sections 6.3 and 11.2): whatever a client sends, what the origin
--- gets for it is one request, which ends where the proxy ends it.
+-- A message that was read goes on as one message (RFC 9112, sections 6.3 and 11.2): whatever a
+-- client sends, what the origin gets for it is one request, which ends where the proxy ends it.
 use Rattle.std.specs.Prelude.{◌≡◌, ℕ, ◌<◌, ◌≤◌, ◌^◌, ◌++◌, Bool, false, List, length, codes, All, Option, IfSome, Ok}
 use Rattle.httparse.specs.Grammar.{AllPass, IsToken, is_value_byte, trim_ows}
 use Rattle.hx_fields.specs.Lines.{has, values_of}
@@ -19,9 +19,9 @@ use Rattle.hx_hop.specs.Forwarding.{forwarded_of}
 abbrev pub IsFieldValue : List ℕ → Type 0
 IsFieldValue value = AllPass is_value_byte value × (trim_ows value ≡ value)
 
--- What is read of a request, part by part (RFC 9110, sections 2.5, 5.1, 5.5 and 9.1): its method is a token, its version 1.0 or 1.1, each
--- line a token with a value in which no byte ends a line and around which no white space is left; the length is told by the
--- content alone.
+-- What is read of a request, part by part (RFC 9110, sections 2.5, 5.1, 5.5 and 9.1): its method is
+-- a token, its version 1.0 or 1.1, each line a token with a value in which no byte ends a line and
+-- around which no white space is left; the length is told by the content alone.
 pub record IsClean (r : Request) : Type 0 where
   pub method : IsToken r.method
   pub minor : r.minor ≤ 1
@@ -44,23 +44,29 @@ abbrev pub ReadsCleanParts : Type 0
 ReadsCleanParts = (max_body : ℕ) (ended told : Bool) (bytes rest : List ℕ) (request : Request)
     → Reads max_body ended told bytes (Spelled request rest) → IsClean request
 
--- what was read and asked goes forward in parts that stand in its text as they are: no CR, no LF and no blank in the method and
--- the target, no CR or LF in a field line, and no length, coding or expectation of the client's
+-- what was read and asked goes forward in parts that stand in its text as they are: no CR, no LF
+-- and no blank in the method and the target, no CR or LF in a field line, and no length, coding or
+-- expectation of the client's
 abbrev pub SendsPartsAsTheyAre : Type 0
 SendsPartsAsTheyAre =
-    (max_body most : ℕ) (ended told : Bool) (bytes rest : List ℕ) (request : Request) (target : Target) (name : List ℕ) (conditions : Option Conditions)
-    → Reads max_body ended told bytes (Spelled request rest) → Judged request.target (values_of request.fields (codes "Host")) (Ok target)
+    (max_body most : ℕ) (ended told : Bool) (bytes rest : List ℕ) (request : Request) (target : Target) (name : List ℕ)
+    (conditions : Option Conditions)
+    → Reads max_body ended told bytes (Spelled request rest)
+    → Judged request.target (values_of request.fields (codes "Host")) (Ok target)
     → IsToken name → IfSome conditions AreFieldValues
     → let sent = forwarded_of (asked_of request target) name conditions in
     most < 2 ^ 64 → IsWithinLimits most sent → IsWritable sent
 
--- and so its text is that of one request, whatever the origin's reader knows of the stream and whatever stands behind it: it
--- is read back as it was sent, and what stands behind it is left
+-- and so its text is that of one request, whatever the origin's reader knows of the stream and
+-- whatever stands behind it: it is read back as it was sent, and what stands behind it is left
 abbrev pub ForwardsOneRequest : Type 0
 ForwardsOneRequest =
-    (max_body most : ℕ) (ended told : Bool) (bytes rest : List ℕ) (request : Request) (target : Target) (name : List ℕ) (conditions : Option Conditions)
-    → Reads max_body ended told bytes (Spelled request rest) → Judged request.target (values_of request.fields (codes "Host")) (Ok target)
+    (max_body most : ℕ) (ended told : Bool) (bytes rest : List ℕ) (request : Request) (target : Target) (name : List ℕ)
+    (conditions : Option Conditions)
+    → Reads max_body ended told bytes (Spelled request rest)
+    → Judged request.target (values_of request.fields (codes "Host")) (Ok target)
     → IsToken name → IfSome conditions AreFieldValues
     → let sent = forwarded_of (asked_of request target) name conditions in
     most < 2 ^ 64 → IsWithinLimits most sent
-    → (over continued : Bool) (behind : List ℕ) → Reads most over continued (request_text sent ++ behind) (Spelled (read_back sent) behind)
+    → (over continued : Bool) (behind : List ℕ)
+    → Reads most over continued (request_text sent ++ behind) (Spelled (read_back sent) behind)

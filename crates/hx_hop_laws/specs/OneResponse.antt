@@ -1,6 +1,7 @@
--- An answer that was read goes on as one response (RFC 9112, sections 6.3 and 11.1): whatever an origin sends, what a client gets for
--- it is one response, which ends where the proxy ends it.
-use Rattle.std.specs.Prelude.{◌≡◌, ℕ, ◌<◌, ◌≤◌, ◌^◌, ◌==◌, ◌||◌, ◌++◌, if◌then◌else◌, Bool, false, List, [], length, codes, All, None, Some}
+-- An answer that was read goes on as one response (RFC 9112, sections 6.3 and 11.1): whatever an
+-- origin sends, what a client gets for it is one response, which ends where the proxy ends it.
+use Rattle.std.specs.Prelude.{◌≡◌, ℕ, ◌<◌, ◌≤◌, ◌^◌, ◌==◌, ◌||◌, ◌++◌, if◌then◌else◌, Bool, false, List, [], length}
+use Rattle.std.specs.Prelude.{codes, All, None, Some}
 use Rattle.hx_fields.specs.declared.limits.TheConstants.{END_OF_TIME}
 use Rattle.hx_fields.specs.declared.field_line.Field.{Field}
 use Rattle.hx_fields.specs.Lines.{has}
@@ -12,13 +13,15 @@ use Rattle.hx_framing.specs.Written.{IsWritableField}
 use Rattle.hx_framing.specs.WrittenResponse.{SentResponse, response_back, response_fields, sent_head_text, sent_text}
 use Rattle.hx_hop.specs.Answering.{answered_of}
 
--- What goes on of an answer, with lines of the proxy's behind its own. No length is told where the status has none (RFC 9110, section
--- 8.6); to HEAD the one that the origin announced is (section 9.3.2), and no content goes on.
+-- What goes on of an answer, with lines of the proxy's behind its own. No length is told where the
+-- status has none (RFC 9110, section 8.6); to HEAD the one that the origin announced is (section
+-- 9.3.2), and no content goes on.
 abbrev pub sent_on : Bool → Response → ℕ → List Field → Bool → SentResponse
 sent_on to_head r now added close = record {
   status = r.status;
   fields = (answered_of r now).fields ++ added;
-  told = if (r.status == 204) || (r.status == 304) then None else (if to_head then r.announced else Some (length r.content));
+  told = if (r.status == 204) || (r.status == 304) then None
+      else (if to_head then r.announced else Some (length r.content));
   close = close;
   content = if to_head then [] else r.content;
 }
@@ -35,12 +38,13 @@ pub record FitsAReader (most : ℕ) (sent : SentResponse) : Type 0 where
   pub short : length (sent_head_text sent) ≤ most_head_bytes
   pub content : length sent.content ≤ most
 
--- whatever the client's reader knows of the stream and whatever stands behind the response: it is read back as it was sent, and what
--- stands behind it is left
+-- whatever the client's reader knows of the stream and whatever stands behind the response: it is
+-- read back as it was sent, and what stands behind it is left
 abbrev pub SendsOneResponse : Type 0
 SendsOneResponse =
     (max_body most now : ℕ) (to_head ended close : Bool) (bytes rest : List ℕ) (r : Response) (added : List Field)
     → Reads max_body to_head ended bytes (Spelled r rest) → now < END_OF_TIME → AreAdded added
     → let sent = sent_on to_head r now added close in
     most < 2 ^ 64 → FitsAReader most sent
-    → (over : Bool) (behind : List ℕ) → Reads most to_head over (sent_text sent ++ behind) (Spelled (response_back to_head sent) behind)
+    → (over : Bool) (behind : List ℕ)
+    → Reads most to_head over (sent_text sent ++ behind) (Spelled (response_back to_head sent) behind)

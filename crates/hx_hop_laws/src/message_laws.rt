@@ -2,21 +2,24 @@
 ghost use Rattle.hx_hop_laws.specs.OneMessage.{ForwardsOneRequest, ReadsCleanParts, SendsPartsAsTheyAre};
 ghost use Rattle.hx_hop_laws.specs.OneResponse.{SendsOneResponse};
 
-/// What a client's bytes spell as a request goes forward as one request, within the limits of a reader: no part of it can end a
-/// line or the head, its content is told by one length, and read again it is what was sent, with what stands behind it left.
-/// This is the law against request smuggling.
+/// What a client's bytes spell as a request goes forward as one request, within the limits of a
+/// reader: no part of it can end a line or the head, its content is told by one length, and read
+/// again it is what was sent, with what stands behind it left. This is the law against request
+/// smuggling.
 pub fn one_request_goes_forward()
     ensures parts { SendsPartsAsTheyAre }
     ensures request { ForwardsOneRequest }
 {}
 
-/// What a client's bytes spell as a request has parts that can be written again as they are (RFC 9110, sections 5 and 9.1).
+/// What a client's bytes spell as a request has parts that can be written again as they are (RFC
+/// 9110, sections 5 and 9.1).
 pub fn a_request_is_read_in_clean_parts()
     ensures { ReadsCleanParts }
 {}
 
-/// What an origin's bytes spell as a response goes on as one response, within the limits of a reader: read again, by a client that
-/// knows what it asked, it is what was sent, with what stands behind it left. This is the law against response splitting.
+/// What an origin's bytes spell as a response goes on as one response, within the limits of a
+/// reader: read again, by a client that knows what it asked, it is what was sent, with what stands
+/// behind it left. This is the law against response splitting.
 pub fn one_response_goes_on()
     ensures { SendsOneResponse }
 {}

@@ -25,7 +25,7 @@ heuristic_statuses = 200 ∷ 203 ∷ 204 ∷ 206 ∷ 300 ∷ 301 ∷ 308 ∷ 404
 abbrev pub is_heuristic : ℕ → Bool
 is_heuristic status = list_any (λ s. s == status) heuristic_statuses
 
--- "A cache MUST NOT use heuristics" but for "statuses that are defined as heuristically cacheable" and what public marks
--- (RFC 9111, section 4.2.2); own: for those statuses alone
+-- "A cache MUST NOT use heuristics" but for "statuses that are defined as heuristically cacheable"
+-- and what public marks (RFC 9111, section 4.2.2); own: for those statuses alone
 abbrev pub given_lifetime : Policy → ℕ → Option ℕ
 given_lifetime policy status = if is_heuristic status then policy.lifetime else None

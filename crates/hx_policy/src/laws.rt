@@ -1,11 +1,11 @@
-//! What the definitions say of policies and statuses: each function's contract is a law or worked cases, and its body is
-//! empty.
+//! What the definitions say of policies and statuses: each function's contract is a law or worked
+//! cases, and its body is empty.
 ghost use Rattle.std.specs.Prelude.{◌≡◌, ℕ, Bool, Some, None, true, false};
 ghost use Rattle.hx_policy.specs.Words.{plain, is_heuristic, given_lifetime};
 ghost use Rattle.hx_policy.specs.declared.words.Policy.{Policy as Words};
 
-/// A line that has no word of version 3 gives no lifetime and no stale-if-error, stores and heeds what the written rules say,
-/// lets nobody wait for what is stale, and tells no storing rule.
+/// A line that has no word of version 3 gives no lifetime and no stale-if-error, stores and heeds
+/// what the written rules say, lets nobody wait for what is stale, and tells no storing rule.
 pub fn a_plain_policy_has_no_words()
     ensures caches { (caches : Bool) → (plain caches).caches ≡ caches }
     ensures lifetime { (caches : Bool) (status : ℕ) → given_lifetime (plain caches) status ≡ None }
@@ -19,7 +19,8 @@ pub fn a_plain_policy_has_no_words()
 
 /// A lifetime is given to a status that is heuristically cacheable, and to no other (RFC 9111, section 4.2.2).
 pub fn a_lifetime_is_given_to_heuristic_statuses_alone()
-    ensures given { (words : Words) (status : ℕ) → is_heuristic status ≡ true → given_lifetime words status ≡ words.lifetime }
+    ensures given { (words : Words) (status : ℕ) → is_heuristic status ≡ true
+        → given_lifetime words status ≡ words.lifetime }
     ensures other { (words : Words) (status : ℕ) → is_heuristic status ≡ false → given_lifetime words status ≡ None }
     ensures of_200 { (words : Words) → given_lifetime words 200 ≡ words.lifetime }
     ensures of_404 { (words : Words) → given_lifetime words 404 ≡ words.lifetime }

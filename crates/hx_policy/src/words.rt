@@ -9,8 +9,8 @@ use crate::heuristics::is_heuristic;
 pub struct Policy {
     /// Requests may be answered from the store, and their responses stored.
     pub caches: bool,
-    /// The lifetime of a response of a heuristically cacheable status that states none, in seconds, 1 to 2147483648 (RFC
-    /// 9111, section 4.2.2).
+    /// The lifetime of a response of a heuristically cacheable status that states none, in seconds,
+    /// 1 to 2147483648 (RFC 9111, section 4.2.2).
     pub lifetime: Option<u32>,
     /// The stale-if-error of a response, in seconds, where neither the response nor the request has that directive (RFC
     /// 5861, section 4).
@@ -21,11 +21,12 @@ pub struct Policy {
     pub stores_errors: bool,
     /// A request's no-cache, max-age and min-fresh count (RFC 9111, section 5.2.1, calls them advisory).
     pub heeds_requests: bool,
-    /// A GET that goes forward since what is held is stale waits for another that did, as one for which nothing is held does;
-    /// and a request whose own answer may not be stored leads nobody (RFC 9111, section 4).
+    /// A GET that goes forward since what is held is stale waits for another that did, as one for
+    /// which nothing is held does; and a request whose own answer may not be stored leads nobody
+    /// (RFC 9111, section 4).
     pub waits_for_stale: bool,
-    /// An answer that is passed on, isn't stored and tells no other detail tells the first storing rule against it (RFC 9211,
-    /// section 2.8).
+    /// An answer that is passed on, isn't stored and tells no other detail tells the first storing
+    /// rule against it (RFC 9211, section 2.8).
     pub explains_storing: bool,
 }
 

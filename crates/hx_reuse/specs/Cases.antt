@@ -34,7 +34,9 @@ get fields = record {
 
 -- a GET of /b in German
 abbrev pub get_b : Asked
-get_b = record (get (speaks (codes "de") ∷ [])) { target = record { key = record { host = codes "h"; port = 80; path_query = codes "/b" }; table_path = codes "/b" } }
+get_b = record (get (speaks (codes "de") ∷ [])) {
+  target = record { key = record { host = codes "h"; port = 80; path_query = codes "/b" }; table_path = codes "/b" };
+}
 
 -- a GET of /a with content
 abbrev pub get_with : List ℕ → List Field → Asked
@@ -78,7 +80,8 @@ held_with_tag more = stored_at 0 [] (line (codes "ETag") (codes "\"e\"") ∷ mor
 abbrev pub asks : List ℕ → List Occurrence
 asks value = occurrences_of (control value)
 
--- a line that caches and gives a lifetime, one that allows a staleness after an error, and one that heeds no advice of a request
+-- a line that caches and gives a lifetime, one that allows a staleness after an error, and one that
+-- heeds no advice of a request
 abbrev pub lasting : ℕ → Policy
 lasting n = record (plain true) { lifetime = Some n }
 

@@ -1,12 +1,14 @@
--- Which rules keep a stored response from being sent in place of an error, one of 500, 502, 503 and 504 or the want of an
--- answer (RFC 5861, section 4), and which is the first. They are asked of the chosen response, where no rule stands that
--- asks of the request alone.
+-- Which rules keep a stored response from being sent in place of an error, one of 500, 502, 503 and
+-- 504 or the want of an answer (RFC 5861, section 4), and which is the first. They are asked of the
+-- chosen response, where no rule stands that asks of the request alone.
 --
--- response_limit, request_limit, operator_limit: the staleness that stale-if-error allows    is_past: a response is staler
+-- response_limit, request_limit, operator_limit: the staleness that stale-if-error allows
+-- is_past: a response is staler
 -- against_on_error: the condition of each rule                               error_rules: the rules by their numbers
 -- error_rule_on: the least that stands against a response                    error_rule_of: against the chosen one
 -- leave_on_error: none stands, or the least that does
-use Rattle.std.specs.Prelude.{ℕ, nat_lt, if◌then◌else◌, Bool, not, ◌&&◌, ◌||◌, List, [], ◌∷◌, find, Option, Some, None, is_none, option_and_then, Result, Ok, Err}
+use Rattle.std.specs.Prelude.{ℕ, nat_lt, if◌then◌else◌, Bool, not, ◌&&◌, ◌||◌, List, [], ◌∷◌, find, Option, Some, None}
+use Rattle.std.specs.Prelude.{is_none, option_and_then, Result, Ok, Err}
 use Rattle.hx_directives.specs.Occurrences.{occurrences_of}
 use Rattle.hx_directives.specs.Answers.{has, seconds, first_valid}
 use Rattle.hx_directives.specs.declared.occurrences.Occurrence.{Occurrence}
@@ -21,7 +23,8 @@ use Rattle.hx_reuse.specs.Chosen.{chosen_of}
 use Rattle.hx_reuse.specs.Lifetimes.{lifetime_under}
 use Rattle.hx_reuse.specs.Rules.{Standing, stands_at, must_revalidate, asks_to_validate, is_some_and}
 use Rattle.hx_reuse.specs.declared.rule.ErrorRule.{ErrorRule}
-use Rattle.hx_reuse.specs.declared.rule.ErrorRule.TheVariants.{NoCache, MustRevalidate, NoLifetime, RequestNoCache, NoDirective, TooStale}
+use Rattle.hx_reuse.specs.declared.rule.ErrorRule.TheVariants.{NoCache, MustRevalidate, NoLifetime, RequestNoCache}
+use Rattle.hx_reuse.specs.declared.rule.ErrorRule.TheVariants.{NoDirective, TooStale}
 
 -- seconds that stand once and can be read
 abbrev pub stated_once : Seconds → Option ℕ
@@ -40,7 +43,8 @@ request_limit s = first_valid s.request directive.StaleIfError
 -- own: the staleness that the operator's line allows, where neither has a stale-if-error, be it one that can't be read
 abbrev pub operator_limit : Standing → Option ℕ
 operator_limit s =
-    if has s.response directive.StaleIfError || has s.request directive.StaleIfError then None else s.policy.stale_if_error
+    if has s.response directive.StaleIfError || has s.request directive.StaleIfError then None
+    else s.policy.stale_if_error
 
 -- "the upper limit to staleness" (RFC 5861, section 4)
 abbrev pub is_past : Standing → Option ℕ → Bool
@@ -59,7 +63,8 @@ against_on_error RequestNoCache s = asks_to_validate s
 -- RFC 5861, section 4; own: the operator's limit stands for one that nobody states
 against_on_error NoDirective s = (is_none (response_limit s) && is_none (request_limit s)) && is_none (operator_limit s)
 -- RFC 5861, section 4; own: where both the response and the request state a limit, each of them counts
-against_on_error TooStale s = (is_past s (response_limit s) || is_past s (request_limit s)) || is_past s (operator_limit s)
+against_on_error TooStale s = (is_past s (response_limit s) || is_past s (request_limit s))
+    || is_past s (operator_limit s)
 
 -- the rules by their numbers
 abbrev pub error_rules : List ErrorRule
@@ -68,14 +73,16 @@ error_rules = NoCache ∷ MustRevalidate ∷ NoLifetime ∷ RequestNoCache ∷ N
 -- what the rules read of a response, at a moment, and of a request's directives
 abbrev pub standing_on : Policy → Stored → List Occurrence → ℕ → Standing
 standing_on policy response request now =
-    stands_at policy (lifetime_under policy response.status response.fields) (age_of response.times now) (occurrences_of response.fields) request
+    stands_at policy (lifetime_under policy response.status response.fields) (age_of response.times now)
+    (occurrences_of response.fields) request
 
 -- the least rule that stands against sending this response, by the directives of a request
 unfoldable pub error_rule_on : Policy → Stored → List Occurrence → ℕ → Option ErrorRule
-error_rule_on policy response request now = find (λ rule. against_on_error rule (standing_on policy response request now)) error_rules
+error_rule_on policy response request now =
+    find (λ rule. against_on_error rule (standing_on policy response request now)) error_rules
 
--- the least rule that stands against sending the response that is chosen for a request; where none is chosen a reuse rule
--- stands that keeps this from being asked, and the answer says nothing
+-- the least rule that stands against sending the response that is chosen for a request; where none
+-- is chosen a reuse rule stands that keeps this from being asked, and the answer says nothing
 abbrev pub error_rule_of : Policy → List Stored → Asked → ℕ → Option ErrorRule
 error_rule_of policy held asked now =
     option_and_then (λ e. error_rule_on policy e (occurrences_of asked.fields) now) (chosen_of held asked)

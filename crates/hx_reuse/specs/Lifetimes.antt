@@ -9,7 +9,8 @@ use Rattle.hx_age.specs.Lifetime.{lifetime_of}
 use Rattle.hx_policy.specs.declared.words.Policy.{Policy}
 use Rattle.hx_policy.specs.Words.{given_lifetime}
 
--- own: what the operator gives counts as if the response stated it, with the cap of all seconds (RFC 9111, section 1.2.2)
+-- own: what the operator gives counts as if the response stated it, with the cap of all seconds
+-- (RFC 9111, section 1.2.2)
 abbrev pub given : Option ℕ → Lifetime → Lifetime
 given None lifetime = lifetime
 given (Some n) lifetime = record { explicit = true; seconds = capped n }
@@ -17,4 +18,5 @@ given (Some n) lifetime = record { explicit = true; seconds = capped n }
 -- "a cache MAY assign a heuristic expiration time when an explicit time is not specified" (RFC 9111, section 4.2.2)
 abbrev pub lifetime_under : Policy → ℕ → List Field → Lifetime
 lifetime_under policy status fields =
-    if (lifetime_of fields).explicit then lifetime_of fields else given (given_lifetime policy status) (lifetime_of fields)
+    if (lifetime_of fields).explicit then lifetime_of fields
+    else given (given_lifetime policy status) (lifetime_of fields)

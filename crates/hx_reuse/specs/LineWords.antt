@@ -22,7 +22,8 @@ use Rattle.hx_reuse.specs.Rules.{Standing, against, decision_of}
 use Rattle.hx_reuse.specs.ErrorRules.{against_on_error, standing_on, error_rule_on}
 use Rattle.hx_reuse.specs.OnError.{staleness_at}
 use Rattle.hx_reuse.specs.declared.rule.ReuseRule.{ReuseRule}
-use Rattle.hx_reuse.specs.declared.rule.ReuseRule.TheVariants.{RequestNoCache, AboveMaxAge, BelowMinFresh, StaleNoCache, StaleMaxAge, StaleMinFresh}
+use Rattle.hx_reuse.specs.declared.rule.ReuseRule.TheVariants.{RequestNoCache, AboveMaxAge, BelowMinFresh, StaleNoCache}
+use Rattle.hx_reuse.specs.declared.rule.ReuseRule.TheVariants.{StaleMaxAge, StaleMinFresh}
 use Rattle.hx_reuse.specs.declared.rule.ErrorRule.TheVariants as on_error
 
 -- ---- a lifetime
@@ -60,7 +61,8 @@ IgnoredAdviceNeverStands = (rule : ReuseRule) (s : Standing) →
     s.policy.heeds_requests ≡ false → asks_advice rule ≡ true → against rule s ≡ false
 
 abbrev pub IgnoredAdviceNeverStandsOnError : Type 0
-IgnoredAdviceNeverStandsOnError = (s : Standing) → s.policy.heeds_requests ≡ false → against_on_error on_error.RequestNoCache s ≡ false
+IgnoredAdviceNeverStandsOnError =
+    (s : Standing) → s.policy.heeds_requests ≡ false → against_on_error on_error.RequestNoCache s ≡ false
 
 -- two requests for one key by one method, with the same conditions, for which the same response is chosen, and with the
 -- same max-stale
@@ -76,7 +78,8 @@ pub record AsksTheSame (held : List Stored) (asked other : Asked) : Type 0 where
 -- where the line doesn't heed them, requests that differ in nothing else are answered alike
 abbrev pub IgnoredAdviceDecidesNothing : Type 0
 IgnoredAdviceDecidesNothing = (policy : Policy) (held : List Stored) (asked other : Asked) (now : ℕ) →
-    policy.heeds_requests ≡ false → AsksTheSame held asked other → decision_of policy held asked now ≡ decision_of policy held other now
+    policy.heeds_requests ≡ false → AsksTheSame held asked other
+    → decision_of policy held asked now ≡ decision_of policy held other now
 
 -- ---- a staleness after an error
 

@@ -49,7 +49,8 @@ pub record IsLeast (policy : Policy) (held : List Stored) (asked : Asked) (now :
 abbrev pub NamesTheResponse : List Stored → Asked → ReuseRule → Option ℕ → Type 0
 NamesTheResponse held asked rule named =
     ((names_entry rule ≡ false) × (named ≡ None))
-    ⊎ ((names_entry rule ≡ true) × ((response : Stored) × (chosen_of held asked ≡ Some response) × (named ≡ Some response.serial)))
+    ⊎ ((names_entry rule ≡ true)
+    × ((response : Stored) × (chosen_of held asked ≡ Some response) × (named ≡ Some response.serial)))
 
 -- ---- the statements
 
@@ -57,7 +58,8 @@ abbrev pub ChoosesTheLatest : Type 0
 ChoosesTheLatest = (held : List Stored) (asked : Asked) (response : Stored) →
     chosen_of held asked ≡ Some response → IsChosen held asked response
 
--- "the most recent one (as determined by the Date header field)" (RFC 9111, section 4); own: of one Date the greater serial
+-- "the most recent one (as determined by the Date header field)" (RFC 9111, section 4); own: of one
+-- Date the greater serial
 abbrev pub ChoosesByDate : Type 0
 ChoosesByDate = (held : List Stored) (asked : Asked) (response other : Stored) →
     chosen_of held asked ≡ Some response → IsCandidate held asked other →
@@ -83,16 +85,19 @@ SendsNothingElse = (policy : Policy) (held : List Stored) (asked : Asked) (now s
 -- what is sent is held, for this request
 abbrev pub SendsWhatIsHeld : Type 0
 SendsWhatIsHeld = (policy : Policy) (held : List Stored) (asked : Asked) (now serial : ℕ) →
-    decision_of policy held asked now ≡ Hit serial → (response : Stored) × IsChosen held asked response × (response.serial ≡ serial)
+    decision_of policy held asked now ≡ Hit serial
+    → (response : Stored) × IsChosen held asked response × (response.serial ≡ serial)
 
 -- where each serial names one response, that of a hit finds the chosen one in the store
 abbrev pub FindsWhatIsSent : Type 0
 FindsWhatIsSent = (policy : Policy) (held : List Stored) (asked : Asked) (now serial : ℕ) →
-    Distinct (serials held) → decision_of policy held asked now ≡ Hit serial → find_entry serial held ≡ chosen_of held asked
+    Distinct (serials held) → decision_of policy held asked now ≡ Hit serial
+    → find_entry serial held ≡ chosen_of held asked
 
 abbrev pub NamesTheLeast : Type 0
 NamesTheLeast = (policy : Policy) (held : List Stored) (asked : Asked) (now : ℕ) (rule : ReuseRule) (named : Option ℕ) →
-    decision_of policy held asked now ≡ Forward rule named → IsLeast policy held asked now rule × NamesTheResponse held asked rule named
+    decision_of policy held asked now ≡ Forward rule named
+    → IsLeast policy held asked now rule × NamesTheResponse held asked rule named
 
 abbrev pub ForwardsWhereOneStands : Type 0
 ForwardsWhereOneStands = (policy : Policy) (held : List Stored) (asked : Asked) (now : ℕ) (rule : ReuseRule) →
@@ -105,7 +110,8 @@ ForwardsWithoutCache = (policy : Policy) (held : List Stored) (asked : Asked) (n
 
 -- a reader of Cache-Status knows the rule (RFC 9211, sections 2.2 and 2.8)
 abbrev pub WordsTellRulesApart : Type 0
-WordsTellRulesApart = (rule other : ReuseRule) → reason_of rule ≡ reason_of other → detail_of rule ≡ detail_of other → rule ≡ other
+WordsTellRulesApart =
+    (rule other : ReuseRule) → reason_of rule ≡ reason_of other → detail_of rule ≡ detail_of other → rule ≡ other
 
 abbrev pub WordsTellErrorRulesApart : Type 0
 WordsTellErrorRulesApart = (rule other : ErrorRule) → error_word_of rule ≡ error_word_of other → rule ≡ other

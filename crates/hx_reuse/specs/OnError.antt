@@ -1,6 +1,6 @@
--- What a stored response and the directives of a request have to be, that the one may answer the other in place of an
--- error, without the rules and their numbers (RFC 5861, section 4, and what RFC 9111, sections 4.2.4, 5.2.2.2, 5.2.2.4, 5.2.2.8 and
--- 5.2.2.10 forbid to send stale).
+-- What a stored response and the directives of a request have to be, that the one may answer the
+-- other in place of an error, without the rules and their numbers (RFC 5861, section 4, and what
+-- RFC 9111, sections 4.2.4, 5.2.2.2, 5.2.2.4, 5.2.2.8 and 5.2.2.10 forbid to send stale).
 --
 -- StatesLimit, AsksForLimit, GivesLimit: the staleness that each allows    MayBeSentOnError: all that is asked
 -- IsLeastOnError: a rule that stands, and none before it
@@ -9,7 +9,8 @@ use Rattle.std.specs.Prelude.{◌≡◌, ℕ, ◌-◌, ◌<◌, ◌≤◌, ◌�
 use Rattle.hx_directives.specs.Occurrences.{occurrences_of}
 use Rattle.hx_directives.specs.Answers.{has, seconds, first_valid}
 use Rattle.hx_directives.specs.declared.occurrences.Occurrence.{Occurrence}
-use Rattle.hx_directives.specs.declared.names.Directive.TheVariants.{NoCache, MustRevalidate, ProxyRevalidate, SMaxage, StaleIfError}
+use Rattle.hx_directives.specs.declared.names.Directive.TheVariants.{NoCache, MustRevalidate, ProxyRevalidate, SMaxage}
+use Rattle.hx_directives.specs.declared.names.Directive.TheVariants.{StaleIfError}
 use Rattle.hx_directives.specs.declared.answers.Seconds.TheVariants.{Value}
 use Rattle.hx_age.specs.Age.{age_of}
 use Rattle.hx_store.specs.Stored.{Stored}
@@ -35,7 +36,8 @@ pub record GivesLimit (policy : Policy) (response : Stored) (request : List Occu
 
 -- by how much the response is past its lifetime (RFC 9111, section 4.2)
 abbrev pub staleness_at : Policy → Stored → ℕ → ℕ
-staleness_at policy response now = age_of response.times now - (lifetime_under policy response.status response.fields).seconds
+staleness_at policy response now =
+    age_of response.times now - (lifetime_under policy response.status response.fields).seconds
 
 -- own: its lifetime is stated, or the operator gives it one; the request has no no-cache that is heeded; and each limit
 -- counts
@@ -50,12 +52,15 @@ pub record MayBeSentOnError (policy : Policy) (response : Stored) (request : Lis
       ⊎ (((most : ℕ) × AsksForLimit request most) ⊎ ((most : ℕ) × GivesLimit policy response request most))
   pub within_its_limit : (most : ℕ) → StatesLimit response most → staleness_at policy response now ≤ most
   pub within_the_requests : (most : ℕ) → AsksForLimit request most → staleness_at policy response now ≤ most
-  pub within_the_operators : (most : ℕ) → GivesLimit policy response request most → staleness_at policy response now ≤ most
+  pub within_the_operators : (most : ℕ) → GivesLimit policy response request most
+      → staleness_at policy response now ≤ most
 
 -- the rule stands, and none of a smaller number does
-pub record IsLeastOnError (policy : Policy) (response : Stored) (request : List Occurrence) (now : ℕ) (least : ErrorRule) : Type 0 where
+pub record IsLeastOnError (policy : Policy) (response : Stored) (request : List Occurrence) (now : ℕ)
+    (least : ErrorRule) : Type 0 where
   pub it_stands : against_on_error least (standing_on policy response request now) ≡ true
-  pub none_before : (other : ErrorRule) → error_number_of other < error_number_of least → against_on_error other (standing_on policy response request now) ≡ false
+  pub none_before : (other : ErrorRule) → error_number_of other < error_number_of least
+      → against_on_error other (standing_on policy response request now) ≡ false
 
 -- ---- the statements
 
@@ -72,5 +77,6 @@ NamesTheLeastOnError = (policy : Policy) (response : Stored) (request : List Occ
     error_rule_on policy response request now ≡ Some least → IsLeastOnError policy response request now least
 
 abbrev pub NamesOneThatStandsOnError : Type 0
-NamesOneThatStandsOnError = (policy : Policy) (response : Stored) (request : List Occurrence) (now : ℕ) (least : ErrorRule) →
+NamesOneThatStandsOnError =
+    (policy : Policy) (response : Stored) (request : List Occurrence) (now : ℕ) (least : ErrorRule) →
     IsLeastOnError policy response request now least → error_rule_on policy response request now ≡ Some least

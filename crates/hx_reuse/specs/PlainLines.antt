@@ -1,10 +1,12 @@
--- What the rules ask where the operator's line has no words: the conditions that the standards name, with nothing of a policy
--- (RFC 9111, section 4; RFC 5861, section 4).
+-- What the rules ask where the operator's line has no words: the conditions that the standards
+-- name, with nothing of a policy (RFC 9111, section 4; RFC 5861, section 4).
 --
--- plain_against: a rule on the chosen response     plain_stands: a rule     plain_decision_of: what is done with a request
+-- plain_against: a rule on the chosen response     plain_stands: a rule
+-- plain_decision_of: what is done with a request
 -- plain_against_on_error: a rule after an error    plain_leave_on_error: none stands, or the least that does
 -- Below them are the statements that the law `default_policy_changes_nothing` proves.
-use Rattle.std.specs.Prelude.{◌≡◌, ℕ, ◌+◌, ◌==◌, nat_lt, Bool, false, not, ◌&&◌, ◌||◌, List, length, find, codes, bytes_eq, is_some, is_none, option_map, Result}
+use Rattle.std.specs.Prelude.{◌≡◌, ℕ, ◌+◌, ◌==◌, nat_lt, Bool, false, not, ◌&&◌, ◌||◌, List, length, find, codes}
+use Rattle.std.specs.Prelude.{bytes_eq, is_some, is_none, option_map, Result}
 use Rattle.hx_fields.specs.declared.field_line.Field.{Field}
 use Rattle.hx_directives.specs.Occurrences.{occurrences_of}
 use Rattle.hx_directives.specs.Answers.{has, seconds, first_valid, max_stale}
@@ -19,10 +21,14 @@ use Rattle.hx_store.specs.Stored.{Stored}
 use Rattle.hx_policy.specs.Words.{plain}
 use Rattle.hx_reuse.specs.Chosen.{of_key, chosen_of}
 use Rattle.hx_reuse.specs.Lifetimes.{lifetime_under}
-use Rattle.hx_reuse.specs.Rules.{is_some_and, accepts_stale, past_limit, stands_at, against, reuse_rules, decided, decision_of}
+use Rattle.hx_reuse.specs.Rules.{is_some_and, accepts_stale, past_limit, stands_at, against, reuse_rules, decided}
+use Rattle.hx_reuse.specs.Rules.{decision_of}
 use Rattle.hx_reuse.specs.ErrorRules.{stated_once, against_on_error, error_rules, leave_of, leave_on_error}
 use Rattle.hx_reuse.specs.declared.rule.ReuseRule.{ReuseRule}
-use Rattle.hx_reuse.specs.declared.rule.ReuseRule.TheVariants.{Operator, Method, Content, Range, Precondition, UriMiss, VaryMiss, ResponseNoCache, RequestNoCache, AboveMaxAge, BelowMinFresh, MustRevalidate, NoLifetime, StaleNoCache, NoMaxStale, PastMaxStale, StaleMaxAge, StaleMinFresh}
+use Rattle.hx_reuse.specs.declared.rule.ReuseRule.TheVariants.{Operator, Method, Content, Range, Precondition, UriMiss}
+use Rattle.hx_reuse.specs.declared.rule.ReuseRule.TheVariants.{VaryMiss, ResponseNoCache, RequestNoCache, AboveMaxAge}
+use Rattle.hx_reuse.specs.declared.rule.ReuseRule.TheVariants.{BelowMinFresh, MustRevalidate, NoLifetime, StaleNoCache}
+use Rattle.hx_reuse.specs.declared.rule.ReuseRule.TheVariants.{NoMaxStale, PastMaxStale, StaleMaxAge, StaleMinFresh}
 use Rattle.hx_reuse.specs.declared.rule.ErrorRule.{ErrorRule}
 use Rattle.hx_reuse.specs.declared.rule.ErrorRule.TheVariants as on_error
 use Rattle.hx_reuse.specs.declared.decision.Decision.{Decision}
@@ -43,15 +49,18 @@ plain_against AboveMaxAge lifetime age response request =
     is_fresh_of lifetime age && is_some_and (λ most. nat_lt most age) (first_valid request directive.MaxAge)
 -- RFC 9111, section 5.2.1.3
 plain_against BelowMinFresh lifetime age response request =
-    is_fresh_of lifetime age && is_some_and (λ least. nat_lt lifetime.seconds (age + least)) (first_valid request directive.MinFresh)
+    is_fresh_of lifetime age
+    && is_some_and (λ least. nat_lt lifetime.seconds (age + least)) (first_valid request directive.MinFresh)
 -- RFC 9111, sections 5.2.2.2, 5.2.2.8 and 5.2.2.10
 plain_against MustRevalidate lifetime age response request = not (is_fresh_of lifetime age) && forbids_stale response
 -- own: what states no lifetime is never sent stale
 plain_against NoLifetime lifetime age response request = not (is_fresh_of lifetime age) && not lifetime.explicit
 -- RFC 9111, section 5.2.1.4
-plain_against StaleNoCache lifetime age response request = not (is_fresh_of lifetime age) && has request directive.NoCache
+plain_against StaleNoCache lifetime age response request = not (is_fresh_of lifetime age)
+    && has request directive.NoCache
 -- RFC 9111, section 4.2.4
-plain_against NoMaxStale lifetime age response request = not (is_fresh_of lifetime age) && not (accepts_stale (max_stale request))
+plain_against NoMaxStale lifetime age response request = not (is_fresh_of lifetime age)
+    && not (accepts_stale (max_stale request))
 -- RFC 9111, section 5.2.1.2
 plain_against PastMaxStale lifetime age response request =
     not (is_fresh_of lifetime age) && past_limit (staleness_of lifetime age) (max_stale request)
@@ -73,7 +82,8 @@ plain_against VaryMiss lifetime age response request = false
 -- a rule on the chosen response, by the lifetime that it states
 abbrev pub plain_against_chosen : ReuseRule → Stored → Asked → ℕ → Bool
 plain_against_chosen which e asked now =
-    plain_against which (lifetime_of e.fields) (age_of e.times now) (occurrences_of e.fields) (occurrences_of asked.fields)
+    plain_against which (lifetime_of e.fields) (age_of e.times now) (occurrences_of e.fields)
+    (occurrences_of asked.fields)
 
 abbrev pub plain_stands : ReuseRule → Bool → List Stored → Asked → ℕ → Bool
 plain_stands Operator caches held asked now = not caches
@@ -83,11 +93,13 @@ plain_stands Range caches held asked now = asks_for_range asked
 plain_stands Precondition caches held asked now = has_precondition asked
 plain_stands UriMiss caches held asked now = length (of_key held asked) == 0
 plain_stands VaryMiss caches held asked now = is_none (chosen_of held asked)
-plain_stands which caches held asked now = is_some_and (λ e. plain_against_chosen which e asked now) (chosen_of held asked)
+plain_stands which caches held asked now =
+    is_some_and (λ e. plain_against_chosen which e asked now) (chosen_of held asked)
 
 unfoldable pub plain_decision_of : Bool → List Stored → Asked → ℕ → Decision
 plain_decision_of caches held asked now =
-    decided (find (λ which. plain_stands which caches held asked now) reuse_rules) (option_map (λ e. e.serial) (chosen_of held asked))
+    decided (find (λ which. plain_stands which caches held asked now) reuse_rules)
+    (option_map (λ e. e.serial) (chosen_of held asked))
 
 -- RFC 5861, section 4, and what RFC 9111, sections 5.2.2.2, 5.2.2.4, 5.2.2.8 and 5.2.2.10 forbid to send stale
 abbrev pub plain_against_on_error : ErrorRule → Lifetime → ℕ → List Occurrence → List Occurrence → Bool
@@ -96,27 +108,35 @@ plain_against_on_error on_error.MustRevalidate lifetime age response request = f
 plain_against_on_error on_error.NoLifetime lifetime age response request = not lifetime.explicit
 plain_against_on_error on_error.RequestNoCache lifetime age response request = has request directive.NoCache
 plain_against_on_error on_error.NoDirective lifetime age response request =
-    is_none (stated_once (seconds response directive.StaleIfError)) && is_none (first_valid request directive.StaleIfError)
+    is_none (stated_once (seconds response directive.StaleIfError))
+    && is_none (first_valid request directive.StaleIfError)
 plain_against_on_error on_error.TooStale lifetime age response request =
-    is_some_and (λ most. nat_lt most (staleness_of lifetime age)) (stated_once (seconds response directive.StaleIfError))
+    is_some_and (λ most. nat_lt most (staleness_of lifetime age))
+    (stated_once (seconds response directive.StaleIfError))
     || is_some_and (λ most. nat_lt most (staleness_of lifetime age)) (first_valid request directive.StaleIfError)
 
 unfoldable pub plain_leave_on_error : Stored → List Occurrence → ℕ → Result (Unit {0}) ErrorRule
 plain_leave_on_error response request now =
-    leave_of (find (λ which. plain_against_on_error which (lifetime_of response.fields) (age_of response.times now) (occurrences_of response.fields) request) error_rules)
+    leave_of (find (λ which. plain_against_on_error which (lifetime_of response.fields) (age_of response.times now)
+    (occurrences_of response.fields) request) error_rules)
 
 -- ---- the statements
 
 abbrev pub PlainLineGivesNoLifetime : Type 0
-PlainLineGivesNoLifetime = (caches : Bool) (status : ℕ) (fields : List Field) → lifetime_under (plain caches) status fields ≡ lifetime_of fields
+PlainLineGivesNoLifetime = (caches : Bool) (status : ℕ) (fields : List Field)
+    → lifetime_under (plain caches) status fields ≡ lifetime_of fields
 
 abbrev pub PlainLineAsksTheSame : Type 0
-PlainLineAsksTheSame = (caches : Bool) (which : ReuseRule) (lifetime : Lifetime) (age : ℕ) (response request : List Occurrence) →
-    against which (stands_at (plain caches) lifetime age response request) ≡ plain_against which lifetime age response request
+PlainLineAsksTheSame =
+    (caches : Bool) (which : ReuseRule) (lifetime : Lifetime) (age : ℕ) (response request : List Occurrence) →
+    against which (stands_at (plain caches) lifetime age response request)
+    ≡ plain_against which lifetime age response request
 
 abbrev pub PlainLineAsksTheSameOnError : Type 0
-PlainLineAsksTheSameOnError = (caches : Bool) (which : ErrorRule) (lifetime : Lifetime) (age : ℕ) (response request : List Occurrence) →
-    against_on_error which (stands_at (plain caches) lifetime age response request) ≡ plain_against_on_error which lifetime age response request
+PlainLineAsksTheSameOnError =
+    (caches : Bool) (which : ErrorRule) (lifetime : Lifetime) (age : ℕ) (response request : List Occurrence) →
+    against_on_error which (stands_at (plain caches) lifetime age response request)
+    ≡ plain_against_on_error which lifetime age response request
 
 abbrev pub PlainLineDecidesTheSame : Type 0
 PlainLineDecidesTheSame = (caches : Bool) (held : List Stored) (asked : Asked) (now : ℕ) →

@@ -1,5 +1,5 @@
--- What an origin can rely on once its response is stored, whatever the requests and the operator's line say: it follows from
--- the rules.
+-- What an origin can rely on once its response is stored, whatever the requests and the operator's
+-- line say: it follows from the rules.
 --
 -- ForbidsStale: the response may not be sent stale    IsSent: it is the one that answers
 -- Below them are the statements that the laws of `src/laws.rt` prove.
@@ -29,7 +29,8 @@ use Rattle.hx_reuse.specs.declared.decision.Decision.TheVariants.{Hit}
 abbrev pub ForbidsStale : Stored → Type 0
 ForbidsStale response =
     (has (occurrences_of response.fields) MustRevalidate ≡ true)
-    ⊎ ((has (occurrences_of response.fields) ProxyRevalidate ≡ true) ⊎ (has (occurrences_of response.fields) SMaxage ≡ true))
+    ⊎ ((has (occurrences_of response.fields) ProxyRevalidate ≡ true)
+    ⊎ (has (occurrences_of response.fields) SMaxage ≡ true))
 
 -- a held response answers the request without the origin; each serial names one response
 pub record IsSent (policy : Policy) (held : List Stored) (asked : Asked) (now : ℕ) (response : Stored) : Type 0 where
@@ -45,16 +46,19 @@ SendsNoOtherVariant = (policy : Policy) (held : List Stored) (asked : Asked) (no
     IsSent policy held asked now response → (kept : NominatedValue) → Contains response.nominated kept →
     kept.value ≡ combined_of asked.fields kept.name
 
--- so of a response that was stored with what its own request had, only a request gets it that has the same values of all that it
--- nominates (RFC 9111, section 4.1)
+-- so of a response that was stored with what its own request had, only a request gets it that has
+-- the same values of all that it nominates (RFC 9111, section 4.1)
 abbrev pub SendsNoOtherRequestsVariant : Type 0
-SendsNoOtherRequestsVariant = (policy : Policy) (held : List Stored) (asked : Asked) (now : ℕ) (response : Stored) (fields earlier : List Field) →
-    IsSent policy held asked now response → response.nominated ≡ kept_values fields earlier → selects_both fields earlier asked.fields ≡ true
+SendsNoOtherRequestsVariant =
+    (policy : Policy) (held : List Stored) (asked : Asked) (now : ℕ) (response : Stored) (fields earlier : List Field) →
+    IsSent policy held asked now response → response.nominated ≡ kept_values fields earlier
+    → selects_both fields earlier asked.fields ≡ true
 
 -- one that forbids to be sent stale is fresh, for as long as it states or the operator gives it
 abbrev pub NeverSendsStaleAgainst : Type 0
 NeverSendsStaleAgainst = (policy : Policy) (held : List Stored) (asked : Asked) (now : ℕ) (response : Stored) →
-    IsSent policy held asked now response → ForbidsStale response → age_of response.times now < (lifetime_under policy response.status response.fields).seconds
+    IsSent policy held asked now response → ForbidsStale response
+    → age_of response.times now < (lifetime_under policy response.status response.fields).seconds
 
 -- and where it states its lifetime no word of the operator's line lengthens that
 abbrev pub NeverOutlastsWhatItStates : Type 0
@@ -70,4 +74,5 @@ NeverSendsUnvalidated = (policy : Policy) (held : List Stored) (asked : Asked) (
 -- nor is one of either kind sent in place of an error
 abbrev pub NeverSendsOnError : Type 0
 NeverSendsOnError = (policy : Policy) (response : Stored) (request : List Occurrence) (now : ℕ) →
-    error_rule_on policy response request now ≡ None → (has (occurrences_of response.fields) NoCache ≡ true) ⊎ ForbidsStale response → ⊥
+    error_rule_on policy response request now ≡ None
+    → (has (occurrences_of response.fields) NoCache ≡ true) ⊎ ForbidsStale response → ⊥

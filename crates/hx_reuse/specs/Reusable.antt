@@ -1,11 +1,12 @@
--- What a stored response and a request have to be, that the one may answer the other, in the order of the standard's list
--- and without the rules and their numbers (RFC 9111, section 4).
+-- What a stored response and a request have to be, that the one may answer the other, in the order
+-- of the standard's list and without the rules and their numbers (RFC 9111, section 4).
 --
 -- IsForTheCache: the request     IsSentFresh, IsSentStale: the two ways to be sent     MayBeReused: all of the list
 use Rattle.std.specs.Prelude.{◌≡◌, ℕ, ◌+◌, ◌-◌, ◌<◌, ◌≤◌, ◌⊎◌, true, false, List, codes, Some, None}
 use Rattle.hx_directives.specs.Occurrences.{occurrences_of}
 use Rattle.hx_directives.specs.Answers.{has, first_valid, max_stale}
-use Rattle.hx_directives.specs.declared.names.Directive.TheVariants.{NoCache, MaxAge, MinFresh, MustRevalidate, ProxyRevalidate, SMaxage}
+use Rattle.hx_directives.specs.declared.names.Directive.TheVariants.{NoCache, MaxAge, MinFresh, MustRevalidate}
+use Rattle.hx_directives.specs.declared.names.Directive.TheVariants.{ProxyRevalidate, SMaxage}
 use Rattle.hx_directives.specs.declared.answers.MaxStale.{MaxStale}
 use Rattle.hx_directives.specs.declared.answers.MaxStale.TheVariants.{Absent, Any, UpTo}
 use Rattle.hx_age.specs.Age.{age_of}
@@ -63,13 +64,15 @@ pub record IsSentStale (policy : Policy) (response : Stored) (asked : Asked) (no
   pub no_s_maxage : has (occurrences_of response.fields) SMaxage ≡ false
   pub has_a_lifetime : (lifetime_under policy response.status response.fields).explicit ≡ true
   pub not_to_be_validated : policy.heeds_requests ≡ true → has (occurrences_of asked.fields) NoCache ≡ false
-  pub within_max_stale : TakesStaleness (max_stale (occurrences_of asked.fields)) (age_of response.times now - (lifetime_under policy response.status response.fields).seconds)
+  pub within_max_stale : TakesStaleness (max_stale (occurrences_of asked.fields))
+      (age_of response.times now - (lifetime_under policy response.status response.fields).seconds)
   pub within_max_age : policy.heeds_requests ≡ true → IsWithinMaxAge response asked now
   pub no_min_fresh : policy.heeds_requests ≡ true → first_valid (occurrences_of asked.fields) MinFresh ≡ None
 
 -- all that is asked of a response which isn't validated first (RFC 9111, sections 4 and 5.2.2.4)
 -- own: the operator lets the request be answered from the store
-pub record MayBeReused (policy : Policy) (held : List Stored) (asked : Asked) (now : ℕ) (response : Stored) : Type 0 where
+pub record MayBeReused (policy : Policy) (held : List Stored) (asked : Asked) (now : ℕ)
+    (response : Stored) : Type 0 where
   pub operator_allows : policy.caches ≡ true
   pub is_chosen : IsChosen held asked response
   pub request_allows : IsForTheCache asked
@@ -80,9 +83,11 @@ pub record MayBeReused (policy : Policy) (held : List Stored) (asked : Asked) (n
 
 abbrev pub ReusesNothingElse : Type 0
 ReusesNothingElse = (policy : Policy) (held : List Stored) (asked : Asked) (now serial : ℕ) →
-    decision_of policy held asked now ≡ Hit serial → (response : Stored) × MayBeReused policy held asked now response × (response.serial ≡ serial)
+    decision_of policy held asked now ≡ Hit serial
+    → (response : Stored) × MayBeReused policy held asked now response × (response.serial ≡ serial)
 
 -- where each serial names one response
 abbrev pub ReusesWhatMayBeReused : Type 0
 ReusesWhatMayBeReused = (policy : Policy) (held : List Stored) (asked : Asked) (now : ℕ) (response : Stored) →
-    Distinct (serials held) → MayBeReused policy held asked now response → decision_of policy held asked now ≡ Hit response.serial
+    Distinct (serials held) → MayBeReused policy held asked now response
+    → decision_of policy held asked now ≡ Hit response.serial

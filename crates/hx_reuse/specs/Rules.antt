@@ -4,7 +4,8 @@
 -- asks_for_freshness: what a request wants                against: the condition of each of these rules
 -- stands: the condition of each rule                     reuse_rules: the rules by their numbers
 -- reuse_rule_of: the least that stands                   decision_of: what is done with a request
-use Rattle.std.specs.Prelude.{ℕ, ◌+◌, ◌==◌, nat_lt, if◌then◌else◌, Bool, true, false, not, ◌&&◌, ◌||◌, List, [], ◌∷◌, length, find, codes, bytes_eq, Option, Some, None, is_some, is_none, option_map}
+use Rattle.std.specs.Prelude.{ℕ, ◌+◌, ◌==◌, nat_lt, if◌then◌else◌, Bool, true, false, not, ◌&&◌, ◌||◌, List, [], ◌∷◌}
+use Rattle.std.specs.Prelude.{length, find, codes, bytes_eq, Option, Some, None, is_some, is_none, option_map}
 use Rattle.hx_directives.specs.Occurrences.{occurrences_of}
 use Rattle.hx_directives.specs.Answers.{has, first_valid, max_stale}
 use Rattle.hx_directives.specs.declared.occurrences.Occurrence.{Occurrence}
@@ -20,7 +21,10 @@ use Rattle.hx_policy.specs.declared.words.Policy.{Policy}
 use Rattle.hx_reuse.specs.Lifetimes.{lifetime_under}
 use Rattle.hx_reuse.specs.Chosen.{of_key, chosen_of}
 use Rattle.hx_reuse.specs.declared.rule.ReuseRule.{ReuseRule}
-use Rattle.hx_reuse.specs.declared.rule.ReuseRule.TheVariants.{Operator, Method, Content, Range, Precondition, UriMiss, VaryMiss, ResponseNoCache, RequestNoCache, AboveMaxAge, BelowMinFresh, MustRevalidate, NoLifetime, StaleNoCache, NoMaxStale, PastMaxStale, StaleMaxAge, StaleMinFresh}
+use Rattle.hx_reuse.specs.declared.rule.ReuseRule.TheVariants.{Operator, Method, Content, Range, Precondition, UriMiss}
+use Rattle.hx_reuse.specs.declared.rule.ReuseRule.TheVariants.{VaryMiss, ResponseNoCache, RequestNoCache, AboveMaxAge}
+use Rattle.hx_reuse.specs.declared.rule.ReuseRule.TheVariants.{BelowMinFresh, MustRevalidate, NoLifetime, StaleNoCache}
+use Rattle.hx_reuse.specs.declared.rule.ReuseRule.TheVariants.{NoMaxStale, PastMaxStale, StaleMaxAge, StaleMinFresh}
 use Rattle.hx_reuse.specs.declared.decision.Decision.{Decision}
 use Rattle.hx_reuse.specs.declared.decision.Decision.TheVariants.{Hit, Forward}
 
@@ -43,7 +47,8 @@ stands_at policy lifetime age response request =
 
 abbrev pub standing : Policy → Stored → Asked → ℕ → Standing
 standing policy e asked now =
-    stands_at policy (lifetime_under policy e.status e.fields) (age_of e.times now) (occurrences_of e.fields) (occurrences_of asked.fields)
+    stands_at policy (lifetime_under policy e.status e.fields) (age_of e.times now) (occurrences_of e.fields)
+    (occurrences_of asked.fields)
 
 abbrev pub fresh : Standing → Bool
 fresh s = is_fresh_of s.lifetime s.age
@@ -51,22 +56,26 @@ fresh s = is_fresh_of s.lifetime s.age
 -- the response may not be sent stale (RFC 9111, sections 5.2.2.2, 5.2.2.8 and 5.2.2.10)
 abbrev pub must_revalidate : Standing → Bool
 must_revalidate s =
-    (has s.response directive.MustRevalidate || has s.response directive.ProxyRevalidate) || has s.response directive.SMaxage
+    (has s.response directive.MustRevalidate || has s.response directive.ProxyRevalidate)
+    || has s.response directive.SMaxage
 
--- the request has no-cache (RFC 9111, section 5.2.1.4). That a request's directives count is own, and of no-cache, max-age and
--- min-fresh the operator's to say: the standard calls them advisory (RFC 9111, section 5.2.1). Its max-stale, only-if-cached,
--- no-store and stale-if-error count whatever the line says.
+-- the request has no-cache (RFC 9111, section 5.2.1.4). That a request's directives count is own,
+-- and of no-cache, max-age and min-fresh the operator's to say: the standard calls them advisory
+-- (RFC 9111, section 5.2.1). Its max-stale, only-if-cached, no-store and stale-if-error count
+-- whatever the line says.
 abbrev pub asks_to_validate : Standing → Bool
 asks_to_validate s = s.policy.heeds_requests && has s.request directive.NoCache
 
 -- the age is above the request's max-age (RFC 9111, section 5.2.1.1)
 abbrev pub above_max_age : Standing → Bool
-above_max_age s = s.policy.heeds_requests && is_some_and (λ most. nat_lt most s.age) (first_valid s.request directive.MaxAge)
+above_max_age s =
+    s.policy.heeds_requests && is_some_and (λ most. nat_lt most s.age) (first_valid s.request directive.MaxAge)
 
 -- fresh for less than the request's min-fresh (RFC 9111, section 5.2.1.3)
 abbrev pub below_min_fresh : Standing → Bool
 below_min_fresh s =
-    s.policy.heeds_requests && is_some_and (λ least. nat_lt s.lifetime.seconds (s.age + least)) (first_valid s.request directive.MinFresh)
+    s.policy.heeds_requests && is_some_and (λ least. nat_lt s.lifetime.seconds (s.age + least))
+    (first_valid s.request directive.MinFresh)
 
 -- the request has min-fresh (RFC 9111, section 5.2.1.3)
 abbrev pub asks_for_freshness : Standing → Bool
@@ -171,4 +180,5 @@ decided None None = Hit 0
 
 -- the chosen response is sent, or the request goes forward by the least rule; a rule on the chosen response names it
 unfoldable pub decision_of : Policy → List Stored → Asked → ℕ → Decision
-decision_of policy held asked now = decided (reuse_rule_of policy held asked now) (option_map (λ e. e.serial) (chosen_of held asked))
+decision_of policy held asked now =
+    decided (reuse_rule_of policy held asked now) (option_map (λ e. e.serial) (chosen_of held asked))

@@ -24,8 +24,8 @@ pub enum Decision {
     Forward(ReuseRule, Option<u64>),
 }
 
-/// What is done with a request at a moment in Unix seconds: its directives, and what its line of the operator's table says of
-/// caching, are handed in.
+/// What is done with a request at a moment in Unix seconds: its directives, and what its line of
+/// the operator's table says of caching, are handed in.
 pub fn decide<S: Shelf>(
     alloc: Global,
     asked: &Asked,

@@ -1,20 +1,29 @@
 //! What the definitions that `decide` and `may_serve_on_error` are held to say of every list of held responses, request
 //! and moment.
-ghost use Rattle.hx_reuse.specs.Meaning.{ChoosesTheLatest, ChoosesByDate, ChoosesWhereOneCan, ChoosesNoOther, SendsWhatMayBeSent, SendsNothingElse, SendsWhatIsHeld, FindsWhatIsSent, NamesTheLeast, ForwardsWhereOneStands, ForwardsWithoutCache, WordsTellRulesApart, WordsTellErrorRulesApart};
+ghost use Rattle.hx_reuse.specs.Meaning.{ChoosesTheLatest, ChoosesByDate, ChoosesWhereOneCan, ChoosesNoOther};
+ghost use Rattle.hx_reuse.specs.Meaning.{SendsWhatMayBeSent, SendsNothingElse, SendsWhatIsHeld, FindsWhatIsSent};
+ghost use Rattle.hx_reuse.specs.Meaning.{NamesTheLeast, ForwardsWhereOneStands, ForwardsWithoutCache};
+ghost use Rattle.hx_reuse.specs.Meaning.{WordsTellRulesApart, WordsTellErrorRulesApart};
 ghost use Rattle.hx_reuse.specs.Reusable.{ReusesWhatMayBeReused, ReusesNothingElse};
-ghost use Rattle.hx_reuse.specs.OnError.{SendsOnErrorWhatMayBeSent, SendsOnErrorNothingElse, NamesTheLeastOnError, NamesOneThatStandsOnError};
+ghost use Rattle.hx_reuse.specs.OnError.{SendsOnErrorWhatMayBeSent, SendsOnErrorNothingElse, NamesTheLeastOnError};
+ghost use Rattle.hx_reuse.specs.OnError.{NamesOneThatStandsOnError};
 ghost use Rattle.std.specs.Prelude.{◌≡◌, Some, None, codes};
 ghost use Rattle.hx_reuse.specs.declared.rule.ReuseRule.TheVariants as rule;
 ghost use Rattle.hx_reuse.specs.declared.rule.ErrorRule.TheVariants as on_error;
 ghost use Rattle.hx_reuse.specs.Words.{detail_of, error_word_of, reason_of};
-ghost use Rattle.hx_reuse.specs.PlainLines.{PlainLineGivesNoLifetime, PlainLineAsksTheSame, PlainLineDecidesTheSame, PlainLineAsksTheSameOnError, PlainLineLeavesTheSame};
-ghost use Rattle.hx_reuse.specs.LineWords.{StatedLifetimeStays, OtherStatusesStay, GivenLifetimeCounts, IgnoredAdviceNeverStands, IgnoredAdviceNeverStandsOnError, IgnoredAdviceDecidesNothing, OperatorsLimitAllows, OperatorsLimitEnds, StatedLimitStays};
-ghost use Rattle.hx_reuse.specs.Promises.{SendsNoOtherRequestsVariant, SendsNoOtherVariant, NeverSendsStaleAgainst, NeverOutlastsWhatItStates, NeverSendsUnvalidated, NeverSendsOnError};
+ghost use Rattle.hx_reuse.specs.PlainLines.{PlainLineGivesNoLifetime, PlainLineAsksTheSame, PlainLineDecidesTheSame};
+ghost use Rattle.hx_reuse.specs.PlainLines.{PlainLineAsksTheSameOnError, PlainLineLeavesTheSame};
+ghost use Rattle.hx_reuse.specs.LineWords.{StatedLifetimeStays, OtherStatusesStay, GivenLifetimeCounts};
+ghost use Rattle.hx_reuse.specs.LineWords.{IgnoredAdviceNeverStands, IgnoredAdviceNeverStandsOnError};
+ghost use Rattle.hx_reuse.specs.LineWords.{IgnoredAdviceDecidesNothing, OperatorsLimitAllows, OperatorsLimitEnds};
+ghost use Rattle.hx_reuse.specs.LineWords.{StatedLimitStays};
+ghost use Rattle.hx_reuse.specs.Promises.{SendsNoOtherRequestsVariant, SendsNoOtherVariant, NeverSendsStaleAgainst};
+ghost use Rattle.hx_reuse.specs.Promises.{NeverOutlastsWhatItStates, NeverSendsUnvalidated, NeverSendsOnError};
 
 use hx_vary::kept_is_enough;
 
-/// The chosen response is held, has the request's key and nominated values, and none that has comes later: none has a later
-/// Date. None is chosen only where none has them.
+/// The chosen response is held, has the request's key and nominated values, and none that has comes
+/// later: none has a later Date. None is chosen only where none has them.
 pub fn the_latest_that_matches_is_chosen()
     ensures latest { ChoosesTheLatest }
     ensures by_date { ChoosesByDate }
@@ -64,21 +73,23 @@ pub fn the_least_error_rule_is_named()
     ensures every { NamesOneThatStandsOnError }
 {}
 
-/// A response that is sent without the origin was asked for with the values that the request has of its nominated fields.
+/// A response that is sent without the origin was asked for with the values that the request has of
+/// its nominated fields.
 pub fn no_other_variant_is_sent()
     ensures { SendsNoOtherVariant }
 {}
 
-/// Of a response that was stored with what its own request had, only a request gets it that has the same values of all that
-/// it nominates.
+/// Of a response that was stored with what its own request had, only a request gets it that has the
+/// same values of all that it nominates.
 pub fn no_other_requests_variant_is_sent()
     ensures { SendsNoOtherRequestsVariant }
 {
     kept_is_enough();
 }
 
-/// Whatever a request and the operator's line say, a response with must-revalidate, proxy-revalidate or s-maxage is never sent
-/// stale, and one with no-cache never unvalidated; after an error neither is sent.
+/// Whatever a request and the operator's line say, a response with must-revalidate,
+/// proxy-revalidate or s-maxage is never sent stale, and one with no-cache never unvalidated; after
+/// an error neither is sent.
 pub fn what_has_to_be_validated_is()
     ensures stale { NeverSendsStaleAgainst }
     ensures stated { NeverOutlastsWhatItStates }
@@ -86,7 +97,8 @@ pub fn what_has_to_be_validated_is()
     ensures error { NeverSendsOnError }
 {}
 
-/// With a line that has no words nothing is asked but what the standards' conditions say, and a response lasts as long as it states.
+/// With a line that has no words nothing is asked but what the standards' conditions say, and a
+/// response lasts as long as it states.
 pub fn default_policy_changes_nothing()
     ensures lifetime { PlainLineGivesNoLifetime }
     ensures rules { PlainLineAsksTheSame }
@@ -95,8 +107,8 @@ pub fn default_policy_changes_nothing()
     ensures leave { PlainLineLeavesTheSame }
 {}
 
-/// The lifetime that a line gives changes nothing of a response that states its own, nor of one whose status isn't heuristically
-/// cacheable.
+/// The lifetime that a line gives changes nothing of a response that states its own, nor of one
+/// whose status isn't heuristically cacheable.
 pub fn a_stated_lifetime_stays()
     ensures stated { StatedLifetimeStays }
     ensures other_status { OtherStatusesStay }
@@ -107,16 +119,16 @@ pub fn a_given_lifetime_counts()
     ensures { GivenLifetimeCounts }
 {}
 
-/// Where a line doesn't heed what requests want, no rule on a request's no-cache, max-age or min-fresh stands, and requests that
-/// differ in nothing else are answered alike.
+/// Where a line doesn't heed what requests want, no rule on a request's no-cache, max-age or
+/// min-fresh stands, and requests that differ in nothing else are answered alike.
 pub fn ignored_directives_are_not_asked()
     ensures rules { IgnoredAdviceNeverStands }
     ensures on_error { IgnoredAdviceNeverStandsOnError }
     ensures decision { IgnoredAdviceDecidesNothing }
 {}
 
-/// The staleness that a line allows after an error counts where neither the response nor the request has stale-if-error, and
-/// changes nothing where either has.
+/// The staleness that a line allows after an error counts where neither the response nor the
+/// request has stale-if-error, and changes nothing where either has.
 pub fn the_operators_stale_if_error_counts()
     ensures within { OperatorsLimitAllows }
     ensures past { OperatorsLimitEnds }

@@ -8,8 +8,8 @@ use hx_directives::{Directives, MOST_SECONDS};
 use hx_fields::Fields;
 use hx_policy::Policy;
 
-/// The lifetime that a response states, or else the one that the operator gives its status, which then counts as stated (RFC
-/// 9111, sections 4.2.1 and 4.2.2). Its directives are handed in.
+/// The lifetime that a response states, or else the one that the operator gives its status, which
+/// then counts as stated (RFC 9111, sections 4.2.1 and 4.2.2). Its directives are handed in.
 pub fn lifetime_under(
     policy: Policy,
     status: u16,

@@ -28,7 +28,8 @@ fn response_limit(response: &Directives) -> Option<u32>
 
 /// The staleness that the operator's line allows, in seconds, where neither the response nor the request says any.
 fn operator_limit(policy: Policy, response: &Directives, request: &Directives) -> Option<u32>
-    ensures { result ≡ (if has response.now StaleIfError || has request.now StaleIfError then None else policy.stale_if_error) }
+    ensures { result
+        ≡ (if has response.now StaleIfError || has request.now StaleIfError then None else policy.stale_if_error) }
 {
     if response.has(Directive::StaleIfError) || request.has(Directive::StaleIfError) {
         None
@@ -47,8 +48,10 @@ fn is_past(stale_by: u32, limit: Option<u32>) -> bool
 }
 
 fn allows_no_staleness(policy: Policy, response: &Directives, request: &Directives) -> bool
-    ensures { result ≡ ((is_none (stated_once (seconds response.now StaleIfError)) && is_none (first_valid request.now StaleIfError))
-        && is_none (if has response.now StaleIfError || has request.now StaleIfError then None else policy.stale_if_error)) }
+    ensures { result
+        ≡ ((is_none (stated_once (seconds response.now StaleIfError)) && is_none (first_valid request.now StaleIfError))
+        && is_none (if has response.now StaleIfError || has request.now StaleIfError then None
+        else policy.stale_if_error)) }
 {
     response_limit(response).is_none()
         && request.first_valid(Directive::StaleIfError).is_none()
@@ -59,7 +62,8 @@ fn allows_no_staleness(policy: Policy, response: &Directives, request: &Directiv
 fn is_too_stale(policy: Policy, stale_by: u32, response: &Directives, request: &Directives) -> bool
     ensures { result ≡ ((is_some_and (λ most. nat_lt most stale_by) (stated_once (seconds response.now StaleIfError))
         || is_some_and (λ most. nat_lt most stale_by) (first_valid request.now StaleIfError))
-        || is_some_and (λ most. nat_lt most stale_by) (if has response.now StaleIfError || has request.now StaleIfError then None else policy.stale_if_error)) }
+        || is_some_and (λ most. nat_lt most stale_by) (if has response.now StaleIfError || has request.now StaleIfError
+        then None else policy.stale_if_error)) }
 {
     is_past(stale_by, response_limit(response))
         || is_past(stale_by, request.first_valid(Directive::StaleIfError))
@@ -74,7 +78,8 @@ fn rule_on_error(
     response: &Directives,
     request: &Directives,
 ) -> Option<ErrorRule>
-    ensures { result ≡ find (λ r. against_on_error r (stands_at policy lifetime age response.now request.now)) error_rules }
+    ensures { result
+        ≡ find (λ r. against_on_error r (stands_at policy lifetime age response.now request.now)) error_rules }
 {
     if response.has(Directive::NoCache) {
         Some(ErrorRule::NoCache)
@@ -108,9 +113,9 @@ fn rule_on(
     rule_on_error(policy, lifetime, age, &entry.directives, asked_directives)
 }
 
-/// Whether the response that was chosen for a request may be sent in place of an error, at a moment in Unix seconds and under
-/// what the request's line says of caching; if not, the least rule against it. The request's directives are handed in.
-/// No memory is taken.
+/// Whether the response that was chosen for a request may be sent in place of an error, at a moment
+/// in Unix seconds and under what the request's line says of caching; if not, the least rule
+/// against it. The request's directives are handed in. No memory is taken.
 pub fn may_serve_on_error(
     asked_directives: &Directives,
     entry: &Entry,

@@ -2,11 +2,13 @@
 ghost use Rattle.std.specs.Prelude.{◌≡◌, ℕ, List, false, find, ◌&&◌, ◌||◌, nat_lt, ◌+◌, is_some};
 ghost use Rattle.hx_directives.specs.Occurrences.{occurrences_of};
 ghost use Rattle.hx_directives.specs.Answers.{first_valid, has, max_stale};
-ghost use Rattle.hx_directives.specs.declared.names.Directive.TheVariants.{MaxAge, MinFresh, NoCache, MustRevalidate, ProxyRevalidate, SMaxage};
+ghost use Rattle.hx_directives.specs.declared.names.Directive.TheVariants.{MaxAge, MinFresh, NoCache, MustRevalidate};
+ghost use Rattle.hx_directives.specs.declared.names.Directive.TheVariants.{ProxyRevalidate, SMaxage};
 ghost use Rattle.hx_age.specs.Age.{is_fresh_of, staleness_of};
 ghost use Rattle.hx_store.specs.Stored.{Stored};
 ghost use Rattle.hx_policy.specs.declared.words.Policy.{Policy as Words};
-ghost use Rattle.hx_reuse.specs.Rules.{is_some_and, against, stands, past_limit, accepts_stale, stands_at, standing, request_rules, entry_rules};
+ghost use Rattle.hx_reuse.specs.Rules.{is_some_and, against, stands, past_limit, accepts_stale, stands_at, standing};
+ghost use Rattle.hx_reuse.specs.Rules.{request_rules, entry_rules};
 
 use crate::lifetimes::lifetime_under;
 use crate::rule::ReuseRule;
@@ -18,7 +20,8 @@ use hx_store::Entry;
 
 /// The least rule on the request alone.
 pub(crate) fn request_rule(asked: &Asked) -> Option<ReuseRule>
-    ensures { (policy : Words) (held : List Stored) (now : ℕ) → result ≡ find (λ r. stands r policy held asked.now now) request_rules }
+    ensures { (policy : Words) (held : List Stored) (now : ℕ)
+        → result ≡ find (λ r. stands r policy held asked.now now) request_rules }
 {
     if asked.method.as_str() != "GET" && asked.method.as_str() != "HEAD" {
         return Some(ReuseRule::Method);
@@ -44,7 +47,8 @@ pub(crate) fn asks_to_validate(policy: Policy, request: &Directives) -> bool
 
 /// Whether an age is above a request's max-age, where the operator's line heeds it.
 fn is_above_max_age(policy: Policy, age: u32, request: &Directives) -> bool
-    ensures { result ≡ (policy.heeds_requests && is_some_and (λ most. nat_lt most age) (first_valid request.now MaxAge)) }
+    ensures { result
+        ≡ (policy.heeds_requests && is_some_and (λ most. nat_lt most age) (first_valid request.now MaxAge)) }
 {
     policy.heeds_requests && is_above(age, request)
 }
@@ -60,7 +64,8 @@ fn is_above(age: u32, request: &Directives) -> bool
 
 /// Whether a lifetime is over before a request's min-fresh is, where the operator's line heeds it.
 fn is_below_min_fresh(policy: Policy, lifetime: Lifetime, age: u32, request: &Directives) -> bool
-    ensures { result ≡ (policy.heeds_requests && is_some_and (λ least. nat_lt lifetime.seconds (age + least)) (first_valid request.now MinFresh)) }
+    ensures { result ≡ (policy.heeds_requests
+        && is_some_and (λ least. nat_lt lifetime.seconds (age + least)) (first_valid request.now MinFresh)) }
 {
     policy.heeds_requests && is_below(lifetime, age, request)
 }
@@ -98,7 +103,8 @@ fn accepts_stale(request: &Directives) -> bool
 }
 
 pub(crate) fn must_revalidate(response: &Directives) -> bool
-    ensures { result ≡ ((has response.now MustRevalidate || has response.now ProxyRevalidate) || has response.now SMaxage) }
+    ensures { result
+        ≡ ((has response.now MustRevalidate || has response.now ProxyRevalidate) || has response.now SMaxage) }
 {
     response.has(Directive::MustRevalidate)
         || response.has(Directive::ProxyRevalidate)

@@ -21,8 +21,8 @@ pub enum ReuseRule {
     VaryMiss,
     /// The response has no-cache.
     ResponseNoCache,
-    /// The response is fresh, and the request has no-cache; this and the other rules on no-cache, max-age and min-fresh of a
-    /// request stand only where the operator's line heeds them.
+    /// The response is fresh, and the request has no-cache; this and the other rules on no-cache,
+    /// max-age and min-fresh of a request stand only where the operator's line heeds them.
     RequestNoCache,
     /// The response is fresh, and its age is above the request's max-age.
     AboveMaxAge,
@@ -98,7 +98,8 @@ impl ReuseRule {
     }
 }
 
-/// A rule against sending a stored response in place of an error (RFC 5861, section 4), in the order in which they are asked.
+/// A rule against sending a stored response in place of an error (RFC 5861, section 4), in the
+/// order in which they are asked.
 #[derive(Clone, Copy, Debug, PartialEq, Eq)]
 pub enum ErrorRule {
     /// The response has no-cache.

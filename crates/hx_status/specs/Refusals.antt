@@ -83,7 +83,7 @@ target_word target.DotSegment = codes "dot-segment"
 target_word target.TooLong = codes "too-long"
 target_word target.OutOfMemory = codes "out-of-memory"
 
--- 400, or 414 for a target that is too long (RFC 9110, sections 15.5.1 and 15.5.15). Want of memory is never sent.
+-- 400, or 414 for a target that is too long (RFC 9110, sections 15.5.1 and 15.5.15). Out of memory is never sent.
 abbrev pub target_status : TargetFault → ℕ
 target_status target.Form = 400
 target_status target.Scheme = 400

@@ -2,7 +2,8 @@
 ghost use Rattle.std.specs.Prelude.{◌≡◌, ◌++◌, IfOk, OnOk, Bool, option_copied};
 ghost use Rattle.std.specs.Fmt.{decimal, signed_decimal};
 ghost use Rattle.hx_reuse.specs.Words.{reason_of, detail_of};
-ghost use Rattle.hx_status.specs.Member.{member_text, how_text, fwd_status_text, ttl_text, flag_text, word_text, detail_or, detail_named, word_of, not_stored_word};
+ghost use Rattle.hx_status.specs.Member.{member_text, how_text, fwd_status_text, ttl_text, flag_text, word_text};
+ghost use Rattle.hx_status.specs.Member.{detail_or, detail_named, word_of, not_stored_word};
 
 use crate::status::{Detail, How, Status};
 use hx_fields::Bytes;

@@ -26,9 +26,11 @@ pub enum Cause {
     Denied(u16),
     /// No line of the table allows it.
     NoLine,
-    /// It may not go forward, and this rule keeps it from being answered by a stored response (RFC 9111, section 5.2.1.7).
+    /// It may not go forward, and this rule keeps it from being answered by a stored response (RFC
+    /// 9111, section 5.2.1.7).
     OnlyIfCached(ReuseRule),
-    /// The origin failed. Against a stored response stands the reuse rule, and with one on that response the error rule.
+    /// The origin failed. Against a stored response stands the reuse rule, and with one on that
+    /// response the error rule.
     Origin(FailKind, ReuseRule, Option<ErrorRule>),
     /// The client's bytes are no request (RFC 9112).
     Frame(FrameFault),

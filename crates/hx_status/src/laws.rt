@@ -1,6 +1,7 @@
 //! What the texts tell their reader.
 ghost use Rattle.hx_status.specs.Member.{NotStoredTellsTheRule};
-ghost use Rattle.hx_status.specs.Refusals.{FrameWordsTellApart, KindWordsTellApart, OnlyTheTableForbids, TargetWordsTellApart, TextsTellRulesApart, TheTableForbids};
+ghost use Rattle.hx_status.specs.Refusals.{FrameWordsTellApart, KindWordsTellApart, OnlyTheTableForbids};
+ghost use Rattle.hx_status.specs.Refusals.{TargetWordsTellApart, TextsTellRulesApart, TheTableForbids};
 
 /// No two reuse rules are named by the same text, in a refusal as in Cache-Status.
 pub fn texts_tell_the_rule()

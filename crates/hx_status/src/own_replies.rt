@@ -1,6 +1,7 @@
 //! The proxy's own answers.
 ghost use Rattle.std.specs.Prelude.{◌≡◌, ◌++◌, IfOk, OnOk};
-ghost use Rattle.hx_status.specs.Refusals.{status_of, text_of, rule_text, error_text, kind_word, origin_text, origin_status, frame_word, frame_status, target_word, target_status};
+ghost use Rattle.hx_status.specs.Refusals.{status_of, text_of, rule_text, error_text, kind_word, origin_text};
+ghost use Rattle.hx_status.specs.Refusals.{origin_status, frame_word, frame_status, target_word, target_status};
 
 use crate::cache_status::push_detail;
 use crate::cause::{Cause, FailKind};

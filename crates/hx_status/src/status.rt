@@ -26,7 +26,8 @@ pub enum Detail {
 #[derive(Clone, Copy, Debug, PartialEq, Eq)]
 pub struct Status {
     pub how: How,
-    /// The status of the origin's answer in this step, where it isn't the one sent. A hit has none: it would be told all the same.
+    /// The status of the origin's answer in this step, where it isn't the one sent. A hit has none:
+    /// it would be told all the same.
     pub fwd_status: Option<u16>,
     /// Seconds of freshness left, below 0 where it is stale.
     pub ttl: Option<i64>,
@@ -34,7 +35,7 @@ pub struct Status {
     pub collapsed: bool,
     /// Named in place of the detail of the rule. A hit has none: it would be told all the same.
     pub detail: Option<Detail>,
-    /// The first storing rule against an answer that is passed on and isn't stored, where it is to be told. It is named where no
-    /// other detail is.
+    /// The first storing rule against an answer that is passed on and isn't stored, where it is to
+    /// be told. It is named where no other detail is.
     pub not_stored: Option<StoreRule>,
 }

@@ -1,4 +1,5 @@
-//! The texts of worked cases, computed from the definitions: each function's contract is the cases, and its body is empty.
+//! The texts of worked cases, computed from the definitions: each function's contract is the cases,
+//! and its body is empty.
 ghost use Rattle.std.specs.Prelude.{◌≡◌, codes, Some, None, true, false, pos, negsuc};
 ghost use Rattle.hx_framing.specs.declared.fault.FrameFault.TheVariants as frame;
 ghost use Rattle.hx_target.specs.declared.faults.TargetFault.TheVariants as target;
@@ -15,7 +16,15 @@ ghost use Rattle.hx_status.specs.Cases.{not_stored_by, passed_on, passed_on_and_
 
 /// A hit, a first answer that is stored, one with no lifetime left, and denials by the operator's table.
 pub fn worked_texts()
-    ensures hit { member_text (codes "edge") (record { how = Hit; fwd_status = None; ttl = Some (pos 30); stored = false; collapsed = false; detail = None; not_stored = None }) ≡ codes "edge;hit;ttl=30" }
+    ensures hit { member_text (codes "edge") (record {
+      how = Hit;
+      fwd_status = None;
+      ttl = Some (pos 30);
+      stored = false;
+      collapsed = false;
+      detail = None;
+      not_stored = None;
+    }) ≡ codes "edge;hit;ttl=30" }
     ensures stored { member_text (codes "edge") (passed_on_and_stored rule.UriMiss (pos 59)) ≡ codes "edge;fwd=uri-miss;ttl=59;stored" }
     ensures over { member_text (codes "edge") (passed_on_and_stored rule.UriMiss (negsuc 0)) ≡ codes "edge;fwd=uri-miss;ttl=-1;stored" }
     ensures another_variant { member_text (codes "edge") (passed_on rule.VaryMiss) ≡ codes "edge;fwd=vary-miss" }
@@ -52,15 +61,20 @@ pub fn least_reuse_rule()
 /// A 304 of the origin freshens what states no lifetime, and one that validates nothing leads to what is held.
 pub fn no_lifetime_is_only_validated()
     ensures stored { member_text (codes "edge") (passed_on_and_stored rule.UriMiss (pos 0)) ≡ codes "edge;fwd=uri-miss;ttl=0;stored" }
-    ensures freshened { member_text (codes "edge") (sent_after_all rule.NoLifetime (Some 304) (Some (pos 0)) None) ≡ codes "edge;fwd=stale;fwd-status=304;ttl=0;detail=no-lifetime" }
-    ensures after_304 { member_text (codes "edge") (sent_after_all rule.NoMaxStale (Some 304) (Some (pos 59)) (Some ReuseAfter304)) ≡ codes "edge;fwd=stale;fwd-status=304;ttl=59;detail=reuse-after-304" }
-    ensures after_error { member_text (codes "edge") (sent_after_all rule.NoMaxStale None (Some (pos 50)) (Some ReuseAfterError)) ≡ codes "edge;fwd=stale;ttl=50;detail=reuse-after-error" }
+    ensures freshened { member_text (codes "edge") (sent_after_all rule.NoLifetime (Some 304) (Some (pos 0)) None)
+        ≡ codes "edge;fwd=stale;fwd-status=304;ttl=0;detail=no-lifetime" }
+    ensures after_304 { member_text (codes "edge") (sent_after_all rule.NoMaxStale (Some 304) (Some (pos 59))
+        (Some ReuseAfter304)) ≡ codes "edge;fwd=stale;fwd-status=304;ttl=59;detail=reuse-after-304" }
+    ensures after_error { member_text (codes "edge") (sent_after_all rule.NoMaxStale None (Some (pos 50))
+        (Some ReuseAfterError)) ≡ codes "edge;fwd=stale;ttl=50;detail=reuse-after-error" }
 {}
 
 /// By the response's stale-if-error, after a failure and after a 503; and the first rule against it.
 pub fn stale_if_error_of_response()
-    ensures sent { member_text (codes "edge") (sent_after_all rule.NoMaxStale None (Some (negsuc 59)) (Some StaleIfError)) ≡ codes "edge;fwd=stale;ttl=-60;detail=stale-if-error" }
-    ensures after_503 { member_text (codes "edge") (sent_after_all rule.NoMaxStale (Some 503) (Some (negsuc 59)) (Some StaleIfError)) ≡ codes "edge;fwd=stale;fwd-status=503;ttl=-60;detail=stale-if-error" }
+    ensures sent { member_text (codes "edge") (sent_after_all rule.NoMaxStale None (Some (negsuc 59))
+        (Some StaleIfError)) ≡ codes "edge;fwd=stale;ttl=-60;detail=stale-if-error" }
+    ensures after_503 { member_text (codes "edge") (sent_after_all rule.NoMaxStale (Some 503) (Some (negsuc 59))
+        (Some StaleIfError)) ≡ codes "edge;fwd=stale;fwd-status=503;ttl=-60;detail=stale-if-error" }
     ensures too_stale { text_of (Origin Refused rule.NoMaxStale (Some on_error.TooStale)) ≡ codes "origin refused;fwd=stale;stale-if-error=too-stale" }
     ensures forbidden { text_of (Origin Refused rule.MustRevalidate (Some on_error.MustRevalidate)) ≡ codes "origin refused;fwd=stale;detail=must-revalidate;stale-if-error=must-revalidate" }
     ensures bad_gateway { status_of (Origin Refused rule.NoMaxStale (Some on_error.TooStale)) ≡ 502 }
@@ -68,7 +82,8 @@ pub fn stale_if_error_of_response()
 
 /// By the request's; a time-out is told from other failures by its status.
 pub fn stale_if_error_of_request()
-    ensures sent { member_text (codes "edge") (sent_after_all rule.NoMaxStale None (Some (negsuc 9)) (Some StaleIfError)) ≡ codes "edge;fwd=stale;ttl=-10;detail=stale-if-error" }
+    ensures sent { member_text (codes "edge") (sent_after_all rule.NoMaxStale None (Some (negsuc 9))
+        (Some StaleIfError)) ≡ codes "edge;fwd=stale;ttl=-10;detail=stale-if-error" }
     ensures no_directive { text_of (Origin TimedOut rule.NoMaxStale (Some on_error.NoDirective)) ≡ codes "origin timed-out;fwd=stale;stale-if-error=no-directive" }
     ensures time_out { status_of (Origin TimedOut rule.NoMaxStale (Some on_error.NoDirective)) ≡ 504 }
     ensures nothing_held { text_of (Origin BadAnswer rule.UriMiss None) ≡ codes "origin bad-answer;fwd=uri-miss" }
@@ -77,12 +92,28 @@ pub fn stale_if_error_of_request()
 
 /// The answer to a request that waited for another's.
 pub fn second_request_waits()
-    ensures { member_text (codes "edge") (record { how = Fwd rule.UriMiss; fwd_status = None; ttl = Some (pos 59); stored = false; collapsed = true; detail = None; not_stored = None }) ≡ codes "edge;fwd=uri-miss;ttl=59;collapsed" }
+    ensures { member_text (codes "edge") (record {
+      how = Fwd rule.UriMiss;
+      fwd_status = None;
+      ttl = Some (pos 59);
+      stored = false;
+      collapsed = true;
+      detail = None;
+      not_stored = None;
+    }) ≡ codes "edge;fwd=uri-miss;ttl=59;collapsed" }
 {}
 
 /// A stored answer of a request that others waited for: stored comes before collapsed.
 pub fn stored_comes_before_collapsed()
-    ensures { member_text (codes "edge") (record { how = Fwd rule.UriMiss; fwd_status = None; ttl = Some (pos 60); stored = true; collapsed = true; detail = None; not_stored = None }) ≡ codes "edge;fwd=uri-miss;ttl=60;stored;collapsed" }
+    ensures { member_text (codes "edge") (record {
+      how = Fwd rule.UriMiss;
+      fwd_status = None;
+      ttl = Some (pos 60);
+      stored = true;
+      collapsed = true;
+      detail = None;
+      not_stored = None;
+    }) ≡ codes "edge;fwd=uri-miss;ttl=60;stored;collapsed" }
 {}
 
 /// What each refused message is told by; one that was cut off gets no answer, and a bad status stands in no request.
@@ -151,5 +182,6 @@ pub fn storing_rules_are_told()
     ensures cookie { member_text (codes "edge") (not_stored_by rule.UriMiss storing.SetCookie) ≡ codes "edge;fwd=uri-miss;detail=not-stored-set-cookie" }
     ensures method { member_text (codes "edge") (not_stored_by rule.Method storing.Method) ≡ codes "edge;fwd=method;detail=not-stored-method" }
     ensures rule_first { member_text (codes "edge") (not_stored_by rule.Operator storing.Operator) ≡ codes "edge;fwd=bypass;detail=operator" }
-    ensures rule_of_the_request { member_text (codes "edge") (not_stored_by rule.RequestNoCache storing.TooLarge) ≡ codes "edge;fwd=request;detail=no-cache" }
+    ensures rule_of_the_request { member_text (codes "edge") (not_stored_by rule.RequestNoCache storing.TooLarge)
+        ≡ codes "edge;fwd=request;detail=no-cache" }
 {}

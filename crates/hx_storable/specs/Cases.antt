@@ -31,19 +31,55 @@ answer status fields = record { status = status; fields = fields }
 
 -- an answer that states its lifetime, with nothing against it
 abbrev pub lasting : Facts
-lasting = record { policy = plain true; vary_star = false; listed = false; explicit = true; validator = false; too_large = false; overtaken = false; no_serial = false }
+lasting = record {
+  policy = plain true;
+  vary_star = false;
+  listed = false;
+  explicit = true;
+  validator = false;
+  too_large = false;
+  overtaken = false;
+  no_serial = false;
+}
 
 -- one whose Vary is `*`
 abbrev pub starred : Facts
-starred = record { policy = plain true; vary_star = true; listed = false; explicit = true; validator = false; too_large = false; overtaken = false; no_serial = false }
+starred = record {
+  policy = plain true;
+  vary_star = true;
+  listed = false;
+  explicit = true;
+  validator = false;
+  too_large = false;
+  overtaken = false;
+  no_serial = false;
+}
 
 -- and whose Connection names a cache field too
 abbrev pub starred_and_listed : Facts
-starred_and_listed = record { policy = plain true; vary_star = true; listed = true; explicit = true; validator = false; too_large = false; overtaken = false; no_serial = false }
+starred_and_listed = record {
+  policy = plain true;
+  vary_star = true;
+  listed = true;
+  explicit = true;
+  validator = false;
+  too_large = false;
+  overtaken = false;
+  no_serial = false;
+}
 
 -- one that the operator keeps from the store
 abbrev pub kept_out : Facts
-kept_out = record { policy = plain false; vary_star = false; listed = false; explicit = true; validator = false; too_large = false; overtaken = false; no_serial = false }
+kept_out = record {
+  policy = plain false;
+  vary_star = false;
+  listed = false;
+  explicit = true;
+  validator = false;
+  too_large = false;
+  overtaken = false;
+  no_serial = false;
+}
 
 -- and any other, whatever the other words say
 abbrev pub not_kept_out : Facts → Facts

@@ -5,7 +5,8 @@
 -- has_cookie_for_one, is_uncached_error: what the operator may keep from the store
 -- stands: the condition of each rule        storage_rules, number_of: the rules by their numbers
 -- storage_rule_of: the least that stands
-use Rattle.std.specs.Prelude.{ℕ, ◌==◌, nat_le, Bool, not, ◌&&◌, ◌||◌, List, [], ◌∷◌, ◌++◌, find, codes, bytes_eq, Option}
+use Rattle.std.specs.Prelude.{ℕ, ◌==◌, nat_le, Bool, not, ◌&&◌, ◌||◌, List, [], ◌∷◌, ◌++◌, find, codes, bytes_eq}
+use Rattle.std.specs.Prelude.{Option}
 use Rattle.hx_fields.specs.Lines.{has as has_line}
 use Rattle.hx_directives.specs.Occurrences.{occurrences_of}
 use Rattle.hx_directives.specs.Answers.{has}
@@ -18,7 +19,11 @@ use Rattle.hx_hop.specs.Bypass.{has_content, asks_for_range, has_precondition}
 use Rattle.hx_policy.specs.Words.{is_heuristic}
 use Rattle.hx_storable.specs.declared.known_facts.Facts.{Facts}
 use Rattle.hx_storable.specs.declared.rule.StoreRule.{StoreRule}
-use Rattle.hx_storable.specs.declared.rule.StoreRule.TheVariants.{Operator, Method, Bypass, Status, MustUnderstand, ResponseNoStore, RequestNoStore, Private, Authorization, NothingAllows, VaryStar, ConnectionField, NothingToReuse, TooLarge, Overtaken, Serials, SetCookie, ErrorStatus}
+use Rattle.hx_storable.specs.declared.rule.StoreRule.TheVariants.{Operator, Method, Bypass, Status, MustUnderstand}
+use Rattle.hx_storable.specs.declared.rule.StoreRule.TheVariants.{ResponseNoStore, RequestNoStore, Private}
+use Rattle.hx_storable.specs.declared.rule.StoreRule.TheVariants.{Authorization, NothingAllows, VaryStar}
+use Rattle.hx_storable.specs.declared.rule.StoreRule.TheVariants.{ConnectionField, NothingToReuse, TooLarge, Overtaken}
+use Rattle.hx_storable.specs.declared.rule.StoreRule.TheVariants.{Serials, SetCookie, ErrorStatus}
 
 -- the statuses whose caching this cache understands (RFC 9111, section 5.2.2.3)
 -- own: those of the standard's list but 206, for no incomplete response is stored
@@ -42,8 +47,8 @@ allows_storing answered =
     (((says answered directive.Public || has_line answered.fields (codes "Expires")) || says answered directive.MaxAge)
     || says answered directive.SMaxage) || is_heuristic answered.status
 
--- the response sets a cookie, and doesn't say that it is for all. Of itself Set-Cookie "does not inhibit caching" (RFC 9111,
--- section 7.3): it takes a word of the operator's line
+-- the response sets a cookie, and doesn't say that it is for all. Of itself Set-Cookie "does not
+-- inhibit caching" (RFC 9111, section 7.3): it takes a word of the operator's line
 abbrev pub has_cookie_for_one : Answered → Bool
 has_cookie_for_one answered = has_line answered.fields (codes "Set-Cookie") && not (says answered directive.Public)
 
@@ -62,15 +67,18 @@ stands Bypass asked answered facts = (has_content asked || asks_for_range asked)
 -- RFC 9111, sections 3 and 3.3
 stands Status asked answered facts = (answered.status == 206) || (answered.status == 304)
 -- RFC 9111, section 5.2.2.3
-stands MustUnderstand asked answered facts = says answered directive.MustUnderstand && not (is_understood answered.status)
+stands MustUnderstand asked answered facts = says answered directive.MustUnderstand
+    && not (is_understood answered.status)
 -- RFC 9111, sections 5.2.2.3 and 5.2.2.5
-stands ResponseNoStore asked answered facts = says answered directive.NoStore && not (says answered directive.MustUnderstand)
+stands ResponseNoStore asked answered facts = says answered directive.NoStore
+    && not (says answered directive.MustUnderstand)
 -- RFC 9111, section 5.2.1.5
 stands RequestNoStore asked answered facts = asks asked directive.NoStore
 -- RFC 9111, section 5.2.2.7; own: also where it names fields
 stands Private asked answered facts = says answered directive.Private
 -- RFC 9111, section 3.5
-stands Authorization asked answered facts = has_line asked.fields (codes "Authorization") && not (allows_shared (occurrences_of answered.fields))
+stands Authorization asked answered facts = has_line asked.fields (codes "Authorization")
+    && not (allows_shared (occurrences_of answered.fields))
 -- RFC 9111, section 3
 stands NothingAllows asked answered facts = not (allows_storing answered)
 -- own: such a response answers no other request (RFC 9111, section 4.1)

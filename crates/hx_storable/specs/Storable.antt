@@ -1,5 +1,5 @@
--- What a response and its request have to be, that the one may be stored, in the order of the standard's list and without
--- the rules and their numbers (RFC 9111, section 3).
+-- What a response and its request have to be, that the one may be stored, in the order of the
+-- standard's list and without the rules and their numbers (RFC 9111, section 3).
 --
 -- IsStorable: the standard's list      IsForTheStore, IsOfUse, HasRoom: what this cache asks besides
 -- IsWithinTheWords: what the words of the operator's line ask
@@ -23,18 +23,21 @@ IsFinal answered = 200 ≤ answered.status
 
 -- storing it takes an understanding of its status (RFC 9111, section 3)
 abbrev pub NeedsUnderstanding : Answered → Type 0
-NeedsUnderstanding answered = (answered.status ≡ 206) ⊎ ((answered.status ≡ 304) ⊎ (says answered directive.MustUnderstand ≡ true))
+NeedsUnderstanding answered =
+    (answered.status ≡ 206) ⊎ ((answered.status ≡ 304) ⊎ (says answered directive.MustUnderstand ≡ true))
 
--- no-store is absent, or a status that is understood lifts it together with must-understand (RFC 9111, sections 5.2.2.3 and
--- 5.2.2.5)
+-- no-store is absent, or a status that is understood lifts it together with must-understand (RFC
+-- 9111, sections 5.2.2.3 and 5.2.2.5)
 abbrev pub IsNotForbidden : Answered → Type 0
 IsNotForbidden answered =
-    (says answered directive.NoStore ≡ false) ⊎ ((says answered directive.MustUnderstand ≡ true) × (is_understood answered.status ≡ true))
+    (says answered directive.NoStore ≡ false)
+    ⊎ ((says answered directive.MustUnderstand ≡ true) × (is_understood answered.status ≡ true))
 
 -- a directive explicitly lets a shared cache store what was asked for with Authorization (RFC 9111, section 3.5)
 abbrev pub AllowsShared : Answered → Type 0
 AllowsShared answered =
-    (says answered directive.MustRevalidate ≡ true) ⊎ ((says answered directive.Public ≡ true) ⊎ (says answered directive.SMaxage ≡ true))
+    (says answered directive.MustRevalidate ≡ true)
+    ⊎ ((says answered directive.Public ≡ true) ⊎ (says answered directive.SMaxage ≡ true))
 
 -- what allows a response to be stored, at least one of which it contains (RFC 9111, section 3)
 abbrev pub AllowsStoring : Answered → Type 0
@@ -45,8 +48,8 @@ AllowsStoring answered =
     ⊎ ((says answered directive.SMaxage ≡ true)
     ⊎ (is_heuristic answered.status ≡ true))))
 
--- "A cache MUST NOT store a response to a request unless" (RFC 9111, section 3), for a shared cache, and what the request
--- itself forbids (RFC 9111, section 5.2.1.5)
+-- "A cache MUST NOT store a response to a request unless" (RFC 9111, section 3), for a shared
+-- cache, and what the request itself forbids (RFC 9111, section 5.2.1.5)
 pub record IsStorable (asked : Asked) (answered : Answered) : Type 0 where
   -- own: understood are GET and HEAD; of these the store takes answers to GET alone (`IsForTheStore`)
   pub method_is_understood : (asked.method ≡ codes "GET") ⊎ (asked.method ≡ codes "HEAD")
@@ -77,8 +80,9 @@ pub record HasRoom (facts : Facts) : Type 0 where
   pub not_too_large : facts.too_large ≡ false
   pub has_serial : facts.no_serial ≡ false
 
--- own: where the operator stores no cookies the response sets none, or has public (RFC 9111, section 7.3); where he stores
--- no errors its status tells none, or is heuristically cacheable (RFC 9110, section 15.1)
+-- own: where the operator stores no cookies the response sets none, or has public (RFC 9111,
+-- section 7.3); where he stores no errors its status tells none, or is heuristically cacheable (RFC
+-- 9110, section 15.1)
 pub record IsWithinTheWords (answered : Answered) (policy : Policy) : Type 0 where
   pub cookies : (policy.stores_cookies ≡ true)
       ⊎ ((has_line answered.fields (codes "Set-Cookie") ≡ false) ⊎ (says answered directive.Public ≡ true))
@@ -125,11 +129,13 @@ StoresWhereNoneStands = (asked : Asked) (answered : Answered) (facts : Facts) (a
     IsStored asked answered facts → stands any asked answered facts ≡ false
 
 abbrev pub IsNeverStored : (Asked → Answered → Type 0) → Type 0
-IsNeverStored P = (asked : Asked) (answered : Answered) (facts : Facts) → P asked answered → IsStored asked answered facts → ⊥
+IsNeverStored P = (asked : Asked) (answered : Answered) (facts : Facts) → P asked answered
+    → IsStored asked answered facts → ⊥
 
 -- the response has no-store without must-understand
 abbrev pub NoStoreForbids : Type 0
-NoStoreForbids = IsNeverStored (λ asked answered. (says answered directive.NoStore ≡ true) × (says answered directive.MustUnderstand ≡ false))
+NoStoreForbids = IsNeverStored (λ asked answered. (says answered directive.NoStore ≡ true)
+    × (says answered directive.MustUnderstand ≡ false))
 
 -- it has no-store, with must-understand or without, and a status that isn't understood
 abbrev pub NoStoreForbidsUnlessUnderstood : Type 0
@@ -147,7 +153,8 @@ PrivateForbids = IsNeverStored (λ asked answered. says answered directive.Priva
 -- the request has Authorization, and the response neither must-revalidate nor public nor s-maxage
 abbrev pub AuthorizationForbids : Type 0
 AuthorizationForbids =
-    IsNeverStored (λ asked answered. (has_line asked.fields (codes "Authorization") ≡ true) × (says answered directive.MustRevalidate ≡ false)
+    IsNeverStored (λ asked answered. (has_line asked.fields (codes "Authorization") ≡ true)
+    × (says answered directive.MustRevalidate ≡ false)
     × (says answered directive.Public ≡ false) × (says answered directive.SMaxage ≡ false))
 
 -- the response is a part of a representation, or none
@@ -160,4 +167,5 @@ OnlyGetIsStored = IsNeverStored (λ asked answered. (asked.method ≡ codes "GET
 
 -- the operator keeps it from the store
 abbrev pub OperatorForbids : Type 0
-OperatorForbids = (asked : Asked) (answered : Answered) (facts : Facts) → facts.policy.caches ≡ false → IsStored asked answered facts → ⊥
+OperatorForbids = (asked : Asked) (answered : Answered) (facts : Facts) → facts.policy.caches ≡ false
+    → IsStored asked answered facts → ⊥

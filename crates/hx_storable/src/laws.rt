@@ -4,9 +4,16 @@ ghost use Rattle.std.specs.Prelude.{◌≡◌, ◌∷◌, [], codes, Some, None,
 ghost use Rattle.hx_fields.specs.Examples.{line};
 ghost use Rattle.hx_storable.specs.Words.{WordsTellStoringRulesApart};
 ghost use Rattle.hx_storable.specs.Rules.{storage_rule_of};
-ghost use Rattle.hx_storable.specs.Storable.{StoresNothingElse, StoresWhatMayBeStored, NamesTheLeast, NamesOneThatStands, StoresWhereNoneStands, NoStoreForbids, NoStoreForbidsUnlessUnderstood, RequestsNoStoreForbids, PrivateForbids, AuthorizationForbids, PartsAreNeverStored, OnlyGetIsStored, OperatorForbids};
-ghost use Rattle.hx_storable.specs.LineWords.{CookieForbids, ErrorForbids, WordsOnlyForbid, WordsForbidNoMore, PlainLineIsTheOperators, PlainLineStoresCookies, PlainLineStoresErrors, PlainLineAsksTheOthers};
-ghost use Rattle.hx_storable.specs.Cases.{control, get, authorized, answer, lasting, starred, starred_and_listed, kept_out, not_kept_out, login_page, minute, without_cookies, without_errors};
+ghost use Rattle.hx_storable.specs.Storable.{StoresNothingElse, StoresWhatMayBeStored, NamesTheLeast};
+ghost use Rattle.hx_storable.specs.Storable.{NamesOneThatStands, StoresWhereNoneStands, NoStoreForbids};
+ghost use Rattle.hx_storable.specs.Storable.{NoStoreForbidsUnlessUnderstood, RequestsNoStoreForbids, PrivateForbids};
+ghost use Rattle.hx_storable.specs.Storable.{AuthorizationForbids, PartsAreNeverStored, OnlyGetIsStored};
+ghost use Rattle.hx_storable.specs.Storable.{OperatorForbids};
+ghost use Rattle.hx_storable.specs.LineWords.{CookieForbids, ErrorForbids, WordsOnlyForbid, WordsForbidNoMore};
+ghost use Rattle.hx_storable.specs.LineWords.{PlainLineIsTheOperators, PlainLineStoresCookies, PlainLineStoresErrors};
+ghost use Rattle.hx_storable.specs.LineWords.{PlainLineAsksTheOthers};
+ghost use Rattle.hx_storable.specs.Cases.{control, get, authorized, answer, lasting, starred, starred_and_listed};
+ghost use Rattle.hx_storable.specs.Cases.{kept_out, not_kept_out, login_page, minute, without_cookies, without_errors};
 
 use crate::{Facts, StoreRule};
 
@@ -60,7 +67,8 @@ pub fn a_cookie_is_not_stored_for_others()
     ensures errors_alone { storage_rule_of (get []) (login_page (codes "max-age=60")) without_errors ≡ None }
 {}
 
-/// Where the operator stores no errors, none is stored whose status isn't heuristically cacheable, however long it lasts.
+/// Where the operator stores no errors, none is stored whose status isn't heuristically cacheable,
+/// however long it lasts.
 #[tactic(auto, unfolding(crate::specs::Rules::storage_rule_of))]
 pub fn an_error_is_not_stored()
     ensures every { ErrorForbids }
@@ -80,15 +88,15 @@ pub fn an_error_is_not_stored()
     ensures cookies_alone { storage_rule_of (get []) (minute 400) without_cookies ≡ None }
 {}
 
-/// The words of a line keep a response from the store, or do nothing: what is stored with them is stored without them, and what they
-/// allow is stored as without them.
+/// The words of a line keep a response from the store, or do nothing: what is stored with them is
+/// stored without them, and what they allow is stored as without them.
 pub fn words_only_forbid_storing()
     ensures only { WordsOnlyForbid }
     ensures no_more { WordsForbidNoMore }
 {}
 
-/// With a line that has no words the least rule is what it would be if there were none: the operator's stands where the line
-/// doesn't cache, and those of the words never.
+/// With a line that has no words the least rule is what it would be if there were none: the
+/// operator's stands where the line doesn't cache, and those of the words never.
 pub fn default_policy_changes_nothing()
     ensures operator { PlainLineIsTheOperators }
     ensures cookies { PlainLineStoresCookies }
@@ -99,14 +107,22 @@ pub fn default_policy_changes_nothing()
 /// The least number, where several rules stand, and the operator's doesn't.
 #[tactic(auto, unfolding(crate::specs::Rules::storage_rule_of))]
 pub fn least_storage_rule(facts: Facts)
-    ensures status { storage_rule_of (get []) (answer 206 (control (codes "must-understand"))) (not_kept_out facts) ≡ Some StoreRule.Status }
-    ensures must_understand { storage_rule_of (get (control (codes "no-store"))) (answer 299 (control (codes "must-understand"))) (not_kept_out facts) ≡ Some StoreRule.MustUnderstand }
-    ensures response_no_store { storage_rule_of (get (control (codes "no-store"))) (answer 200 (control (codes "no-store"))) (not_kept_out facts) ≡ Some StoreRule.ResponseNoStore }
-    ensures request_no_store { storage_rule_of (get (control (codes "no-store"))) (answer 200 (control (codes "private"))) (not_kept_out facts) ≡ Some StoreRule.RequestNoStore }
-    ensures private { storage_rule_of authorized (answer 200 (control (codes "private"))) (not_kept_out facts) ≡ Some StoreRule.Private }
-    ensures authorization { storage_rule_of authorized (answer 299 []) (not_kept_out facts) ≡ Some StoreRule.Authorization }
-    ensures nothing_allows { storage_rule_of (get []) (answer 299 (line (codes "Vary") (codes "*") ∷ [])) starred ≡ Some StoreRule.NothingAllows }
-    ensures vary_star { storage_rule_of (get []) (answer 200 (line (codes "Vary") (codes "*") ∷ [])) starred_and_listed ≡ Some StoreRule.VaryStar }
+    ensures status { storage_rule_of (get []) (answer 206 (control (codes "must-understand"))) (not_kept_out facts)
+        ≡ Some StoreRule.Status }
+    ensures must_understand { storage_rule_of (get (control (codes "no-store")))
+        (answer 299 (control (codes "must-understand"))) (not_kept_out facts) ≡ Some StoreRule.MustUnderstand }
+    ensures response_no_store { storage_rule_of (get (control (codes "no-store")))
+        (answer 200 (control (codes "no-store"))) (not_kept_out facts) ≡ Some StoreRule.ResponseNoStore }
+    ensures request_no_store { storage_rule_of (get (control (codes "no-store")))
+        (answer 200 (control (codes "private"))) (not_kept_out facts) ≡ Some StoreRule.RequestNoStore }
+    ensures private { storage_rule_of authorized (answer 200 (control (codes "private"))) (not_kept_out facts)
+        ≡ Some StoreRule.Private }
+    ensures authorization { storage_rule_of authorized (answer 299 []) (not_kept_out facts)
+        ≡ Some StoreRule.Authorization }
+    ensures nothing_allows { storage_rule_of (get []) (answer 299 (line (codes "Vary") (codes "*") ∷ [])) starred
+        ≡ Some StoreRule.NothingAllows }
+    ensures vary_star { storage_rule_of (get []) (answer 200 (line (codes "Vary") (codes "*") ∷ [])) starred_and_listed
+        ≡ Some StoreRule.VaryStar }
 {}
 
 /// With a status that is understood, must-understand lifts no-store.
@@ -118,7 +134,8 @@ pub fn must_understand_overrides_no_store()
 /// For a request with Authorization max-age isn't enough, and public is. A qualified private is a private.
 #[tactic(auto, unfolding(crate::specs::Rules::storage_rule_of))]
 pub fn authorization_and_private()
-    ensures max_age { storage_rule_of authorized (answer 200 (control (codes "max-age=60"))) lasting ≡ Some StoreRule.Authorization }
+    ensures max_age { storage_rule_of authorized (answer 200 (control (codes "max-age=60"))) lasting
+        ≡ Some StoreRule.Authorization }
     ensures public { storage_rule_of authorized (answer 200 (control (codes "public, max-age=60"))) lasting ≡ None }
     ensures private { storage_rule_of (get []) (answer 200 (control (codes "private=\"Set-Cookie, X\", max-age=60"))) lasting ≡ Some StoreRule.Private }
 {}

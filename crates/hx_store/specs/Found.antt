@@ -32,4 +32,5 @@ FindsThoseThatMatch = (key : Key) (request : List Field) (s : ℕ) (es : List St
     ≡ list_any (λ e. vary_matches e.nominated request && (same_key e.key key && (e.serial == s))) es
 
 abbrev pub MatchesAscend : Type 0
-MatchesAscend = (key : Key) (request : List Field) (es : List Stored) → Distinct (serials es) → IsAscending (matching_serials key request es)
+MatchesAscend = (key : Key) (request : List Field) (es : List Stored) → Distinct (serials es)
+    → IsAscending (matching_serials key request es)

@@ -3,7 +3,8 @@
 -- Done: what one step did to the store      recent_of: stored or used, not removed, the latest first
 -- Held: of these, those that were never crowded out        held_of: them, in that order
 -- bounded_of: what a list does that holds no more than so many      Listed, IsLater: recent_of in words
-use Rattle.std.specs.Prelude.{◌≡◌, ℕ, suc, ◌<◌, Bool, true, false, not, cond, ◌&&◌, ◌||◌, ◌==◌, nat_lt, Option, None, Some, List, [], ◌∷◌, ◌++◌, take}
+use Rattle.std.specs.Prelude.{◌≡◌, ℕ, suc, ◌<◌, Bool, true, false, not, cond, ◌&&◌, ◌||◌, ◌==◌, nat_lt, Option, None}
+use Rattle.std.specs.Prelude.{Some, List, [], ◌∷◌, ◌++◌, take}
 use Rattle.std.specs.List.{filter}
 use Rattle.hx_store.specs.Serials.{is_in}
 
@@ -29,8 +30,8 @@ to_front (Some s) xs = s ∷ filter (λ x. not (x == s)) xs
 abbrev pub recent_after : Done → List ℕ → List ℕ
 recent_after i xs = filter (λ x. not (is_in x i.removed)) (to_front i.stored (to_front i.used xs))
 
--- the serials that were stored or used and not removed since, the latest stored or used first; nothing is evicted. In a good history
--- only what is held is used, so these were stored.
+-- the serials that were stored or used and not removed since, the latest stored or used first;
+-- nothing is evicted. In a good history only what is held is used, so these were stored.
 abbrev pub recent_of : List Done → List ℕ
 recent_of [] = []
 recent_of (i ∷ past) = recent_after i (recent_of past)
@@ -45,9 +46,9 @@ abbrev pub NoneTouches : List Done → ℕ → Type 0
 NoneTouches [] s = Unit {0}
 NoneTouches (i ∷ items) s = (touches i s ≡ false) × NoneTouches items s
 
--- With room for C, a serial is held that is among the recent, and before which, at every item from the last one that
--- stored or used it, fewer than C stood: `earlier` is the history up to and with that item, and no `later` one stores or
--- uses it.
+-- With room for C, a serial is held that is among the recent, and before which, at every item from
+-- the last one that stored or used it, fewer than C stood: `earlier` is the history up to and with
+-- that item, and no `later` one stores or uses it.
 abbrev pub Held : ℕ → List Done → ℕ → Type 0
 Held C past s =
     (is_in s (recent_of past) ≡ true)
@@ -80,8 +81,9 @@ Listed past s =
     (later : List Done) × (item : Done) × (earlier : List Done) × (later ++ item ∷ earlier ≡ past)
     × (touches item s ≡ true) × (is_in s item.removed ≡ false) × NoneRemoves later s
 
--- some item stores or uses a, and neither that item nor a later one stores or uses b. An item that stored one and used another would
--- order the two by no such item; in a good history none does both.
+-- some item stores or uses a, and neither that item nor a later one stores or uses b. An item that
+-- stored one and used another would order the two by no such item; in a good history none does
+-- both.
 abbrev pub IsLater : List Done → ℕ → ℕ → Type 0
 IsLater past a b =
     (later : List Done) × (item : Done) × (earlier : List Done) × (later ++ item ∷ earlier ≡ past)

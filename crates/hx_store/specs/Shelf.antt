@@ -35,7 +35,8 @@ without_key key es = filter (λ e. not (same_key e.key key)) es
 -- the serials of the entries with this key, ascending
 abbrev pub serials_of : Key → List Stored → List ℕ
 serials_of key [] = []
-serials_of key (e ∷ es) = if same_key e.key key then insert_ascending e.serial (serials_of key es) else serials_of key es
+serials_of key (e ∷ es) =
+    if same_key e.key key then insert_ascending e.serial (serials_of key es) else serials_of key es
 
 -- the entry that was found nominates what the request has (RFC 9111, section 4.1)
 abbrev pub is_match : List Field → Option Stored → Bool
@@ -54,8 +55,8 @@ in_front (Some e) es = e ∷ es
 abbrev pub promoted : ℕ → List Stored → List Stored
 promoted s es = in_front (find_entry s es) (without (s ∷ []) es)
 
--- a bounded store: the most entries that it holds, those that it holds, the latest stored or used first, and for how many
--- entries, those among them, memory is known to stand ready
+-- a bounded store: the most entries that it holds, those that it holds, the latest stored or used
+-- first, and for how many entries, those among them, memory is known to stand ready
 pub record Shelved : Type 0 where
   pub limit : ℕ
   pub entries : List Stored

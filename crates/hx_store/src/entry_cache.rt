@@ -2,7 +2,8 @@
 //!
 //! A call costs a look-up of the serial, whatever is held, and no entry is moved. It has no bound of its own.
 
-ghost use Rattle.std.specs.Prelude.{◌≡◌, ◌-◌, ◌∷◌, [], false, true, length, take, slice_get, option_copied, IfOk, IfErr, OnErr, OnOk, Some};
+ghost use Rattle.std.specs.Prelude.{◌≡◌, ◌-◌, ◌∷◌, [], false, true, length, take, slice_get, option_copied, IfOk};
+ghost use Rattle.std.specs.Prelude.{IfErr, OnErr, OnOk, Some};
 ghost use Rattle.std.specs.List.{filter, list_all};
 ghost use Rattle.std.specs.Map.{keys_of};
 ghost use Rattle.hx_store.specs.Index.{is_match_by, AreMarks};
@@ -75,9 +76,15 @@ impl EntryCache {
         self.entries.peek(&serial)
     }
 
+<<<<<<< HEAD
     /// Those of some serials whose entries nominate what the request has. Mostly all do, and no other list is made. Fails for
     /// want of memory alone.
     fn matching(
+=======
+    /// Those of some serials whose entries nominate what the request has. Mostly all do, and no
+    /// other list is made. Fails for want of memory alone.
+    pub(crate) fn matching(
+>>>>>>> 703fcf0c93666da5cab6d2086c162d267c0a5236
         &self,
         alloc: Global,
         serials: Serials,
@@ -114,7 +121,8 @@ impl EntryCache {
         serials: &[u64],
         request: &Fields,
     ) -> Result<Serials, AllocError>
-        ensures { IfOk result (λ found. found ≡ filter (λ s. is_match request.now (find_entry s self.now)) serials.now) }
+        ensures { IfOk result (λ found. found
+            ≡ filter (λ s. is_match request.now (find_entry s self.now)) serials.now) }
     {
         let mut found = Serials::new(alloc);
         for serial in serials {
@@ -163,7 +171,8 @@ impl EntryCache {
         serials: &[u64],
         asked: &RequestValues,
     ) -> Result<Serials, AllocError>
-        ensures { IfOk result (λ found. found ≡ filter (λ s. is_match_by asked.now.values (find_entry s self.now)) serials.now) }
+        ensures { IfOk result (λ found. found
+            ≡ filter (λ s. is_match_by asked.now.values (find_entry s self.now)) serials.now) }
     {
         let mut found = Serials::new(alloc);
         for serial in serials {

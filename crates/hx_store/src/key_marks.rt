@@ -1,7 +1,8 @@
 //! The serials of one key, ascending, each beside the mark of its entry.
 //!
-//! Most keys have one serial, which stands in its place: a node of a map, of some 200 bytes, is taken where there are more.
-//! A call costs the logarithm of how many there are, but that a list costs what it lists.
+//! Most keys have one serial, which stands in its place: a node of a map, of some 200 bytes, is
+//! taken where there are more. A call costs the logarithm of how many there are, but that a list
+//! costs what it lists.
 
 ghost use Rattle.std.specs.Prelude.{◌≡◌, ◌∷◌, ◌==◌, nat_eq, nat_lt, [], length, IfOk, OnOk, OnErr, slice_get};
 ghost use Rattle.std.specs.Map.{keys_of, remove_entry, set_value};

@@ -1,9 +1,11 @@
 //! What the definitions say of worked calls, computed, and of every list of entries.
 
-ghost use Rattle.std.specs.Prelude.{◌≡◌, ◌<◌, ◌∷◌, ◌++◌, [], ℕ, List, true, false, codes, length, map, take, slice_get, is_some, IfSome, Some, None, Decides};
+ghost use Rattle.std.specs.Prelude.{◌≡◌, ◌<◌, ◌∷◌, ◌++◌, [], ℕ, List, true, false, codes, length, map, take, slice_get};
+ghost use Rattle.std.specs.Prelude.{is_some, IfSome, Some, None, Decides};
 ghost use Rattle.hx_store.specs.Serials.{is_in};
 ghost use Rattle.hx_store.specs.Stored.{Stored};
-ghost use Rattle.hx_store.specs.Recency.{Done, Held, IsLater, Listed, bounded_of, held_of, place, recent_after, recent_of};
+ghost use Rattle.hx_store.specs.Recency.{Done, Held, IsLater, Listed, bounded_of, held_of, place, recent_after};
+ghost use Rattle.hx_store.specs.Recency.{recent_of};
 ghost use Rattle.hx_store.specs.Shelf.{find_entry, holds, promoted, serials, serials_of, without, without_key};
 ghost use Rattle.hx_store.specs.Found.{FindsThoseOfTheKey, FindsAscending, FindsThoseThatMatch, MatchesAscend};
 ghost use Rattle.hx_store.specs.Cases.{key_of, first, second, third, fourth};
@@ -43,7 +45,8 @@ pub fn found_matches_nominate_what_is_asked()
 
 /// The place of a serial is how many stand before it, and one that isn't listed has all before it.
 pub fn a_place_counts_what_stands_before()
-    ensures listed { (serial : ℕ) (before behind : List ℕ) → is_in serial before ≡ false → place serial (before ++ serial ∷ behind) ≡ length before }
+    ensures listed { (serial : ℕ) (before behind : List ℕ) → is_in serial before ≡ false
+        → place serial (before ++ serial ∷ behind) ≡ length before }
     ensures absent { (serial : ℕ) (all : List ℕ) → is_in serial all ≡ false → place serial all ≡ length all }
 {}
 
@@ -52,9 +55,13 @@ pub fn a_place_counts_what_stands_before()
 /// out doesn't come back when a removal leaves room.
 pub fn the_bounded_list_is_what_is_held()
     ensures listed { (past : List Done) (serial : ℕ) → Decides (is_in serial (recent_of past)) (Listed past serial) }
-    ensures ordered { (past : List Done) (a b : ℕ) → is_in a (recent_of past) ≡ true → IsLater past a b → place a (recent_of past) < place b (recent_of past) }
+    ensures ordered { (past : List Done) (a b : ℕ) → is_in a (recent_of past) ≡ true → IsLater past a b
+        → place a (recent_of past) < place b (recent_of past) }
     ensures same { (capacity : ℕ) (past : List Done) → bounded_of capacity past ≡ held_of capacity past }
-    ensures counted { (capacity : ℕ) (past : List Done) (serial : ℕ) → Decides (is_in serial (held_of capacity past)) (Held capacity past serial) }
-    ensures front { (capacity : ℕ) (past : List Done) → (rest : List ℕ) × (held_of capacity past ++ rest ≡ recent_of past) }
-    ensures more { (capacity : ℕ) (item : Done) (past : List Done) → held_of capacity (item ∷ past) ≡ take capacity (recent_after item (held_of capacity past)) }
+    ensures counted { (capacity : ℕ) (past : List Done) (serial : ℕ)
+        → Decides (is_in serial (held_of capacity past)) (Held capacity past serial) }
+    ensures front { (capacity : ℕ) (past : List Done)
+        → (rest : List ℕ) × (held_of capacity past ++ rest ≡ recent_of past) }
+    ensures more { (capacity : ℕ) (item : Done) (past : List Done)
+        → held_of capacity (item ∷ past) ≡ take capacity (recent_after item (held_of capacity past)) }
 {}

@@ -1,6 +1,7 @@
 //! A shelf that is a list. A call costs one pass over the entries.
 
-ghost use Rattle.std.specs.Prelude.{◌≡◌, ◌<◌, ◌≤◌, ◌+◌, ◌==◌, ◌∷◌, [], length, position, take, slice_get, vec_capacity, MatchOption, IsOk, OnOk, OnErr, IfOk, IfErr, false};
+ghost use Rattle.std.specs.Prelude.{◌≡◌, ◌<◌, ◌≤◌, ◌+◌, ◌==◌, ◌∷◌, [], length, position, take, slice_get, vec_capacity};
+ghost use Rattle.std.specs.Prelude.{MatchOption, IsOk, OnOk, OnErr, IfOk, IfErr, false};
 ghost use Rattle.std.specs.List.{list_any};
 ghost use Rattle.hx_target.specs.Keys.{same_key};
 ghost use Rattle.hx_store.specs.Places.{IsAbsent, IsPlace};
@@ -173,8 +174,10 @@ impl Shelf for ListShelf {
     // entry takes each that follows.
     fn put(&mut self, entry: Entry, replaced: &[u64]) -> Result<Option<Entry>, Entry>
         requires { holds entry.serial self.old.entries ≡ false }
-        ensures ok { OnOk result (self.new.entries ≡ take self.old.limit (entry ∷ without replaced.now self.old.entries)) }
-        ensures evicted { IfOk result (λ out. out ≡ slice_get (entry ∷ without replaced.now self.old.entries) self.old.limit) }
+        ensures ok { OnOk result (self.new.entries
+            ≡ take self.old.limit (entry ∷ without replaced.now self.old.entries)) }
+        ensures evicted { IfOk result (λ out. out
+            ≡ slice_get (entry ∷ without replaced.now self.old.entries) self.old.limit) }
         ensures err { OnErr result (self.new.entries ≡ self.old.entries) }
         ensures given_back { IfErr result (λ e. e ≡ entry) }
         ensures taken { length self.old.entries < self.old.room → IsOk result }

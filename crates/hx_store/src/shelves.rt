@@ -3,11 +3,13 @@
 //! Every shelf meets the same clauses. What is true of each of them, that no serial stands twice and that
 //! no more entries stand than its capacity, is promised by `find` and `len`.
 
-ghost use Rattle.std.specs.Prelude.{◌≡◌, ◌<◌, ◌≤◌, ◌-◌, ◌==◌, ℕ, List, [], ◌∷◌, false, true, not, length, take, slice_get, option_copied, IfOk, IfErr, IsOk, OnErr, OnOk, Some};
+ghost use Rattle.std.specs.Prelude.{◌≡◌, ◌<◌, ◌≤◌, ◌-◌, ◌==◌, ℕ, List, [], ◌∷◌, false, true, not, length, take};
+ghost use Rattle.std.specs.Prelude.{slice_get, option_copied, IfOk, IfErr, IsOk, OnErr, OnOk, Some};
 ghost use Rattle.std.specs.Option.{ForSome};
 ghost use Rattle.hx_target.specs.Keys.{same_key};
 ghost use Rattle.hx_store.specs.Serials.{Distinct};
-ghost use Rattle.hx_store.specs.Shelf.{holds, find_entry, without, without_key, serials, serials_of, matching_serials, promoted};
+ghost use Rattle.hx_store.specs.Shelf.{holds, find_entry, without, without_key, serials, serials_of, matching_serials};
+ghost use Rattle.hx_store.specs.Shelf.{promoted};
 
 use crate::entries::Entry;
 use crate::serial_list::Serials;
@@ -70,8 +72,10 @@ pub trait Shelf {
     /// is room for one more, none is wanted.
     fn put(&mut self, entry: Entry, replaced: &[u64]) -> Result<Option<Entry>, Entry>
         requires { holds entry.serial (entries self.old) ≡ false }
-        ensures ok { OnOk result (entries self.new ≡ take (limit self.old) (entry ∷ without replaced.now (entries self.old))) }
-        ensures evicted { IfOk result (λ out. out ≡ slice_get (entry ∷ without replaced.now (entries self.old)) (limit self.old)) }
+        ensures ok { OnOk result (entries self.new
+            ≡ take (limit self.old) (entry ∷ without replaced.now (entries self.old))) }
+        ensures evicted { IfOk result (λ out. out
+            ≡ slice_get (entry ∷ without replaced.now (entries self.old)) (limit self.old)) }
         ensures err { OnErr result (entries self.new ≡ entries self.old) }
         ensures given_back { IfErr result (λ e. e ≡ entry) }
         ensures taken { length (entries self.old) < room self.old → IsOk result }
@@ -81,7 +85,8 @@ pub trait Shelf {
     /// Puts a new form of a held entry in its place, first, and hands the old one back. No memory is taken.
     fn freshen(&mut self, entry: Entry) -> Entry
         requires held { holds entry.serial (entries self.old) ≡ true }
-        requires same_key { ForSome (find_entry entry.serial (entries self.old)) (λ old. same_key old.key entry.key ≡ true) }
+        requires same_key { ForSome (find_entry entry.serial (entries self.old))
+            (λ old. same_key old.key entry.key ≡ true) }
         ensures value { find_entry entry.serial (entries self.old) ≡ Some result }
         ensures entries { entries self.new ≡ entry ∷ without (entry.serial ∷ []) (entries self.old) }
         ensures limit { limit self.new ≡ limit self.old }

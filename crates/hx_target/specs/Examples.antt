@@ -4,12 +4,19 @@ use Rattle.hx_target.specs.Judgement.{Question}
 
 -- a target in origin form, and one Host line
 abbrev pub in_origin_form : List ℕ → List ℕ → Question
-in_origin_form target host = record { target = target; scheme = None; authority = None; kept = target; hosts = host ∷ [] }
+in_origin_form target host =
+    record { target = target; scheme = None; authority = None; kept = target; hosts = host ∷ [] }
 
 -- a target `scheme://authority` with this path and query, and one Host line
 abbrev pub in_absolute_form : List ℕ → List ℕ → List ℕ → List ℕ → Question
 in_absolute_form scheme authority kept host =
-    record { target = scheme ++ codes "://" ++ authority ++ kept; scheme = Some scheme; authority = Some authority; kept = kept; hosts = host ∷ [] }
+    record {
+      target = scheme ++ codes "://" ++ authority ++ kept;
+      scheme = Some scheme;
+      authority = Some authority;
+      kept = kept;
+      hosts = host ∷ [];
+    }
 
 -- a target of a slash and this text, with this path
 abbrev pub of_text : List ℕ → List ℕ → Question

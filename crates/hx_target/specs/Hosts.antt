@@ -1,8 +1,10 @@
 -- Hosts and ports, as a Host field or an authority spells them (RFC 9110, section 7.2; RFC 3986, sections 3.2.2
 -- and 3.2.3).
--- own: a host is a name of letters, digits, `-`, `.`, `_`, or an address in brackets: a name has no escapes. An address and a final
--- dot are compared as they are spelled, so `[::1]` and `[0::1]` are two hosts ("Hosts are plain names").
-use Rattle.std.specs.Prelude.{ℕ, ◌+◌, ◌-◌, ◌*◌, ◌==◌, nat_le, Bool, ◌&&◌, ◌||◌, if◌then◌else◌, List, [], ◌∷◌, length, take, drop, map, slice_index, Option, Some, None}
+-- own: a host is a name of letters, digits, `-`, `.`, `_`, or an address in brackets: a name has no
+-- escapes. An address and a final dot are compared as they are spelled, so `[::1]` and `[0::1]` are
+-- two hosts ("Hosts are plain names").
+use Rattle.std.specs.Prelude.{ℕ, ◌+◌, ◌-◌, ◌*◌, ◌==◌, nat_le, Bool, ◌&&◌, ◌||◌, if◌then◌else◌, List, [], ◌∷◌, length}
+use Rattle.std.specs.Prelude.{take, drop, map, slice_index, Option, Some, None}
 use Rattle.std.specs.Option.{option_and_then}
 use Rattle.std.specs.List.{list_all}
 use Rattle.std.specs.Char.{is_ascii_alphanumeric, is_ascii_digit, is_ascii_hexdigit, to_ascii_lowercase}
@@ -51,7 +53,8 @@ has_valid_host value = is_host (host_part value) && is_port_part (after_host val
 -- the number that one to five digits spell
 unfoldable pub short_number : List ℕ → Option ℕ
 short_number text =
-    if nat_le 1 (length text) && nat_le (length text) 5 && list_all is_ascii_digit text then Some (digits_value 10 text) else None
+    if nat_le 1 (length text) && nat_le (length text) 5 && list_all is_ascii_digit text
+    then Some (digits_value 10 text) else None
 
 -- a number from 1 to 65535
 abbrev pub if_port : ℕ → Option ℕ

@@ -4,7 +4,9 @@
 -- stands: the condition of each fault, faults: by their numbers
 -- judged_of: the least fault that stands, or the target
 -- Judged: the same of a text, with the cut of `http_uri` as a relation
-use Rattle.std.specs.Prelude.{◌≡◌, ◌⊎◌, ℕ, ◌==◌, nat_lt, Bool, true, false, not, ◌&&◌, ◌||◌, if◌then◌else◌, List, [], ◌∷◌, length, slice_index, find, codes, bytes_eq, Option, Some, None, is_none, is_some, unwrap_or, Result, Ok, Err}
+use Rattle.std.specs.Prelude.{◌≡◌, ◌⊎◌, ℕ, ◌==◌, nat_lt, Bool, true, false, not, ◌&&◌, ◌||◌, if◌then◌else◌, List, []}
+use Rattle.std.specs.Prelude.{◌∷◌, length, slice_index, find, codes, bytes_eq, Option, Some, None, is_none, is_some}
+use Rattle.std.specs.Prelude.{unwrap_or, Result, Ok, Err}
 use Rattle.std.specs.Option.{option_and_then}
 use Rattle.std.specs.List.{list_any}
 use Rattle.http_uri.specs.declared.uri.Uri.{Uri}
@@ -14,7 +16,8 @@ use Rattle.http_uri.specs.ByteClasses.{slash, hash_sign, at_sign, rsplit_once_ba
 use Rattle.hx_target.specs.Hosts.{has_valid_host, host_part, port_part, lowercase}
 use Rattle.hx_target.specs.Paths.{has_bad_escape, has_dot_segment, table_path_of}
 use Rattle.hx_target.specs.declared.faults.TargetFault.{TargetFault}
-use Rattle.hx_target.specs.declared.faults.TargetFault.TheVariants.{Form, Scheme, Host, Port, Userinfo, Escape, DotSegment, TooLong, OutOfMemory}
+use Rattle.hx_target.specs.declared.faults.TargetFault.TheVariants.{Form, Scheme, Host, Port, Userinfo, Escape}
+use Rattle.hx_target.specs.declared.faults.TargetFault.TheVariants.{DotSegment, TooLong, OutOfMemory}
 use Rattle.hx_target.specs.declared.targets.Target.{Target}
 
 -- a byte that no target has: none of 21 to 7E (hex), or `#`
@@ -38,7 +41,13 @@ pub record Question : Type 0 where
 -- the parts that a URI has
 abbrev pub question_of : List ℕ → Uri → List (List ℕ) → Question
 question_of target uri hosts =
-    record { target = target; scheme = uri_scheme uri; authority = uri_authority uri; kept = uri_data uri; hosts = hosts }
+    record {
+      target = target;
+      scheme = uri_scheme uri;
+      authority = uri_authority uri;
+      kept = uri_data uri;
+      hosts = hosts;
+    }
 
 -- the origin form begins with `/`, the absolute form has scheme and authority (RFC 9112, sections 3.2.1 and 3.2.2)
 -- own: the authority form and the asterisk form, of CONNECT and OPTIONS, aren't read ("Two forms of targets")
@@ -138,4 +147,5 @@ abbrev pub Judged : List ℕ → List (List ℕ) → Result Target TargetFault �
 Judged target hosts r =
     ((is_malformed target ≡ true) × (r ≡ Err Form))
     ⊎ ((SpellsNone target × (r ≡ Err Form))
-    ⊎ ((is_malformed target ≡ false) × ((uri : Uri) × Spells target uri × (r ≡ judged_of (question_of target uri hosts)))))
+    ⊎ ((is_malformed target ≡ false)
+    × ((uri : Uri) × Spells target uri × (r ≡ judged_of (question_of target uri hosts)))))

@@ -5,8 +5,10 @@
 -- begins_escape, has_bad_escape: escapes, and a `%` that begins none
 -- table_path_of: the path of the table
 -- is_normal: the texts that it leaves as they are
-use Rattle.std.specs.Prelude.{ℕ, ◌+◌, ◌*◌, ◌==◌, Bool, true, false, not, ◌&&◌, ◌||◌, if◌then◌else◌, List, [], ◌∷◌, ◌++◌, codes, bytes_eq, slice_index}
-use Rattle.std.specs.Char.{digit_value, is_ascii_alphanumeric, is_ascii_hexdigit, is_ascii_lowercase, to_ascii_uppercase}
+use Rattle.std.specs.Prelude.{ℕ, ◌+◌, ◌*◌, ◌==◌, Bool, true, false, not, ◌&&◌, ◌||◌, if◌then◌else◌, List, [], ◌∷◌, ◌++◌}
+use Rattle.std.specs.Prelude.{codes, bytes_eq, slice_index}
+use Rattle.std.specs.Char.{digit_value, is_ascii_alphanumeric, is_ascii_hexdigit, is_ascii_lowercase}
+use Rattle.std.specs.Char.{to_ascii_uppercase}
 use Rattle.std.specs.List.{list_any}
 use Rattle.http_uri.specs.ByteClasses.{slash, percent_sign}
 
@@ -57,7 +59,8 @@ has_bad_escape (b ∷ bs) = begins_bad_escape (b ∷ bs) || has_bad_escape bs
 -- 6.2.2.1 and 6.2.2.2).
 abbrev pub normal_escape : ℕ → ℕ → List ℕ
 normal_escape c d =
-    if is_unreserved (octet_of c d) then octet_of c d ∷ [] else percent_sign ∷ (to_ascii_uppercase c ∷ (to_ascii_uppercase d ∷ []))
+    if is_unreserved (octet_of c d) then octet_of c d ∷ []
+    else percent_sign ∷ (to_ascii_uppercase c ∷ (to_ascii_uppercase d ∷ []))
 
 -- The path as the operator's table compares it: each escape as above, any other byte as it came. Dot segments are
 -- not removed, since no path that is read has one.
@@ -74,12 +77,14 @@ is_upper_digit c = is_ascii_hexdigit c && not (is_ascii_lowercase c)
 
 -- the three bytes are an escape of upper-case digits, and not one of an unreserved character
 abbrev pub is_normal_escape : ℕ → ℕ → ℕ → Bool
-is_normal_escape b c d = (b == percent_sign) && is_upper_digit c && is_upper_digit d && not (is_unreserved (octet_of c d))
+is_normal_escape b c d =
+    (b == percent_sign) && is_upper_digit c && is_upper_digit d && not (is_unreserved (octet_of c d))
 
 -- no `%` comes first, or one of such an escape
 abbrev pub begins_normally : List ℕ → Bool
 begins_normally text =
-    not (slice_index text 0 == percent_sign) || is_normal_escape (slice_index text 0) (slice_index text 1) (slice_index text 2)
+    not (slice_index text 0 == percent_sign)
+    || is_normal_escape (slice_index text 0) (slice_index text 1) (slice_index text 2)
 
 -- each `%` begins such an escape
 abbrev pub is_normal : List ℕ → Bool

@@ -3,7 +3,8 @@
 //! The definitions are in `specs/Paths.antt`. A path is read as it came: nothing here decodes it twice.
 ghost use Rattle.std.specs.Prelude.{◌≡◌, ◌≤◌, ◌++◌, length, drop, IfOk, OnOk, true};
 ghost use Rattle.std.specs.Char.{is_ascii_hexdigit, to_ascii_uppercase};
-ghost use Rattle.hx_target.specs.Paths.{is_unreserved, octet_of, begins_escape, begins_bad_escape, has_bad_escape, normal_escape, table_path_of};
+ghost use Rattle.hx_target.specs.Paths.{is_unreserved, octet_of, begins_escape, begins_bad_escape, has_bad_escape};
+ghost use Rattle.hx_target.specs.Paths.{normal_escape, table_path_of};
 
 use hx_fields::{Bytes, digit_value};
 use std::alloc::{AllocError, Global};
@@ -75,7 +76,7 @@ fn push_escape(found: &mut Vec<u8>, high: u8, low: u8) -> Result<(), AllocError>
 
 /// The path as the operator's table compares it: escapes of letters, digits, `-`, `.`, `_` and `~` are
 /// decoded, the hexadecimal digits of other escapes are in upper case, and a `%` that begins no escape
-/// stands as it is. Its only error is want of memory.
+/// stands as it is. Its only error is out of memory.
 pub fn table_path(alloc: Global, path: &[u8]) -> Result<Bytes, AllocError>
     ensures { IfOk result (λ p. p ≡ table_path_of path.now) }
 {

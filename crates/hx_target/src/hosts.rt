@@ -1,13 +1,15 @@
 //! Hosts and ports, as a Host field spells them (RFC 9110, section 7.2).
 //!
 //! Which texts are hosts and ports is in `specs/Hosts.antt`.
-ghost use Rattle.std.specs.Prelude.{◌≡◌, ◌≤◌, ◌<◌, ◌^◌, ◌+◌, ◌-◌, ◌*◌, length, slice_get, drop, codes, Some, IfOk, true};
+ghost use Rattle.std.specs.Prelude.{◌≡◌, ◌≤◌, ◌<◌, ◌^◌, ◌+◌, ◌-◌, ◌*◌, length, slice_get, drop, codes, Some, IfOk};
+ghost use Rattle.std.specs.Prelude.{true};
 ghost use Rattle.std.specs.Char.{is_ascii_digit};
 ghost use Rattle.std.specs.Option.{option_copied};
 ghost use Rattle.std.specs.List.{list_all};
 ghost use Rattle.std.specs.Str.Parse.{digits_value};
 ghost use Rattle.http_uri.specs.ByteClasses.{index_of, index_after_last};
-ghost use Rattle.hx_target.specs.Hosts.{is_name_byte, is_address_byte, is_name, is_address, is_host, host_part, after_host, has_valid_host, short_number, port_of, port_part, lowercase};
+ghost use Rattle.hx_target.specs.Hosts.{is_name_byte, is_address_byte, is_name, is_address, is_host, host_part};
+ghost use Rattle.hx_target.specs.Hosts.{after_host, has_valid_host, short_number, port_of, port_part, lowercase};
 
 use hx_fields::{Bytes, number_up_to};
 use std::alloc::{AllocError, Global};

@@ -1,7 +1,7 @@
 //! The order of keys, in which a shelf's index keeps them.
 //!
-//! It is in `specs/KeyOrder.antt`: keys tie exactly where they are one. What tells most keys apart is looked at first: a length
-//! stands in the key itself, and few hosts have many paths.
+//! It is in `specs/KeyOrder.antt`: keys tie exactly where they are one. What tells most keys apart
+//! is looked at first: a length stands in the key itself, and few hosts have many paths.
 ghost use Rattle.std.specs.Prelude.{Some, refl};
 ghost use Rattle.std.specs.Cmp.{partial_equiv_from_equiv, partial_order_from_agreeing_total};
 ghost use Rattle.hx_target.specs.Keys.{same_key};

@@ -29,7 +29,7 @@ impl Key {
             && self.port == other.port
     }
 
-    /// A key of the same bytes. Its only error is want of memory.
+    /// A key of the same bytes. Its only error is out of memory.
     pub fn copy(&self, alloc: Global) -> Result<Key, AllocError>
         ensures { IfOk result (λ key. key ≡ self.now) }
     {
@@ -40,7 +40,8 @@ impl Key {
         })
     }
 
-    /// A key of the same bytes in buffers of its own, so that it keeps no head in memory. Its only error is want of memory.
+    /// A key of the same bytes in buffers of its own, so that it keeps no head in memory. Its only
+    /// error is out of memory.
     pub fn detached(&self, alloc: Global) -> Result<Key, AllocError>
         ensures { IfOk result (λ key. key ≡ self.now) }
     {

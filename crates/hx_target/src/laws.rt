@@ -1,31 +1,38 @@
 //! What the definitions of `specs/` say together: each function's contract is a law, and its body is empty.
-ghost use Rattle.std.specs.Prelude.{◌≡◌, ◌<◌, ◌≤◌, List, ℕ, length, Result, Ok, Some, None, true, false, codes, [], ◌∷◌};
+ghost use Rattle.std.specs.Prelude.{◌≡◌, ◌<◌, ◌≤◌, List, ℕ, length, Result, Ok, Some, None, true, false, codes, []};
+ghost use Rattle.std.specs.Prelude.{◌∷◌};
 ghost use Rattle.std.specs.List.{list_all};
 ghost use Rattle.hx_target.specs.declared.faults.TargetFault.{TargetFault as Fault};
 ghost use Rattle.hx_target.specs.declared.targets.Target.{Target as Aim};
 ghost use Rattle.hx_target.specs.declared.keys.Key.{Key as StoreKey};
-ghost use Rattle.hx_target.specs.declared.faults.TargetFault.TheVariants.{Form, Scheme, Host, Port, Userinfo, Escape, DotSegment, TooLong};
+ghost use Rattle.hx_target.specs.declared.faults.TargetFault.TheVariants.{Form, Scheme, Host, Port, Userinfo, Escape};
+ghost use Rattle.hx_target.specs.declared.faults.TargetFault.TheVariants.{DotSegment, TooLong};
 ghost use Rattle.hx_target.specs.Examples.{in_origin_form, in_absolute_form, of_text};
-ghost use Rattle.hx_target.specs.Hosts.{has_valid_host, host_part, is_host, is_name, is_name_byte, lowercase, port_of, port_part};
+ghost use Rattle.hx_target.specs.Hosts.{has_valid_host, host_part, is_host, is_name, is_name_byte, lowercase, port_of};
+ghost use Rattle.hx_target.specs.Hosts.{port_part};
 ghost use Rattle.hx_target.specs.Keys.{same_key};
 ghost use Rattle.hx_target.specs.Paths.{has_bad_escape, has_dot_segment, is_normal, table_path_of};
 ghost use Rattle.hx_target.specs.Judgement.{Judged, Question, is_malformed, judged_of};
 
 /// A target and its Host lines are judged in one way.
 pub fn a_target_is_judged_in_one_way()
-    ensures { (target : List ℕ) (hosts : List (List ℕ)) (r s : Result Aim Fault) → Judged target hosts r → Judged target hosts s → r ≡ s }
+    ensures { (target : List ℕ) (hosts : List (List ℕ)) (r s : Result Aim Fault) → Judged target hosts r
+        → Judged target hosts s → r ≡ s }
 {}
 
 /// The table path of a target that is read has no dot segment.
 pub fn no_dot_segment_passes()
-    ensures { (target : List ℕ) (hosts : List (List ℕ)) (aim : Aim) → Judged target hosts (Ok aim) → has_dot_segment aim.table_path ≡ false }
+    ensures { (target : List ℕ) (hosts : List (List ℕ)) (aim : Aim) → Judged target hosts (Ok aim)
+        → has_dot_segment aim.table_path ≡ false }
 {}
 
 /// The table path of a target that is read has no escape of an unreserved character, and each escape in it
 /// is in upper case; so it is its own table path.
 pub fn a_table_path_is_normal()
-    ensures normal { (target : List ℕ) (hosts : List (List ℕ)) (aim : Aim) → Judged target hosts (Ok aim) → is_normal aim.table_path ≡ true }
-    ensures stays { (target : List ℕ) (hosts : List (List ℕ)) (aim : Aim) → Judged target hosts (Ok aim) → table_path_of aim.table_path ≡ aim.table_path }
+    ensures normal { (target : List ℕ) (hosts : List (List ℕ)) (aim : Aim) → Judged target hosts (Ok aim)
+        → is_normal aim.table_path ≡ true }
+    ensures stays { (target : List ℕ) (hosts : List (List ℕ)) (aim : Aim) → Judged target hosts (Ok aim)
+        → table_path_of aim.table_path ≡ aim.table_path }
 {}
 
 /// A path is normalised once: where each of its `%` begins an escape, its table path is normal and is its
@@ -33,7 +40,8 @@ pub fn a_table_path_is_normal()
 pub fn normalising_twice_is_once()
     ensures normal { (path : List ℕ) → has_bad_escape path ≡ false → is_normal (table_path_of path) ≡ true }
     ensures stays { (path : List ℕ) → is_normal path ≡ true → table_path_of path ≡ path }
-    ensures once { (path : List ℕ) → has_bad_escape path ≡ false → table_path_of (table_path_of path) ≡ table_path_of path }
+    ensures once { (path : List ℕ) → has_bad_escape path ≡ false
+        → table_path_of (table_path_of path) ≡ table_path_of path }
 {}
 
 /// Worked paths (RFC 3986, sections 5.2.4 and 6.2.2): what the operator's table sees of them.
@@ -53,8 +61,16 @@ pub fn worked_paths_are_normalised()
 /// Worked targets (RFC 9112, sections 3.2.1 and 3.2.2; RFC 3986, section 3.2): what their parts ask for.
 #[tactic(auto, unfolding(crate::specs::Judgement::judged_of, crate::specs::Hosts::is_host, crate::specs::Hosts::short_number, crate::specs::Hosts::port_of, crate::specs::Paths::has_dot_segment))]
 pub fn worked_targets_are_judged()
-    ensures origin_form { judged_of (in_origin_form (codes "/%61?%") (codes "H:08080")) ≡ Ok (record { key = record { host = codes "h"; port = 8080; path_query = codes "/%61?%" }; table_path = codes "/a" }) }
-    ensures absolute_form { judged_of (in_absolute_form (codes "HTTP") (codes "[::1]:") (codes "?x") (codes "h")) ≡ Ok (record { key = record { host = codes "[::1]"; port = 80; path_query = codes "/?x" }; table_path = codes "/" }) }
+    ensures origin_form { judged_of (in_origin_form (codes "/%61?%") (codes "H:08080"))
+        ≡ Ok (record {
+          key = record { host = codes "h"; port = 8080; path_query = codes "/%61?%" };
+          table_path = codes "/a";
+        }) }
+    ensures absolute_form { judged_of (in_absolute_form (codes "HTTP") (codes "[::1]:") (codes "?x") (codes "h"))
+        ≡ Ok (record {
+          key = record { host = codes "[::1]"; port = 80; path_query = codes "/?x" };
+          table_path = codes "/";
+        }) }
     ensures scheme { judged_of (in_absolute_form (codes "https") (codes "h") (codes "/") (codes "")) ≡ Err Scheme }
     ensures empty_scheme { judged_of (in_absolute_form [] (codes "h") (codes "/") (codes "h")) ≡ Err Scheme }
     ensures host { judged_of (in_absolute_form (codes "http") (codes "h:0") (codes "/..") (codes "")) ≡ Err Host }
@@ -67,9 +83,12 @@ pub fn worked_targets_are_judged()
 /// The case of the letters of a scheme, of an authority and of a Host line changes nothing (RFC 3986,
 /// section 6.2.2.1).
 pub fn case_names_nothing()
-    ensures scheme { (q : Question) (a b : List ℕ) → lowercase a ≡ lowercase b → judged_of (record q { scheme = Some a }) ≡ judged_of (record q { scheme = Some b }) }
-    ensures authority { (q : Question) (a b : List ℕ) → lowercase a ≡ lowercase b → judged_of (record q { authority = Some a }) ≡ judged_of (record q { authority = Some b }) }
-    ensures host_line { (q : Question) (a b : List ℕ) → lowercase a ≡ lowercase b → judged_of (record q { hosts = a ∷ [] }) ≡ judged_of (record q { hosts = b ∷ [] }) }
+    ensures scheme { (q : Question) (a b : List ℕ) → lowercase a ≡ lowercase b
+        → judged_of (record q { scheme = Some a }) ≡ judged_of (record q { scheme = Some b }) }
+    ensures authority { (q : Question) (a b : List ℕ) → lowercase a ≡ lowercase b
+        → judged_of (record q { authority = Some a }) ≡ judged_of (record q { authority = Some b }) }
+    ensures host_line { (q : Question) (a b : List ℕ) → lowercase a ≡ lowercase b
+        → judged_of (record q { hosts = a ∷ [] }) ≡ judged_of (record q { hosts = b ∷ [] }) }
 {}
 
 /// Keys that are the same are one, and a key is the same as itself.
@@ -78,7 +97,8 @@ pub fn equal_keys_are_one()
     ensures itself { (a : StoreKey) → same_key a a ≡ true }
 {}
 
-/// Names of letters, digits, hyphens, dots and underscores, and addresses in brackets of 2 to 45 bytes (RFC 3986, section 3.2.2).
+/// Names of letters, digits, hyphens, dots and underscores, and addresses in brackets of 2 to 45
+/// bytes (RFC 3986, section 3.2.2).
 #[tactic(auto, unfolding(crate::specs::Hosts::is_host))]
 pub fn worked_hosts()
     ensures name { is_host (codes "A-b_c.d1") ≡ true }
@@ -97,7 +117,8 @@ pub fn worked_hosts()
     ensures behind { is_host (codes "[::1]a") ≡ false }
 {}
 
-/// A host ends at the first colon, an address at its bracket; a port is 1 to 65535, of five digits at most, and 80 where it is empty.
+/// A host ends at the first colon, an address at its bracket; a port is 1 to 65535, of five digits
+/// at most, and 80 where it is empty.
 #[tactic(auto, unfolding(crate::specs::Hosts::is_host, crate::specs::Hosts::short_number, crate::specs::Hosts::port_of))]
 pub fn worked_ports()
     ensures before_port { host_part (codes "h:80") ≡ codes "h" }
@@ -142,26 +163,38 @@ pub fn worked_segments_and_escapes()
     ensures later { has_bad_escape (codes "/%41%") ≡ true }
 {}
 
-/// One Host line has to stand, whatever the target; the forms of CONNECT and OPTIONS aren't read; an authority replaces Host.
+/// One Host line has to stand, whatever the target; the forms of CONNECT and OPTIONS aren't read;
+/// an authority replaces Host.
 #[tactic(auto, unfolding(crate::specs::Judgement::judged_of, crate::specs::Hosts::is_host, crate::specs::Hosts::short_number, crate::specs::Hosts::port_of, crate::specs::Paths::has_dot_segment))]
 pub fn worked_forms_are_judged()
     ensures no_host { judged_of (record (in_origin_form (codes "/a") []) { hosts = [] }) ≡ Err Host }
-    ensures two_hosts { judged_of (record (in_origin_form (codes "/a") []) { hosts = codes "h" ∷ codes "h" ∷ [] }) ≡ Err Host }
+    ensures two_hosts { judged_of (record (in_origin_form (codes "/a") []) { hosts = codes "h" ∷ codes "h" ∷ [] })
+        ≡ Err Host }
     ensures bad_host_line { judged_of (in_absolute_form (codes "http") (codes "h") (codes "/a") (codes "x y")) ≡ Err Host }
-    ensures bad_host_of_authority { judged_of (in_absolute_form (codes "http") (codes "a%62") (codes "/a") (codes "h")) ≡ Err Host }
-    ensures bad_port_of_host_line { judged_of (in_absolute_form (codes "http") (codes "h") (codes "/a") (codes "x:0")) ≡ Err Port }
-    ensures authority_form { judged_of (record (in_origin_form (codes "h:80") (codes "h")) { authority = Some (codes "h:80") }) ≡ Err Form }
+    ensures bad_host_of_authority { judged_of (in_absolute_form (codes "http") (codes "a%62") (codes "/a") (codes "h"))
+        ≡ Err Host }
+    ensures bad_port_of_host_line { judged_of (in_absolute_form (codes "http") (codes "h") (codes "/a") (codes "x:0"))
+        ≡ Err Port }
+    ensures authority_form { judged_of
+        (record (in_origin_form (codes "h:80") (codes "h")) { authority = Some (codes "h:80") }) ≡ Err Form }
     ensures asterisk_form { judged_of (in_origin_form (codes "*") (codes "h")) ≡ Err Form }
-    ensures scheme_alone { judged_of (record (in_origin_form (codes "mailto:a") (codes "h")) { scheme = Some (codes "mailto") }) ≡ Err Form }
-    ensures authority { judged_of (in_absolute_form (codes "http") (codes "H:81") (codes "/%41?b") (codes "x")) ≡ Ok (record { key = record { host = codes "h"; port = 81; path_query = codes "/%41?b" }; table_path = codes "/A" }) }
+    ensures scheme_alone { judged_of
+        (record (in_origin_form (codes "mailto:a") (codes "h")) { scheme = Some (codes "mailto") }) ≡ Err Form }
+    ensures authority { judged_of (in_absolute_form (codes "http") (codes "H:81") (codes "/%41?b") (codes "x"))
+        ≡ Ok (record {
+          key = record { host = codes "h"; port = 81; path_query = codes "/%41?b" };
+          table_path = codes "/A";
+        }) }
 {}
 
-/// A name has 1 to 253 bytes (own). A target has 8,192 at most (own; RFC 9110, section 4.1 wants 8,000 to be read), and what is wrong
-/// with its path is told before that.
+/// A name has 1 to 253 bytes (own). A target has 8,192 at most (own; RFC 9110, section 4.1 wants
+/// 8,000 to be read), and what is wrong with its path is told before that.
 pub fn lengths_are_limited()
     ensures names { (text : List ℕ) → is_name text ≡ true → length text ≤ 253 }
-    ensures each_name { (text : List ℕ) → list_all is_name_byte text ≡ true → 1 ≤ length text → length text ≤ 253 → is_name text ≡ true }
+    ensures each_name { (text : List ℕ) → list_all is_name_byte text ≡ true → 1 ≤ length text → length text ≤ 253
+        → is_name text ≡ true }
     ensures longer { (text : List ℕ) → 8192 < length (47 ∷ text) → judged_of (of_text text (codes "/a")) ≡ Err TooLong }
-    ensures longest { (text : List ℕ) → length (47 ∷ text) ≤ 8192 → judged_of (of_text text (codes "/a")) ≡ Ok (record { key = record { host = codes "h"; port = 80; path_query = codes "/a" }; table_path = codes "/a" }) }
+    ensures longest { (text : List ℕ) → length (47 ∷ text) ≤ 8192 → judged_of (of_text text (codes "/a")) ≡ Ok
+        (record { key = record { host = codes "h"; port = 80; path_query = codes "/a" }; table_path = codes "/a" }) }
     ensures dots { (text : List ℕ) → judged_of (of_text text (codes "/..")) ≡ Err DotSegment }
 {}

@@ -1,6 +1,7 @@
 //! Segments of a path, and dot segments among them (RFC 3986, sections 3.3 and 5.2.4).
 ghost use Rattle.std.specs.Prelude.{◌≡◌, ◌==◌, ◌&&◌, ◌<◌, ◌∷◌, [], length, slice_index, false, MatchOption, IfSome};
-ghost use Rattle.hx_target.specs.Paths.{segments, is_dot_segment, has_dot_segment, begins_escape, octet_of, table_path_of};
+ghost use Rattle.hx_target.specs.Paths.{segments, is_dot_segment, has_dot_segment, begins_escape, octet_of};
+ghost use Rattle.hx_target.specs.Paths.{table_path_of};
 
 use crate::escapes::{after, begins_escape, octet_of};
 
@@ -13,7 +14,8 @@ fn is_dot_segment(segment: &[u8]) -> bool
 
 /// The first segment, and what follows its slash.
 fn cut_segment(path: &[u8]) -> (&[u8], Option<&[u8]>)
-    ensures cut { MatchOption result.1 (segments path.now ≡ result.0.now ∷ []) (λ rest. segments path.now ≡ result.0.now ∷ segments rest.now) }
+    ensures cut { MatchOption result.1 (segments path.now ≡ result.0.now ∷ [])
+        (λ rest. segments path.now ≡ result.0.now ∷ segments rest.now) }
     ensures shorter { IfSome result.1 (λ rest. length rest.now < length path.now) }
 {
     for (i, b) in path.iter().enumerate() {
@@ -58,7 +60,8 @@ fn begins_escaped_dot(text: &[u8]) -> bool
 
 /// What follows a dot at the beginning, be it escaped or not.
 fn after_dot(segment: &[u8]) -> Option<&[u8]>
-    ensures { MatchOption result ((slice_index (table_path_of segment.now) 0 == 46) ≡ false) (λ rest. table_path_of segment.now ≡ 46 ∷ table_path_of rest.now) }
+    ensures { MatchOption result ((slice_index (table_path_of segment.now) 0 == 46) ≡ false)
+        (λ rest. table_path_of segment.now ≡ 46 ∷ table_path_of rest.now) }
 {
     if begins_dot(segment) {
         return Some(after(segment, 1));

@@ -1,7 +1,8 @@
 //! Reading a target. The law is `Judged` in `specs/Judgement.antt`.
 //!
 //! A target is cut by `http_uri`; what is read here are the parts that it gives.
-ghost use Rattle.std.specs.Prelude.{◌≡◌, ◌==◌, ◌||◌, ◌&&◌, not, codes, Err, Ok, None, false, slice_index, is_some, true, IfErr, IfOk, IfSome, MatchResult};
+ghost use Rattle.std.specs.Prelude.{◌≡◌, ◌==◌, ◌||◌, ◌&&◌, not, codes, Err, Ok, None, false, slice_index, is_some};
+ghost use Rattle.std.specs.Prelude.{true, IfErr, IfOk, IfSome, MatchResult};
 ghost use Rattle.std.specs.List.{list_any};
 ghost use Rattle.std.specs.Option.{option_copied};
 ghost use Rattle.http_uri.specs.ByteClasses.{slash, at_sign, rsplit_once_back};
@@ -9,7 +10,8 @@ ghost use Rattle.http_uri.specs.Error.{IsOutOfMemory, UnlessOutOfMemory};
 ghost use Rattle.http_uri.specs.Uri.{Spells, SpellsNone, uri_scheme, uri_authority};
 ghost use Rattle.hx_fields.specs.Lines.{values_of};
 ghost use Rattle.hx_target.specs.Hosts.{has_valid_host};
-ghost use Rattle.hx_target.specs.Judgement.{is_bad_byte, is_malformed, is_http, has_other_scheme, host_value, naming, has_userinfo, path_query_of, question_of, first_fault, judged_of, Judged};
+ghost use Rattle.hx_target.specs.Judgement.{is_bad_byte, is_malformed, is_http, has_other_scheme, host_value, naming};
+ghost use Rattle.hx_target.specs.Judgement.{has_userinfo, path_query_of, question_of, first_fault, judged_of, Judged};
 
 use crate::hosts::{has_valid_host, host_part, index_after_last, port_part};
 use crate::limits::MOST_TARGET_BYTES;
@@ -35,7 +37,8 @@ fn is_malformed(target: &[u8]) -> bool
 
 /// Whether a target is in origin form or in absolute form.
 fn has_read_form(target: &[u8], uri: &Uri) -> bool
-    ensures { result ≡ ((slice_index target.now 0 == slash) || (is_some (uri_scheme uri.now) && is_some (uri_authority uri.now))) }
+    ensures { result
+        ≡ ((slice_index target.now 0 == slash) || (is_some (uri_scheme uri.now) && is_some (uri_authority uri.now))) }
 {
     target.first() == Some(&b'/') || (uri.scheme().is_some() && uri.authority().is_some())
 }
@@ -135,8 +138,20 @@ fn judge_parts(
     kept: &PathAndQuery,
     fields: &Fields,
 ) -> Result<Target, TargetFault>
-    ensures judged { ¬ (result ≡ Err TargetFault.OutOfMemory) → result ≡ judged_of (record { target = target.now; scheme = uri_scheme uri.now; authority = uri_authority uri.now; kept = kept.now; hosts = values_of fields.now (codes "Host") }) }
-    ensures memory_last { result ≡ Err TargetFault.OutOfMemory → first_fault (record { target = target.now; scheme = uri_scheme uri.now; authority = uri_authority uri.now; kept = kept.now; hosts = values_of fields.now (codes "Host") }) ≡ None }
+    ensures judged { ¬ (result ≡ Err TargetFault.OutOfMemory) → result ≡ judged_of (record {
+      target = target.now;
+      scheme = uri_scheme uri.now;
+      authority = uri_authority uri.now;
+      kept = kept.now;
+      hosts = values_of fields.now (codes "Host");
+    }) }
+    ensures memory_last { result ≡ Err TargetFault.OutOfMemory → first_fault (record {
+      target = target.now;
+      scheme = uri_scheme uri.now;
+      authority = uri_authority uri.now;
+      kept = kept.now;
+      hosts = values_of fields.now (codes "Host");
+    }) ≡ None }
 {
     if !has_read_form(target.as_slice(), uri) {
         return Err(TargetFault::Form);
@@ -180,8 +195,10 @@ fn judge_parts(
 /// What a target that is cut asks for, or its least fault.
 fn judge(alloc: Global, target: &Bytes, uri: &Uri, fields: &Fields) -> Result<Target, TargetFault>
     requires cut { Spells target.now uri.now }
-    ensures judged { ¬ (result ≡ Err TargetFault.OutOfMemory) → result ≡ judged_of (question_of target.now uri.now (values_of fields.now (codes "Host"))) }
-    ensures memory_last { result ≡ Err TargetFault.OutOfMemory → first_fault (question_of target.now uri.now (values_of fields.now (codes "Host"))) ≡ None }
+    ensures judged { ¬ (result ≡ Err TargetFault.OutOfMemory)
+        → result ≡ judged_of (question_of target.now uri.now (values_of fields.now (codes "Host"))) }
+    ensures memory_last { result ≡ Err TargetFault.OutOfMemory
+        → first_fault (question_of target.now uri.now (values_of fields.now (codes "Host"))) ≡ None }
 {
     match uri.path_and_query() {
         Some(kept) => judge_parts(alloc, target, uri, kept, fields),
@@ -190,8 +207,8 @@ fn judge(alloc: Global, target: &Bytes, uri: &Uri, fields: &Fields) -> Result<Ta
     }
 }
 
-/// What a target asks for that `http_uri` cut or refused, or its least fault. Want of memory is told where `http_uri` found
-/// none, or where no fault stands.
+/// What a target asks for that `http_uri` cut or refused, or its least fault. Out of memory is
+/// told where `http_uri` found none, or where no fault stands.
 fn judge_cut(
     alloc: Global,
     target: &Bytes,
@@ -201,8 +218,10 @@ fn judge_cut(
     requires good { is_malformed target.now ≡ false }
     requires spelled { IfOk cut (Spells target.now) }
     requires not_spelled { IfErr cut (λ error. UnlessOutOfMemory error (SpellsNone target.now)) }
-    ensures judged { ¬ (result ≡ Err TargetFault.OutOfMemory) → Judged target.now (values_of fields.now (codes "Host")) result }
-    ensures memory_last { result ≡ Err TargetFault.OutOfMemory → MatchResult cut (λ uri. first_fault (question_of target.now uri (values_of fields.now (codes "Host"))) ≡ None) IsOutOfMemory }
+    ensures judged { ¬ (result ≡ Err TargetFault.OutOfMemory)
+        → Judged target.now (values_of fields.now (codes "Host")) result }
+    ensures memory_last { result ≡ Err TargetFault.OutOfMemory → MatchResult cut
+        (λ uri. first_fault (question_of target.now uri (values_of fields.now (codes "Host"))) ≡ None) IsOutOfMemory }
 {
     match cut {
         Ok(uri) => judge(alloc, target, &uri, fields),
@@ -214,7 +233,8 @@ fn judge_cut(
 /// Reads a request's target and its Host lines (RFC 9112, section 3.2): what it asks for, or the least of
 /// the faults that stand. Parts that are kept as they came share the buffers that the target and the Host line share.
 pub fn read_target(alloc: Global, target: &Bytes, fields: &Fields) -> Result<Target, TargetFault>
-    ensures judged { ¬ (result ≡ Err TargetFault.OutOfMemory) → Judged target.now (values_of fields.now (codes "Host")) result }
+    ensures judged { ¬ (result ≡ Err TargetFault.OutOfMemory)
+        → Judged target.now (values_of fields.now (codes "Host")) result }
     // A target that is malformed is told so without memory.
     ensures memory_last { result ≡ Err TargetFault.OutOfMemory → is_malformed target.now ≡ false }
 {

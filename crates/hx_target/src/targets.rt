@@ -25,7 +25,7 @@ impl Drop for Target {
 }
 
 impl Target {
-    /// A target of the same bytes. Its only error is want of memory.
+    /// A target of the same bytes. Its only error is out of memory.
     pub fn copy(&self, alloc: Global) -> Result<Target, AllocError>
         ensures { IfOk result (λ target. target ≡ self.now) }
     {

@@ -2,7 +2,8 @@
 --
 -- answers304: the 304 says that the stored response is the one that was asked about
 -- freshened_of: the stored response with the lines of the 304
-use Rattle.std.specs.Prelude.{ℕ, if◌then◌else◌, Bool, true, false, not, ◌&&◌, ◌||◌, List, [], ◌++◌, filter, bytes_eq, codes, Option, Some, None}
+use Rattle.std.specs.Prelude.{ℕ, if◌then◌else◌, Bool, true, false, not, ◌&&◌, ◌||◌, List, [], ◌++◌, filter, bytes_eq}
+use Rattle.std.specs.Prelude.{codes, Option, Some, None}
 use Rattle.hx_fields.specs.declared.field_line.Field.{Field}
 use Rattle.hx_fields.specs.Lines.{has, is_named, only_value}
 use Rattle.hx_age.specs.declared.moments.Times.{Times}

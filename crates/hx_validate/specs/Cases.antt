@@ -60,10 +60,12 @@ first_304 =
 -- of two lines each of a name, and a name that only one has
 abbrev pub old_lines : List Field
 old_lines =
-    line (codes "Foo") (codes "1") ∷ line (codes "X") (codes "2") ∷ line (codes "Age") (codes "3") ∷ line (codes "fOO") (codes "4") ∷ line (codes "Content-Length") (codes "5") ∷ []
+    line (codes "Foo") (codes "1") ∷ line (codes "X") (codes "2") ∷ line (codes "Age") (codes "3")
+    ∷ line (codes "fOO") (codes "4") ∷ line (codes "Content-Length") (codes "5") ∷ []
 
 abbrev pub new_lines : List Field
-new_lines = line (codes "Content-Length") (codes "0") ∷ line (codes "foo") (codes "6") ∷ line (codes "Age") (codes "7") ∷ line (codes "Foo") (codes "8") ∷ line (codes "Y") (codes "9") ∷ []
+new_lines = line (codes "Content-Length") (codes "0") ∷ line (codes "foo") (codes "6") ∷ line (codes "Age") (codes "7")
+    ∷ line (codes "Foo") (codes "8") ∷ line (codes "Y") (codes "9") ∷ []
 
 abbrev pub none_match : List ℕ → Field
 none_match value = line (codes "If-None-Match") value

@@ -2,7 +2,8 @@
 --
 -- tag_of: the entity tag that a value is, if it is one
 -- strong_eq, weak_eq: of two values, which are unequal where one is no entity tag
-use Rattle.std.specs.Prelude.{ℕ, nat_le, ◌-◌, ◌==◌, if◌then◌else◌, Bool, true, false, not, ◌&&◌, ◌||◌, List, length, take, drop, slice_index, slice_range, bytes_eq, codes, Option, Some, None, option_map}
+use Rattle.std.specs.Prelude.{ℕ, nat_le, ◌-◌, ◌==◌, if◌then◌else◌, Bool, true, false, not, ◌&&◌, ◌||◌, List, length}
+use Rattle.std.specs.Prelude.{take, drop, slice_index, slice_range, bytes_eq, codes, Option, Some, None, option_map}
 use Rattle.std.specs.List.{list_all}
 
 -- etagc = %x21 / %x23-7E / obs-text

@@ -17,8 +17,9 @@ use Rattle.hx_validate.specs.Validators.{modified_value, tag_value}
 abbrev pub HasWhatWasSent : Stored → Conditions → Type 0
 HasWhatWasSent entry sent = (tag_value entry.fields ≡ sent.etag) × (modified_value entry.fields ≡ sent.modified)
 
--- "If the new response contains one or more strong validators": a strong tag by strong comparison; "no strong validators but .. one or
--- more weak validators": a weak one by weak comparison. What is no entity tag names nothing.
+-- "If the new response contains one or more strong validators": a strong tag by strong comparison;
+-- "no strong validators but .. one or more weak validators": a weak one by weak comparison. What is
+-- no entity tag names nothing.
 abbrev pub TagsAgree : List ℕ → List ℕ → Type 0
 TagsAgree held given =
     (tag : Tag) × (tag_of given ≡ Some tag)
@@ -27,14 +28,16 @@ TagsAgree held given =
 -- one ETag line, that agrees with the tag that was sent
 abbrev pub HasThatTag : Conditions → List Field → Type 0
 HasThatTag sent fields =
-    (held : List ℕ) × (given : List ℕ) × (sent.etag ≡ Some held) × (only_value fields (codes "ETag") ≡ Some given) × TagsAgree held given
+    (held : List ℕ) × (given : List ℕ) × (sent.etag ≡ Some held) × (only_value fields (codes "ETag") ≡ Some given)
+    × TagsAgree held given
 
 -- one Last-Modified line, of the bytes that were sent
 abbrev pub HasThatDate : Conditions → List Field → Type 0
 HasThatDate sent fields = (date : List ℕ) × (sent.modified ≡ Some date) × (only_value fields (codes "Last-Modified") ≡ Some date)
 
 -- by its tag if it has one, else by its date, else by having neither
--- own: the standard says the last only of a single stored response without validators ("A 304 without validators answers")
+-- own: the standard says the last only of a single stored response without validators ("A 304
+-- without validators answers")
 abbrev pub Identifies : Conditions → List Field → Type 0
 Identifies sent fields =
     ((has fields (codes "ETag") ≡ true) × HasThatTag sent fields)
@@ -60,4 +63,5 @@ NeverFreshensAnother = (entry : Stored) (sent : Conditions) (answered : Answered
 -- and one with several never answers any
 abbrev pub SeveralTagsAnswerNothing : Type 0
 SeveralTagsAnswerNothing = (entry : Stored) (sent : Conditions) (answered : Answered) →
-    has answered.fields (codes "ETag") ≡ true → only_value answered.fields (codes "ETag") ≡ None → answers304 entry sent answered ≡ true → ⊥
+    has answered.fields (codes "ETag") ≡ true → only_value answered.fields (codes "ETag") ≡ None
+    → answers304 entry sent answered ≡ true → ⊥

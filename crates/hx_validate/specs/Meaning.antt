@@ -23,7 +23,8 @@ spelled tag = weak_text tag.weak ++ 34 ∷ tag.opaque ++ 34 ∷ []
 
 -- what is read as an entity tag is spelled so, of bytes that are allowed
 abbrev pub ReadsTheGrammar : Type 0
-ReadsTheGrammar = (text : List ℕ) (tag : Tag) → tag_of text ≡ Some tag → (text ≡ spelled tag) × (list_all is_tag_byte tag.opaque ≡ true)
+ReadsTheGrammar = (text : List ℕ) (tag : Tag) → tag_of text ≡ Some tag
+    → (text ≡ spelled tag) × (list_all is_tag_byte tag.opaque ≡ true)
 
 -- and every such spelling is read
 abbrev pub ReadsEachTag : Type 0
@@ -61,11 +62,13 @@ abbrev pub TheSameTagAnswers : Type 0
 TheSameTagAnswers = (entry : Stored) (answered : Answered) (value : List ℕ) → tag_value entry.fields ≡ Some value
     → tag_value answered.fields ≡ Some value → answers304 entry (conditions_of entry.fields) answered ≡ true
 
--- what a 304 leaves: serial, key, status and content are the stored ones, the moments those of the 304 (RFC 9111, section 4.3.4)
+-- what a 304 leaves: serial, key, status and content are the stored ones, the moments those of the
+-- 304 (RFC 9111, section 4.3.4)
 abbrev pub LeavesTheRest : Type 0
 LeavesTheRest = (entry : Stored) (answered : Answered) (asked : Asked) (times : Times) →
     let now = freshened_of entry answered asked times in
-    (now.serial ≡ entry.serial) × (now.key ≡ entry.key) × (now.status ≡ entry.status) × (now.content ≡ entry.content) × (now.times ≡ times)
+    (now.serial ≡ entry.serial) × (now.key ≡ entry.key) × (now.status ≡ entry.status) × (now.content ≡ entry.content)
+    × (now.times ≡ times)
 
 -- and the request that it answered is told by the new lines (RFC 9111, section 4.1)
 abbrev pub NominatesByTheNewLines : Type 0

@@ -1,6 +1,7 @@
 -- When a client's own condition is met by a stored response, and what the 304 to it carries
 -- (RFC 9110, sections 13.1.2, 13.1.3 and 15.4.5; RFC 9111, section 4.3.2).
-use Rattle.std.specs.Prelude.{ℕ, nat_le, ◌==◌, if◌then◌else◌, Bool, false, not, ◌&&◌, ◌||◌, List, filter, bytes_eq, codes, option_and_then, unwrap_or, Option, Some, None}
+use Rattle.std.specs.Prelude.{ℕ, nat_le, ◌==◌, if◌then◌else◌, Bool, false, not, ◌&&◌, ◌||◌, List, filter, bytes_eq}
+use Rattle.std.specs.Prelude.{codes, option_and_then, unwrap_or, Option, Some, None}
 use Rattle.std.specs.List.{list_any}
 use Rattle.hx_fields.specs.declared.field_line.Field.{Field}
 use Rattle.hx_fields.specs.Lines.{combined_of, has, is_named, members_of, values_of}

@@ -1,5 +1,6 @@
--- Whether the head of a stored response leaves room for what stands beside its lines where it is sent, so that the whole is within the
--- limits of a head (RFC 9110, section 5.4, which sets none, and lets each recipient have its own).
+-- Whether the head of a stored response leaves room for what stands beside its lines where it is
+-- sent, so that the whole is within the limits of a head (RFC 9110, section 5.4, which sets none,
+-- and lets each recipient have its own).
 --
 -- leaves_room: it does     LeavesRoomForAll, LeavesRoomForNoMore: and what that means
 use Rattle.std.specs.Prelude.{◌≡◌, ℕ, ◌+◌, ◌≤◌, nat_le, ◌&&◌, Bool, true, List, ◌∷◌, ◌++◌, length, codes}
@@ -19,15 +20,18 @@ most_bytes_beside = 256
 -- own: a freshened response is kept only where it leaves so much
 abbrev pub leaves_room : List Field → Bool
 leaves_room fields =
-    nat_le (length fields + most_lines_beside) most_field_lines && nat_le (length (field_lines fields) + most_bytes_beside) most_head_bytes
+    nat_le (length fields + most_lines_beside) most_field_lines
+    && nat_le (length (field_lines fields) + most_bytes_beside) most_head_bytes
 
 -- ---- the statements
 
--- whatever lines and bytes stand beside them, in front or behind: where these are so few, the whole is within the limits
+-- whatever lines and bytes stand beside them, in front or behind: where these are so few, the whole
+-- is within the limits
 abbrev pub LeavesRoomForAll : Type 0
 LeavesRoomForAll = (fields beside : List Field) (front behind : List ℕ) → leaves_room fields ≡ true
     → length beside ≤ most_lines_beside → length front + length behind ≤ most_bytes_beside
-    → (length (fields ++ beside) ≤ most_field_lines) × (length (front ++ field_lines fields ++ behind) ≤ most_head_bytes)
+    → (length (fields ++ beside) ≤ most_field_lines)
+    × (length (front ++ field_lines fields ++ behind) ≤ most_head_bytes)
 
 -- where so many do stand beside them and the whole is within the limits, room was left
 abbrev pub LeavesRoomForNoMore : Type 0
@@ -35,7 +39,8 @@ LeavesRoomForNoMore = (fields beside : List Field) (front behind : List ℕ) →
     → length front + length behind ≡ most_bytes_beside → length (fields ++ beside) ≤ most_field_lines
     → length (front ++ field_lines fields ++ behind) ≤ most_head_bytes → leaves_room fields ≡ true
 
--- a line `X: VALUE` before at most 95 others: with 32,507 bytes of its value and these lines there is room, with one more there is none
+-- a line `X: VALUE` before at most 95 others: with 32,507 bytes of its value and these lines there
+-- is room, with one more there is none
 abbrev pub LeavesRoomToTheByte : Type 0
 LeavesRoomToTheByte = (value : List ℕ) (fields : List Field) → length fields ≤ 95
     → leaves_room (line (codes "X") value ∷ fields) ≡ nat_le (length value + length (field_lines fields)) 32507

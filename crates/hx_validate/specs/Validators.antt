@@ -32,6 +32,7 @@ modified_value fields = passing is_date (only_value fields (codes "Last-Modified
 abbrev pub has_validator : List Field → Bool
 has_validator fields = is_some (tag_value fields) || is_some (modified_value fields)
 
--- the conditions that ask whether a stored response is still the selected representation (RFC 9110, sections 13.1.2 and 13.1.3)
+-- the conditions that ask whether a stored response is still the selected representation (RFC 9110,
+-- sections 13.1.2 and 13.1.3)
 abbrev pub conditions_of : List Field → Conditions
 conditions_of fields = record { etag = tag_value fields; modified = modified_value fields }

@@ -5,7 +5,8 @@ ghost use Rattle.std.specs.Prelude.{◌≡◌, codes, option_copied};
 ghost use Rattle.hx_vary.specs.Vary.{is_same_value};
 ghost use Rattle.hx_validate.specs.EntityTags.{tag_of};
 ghost use Rattle.hx_validate.specs.Validators.{conditions_of};
-ghost use Rattle.hx_validate.specs.Answering.{agrees, agrees_by, answers304, modified_agrees, same_conditions, tag_agrees};
+ghost use Rattle.hx_validate.specs.Answering.{agrees, agrees_by, answers304, modified_agrees, same_conditions};
+ghost use Rattle.hx_validate.specs.Answering.{tag_agrees};
 
 use crate::entity_tags::{EntityTag, strong_eq, weak_eq};
 use crate::validators::{modified_value, tag_value};

@@ -6,7 +6,8 @@ ghost use Rattle.std.specs.List.{list_any};
 ghost use Rattle.hx_fields.specs.Lines.{members_of};
 ghost use Rattle.hx_fields.specs.Names.{members_of_value};
 ghost use Rattle.hx_validate.specs.EntityTags.{tagged};
-ghost use Rattle.hx_validate.specs.NotModified.{changed_at, held_tag, is_carried, is_since, is_tag_of, lists_it, names_it, not_modified_of, unchanged, wants_304};
+ghost use Rattle.hx_validate.specs.NotModified.{changed_at, held_tag, is_carried, is_since, is_tag_of, lists_it};
+ghost use Rattle.hx_validate.specs.NotModified.{names_it, not_modified_of, unchanged, wants_304};
 
 use crate::entity_tags::EntityTag;
 use crate::validators::tag_value;
@@ -40,7 +41,8 @@ fn is_tag_of(held: EntityTag, member: &[u8]) -> bool
 
 /// Whether a member of this value is the entity tag that is held.
 fn value_lists(value: &[u8], held: EntityTag) -> bool
-    ensures { result ≡ list_any (is_tag_of (tagged held.entry.weak held.entry.opaque.now)) (members_of_value value.now) }
+    ensures { result
+        ≡ list_any (is_tag_of (tagged held.entry.weak held.entry.opaque.now)) (members_of_value value.now) }
 {
     let mut rest = value;
     while let Some((member, behind)) = next_member(rest) {
@@ -136,7 +138,7 @@ fn is_carried(line: &Field, tagged: bool) -> bool
         || (!tagged && is_same_name(name, b"Last-Modified"))
 }
 
-/// The lines of the 304 that stands for a stored response. Its only error is want of memory.
+/// The lines of the 304 that stands for a stored response. Its only error is out of memory.
 pub fn not_modified(alloc: Global, entry: &Entry) -> Result<Fields, AllocError>
     ensures { IfOk result (λ fields. fields ≡ not_modified_of entry.now.fields) }
 {

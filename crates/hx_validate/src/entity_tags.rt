@@ -25,7 +25,8 @@ impl<'a> EntityTag<'a> {
     }
 
     fn with(weak: bool, text: &'a [u8]) -> Option<EntityTag<'a>>
-        ensures { option_map (λ tag. tagged tag.weak tag.opaque.now) result ≡ option_map (tagged weak) (opaque_of text.now) }
+        ensures { option_map (λ tag. tagged tag.weak tag.opaque.now) result
+            ≡ option_map (tagged weak) (opaque_of text.now) }
     {
         match opaque_of(text) {
             Some(opaque) => Some(EntityTag { weak, opaque }),

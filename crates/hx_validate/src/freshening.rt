@@ -138,7 +138,7 @@ fn names_or_none(alloc: Global, fields: &Fields, request: &Fields) -> Result<Nom
 
 /// The stored response as a 304 to this request leaves it: the 304's lines take the place of stored ones of their
 /// names, except Content-Length and Age, and the request becomes this one. `times` are those of the 304. Its only
-/// error is want of memory.
+/// error is out of memory.
 #[tactic(auto, unfolding(crate::specs::Answering::freshened_of))]
 pub fn freshened(
     alloc: Global,

@@ -3,10 +3,15 @@
 ghost use Rattle.std.specs.Prelude.{◌≡◌, [], ◌∷◌, codes, true, false, Some, None};
 ghost use Rattle.hx_fields.specs.Examples.{line};
 ghost use Rattle.hx_validate.specs.Answering.{freshened_fields, freshened_of};
-ghost use Rattle.hx_validate.specs.Cases.{answered_with, asked_with, first_304, first_stored, is_answered, lines_of, modified_line, new_lines, none_match, old_lines, since, stored_with, tag_line, wants_by};
+ghost use Rattle.hx_validate.specs.Cases.{answered_with, asked_with, first_304, first_stored, is_answered, lines_of};
+ghost use Rattle.hx_validate.specs.Cases.{modified_line, new_lines, none_match, old_lines, since, stored_with};
+ghost use Rattle.hx_validate.specs.Cases.{tag_line, wants_by};
 ghost use Rattle.hx_validate.specs.EntityTags.{is_tag_byte, strong_eq, tag_of, weak_eq};
-ghost use Rattle.hx_validate.specs.Identified.{AnswersNothingElse, AnswersWhatItIdentifies, NeverFreshensAnother, SeveralTagsAnswerNothing};
-ghost use Rattle.hx_validate.specs.Meaning.{ComparesBothWays, LeavesItsOwn, LeavesOtherNames, LeavesTheRest, NominatesByTheNewLines, NominatesNothingByAStar, ReadsEachTag, ReadsTheGrammar, ReplacesItsNames, StrongIsWeak, TheSameTagAnswers};
+ghost use Rattle.hx_validate.specs.Identified.{AnswersNothingElse, AnswersWhatItIdentifies, NeverFreshensAnother};
+ghost use Rattle.hx_validate.specs.Identified.{SeveralTagsAnswerNothing};
+ghost use Rattle.hx_validate.specs.Meaning.{ComparesBothWays, LeavesItsOwn, LeavesOtherNames, LeavesTheRest};
+ghost use Rattle.hx_validate.specs.Meaning.{NominatesByTheNewLines, NominatesNothingByAStar, ReadsEachTag};
+ghost use Rattle.hx_validate.specs.Meaning.{ReadsTheGrammar, ReplacesItsNames, StrongIsWeak, TheSameTagAnswers};
 ghost use Rattle.hx_validate.specs.NotModified.{not_modified_of, wants_304};
 ghost use Rattle.hx_validate.specs.Room.{LeavesRoomForAll, LeavesRoomForNoMore, LeavesRoomToTheByte, leaves_room};
 ghost use Rattle.hx_validate.specs.Validators.{conditions_of, has_validator};
@@ -91,8 +96,10 @@ pub fn which_304_answers()
     ensures other { is_answered (tag_line (codes "\"foo\"") ∷ []) (tag_line (codes "\"bar\"") ∷ []) ≡ false }
     ensures same_date { is_answered (modified_line (codes "Thu, 01 Jan 1970 00:00:05 GMT") ∷ []) (modified_line (codes "Thu, 01 Jan 1970 00:00:05 GMT") ∷ []) ≡ true }
     ensures later { is_answered (modified_line (codes "Thu, 01 Jan 1970 00:00:05 GMT") ∷ []) (modified_line (codes "Thu, 01 Jan 1970 00:00:06 GMT") ∷ []) ≡ false }
-    ensures halves { is_answered (modified_line (codes "Thu, 01 Jan 1970 00:00:05 GMT") ∷ []) (modified_line (codes "Thu") ∷ modified_line (codes "01 Jan 1970 00:00:05 GMT") ∷ []) ≡ false }
-    ensures first_tag { is_answered (modified_line (codes "Thu, 01 Jan 1970 00:00:05 GMT") ∷ []) (modified_line (codes "Thu, 01 Jan 1970 00:00:05 GMT") ∷ tag_line (codes "\"foo\"") ∷ []) ≡ false }
+    ensures halves { is_answered (modified_line (codes "Thu, 01 Jan 1970 00:00:05 GMT")
+        ∷ []) (modified_line (codes "Thu") ∷ modified_line (codes "01 Jan 1970 00:00:05 GMT") ∷ []) ≡ false }
+    ensures first_tag { is_answered (modified_line (codes "Thu, 01 Jan 1970 00:00:05 GMT")
+        ∷ []) (modified_line (codes "Thu, 01 Jan 1970 00:00:05 GMT") ∷ tag_line (codes "\"foo\"") ∷ []) ≡ false }
 {}
 
 /// Lines of a name go by those of the 304, whatever their number; the length and the age stay.
@@ -106,10 +113,12 @@ pub fn lines_are_replaced_by_name()
 #[tactic(auto, unfolding(httpdate::proofs::OnLiterals::httpdate_on_literals, crate::specs::Answering::freshened_of))]
 pub fn client_304_after_validation()
     ensures answered { is_answered first_stored first_304 ≡ true }
-    ensures freshened { (freshened_of (stored_with first_stored) (answered_with first_304) (asked_with []) (record { date = 160; age_value = 0; request_time = 160; response_time = 160 })).fields ≡ first_304 }
+    ensures freshened { (freshened_of (stored_with first_stored) (answered_with first_304) (asked_with [])
+        (record { date = 160; age_value = 0; request_time = 160; response_time = 160 })).fields ≡ first_304 }
     ensures wanted { wants_304 (asked_with (line (codes "If-None-Match") (codes "\"v1\"") ∷ [])) (stored_with first_304) ≡ true }
     ensures sent { not_modified_of first_304 ≡ first_304 }
-    ensures no_modified { not_modified_of (modified_line (codes "x") ∷ tag_line (codes "e") ∷ line (codes "Content-Type") (codes "text/plain") ∷ line (codes "vary") (codes "a") ∷ [])
+    ensures no_modified { not_modified_of (modified_line (codes "x") ∷ tag_line (codes "e")
+        ∷ line (codes "Content-Type") (codes "text/plain") ∷ line (codes "vary") (codes "a") ∷ [])
         ≡ tag_line (codes "e") ∷ line (codes "vary") (codes "a") ∷ [] }
     ensures modified { not_modified_of (modified_line (codes "x") ∷ []) ≡ modified_line (codes "x") ∷ [] }
 {}
@@ -121,14 +130,17 @@ pub fn if_none_match_decides_alone()
     ensures equal { wants_by (none_match (codes "\"e\"") ∷ []) (tag_line (codes "\"e\"") ∷ []) ≡ true }
     ensures weak { wants_by (none_match (codes "W/\"e\"") ∷ []) (tag_line (codes "\"e\"") ∷ []) ≡ true }
     ensures second { wants_by (none_match (codes "\"a, b\", \"e\"") ∷ []) (tag_line (codes "W/\"e\"") ∷ []) ≡ true }
-    ensures second_line { wants_by (none_match (codes "\"a\"") ∷ none_match (codes "\"e\"") ∷ []) (tag_line (codes "\"e\"") ∷ []) ≡ true }
+    ensures second_line { wants_by (none_match (codes "\"a\"") ∷ none_match (codes "\"e\"")
+        ∷ []) (tag_line (codes "\"e\"") ∷ []) ≡ true }
     ensures other { wants_by (none_match (codes "\"f\"") ∷ []) (tag_line (codes "\"e\"") ∷ []) ≡ false }
     ensures star_among { wants_by (none_match (codes "*, \"f\"") ∷ []) (tag_line (codes "\"e\"") ∷ []) ≡ false }
-    ensures two_stars { wants_by (none_match (codes "*") ∷ none_match (codes "*") ∷ []) (tag_line (codes "\"e\"") ∷ []) ≡ false }
+    ensures two_stars { wants_by (none_match (codes "*") ∷ none_match (codes "*") ∷ []) (tag_line (codes "\"e\"") ∷ [])
+        ≡ false }
     ensures no_tag { wants_by (none_match (codes "e") ∷ []) (tag_line (codes "e") ∷ []) ≡ false }
     ensures hides { wants_by (none_match (codes "\"f\"") ∷ since (codes "Thu, 01 Jan 1970 00:00:05 GMT") ∷ []) (modified_line (codes "Thu, 01 Jan 1970 00:00:05 GMT") ∷ []) ≡ false }
     ensures hides_empty { wants_by (none_match [] ∷ since (codes "Thu, 01 Jan 1970 00:00:05 GMT") ∷ []) (modified_line (codes "Thu, 01 Jan 1970 00:00:05 GMT") ∷ []) ≡ false }
-    ensures hides_earlier { wants_by (none_match (codes "\"e\"") ∷ since (codes "Thu, 01 Jan 1970 00:00:04 GMT") ∷ []) (tag_line (codes "\"e\"") ∷ modified_line (codes "Thu, 01 Jan 1970 00:00:05 GMT") ∷ []) ≡ true }
+    ensures hides_earlier { wants_by (none_match (codes "\"e\"") ∷ since (codes "Thu, 01 Jan 1970 00:00:04 GMT")
+        ∷ []) (tag_line (codes "\"e\"") ∷ modified_line (codes "Thu, 01 Jan 1970 00:00:05 GMT") ∷ []) ≡ true }
 {}
 
 /// If-Modified-Since is held against Last-Modified, and against the date 100 where that is no validator.
@@ -142,7 +154,8 @@ pub fn if_modified_since_compares_dates()
     ensures two { wants_by (since (codes "Thu, 01 Jan 1970 00:01:40 GMT") ∷ since (codes "Thu, 01 Jan 1970 00:01:40 GMT") ∷ []) [] ≡ false }
     ensures no_date { wants_by (since (codes "yesterday") ∷ []) [] ≡ false }
     ensures none { wants_by [] [] ≡ false }
-    ensures other_status { wants_304 (asked_with (none_match (codes "*") ∷ [])) (record (stored_with []) { status = 404 }) ≡ false }
+    ensures other_status { wants_304 (asked_with (none_match (codes "*") ∷ []))
+        (record (stored_with []) { status = 404 }) ≡ false }
 {}
 
 /// What isn't a line of it stays, but for the moments; what is kept of the request goes by the new lines.
@@ -173,10 +186,12 @@ pub fn lines_of_a_304()
     ensures etag { not_modified_of (line (codes "ETag") (codes "a") ∷ []) ≡ line (codes "ETag") (codes "a") ∷ [] }
     ensures expires { not_modified_of (line (codes "Expires") (codes "a") ∷ []) ≡ line (codes "Expires") (codes "a") ∷ [] }
     ensures vary { not_modified_of (line (codes "Vary") (codes "a") ∷ []) ≡ line (codes "Vary") (codes "a") ∷ [] }
-    ensures others { not_modified_of (line (codes "Set-Cookie") (codes "a") ∷ line (codes "Content-Type") (codes "b") ∷ line (codes "Content-Length") (codes "1") ∷ line (codes "Server") (codes "c") ∷ []) ≡ [] }
+    ensures others { not_modified_of (line (codes "Set-Cookie") (codes "a") ∷ line (codes "Content-Type") (codes "b")
+        ∷ line (codes "Content-Length") (codes "1") ∷ line (codes "Server") (codes "c") ∷ []) ≡ [] }
 {}
 
-/// What is added to lines that leave room for it stays within the limits of a head: whatever it is, and no line and no byte more.
+/// What is added to lines that leave room for it stays within the limits of a head: whatever it is,
+/// and no line and no byte more.
 pub fn lines_leave_room_for_what_is_added()
     ensures all { LeavesRoomForAll }
     ensures no_more { LeavesRoomForNoMore }

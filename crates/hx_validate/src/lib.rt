@@ -1,8 +1,9 @@
 //! Validation: which conditions ask an origin about a stored response, whether a 304 answers it and what it makes of
 //! it, and when a client gets a 304 itself (RFC 9111, section 4.3; RFC 9110, sections 8.8 and 13).
 //!
-//! The definitions are in `specs/EntityTags.antt`, `specs/Validators.antt`, `specs/Answering.antt`, `specs/NotModified.antt`
-//! and `specs/Room.antt`. Nothing here knows whether an entry is held, or which rule forwarded a request.
+//! The definitions are in `specs/EntityTags.antt`, `specs/Validators.antt`, `specs/Answering.antt`,
+//! `specs/NotModified.antt` and `specs/Room.antt`. Nothing here knows whether an entry is held, or
+//! which rule forwarded a request.
 #![tactic(auto)]
 
 mod answering;

@@ -18,14 +18,16 @@ const BYTES_BESIDE: usize = 4;
 
 /// What a line leaves of so many bytes.
 fn left_behind(room: usize, line: &Field) -> Option<usize>
-    ensures { result ≡ cond (nat_le (length (field_line line.now)) room) (Some (room - length (field_line line.now))) None }
+    ensures { result
+        ≡ cond (nat_le (length (field_line line.now)) room) (Some (room - length (field_line line.now))) None }
 {
     room.checked_sub(BYTES_BESIDE)?
         .checked_sub(line.name.len())?
         .checked_sub(line.value.len())
 }
 
-/// Whether lines are so few and short that what is added to them, where they are sent, stays within the limits of a head.
+/// Whether lines are so few and short that what is added to them, where they are sent, stays within
+/// the limits of a head.
 pub fn leaves_room(fields: &Fields) -> bool
     ensures { result ≡ leaves_room fields.now }
 {

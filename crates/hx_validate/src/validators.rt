@@ -3,7 +3,8 @@
 //! The definitions are in `specs/Validators.antt`. A validator that is repeated or malformed is none, and no
 //! condition is sent for it.
 ghost use Rattle.std.specs.Prelude.{◌≡◌, IfOk, option_copied};
-ghost use Rattle.hx_validate.specs.Validators.{conditions_of, has_validator, is_date, is_entity_tag, modified_value, tag_value};
+ghost use Rattle.hx_validate.specs.Validators.{conditions_of, has_validator, is_date, is_entity_tag, modified_value};
+ghost use Rattle.hx_validate.specs.Validators.{tag_value};
 
 use crate::entity_tags::EntityTag;
 use httpdate::HttpDate;
@@ -61,7 +62,7 @@ fn copied(alloc: Global, value: Option<&[u8]>) -> Result<Option<Bytes>, AllocErr
 }
 
 /// The conditions that ask an origin whether a stored response is still current: the values of its validators.
-/// Its only error is want of memory.
+/// Its only error is out of memory.
 pub fn conditions(alloc: Global, entry: &Entry) -> Result<Conditions, AllocError>
     ensures { IfOk result (λ conditions. conditions ≡ conditions_of entry.now.fields) }
 {

@@ -26,7 +26,8 @@ with_line (Some before) value = (before ++ codes ", ") ++ value
 
 -- each of these values has its tag among those of a set
 abbrev pub AreTagged : ℕ → BTreeMap (List ℕ) (List ℕ) → (ℕ → Bool) → Type 0
-AreTagged seed values has = (name value : List ℕ) → get folded_cmp values name ≡ Some value → has (tag_of seed value) ≡ true
+AreTagged seed values has =
+    (name value : List ℕ) → get folded_cmp values name ≡ Some value → has (tag_of seed value) ≡ true
 
 abbrev pub all_kept_by : BTreeMap (List ℕ) (List ℕ) → List NominatedValue → Bool
 all_kept_by values kept = list_all (λ k. is_same_value k.value (folded_value values k.name)) kept

@@ -1,8 +1,10 @@
 -- Numbers that tell most of what a request can't match, with no look at the values that were kept.
 --
--- tag_of: a number of a value, by a seed                  tags_of: those of the values that are kept of an earlier request
+-- tag_of: a number of a value, by a seed
+-- tags_of: those of the values that are kept of an earlier request
 -- mark_of: the first four of them                         may_match: each of these is among the tags of a request
-use Rattle.std.specs.Prelude.{◌≡◌, ℕ, ◌-◌, ◌==◌, if◌then◌else◌, Bool, true, false, ◌||◌, ◌&&◌, List, [], ◌∷◌, Option, Some, None}
+use Rattle.std.specs.Prelude.{◌≡◌, ℕ, ◌-◌, ◌==◌, if◌then◌else◌, Bool, true, false, ◌||◌, ◌&&◌, List, [], ◌∷◌, Option}
+use Rattle.std.specs.Prelude.{Some, None}
 use Rattle.std.specs.List.{fold}
 use Rattle.std.specs.Hash.{u64}
 use Rattle.std.specs.Hash.DefaultHasher.{initial, write, finish}
@@ -49,11 +51,13 @@ may_match has mark = may_be has mark.first && may_be has mark.second && may_be h
 
 -- each value of the request has its tag among these
 abbrev pub HasTags : ℕ → List Field → (ℕ → Bool) → Type 0
-HasTags seed request has = (name value : List ℕ) → combined_of request name ≡ Some value → has (tag_of seed value) ≡ true
+HasTags seed request has =
+    (name value : List ℕ) → combined_of request name ≡ Some value → has (tag_of seed value) ≡ true
 
 -- what a request matches isn't passed over by its mark; two values of one tag cost a look, and change nothing
 abbrev pub MarksMissNothing : Type 0
-MarksMissNothing = (seed : ℕ) (kept : List NominatedValue) (request : List Field) (has : ℕ → Bool) → HasTags seed request has →
+MarksMissNothing =
+    (seed : ℕ) (kept : List NominatedValue) (request : List Field) (has : ℕ → Bool) → HasTags seed request has →
     vary_matches kept request ≡ true → may_match has (mark_of seed kept) ≡ true
 
 -- a value that is there is never marked as absence

@@ -3,7 +3,8 @@
 -- nominated_of: what is kept of the earlier request
 -- vary_matches: a later request's values are those that were kept
 -- selects_both: the same question, asked of the whole earlier request
-use Rattle.std.specs.Prelude.{◌≡◌, ℕ, Bool, true, false, if◌then◌else◌, ◌||◌, not, List, [], ◌∷◌, map, filter, codes, bytes_eq, Option, Some, None}
+use Rattle.std.specs.Prelude.{◌≡◌, ℕ, Bool, true, false, if◌then◌else◌, ◌||◌, not, List, [], ◌∷◌, map, filter, codes}
+use Rattle.std.specs.Prelude.{bytes_eq, Option, Some, None}
 use Rattle.std.specs.List.{list_all, list_any}
 use Rattle.hx_fields.specs.Lines.{combined_of, members_of}
 use Rattle.hx_fields.specs.Names.{is_same_name}
@@ -68,9 +69,11 @@ KeptIsEnough = (response earlier later : List Field) →
 abbrev pub MatchesItself : Type 0
 MatchesItself = (response request : List Field) → vary_matches (kept_values response request) request ≡ true
 
--- "A stored response with a Vary header field value containing a member "*" always fails to match" (RFC 9111, section 4.1)
+-- "A stored response with a Vary header field value containing a member "*" always fails to match"
+-- (RFC 9111, section 4.1)
 abbrev pub KeepsNothingOfAStar : Type 0
 KeepsNothingOfAStar = (response request : List Field) → is_star response ≡ true → nominated_of response request ≡ Star
 
 abbrev pub KeepsEachName : Type 0
-KeepsEachName = (response request : List Field) → is_star response ≡ false → nominated_of response request ≡ Names (kept_values response request)
+KeepsEachName = (response request : List Field) → is_star response ≡ false
+    → nominated_of response request ≡ Names (kept_values response request)

@@ -1,7 +1,8 @@
 //! What the definitions say of the standard's cases and of worked ones.
 
 ghost use Rattle.std.specs.Prelude.{◌≡◌, true, false, [], ◌∷◌, codes};
-ghost use Rattle.hx_vary.specs.Vary.{KeepsEachName, KeepsNothingOfAStar, KeptIsEnough, MatchesItself, each_once, is_star, nominated_of, vary_matches};
+ghost use Rattle.hx_vary.specs.Vary.{KeepsEachName, KeepsNothingOfAStar, KeptIsEnough, MatchesItself, each_once};
+ghost use Rattle.hx_vary.specs.Vary.{is_star, nominated_of, vary_matches};
 ghost use Rattle.hx_vary.specs.Marks.{MarksMissNothing, NoValueIsUnmarked};
 ghost use Rattle.hx_vary.specs.Cases.{kept_for, speaks, varying};
 

@@ -1,7 +1,8 @@
 //! Marks: numbers that tell most of what a request can't match, with no look at the values that were kept.
 //!
-//! A number is no proof of a match: whoever finds the tags of a mark among a request's own has to look. The hash has a seed that
-//! each store draws for itself, so no peer can choose values of one tag; two of one tag cost a look, and change nothing.
+//! A number is no proof of a match: whoever finds the tags of a mark among a request's own has to
+//! look. The hash has a seed that each store draws for itself, so no peer can choose values of one
+//! tag; two of one tag cost a look, and change nothing.
 
 ghost use Rattle.std.specs.Prelude.{◌≡◌};
 ghost use Rattle.hx_vary.specs.Marks.{may_match, tag_at, tag_of, tags_of};

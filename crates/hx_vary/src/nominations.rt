@@ -43,7 +43,7 @@ pub enum Nomination {
 impl Nominated {
     ghost use Rattle.hx_vary.specs.Vary.{nominated_of};
 
-    /// What a response nominates of the request that it answers. Fails for want of memory alone.
+    /// What a response nominates of the request that it answers. Fails only where memory runs out.
     pub fn of(alloc: Global, response: &Fields, request: &Fields) -> Result<Nomination, AllocError>
         ensures { IfOk result (λ nomination. nomination ≡ nominated_of response.now request.now) }
     {
@@ -56,7 +56,7 @@ impl Nominated {
         }))
     }
 
-    /// A copy of these values. Fails for want of memory alone.
+    /// A copy of these values. Fails only where memory runs out.
     pub fn copy(&self, alloc: Global) -> Result<Nominated, AllocError>
         ensures { IfOk result (λ copied. copied ≡ self.now) }
     {
@@ -88,7 +88,7 @@ impl Nominated {
     }
 }
 
-/// Each name once, with what a request has of it. Fails for want of memory alone.
+/// Each name once, with what a request has of it. Fails only where memory runs out.
 fn kept_values(
     alloc: Global,
     names: &[Bytes],
@@ -110,7 +110,7 @@ fn kept_values(
     Ok(kept)
 }
 
-/// Whether a request has each value that was kept. Fails for want of memory alone.
+/// Whether a request has each value that was kept. Fails only where memory runs out.
 pub fn matches(alloc: Global, nominated: &Nominated, request: &Fields) -> Result<bool, AllocError>
     ensures { IfOk result (λ same. same ≡ vary_matches nominated.now request.now) }
 {

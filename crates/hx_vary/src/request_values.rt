@@ -78,7 +78,7 @@ fn tags_of(
 }
 
 impl RequestValues {
-    /// Those of a request, with tags by a seed. Fails for want of memory alone.
+    /// Those of a request, with tags by a seed. Fails only where memory runs out.
     pub fn of(alloc: Global, request: &Fields, seed: u64) -> Result<RequestValues, AllocError>
         ensures values { IfOk result (λ asked. HasEachValue request.now asked.values) }
         ensures tags { IfOk result (λ asked. HasTags seed request.now (contains nat_eq asked.tags)) }
@@ -108,7 +108,7 @@ impl RequestValues {
         tag == 0 || self.tags.contains(&tag)
     }
 
-    /// Whether the request has each value that was kept. Fails for want of memory alone.
+    /// Whether the request has each value that was kept. Fails only where memory runs out.
     pub fn matches(&self, nominated: &Nominated) -> Result<bool, AllocError>
         ensures { IfOk result (λ same. same ≡ all_kept_by self.now.values nominated.now) }
     {

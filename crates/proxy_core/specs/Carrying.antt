@@ -1,7 +1,9 @@
--- What an open exchange carries from its arrival on, and in which order exchanges stand open. A trace has its latest item first.
+-- What an open exchange carries from its arrival on, and in which order exchanges stand open. A
+-- trace has its latest item first.
 --
 -- judges: an arrival, and a wake                  Judged: its request was judged there, and has the line that allows it
--- LeastWhenJudged: the rule that it kept          WentOnce, WentAgain, StillWaits: how it went forward last, or that it waits
+-- LeastWhenJudged: the rule that it kept
+-- WentOnce, WentAgain, StillWaits: how it went forward last, or that it waits
 -- ArrivesBefore, StandInOrder: the order of arrival
 -- Below them are the statements that a law of `src/laws.rt` proves.
 use Rattle.std.specs.Prelude.{◌≡◌, ◌⊎◌, ℕ, ◌==◌, ◌&&◌, Bool, true, false, List, [], ◌∷◌, ◌++◌, map, Option, Some, None}
@@ -42,11 +44,13 @@ IsJudgedBy event now x = (event ≡ Arrive now x.id x.asked) ⊎ (event ≡ Wake
 
 -- the client's own request goes forward once more, behind an answer
 abbrev pub again_of : Table → Exchange → ℕ → Response → Item
-again_of table x now r = record { event = Answer now x.id r; outcome = Forward x.line (forward_text table x.asked None) }
+again_of table x now r =
+    record { event = Answer now x.id r; outcome = Forward x.line (forward_text table x.asked None) }
 
--- It went forward where it was judged alone: its request time is that moment, and its conditions, which ask about the response
--- that its rule names, are those in the bytes that went.
-pub record WentOnce (table : Table) (limit : ℕ) (x : Exchange) (since before : List Item) (now : ℕ) (outcome : Outcome) : Type 0 where
+-- It went forward where it was judged alone: its request time is that moment, and its conditions,
+-- which ask about the response that its rule names, are those in the bytes that went.
+pub record WentOnce (table : Table) (limit : ℕ) (x : Exchange) (since before : List Item) (now : ℕ)
+    (outcome : Outcome) : Type 0 where
   pub stage : x.stage ≡ Forwarded
   pub since_then : times goes_forward x.id since ≡ 0
   pub request_time : x.request_time ≡ now
@@ -68,7 +72,8 @@ pub record WentAgain (table : Table) (x : Exchange) (since : List Item) : Type 0
   pub condition : x.condition ≡ None
 
 -- it has waited since it arrived, for the one of this id, and may be released by that one's end
-pub record StillWaits (table : Table) (limit : ℕ) (x : Exchange) (since before : List Item) (outcome : Outcome) : Type 0 where
+pub record StillWaits (table : Table) (limit : ℕ) (x : Exchange) (since before : List Item)
+    (outcome : Outcome) : Type 0 where
   pub leader : ℕ
   pub outcome_is : outcome ≡ Waits leader
   pub stage : (x.stage ≡ Waiting leader) ⊎ (x.stage ≡ Released)
@@ -77,8 +82,8 @@ pub record StillWaits (table : Table) (limit : ℕ) (x : Exchange) (since before
   pub names : NamesTheResponse (held_entries table limit before) x.asked x.rule against
   pub condition : x.condition ≡ condition_at (held_entries table limit before) against
 
--- The request of an open exchange was judged, and none of its id since: the line allows it, and its rule is the least that stood
--- then (RFC 9111, section 4).
+-- The request of an open exchange was judged, and none of its id since: the line allows it, and its
+-- rule is the least that stood then (RFC 9111, section 4).
 pub record Judged (table : Table) (limit : ℕ) (x : Exchange) (past : List Item) : Type 0 where
   pub since : List Item
   pub before : List Item
@@ -89,7 +94,8 @@ pub record Judged (table : Table) (limit : ℕ) (x : Exchange) (past : List Item
   pub none_since : NoneJudged x.id since
   pub line_allows : verdict_of table.lines x.asked.method x.asked.target ≡ Allowed x.line
   pub rule_is_least : IsLeast (policy_of table.lines x.line) (held_entries table limit before) x.asked now x.rule
-  pub went : WentOnce table limit x since before now item.outcome ⊎ (WentAgain table x since ⊎ StillWaits table limit x since before item.outcome)
+  pub went : WentOnce table limit x since before now item.outcome
+      ⊎ (WentAgain table x since ⊎ StillWaits table limit x since before item.outcome)
 
 -- the rule of an open exchange is the least that stood when its request was judged
 pub record LeastWhenJudged (table : Table) (limit : ℕ) (x : Exchange) (past : List Item) : Type 0 where
@@ -128,7 +134,8 @@ ids_of exchanges = map (λ (x : Exchange). x.id) exchanges
 -- ---- the statements
 
 abbrev pub CarriesItsArrival : Type 0
-CarriesItsArrival = (table : Table) (limit first id : ℕ) (trace : List Item) (x : Exchange) → IsGoodHistory table limit first trace →
+CarriesItsArrival =
+    (table : Table) (limit first id : ℕ) (trace : List Item) (x : Exchange) → IsGoodHistory table limit first trace →
     find_exchange id (open_exchanges table limit trace) ≡ Some x → Judged table limit x trace × (x.id ≡ id)
 
 abbrev pub OpenInOrderOfArrival : Type 0

@@ -39,10 +39,22 @@ head = asks_for (codes "HEAD") (codes "/a") []
 
 -- the second line of the table has no cache, and what is stored has two bytes at most
 abbrev pub line_that : Line
-line_that = record { host = None; methods = codes "*" ∷ []; path = codes "/"; origin = Some (codes "127.0.0.1:8081"); policy = plain true }
+line_that = record {
+  host = None;
+  methods = codes "*" ∷ [];
+  path = codes "/";
+  origin = Some (codes "127.0.0.1:8081");
+  policy = plain true;
+}
 
 abbrev pub table : Table
-table = record { name = codes "edge"; capacity = 2; max_body = 1000; max_stored = 2; lines = line_that ∷ record line_that { policy = plain false } ∷ [] }
+table = record {
+  name = codes "edge";
+  capacity = 2;
+  max_body = 1000;
+  max_stored = 2;
+  lines = line_that ∷ record line_that { policy = plain false } ∷ [];
+}
 
 -- the same, but for the words of its one line
 abbrev pub table_of : Policy → Table
@@ -63,7 +75,17 @@ no_errors = record (plain true) { stores_errors = false }
 -- a request that went forward at 100, since nothing was held for it
 abbrev pub went : Asked → Exchange
 went asked =
-    record { id = 1; asked = asked; line = 1; rule = UriMiss; request_time = 100; condition = None; overtaken = false; for_others = is_for_others asked; stage = Forwarded }
+    record {
+      id = 1;
+      asked = asked;
+      line = 1;
+      rule = UriMiss;
+      request_time = 100;
+      condition = None;
+      overtaken = false;
+      for_others = is_for_others asked;
+      stage = Forwarded;
+    }
 
 -- one that went forward since what was held was stale
 abbrev pub revalidates : Exchange
@@ -86,7 +108,10 @@ waiting = record (went (get [])) { id = 2; stage = Waiting 1 }
 -- one that asked about the stored response of serial 1, which states no lifetime, by its tag
 abbrev pub asked_about_e : Asked → Exchange
 asked_about_e asked =
-    record (went asked) { rule = NoLifetime; condition = Some (record { serial = 1; sent = record { etag = Some (codes "\"e\""); modified = None } }) }
+    record (went asked) {
+      rule = NoLifetime;
+      condition = Some (record { serial = 1; sent = record { etag = Some (codes "\"e\""); modified = None } });
+    }
 
 -- one that no stored response may answer, of this id and for this path
 abbrev pub posted : ℕ → List ℕ → Exchange
@@ -151,7 +176,8 @@ lines_of_304 = date_101 ∷ control (codes "max-age=60") ∷ tag (codes "\"e\"")
 -- three that are held: two of /a, in German and in English, and one of /b
 abbrev pub three_held : List Stored
 three_held =
-    stored_in_language 3 (codes "de") ∷ stored_in_language 2 (codes "en") ∷ record (stored_in_language 1 (codes "de")) { key = key_of (codes "/b") } ∷ []
+    stored_in_language 3 (codes "de") ∷ stored_in_language 2 (codes "en")
+    ∷ record (stored_in_language 1 (codes "de")) { key = key_of (codes "/b") } ∷ []
 
 -- the bytes of a reply
 abbrev pub bytes_of : Outcome → List ℕ

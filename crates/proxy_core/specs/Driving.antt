@@ -1,5 +1,5 @@
--- A core that is driven by its public calls, whoever calls them and in whatever order: `Core::new` begins it, each accepted
--- `arrive`, `answer`, `fail`, `wake` and `abandon` is a step.
+-- A core that is driven by its public calls, whoever calls them and in whatever order: `Core::new`
+-- begins it, each accepted `arrive`, `answer`, `fail`, `wake` and `abandon` is a step.
 --
 -- HasRun: the steps that led to a core     KeepsThePromises: what is then so     PromisesOfADrivenCore: the statement
 use Rattle.std.specs.Prelude.{◌≡◌, ℕ, List, [], ◌∷◌}
@@ -15,8 +15,8 @@ HasRun table limit first [] core = core ≡ begun table limit first
 HasRun table limit first (item ∷ past) core =
     (before : State) × HasRun table limit first past before × Steps before item.event item.outcome core
 
--- its trace is good, and has the headline; the core has the table and the room that it began with, and what is held, open and next
--- after it
+-- its trace is good, and has the headline; the core has the table and the room that it began with,
+-- and what is held, open and next after it
 pub record KeepsThePromises (table : Table) (limit first : ℕ) (trace : List Item) (core : State) : Type 0 where
   pub table_is : core.table ≡ table
   pub limit_is : core.limit ≡ limit

@@ -1,5 +1,6 @@
--- When an event may come, and what follows it: until a client has its answer, each step of its exchange gives it, sends its request
--- forward once more, or ends it. A trace has its latest item first.
+-- When an event may come, and what follows it: until a client has its answer, each step of its
+-- exchange gives it, sends its request forward once more, or ends it. A trace has its latest item
+-- first.
 --
 -- MayCome: the exchange is open, and in the stage of the event     AsksAgain, GoesOnBy: what follows an event
 -- IsItsCondition: what a request carries to the origin              closes_by: whether the client's connection closes
@@ -24,8 +25,9 @@ use Rattle.proxy_core.specs.Validating.{condition_at, is_validation}
 use Rattle.proxy_core.specs.Outcomes.{forward_text}
 use Rattle.proxy_core.specs.Sending.{MayBeSentAt, GoesForward}
 
--- A request arrives under an id that no open exchange has; an answer or a failure is of one that is at the origin; who waited is
--- woken behind the end of the exchange that it waited for; any open one may be abandoned. Moments lie before the year 10000.
+-- A request arrives under an id that no open exchange has; an answer or a failure is of one that is
+-- at the origin; who waited is woken behind the end of the exchange that it waited for; any open
+-- one may be abandoned. Moments lie before the year 10000.
 abbrev pub MayCome : Option Exchange → Event → Type 0
 MayCome None (Arrive now id asked) = now < END_OF_TIME
 MayCome (Some x) (Answer now id r) = (now < END_OF_TIME) × (is_forwarded x.stage ≡ true)
@@ -40,33 +42,39 @@ MayCome None (Abandon id) = ⊥
 
 -- the answer is a 304 to the proxy's own conditions, and there is no stored response to send for it
 abbrev pub AsksAgain : Table → List Stored → Exchange → ℕ → ℕ → Response → Type 0
-AsksAgain table held x now id r = (is_validation x r ≡ true) × ((s : ℕ) → MayBeSentAt table held (Some x) (Answer now id r) s → ⊥)
+AsksAgain table held x now id r =
+    (is_validation x r ≡ true) × ((s : ℕ) → MayBeSentAt table held (Some x) (Answer now id r) s → ⊥)
 
 abbrev pub IsReply : Outcome → Type 0
 IsReply outcome = (reply : Reply) × (outcome ≡ Replied reply)
 
--- Behind an arrival (`IsReached` and `IsTurnedAway` say what that gives) an answer gives the client its reply, unless the client's
--- own request has to go forward without the proxy's conditions; a failure gives it its reply; a wake does, or sends the request
--- forward by the rule that stands now; and a client that went away ends its exchange.
+-- Behind an arrival (`IsReached` and `IsTurnedAway` say what that gives) an answer gives the client
+-- its reply, unless the client's own request has to go forward without the proxy's conditions; a
+-- failure gives it its reply; a wake does, or sends the request forward by the rule that stands
+-- now; and a client that went away ends its exchange.
 abbrev pub GoesOnBy : Table → List Stored → Option Exchange → Event → Outcome → Type 0
 GoesOnBy table held x (Arrive now id asked) outcome = Unit {0}
 GoesOnBy table held (Some x) (Answer now id r) outcome =
     (AsksAgain table held x now id r → outcome ≡ Forward x.line (forward_text table x.asked None))
     × ((AsksAgain table held x now id r → ⊥) → IsReply outcome)
 GoesOnBy table held (Some x) (Fail now id kind) outcome = IsReply outcome
-GoesOnBy table held (Some x) (Wake now id) outcome = IsReply outcome ⊎ ((rule : ReuseRule) × GoesForward table held x.asked now x.line rule outcome)
+GoesOnBy table held (Some x) (Wake now id) outcome =
+    IsReply outcome ⊎ ((rule : ReuseRule) × GoesForward table held x.asked now x.line rule outcome)
 GoesOnBy table held None (Answer now id r) outcome = ⊥
 GoesOnBy table held None (Fail now id kind) outcome = ⊥
 GoesOnBy table held None (Wake now id) outcome = ⊥
 GoesOnBy table held x (Abandon id) outcome = outcome ≡ Ended
 
--- What a request carries beside its client's own fields: where it is judged, which is at its arrival or its wake, the conditions
--- about the response that the least rule is on; behind a 304 that answered none, nothing.
+-- What a request carries beside its client's own fields: where it is judged, which is at its
+-- arrival or its wake, the conditions about the response that the least rule is on; behind a 304
+-- that answered none, nothing.
 abbrev pub IsItsCondition : Policy → List Stored → Asked → Event → Option Condition → Type 0
 IsItsCondition policy held asked (Arrive now id other) condition =
-    (rule : ReuseRule) × (against : Option ℕ) × IsLeast policy held asked now rule × NamesTheResponse held asked rule against × (condition ≡ condition_at held against)
+    (rule : ReuseRule) × (against : Option ℕ) × IsLeast policy held asked now rule
+    × NamesTheResponse held asked rule against × (condition ≡ condition_at held against)
 IsItsCondition policy held asked (Wake now id) condition =
-    (rule : ReuseRule) × (against : Option ℕ) × IsLeast policy held asked now rule × NamesTheResponse held asked rule against × (condition ≡ condition_at held against)
+    (rule : ReuseRule) × (against : Option ℕ) × IsLeast policy held asked now rule
+    × NamesTheResponse held asked rule against × (condition ≡ condition_at held against)
 IsItsCondition policy held asked (Answer now id r) condition = condition ≡ None
 IsItsCondition policy held asked (Fail now id kind) condition = ⊥
 IsItsCondition policy held asked (Abandon id) condition = ⊥

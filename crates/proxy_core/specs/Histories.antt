@@ -1,4 +1,5 @@
--- What a good trace is, over what is held by the count: no list of the program in it. A trace has its latest item first.
+-- What a good trace is, over what is held by the count: no list of the program in it. A trace has
+-- its latest item first.
 --
 -- held_serials: what is held          held_entry: the response of a serial     held_entries: those held
 -- open_exchanges: the open exchanges  next_serial: the next serial
@@ -28,7 +29,8 @@ held_serials limit past = held_of limit (map done_by past)
 -- the response of a serial after an event with its outcome: what the storing answer makes; a later 304 freshens it
 abbrev pub entry_after : Option Exchange → Event → Outcome → (ℕ → Option Stored) → ℕ → Option Stored
 entry_after x event o entry s =
-    cond (is_the (stored_in o) s) (stored_form x event s) (cond (is_the (used_in o) s) (option_map (used_form x event) (entry s)) (entry s))
+    cond (is_the (stored_in o) s) (stored_form x event s)
+    (cond (is_the (used_in o) s) (option_map (used_form x event) (entry s)) (entry s))
 
 -- the open exchanges in the order of arrival, and the response of a serial, held or not
 pub record Seen : Type 0 where
@@ -38,8 +40,10 @@ pub record Seen : Type 0 where
 abbrev pub seen : Table → ℕ → List Item → Seen
 seen table limit [] = record { exchanges = []; entry = λ s. None }
 seen table limit (i ∷ past) = record {
-  exchanges = open_after table (filter_map (seen table limit past).entry (held_serials limit past)) (seen table limit past).exchanges i.event i.outcome;
-  entry = entry_after (find_exchange (id_of i.event) (seen table limit past).exchanges) i.event i.outcome (seen table limit past).entry;
+  exchanges = open_after table (filter_map (seen table limit past).entry (held_serials limit past))
+      (seen table limit past).exchanges i.event i.outcome;
+  entry = entry_after (find_exchange (id_of i.event) (seen table limit past).exchanges) i.event i.outcome
+      (seen table limit past).entry;
 }
 
 -- open from the arrival on to the end
@@ -63,9 +67,10 @@ next_serial first (i ∷ past) = next_after (next_serial first past) (stored_in 
 abbrev pub IsGoodHistory : Table → ℕ → ℕ → List Item → Type 0
 IsGoodHistory table limit first [] = Unit {0}
 IsGoodHistory table limit first (item ∷ past) =
-    Accepts table (held_entries table limit past) (open_exchanges table limit past) (next_serial first past) item × IsGoodHistory table limit first past
+    Accepts table (held_entries table limit past) (open_exchanges table limit past) (next_serial first past) item
+    × IsGoodHistory table limit first past
 
--- the next event is refused: by the least fault that stands at it, or where none does for want of memory
+-- the next event is refused: by the least fault that stands at it, or where none does because memory ran out
 abbrev pub StopsAt : List Exchange → Option Event → CoreFault → Type 0
 StopsAt exchanges None fault = ⊥
 StopsAt exchanges (Some event) fault =

@@ -11,7 +11,8 @@ use Rattle.proxy_core.specs.Releases.{IsSettled}
 use Rattle.proxy_core.specs.Waiters.{waits_in, IsTrim}
 
 -- the indexes are right, and what is known of the released ones: of what is over nothing is kept
-pub record AreKept (es : List (ℕ × Exchange)) (arrivals : ℕ → Option ℕ) (waiting : WaitIndex) (released : Released) (gets : GetIndex) : Type 0 where
+pub record AreKept (es : List (ℕ × Exchange)) (arrivals : ℕ → Option ℕ) (waiting : WaitIndex) (released : Released)
+    (gets : GetIndex) : Type 0 where
   pub indexes : AreIndexed es arrivals (waits_in waiting)
   pub releases : IsSettled released es
   pub asking : (key : Key) → Tells (λ x. asks_for key x.asked) (gets_in gets key) es

@@ -5,7 +5,8 @@
 -- waits_for: an exchange waits for another
 -- ready_ids: the exchanges that may be woken, in the order of arrival
 -- NoneLeads, IsFirstToLead: the same in words
-use Rattle.std.specs.Prelude.{◌≡◌, ℕ, ◌==◌, ◌&&◌, ◌||◌, not, Bool, true, false, List, [], ◌∷◌, ◌++◌, Option, Some, None, cond, bytes_eq, codes}
+use Rattle.std.specs.Prelude.{◌≡◌, ℕ, ◌==◌, ◌&&◌, ◌||◌, not, Bool, true, false, List, [], ◌∷◌, ◌++◌, Option, Some, None}
+use Rattle.std.specs.Prelude.{cond, bytes_eq, codes}
 use Rattle.std.specs.List.{AllByRecursion}
 use Rattle.hx_fields.specs.Lines.{has as has_line}
 use Rattle.hx_policy.specs.declared.words.Policy.{Policy}
@@ -16,7 +17,8 @@ use Rattle.hx_target.specs.declared.keys.Key.{Key}
 use Rattle.hx_target.specs.Keys.{same_key}
 use Rattle.hx_hop.specs.declared.request_view.Asked.{Asked}
 use Rattle.hx_reuse.specs.declared.rule.ReuseRule.{ReuseRule}
-use Rattle.hx_reuse.specs.declared.rule.ReuseRule.TheVariants.{UriMiss, MustRevalidate, NoMaxStale, PastMaxStale, StaleMaxAge, StaleMinFresh}
+use Rattle.hx_reuse.specs.declared.rule.ReuseRule.TheVariants.{UriMiss, MustRevalidate, NoMaxStale, PastMaxStale}
+use Rattle.hx_reuse.specs.declared.rule.ReuseRule.TheVariants.{StaleMaxAge, StaleMinFresh}
 use Rattle.proxy_core.specs.declared.open.stage.Stage.{Stage}
 use Rattle.proxy_core.specs.declared.open.stage.Stage.TheVariants.{Forwarded, Waiting, Released}
 use Rattle.proxy_core.specs.declared.open.exchange.Exchange.{Exchange}
@@ -47,8 +49,9 @@ abbrev pub is_uri_miss : ReuseRule → Bool
 is_uri_miss UriMiss = true
 is_uri_miss rule = false
 
--- The chosen response is past its lifetime, and the request or the response lets no such one be sent: what the origin says of it
--- now is for all. One that never had a lifetime, or that no-cache keeps back, is asked about by each request anew.
+-- The chosen response is past its lifetime, and the request or the response lets no such one be
+-- sent: what the origin says of it now is for all. One that never had a lifetime, or that no-cache
+-- keeps back, is asked about by each request anew.
 abbrev pub has_expired : ReuseRule → Bool
 has_expired MustRevalidate = true
 has_expired NoMaxStale = true
@@ -57,9 +60,9 @@ has_expired StaleMaxAge = true
 has_expired StaleMinFresh = true
 has_expired rule = false
 
--- By this rule a request may wait for another's answer: nothing is held for its key, or what is held is stale and the line lets it
--- wait for that. A response "that is stored or storable" may "satisfy multiple requests", so a cache may "collapse requests" (RFC
--- 9111, section 4).
+-- By this rule a request may wait for another's answer: nothing is held for its key, or what is
+-- held is stale and the line lets it wait for that. A response "that is stored or storable" may
+-- "satisfy multiple requests", so a cache may "collapse requests" (RFC 9111, section 4).
 abbrev pub can_wait : Policy → ReuseRule → Bool
 can_wait policy rule = is_uri_miss rule || (policy.waits_for_stale && has_expired rule)
 
@@ -67,10 +70,12 @@ can_wait policy rule = is_uri_miss rule || (policy.waits_for_stale && has_expire
 abbrev pub goes_alike : ReuseRule → ReuseRule → Bool
 goes_alike rule other = (is_uri_miss rule && is_uri_miss other) || (has_expired rule && has_expired other)
 
--- Nothing in the request keeps what it is answered for itself: neither no-store nor Authorization (RFC 9111, sections 5.2.1.5 and
--- 3.5). Of Authorization that is more than the rule, since nobody knows yet whether the answer will be public.
+-- Nothing in the request keeps what it is answered for itself: neither no-store nor Authorization
+-- (RFC 9111, sections 5.2.1.5 and 3.5). Of Authorization that is more than the rule, since nobody
+-- knows yet whether the answer will be public.
 abbrev pub is_for_others : Asked → Bool
-is_for_others asked = not (has_directive (occurrences_of asked.fields) NoStore) && not (has_line asked.fields (codes "Authorization"))
+is_for_others asked =
+    not (has_directive (occurrences_of asked.fields) NoStore) && not (has_line asked.fields (codes "Authorization"))
 
 -- whom a line that lets requests wait for what is stale sends others behind: one whose answer may be for others
 abbrev pub may_lead : Policy → Bool → Bool
@@ -79,7 +84,8 @@ may_lead policy for_others = not policy.waits_for_stale || for_others
 -- a GET for the key went forward for that reason, isn't answered yet, and those of this line wait for it
 abbrev pub leads : Policy → ReuseRule → Key → Exchange → Bool
 leads policy rule key x =
-    same_key x.asked.target.key key && (is_get x.asked && (goes_alike x.rule rule && (is_forwarded x.stage && may_lead policy x.for_others)))
+    same_key x.asked.target.key key
+    && (is_get x.asked && (goes_alike x.rule rule && (is_forwarded x.stage && may_lead policy x.for_others)))
 
 -- of those the first to arrive
 abbrev pub leader : Policy → ReuseRule → Key → List Exchange → Option ℕ
@@ -88,7 +94,8 @@ leader policy rule key (x ∷ xs) = cond (leads policy rule key x) (Some x.id) (
 
 -- a GET waits where its rule lets it, and one that is open leads. The policy is that of the line that allows it.
 abbrev pub leader_for : Policy → List Exchange → Asked → ReuseRule → Option ℕ
-leader_for policy xs asked rule = cond (is_get asked && can_wait policy rule) (leader policy rule asked.target.key xs) None
+leader_for policy xs asked rule =
+    cond (is_get asked && can_wait policy rule) (leader policy rule asked.target.key xs) None
 
 -- the ids of the exchanges that may be woken, in the order of arrival
 abbrev pub ready_ids : List Exchange → List ℕ
@@ -99,8 +106,10 @@ ready_ids (x ∷ xs) = cond (is_released x.stage) (x.id ∷ ready_ids xs) (ready
 abbrev pub NoneLeads : Policy → ReuseRule → Key → List Exchange → Type 0
 NoneLeads policy rule key xs = AllByRecursion (λ (x : Exchange). leads policy rule key x ≡ false) xs
 
--- of the open exchanges, which stand in the order of arrival, the first GET of this key that went forward for this reason
-pub record IsFirstToLead (policy : Policy) (rule : ReuseRule) (key : Key) (xs : List Exchange) (leader : ℕ) : Type 0 where
+-- of the open exchanges, which stand in the order of arrival, the first GET of this key that went
+-- forward for this reason
+pub record IsFirstToLead (policy : Policy) (rule : ReuseRule) (key : Key) (xs : List Exchange)
+    (leader : ℕ) : Type 0 where
   pub before : List Exchange
   pub x : Exchange
   pub behind : List Exchange

@@ -1,8 +1,11 @@
--- What the definitions of a good trace come to, in words of its events and outcomes alone. A trace has its latest item first.
+-- What the definitions of a good trace come to, in words of its events and outcomes alone. A trace
+-- has its latest item first.
 --
--- has_ended: an exchange was ended     number_stored: how many responses were stored     events_of: the events of a trace
+-- has_ended: an exchange was ended     number_stored: how many responses were stored
+-- events_of: the events of a trace
 -- Below them are the statements that the laws of `src/laws.rt` prove.
-use Rattle.std.specs.Prelude.{◌≡◌, ℕ, ◌+◌, ◌^◌, ◌==◌, nat_lt, ◌&&◌, ◌||◌, not, Bool, true, false, List, [], ◌∷◌, ◌++◌, map, Some, None, is_some, cond}
+use Rattle.std.specs.Prelude.{◌≡◌, ℕ, ◌+◌, ◌^◌, ◌==◌, nat_lt, ◌&&◌, ◌||◌, not, Bool, true, false, List, [], ◌∷◌, ◌++◌}
+use Rattle.std.specs.Prelude.{map, Some, None, is_some, cond}
 use Rattle.hx_hop.specs.declared.request_view.Asked.{Asked}
 use Rattle.hx_allow.specs.Lines.{Table}
 use Rattle.hx_allow.specs.Matching.{policy_of}
@@ -47,29 +50,33 @@ OpenFromArrivalToEnd = (table : Table) (limit first : ℕ) (items before : List 
     IsGoodHistory table limit first (items ++ arrival ∷ before) →
     is_arrival arrival.event ≡ true →
     NoneArrives (id_of arrival.event) items →
-    is_some (find_exchange (id_of arrival.event) (open_exchanges table limit (items ++ arrival ∷ before))) ≡ (starts arrival.outcome && not (has_ended (id_of arrival.event) items))
+    is_some (find_exchange (id_of arrival.event) (open_exchanges table limit (items ++ arrival ∷ before)))
+    ≡ (starts arrival.outcome && not (has_ended (id_of arrival.event) items))
 
 -- none is open of which no request arrived
 abbrev pub OpenByArrivalAlone : Type 0
 OpenByArrivalAlone = (table : Table) (limit first id : ℕ) (trace : List Item) →
-    IsGoodHistory table limit first trace → NoneArrives id trace → find_exchange id (open_exchanges table limit trace) ≡ None
+    IsGoodHistory table limit first trace → NoneArrives id trace
+    → find_exchange id (open_exchanges table limit trace) ≡ None
 
 -- an open exchange has the request of the latest arrival of its id
 abbrev pub HasItsRequest : Type 0
 HasItsRequest = (table : Table) (limit first id : ℕ) (trace : List Item) (x : Exchange) →
-    IsGoodHistory table limit first trace → find_exchange id (open_exchanges table limit trace) ≡ Some x → asked_by id trace ≡ Some x.asked
+    IsGoodHistory table limit first trace → find_exchange id (open_exchanges table limit trace) ≡ Some x
+    → asked_by id trace ≡ Some x.asked
 
 -- and while it isn't woken the rule that stood against a stored response when that arrived, by the word of its line
 abbrev pub KeepsItsRule : Type 0
-KeepsItsRule = (table : Table) (limit first now id : ℕ) (asked : Asked) (items before : List Item) (arrival : Item) (x : Exchange) →
+KeepsItsRule = (table : Table) (limit first now id : ℕ) (asked : Asked) (items before : List Item) (arrival : Item)
+    (x : Exchange) →
     IsGoodHistory table limit first (items ++ arrival ∷ before) →
     arrival.event ≡ Arrive now id asked →
     NoneJudged id items →
     find_exchange id (open_exchanges table limit (items ++ arrival ∷ before)) ≡ Some x →
     x.rule ≡ rule_of (decision_of (policy_of table.lines x.line) (held_entries table limit before) asked now)
 
--- An open exchange whose request is at the origin is overtaken exactly where an item after its latest going forward invalidates
--- its key.
+-- An open exchange whose request is at the origin is overtaken exactly where an item after its
+-- latest going forward invalidates its key.
 abbrev pub OvertakenWhereInvalidated : Type 0
 OvertakenWhereInvalidated = (table : Table) (limit first : ℕ) (items before : List Item) (f : Item) (x : Exchange) →
     IsGoodHistory table limit first (items ++ f ∷ before) →
@@ -83,34 +90,41 @@ OvertakenWhereInvalidated = (table : Table) (limit first : ℕ) (items before : 
 abbrev pub NextIsCounted : Type 0
 NextIsCounted = (table : Table) (limit first : ℕ) (trace : List Item) →
     IsGoodHistory table limit first trace → nat_lt first (2 ^ 64) ≡ true →
-    next_serial first trace ≡ cond (nat_lt (first + number_stored trace) (2 ^ 64)) (Some (first + number_stored trace)) None
+    next_serial first trace
+    ≡ cond (nat_lt (first + number_stored trace) (2 ^ 64)) (Some (first + number_stored trace)) None
 
 -- what is stored has it
 abbrev pub StoredHasTheNext : Type 0
 StoredHasTheNext = (table : Table) (limit first s : ℕ) (item : Item) (past : List Item) →
-    IsGoodHistory table limit first (item ∷ past) → nat_lt first (2 ^ 64) ≡ true → stored_in item.outcome ≡ Some s → s ≡ first + number_stored past
+    IsGoodHistory table limit first (item ∷ past) → nat_lt first (2 ^ 64) ≡ true → stored_in item.outcome ≡ Some s
+    → s ≡ first + number_stored past
 
 -- Two good traces of the same events are one.
 abbrev pub LeavesNoChoice : Type 0
 LeavesNoChoice = (table : Table) (limit first : ℕ) (trace other : List Item) →
-    IsGoodHistory table limit first trace → IsGoodHistory table limit first other → events_of trace ≡ events_of other → trace ≡ other
+    IsGoodHistory table limit first trace → IsGoodHistory table limit first other
+    → events_of trace ≡ events_of other → trace ≡ other
 
 -- What is good over the list that a core keeps is good over what is held, and the other way round.
 abbrev pub GoodOverWhatIsHeld : Type 0
-GoodOverWhatIsHeld = (table : Table) (limit first : ℕ) (trace : List Item) → IsGood (begun table limit first) trace → IsGoodHistory table limit first trace
+GoodOverWhatIsHeld = (table : Table) (limit first : ℕ) (trace : List Item) → IsGood (begun table limit first) trace
+    → IsGoodHistory table limit first trace
 
 abbrev pub GoodOverTheList : Type 0
-GoodOverTheList = (table : Table) (limit first : ℕ) (trace : List Item) → IsGoodHistory table limit first trace → IsGood (begun table limit first) trace
+GoodOverTheList = (table : Table) (limit first : ℕ) (trace : List Item) → IsGoodHistory table limit first trace
+    → IsGood (begun table limit first) trace
 
 -- the list has what is held, the latest stored or used first
 abbrev pub KeepsWhatIsHeld : Type 0
 KeepsWhatIsHeld = (table : Table) (limit first : ℕ) (trace : List Item) →
-    IsGood (begun table limit first) trace → (left (begun table limit first) trace).entries ≡ held_entries table limit trace
+    IsGood (begun table limit first) trace
+    → (left (begun table limit first) trace).entries ≡ held_entries table limit trace
 
 -- and the core has the exchanges that are open
 abbrev pub KeepsWhatIsOpen : Type 0
 KeepsWhatIsOpen = (table : Table) (limit first : ℕ) (trace : List Item) →
-    IsGood (begun table limit first) trace → (left (begun table limit first) trace).exchanges ≡ open_exchanges table limit trace
+    IsGood (begun table limit first) trace
+    → (left (begun table limit first) trace).exchanges ≡ open_exchanges table limit trace
 
 -- and the next serial
 abbrev pub KeepsTheNext : Type 0

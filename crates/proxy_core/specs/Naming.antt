@@ -1,8 +1,9 @@
--- What an answer names that isn't a stored response: the first rule against one (RFC 9111, section 4; RFC 5861, section 4;
--- RFC 9211).
+-- What an answer names that isn't a stored response: the first rule against one (RFC 9111, section
+-- 4; RFC 5861, section 4; RFC 9211).
 --
 -- NamesAtArrival: the line of the table that denies, that none allows, or the rule where only-if-cached stands
--- NamesOnError: why nothing is sent in place of an error          NamesItsRule: of an answer that is passed on, the one it has kept
+-- NamesOnError: why nothing is sent in place of an error
+-- NamesItsRule: of an answer that is passed on, the one it has kept
 -- NamesFirst: of an item                                          NamesFirstRules: of each item of a good trace
 use Rattle.std.specs.Prelude.{◌≡◌, ◌⊎◌, ℕ, true, false, List, ◌∷◌, Option, Some, None, is_some}
 use Rattle.hx_policy.specs.declared.words.Policy.{Policy}
@@ -36,13 +37,17 @@ use Rattle.proxy_core.specs.Histories.{held_entries, open_exchanges, next_serial
 use Rattle.proxy_core.specs.Promises.{sends_nothing_held}
 use Rattle.proxy_core.specs.Carrying.{LeastWhenJudged}
 
--- To a request that arrives the proxy answers by itself alone: the line of the table that denies it; that none matches; or
--- the least reuse rule that stands, where the request takes no response but a stored one.
+-- To a request that arrives the proxy answers by itself alone: the line of the table that denies
+-- it; that none matches; or the least reuse rule that stands, where the request takes no response
+-- but a stored one.
 abbrev pub NamesAtArrival : Table → List Stored → ℕ → Asked → List ℕ → Type 0
 NamesAtArrival table held now asked bytes =
-    ((line : ℕ) × (verdict_of table.lines asked.method asked.target ≡ DeniedBy line) × (bytes ≡ refused_text (date_text_of now) (Denied line) asked.close (is_head asked)))
-    ⊎ (((verdict_of table.lines asked.method asked.target ≡ Unmatched) × (bytes ≡ refused_text (date_text_of now) NoLine asked.close (is_head asked)))
-    ⊎ ((line : ℕ) × (rule : ReuseRule) × (verdict_of table.lines asked.method asked.target ≡ Allowed line) × (is_only_if_cached asked ≡ true) × IsLeast (policy_of table.lines line) held asked now rule
+    ((line : ℕ) × (verdict_of table.lines asked.method asked.target ≡ DeniedBy line)
+    × (bytes ≡ refused_text (date_text_of now) (Denied line) asked.close (is_head asked)))
+    ⊎ (((verdict_of table.lines asked.method asked.target ≡ Unmatched)
+    × (bytes ≡ refused_text (date_text_of now) NoLine asked.close (is_head asked)))
+    ⊎ ((line : ℕ) × (rule : ReuseRule) × (verdict_of table.lines asked.method asked.target ≡ Allowed line)
+    × (is_only_if_cached asked ≡ true) × IsLeast (policy_of table.lines line) held asked now rule
     × (bytes ≡ refused_text (date_text_of now) (OnlyIfCached rule) asked.close (is_head asked))))
 
 -- beside a reuse rule against the chosen response: the least rule against sending it in place of an error
@@ -55,22 +60,27 @@ NamesErrorRule policy held now asked rule error =
 -- after a failure: its kind, the least reuse rule that stands now, and that rule
 abbrev pub NamesOnError : Table → List Stored → ℕ → Exchange → FailKind → List ℕ → Type 0
 NamesOnError table held now x kind bytes =
-    (rule : ReuseRule) × (error : Option ErrorRule) × IsLeast (policy_of table.lines x.line) held x.asked now rule × NamesErrorRule (policy_of table.lines x.line) held now x.asked rule error
+    (rule : ReuseRule) × (error : Option ErrorRule) × IsLeast (policy_of table.lines x.line) held x.asked now rule
+    × NamesErrorRule (policy_of table.lines x.line) held now x.asked rule error
     × (bytes ≡ refused_text (date_text_of now) (Origin kind rule error) x.asked.close (is_head x.asked))
 
--- an answer that is passed on: the least rule that stood when its request was judged, at its arrival or when it was woken, which
--- its exchange has kept, in Cache-Status; and where its line tells it the first storing rule against it, by the next serial
+-- an answer that is passed on: the least rule that stood when its request was judged, at its
+-- arrival or when it was woken, which its exchange has kept, in Cache-Status; and where its line
+-- tells it the first storing rule against it, by the next serial
 abbrev pub NamesItsRule : Table → ℕ → List Item → Option ℕ → ℕ → Exchange → Response → List ℕ → Option ℕ → Type 0
 NamesItsRule table limit past next now x r bytes stored =
-    LeastWhenJudged table limit x past × (bytes ≡ passed_text (policy_of table.lines x.line) table.name x r now (is_some stored) (rule_told table x r now next))
+    LeastWhenJudged table limit x past × (bytes
+    ≡ passed_text (policy_of table.lines x.line) table.name x r now (is_some stored) (rule_told table x r now next))
 
 -- by its event and the exchange that it is of; a 304 that nobody asked for is a failure
 abbrev pub NamesByEvent : Table → ℕ → List Item → Option ℕ → Option Exchange → Event → List ℕ → Option ℕ → Type 0
-NamesByEvent table limit past next x (Arrive now id asked) bytes stored = NamesAtArrival table (held_entries table limit past) now asked bytes
+NamesByEvent table limit past next x (Arrive now id asked) bytes stored =
+    NamesAtArrival table (held_entries table limit past) now asked bytes
 NamesByEvent table limit past next (Some x) (Answer now id r) bytes stored =
     ((is_unasked x.asked r ≡ false) × NamesItsRule table limit past next now x r bytes stored)
     ⊎ ((is_unasked x.asked r ≡ true) × NamesOnError table (held_entries table limit past) now x BadAnswer bytes)
-NamesByEvent table limit past next (Some x) (Fail now id kind) bytes stored = NamesOnError table (held_entries table limit past) now x kind bytes
+NamesByEvent table limit past next (Some x) (Fail now id kind) bytes stored =
+    NamesOnError table (held_entries table limit past) now x kind bytes
 NamesByEvent table limit past next (Some x) (Wake now id) bytes stored = ⊥
 NamesByEvent table limit past next None (Answer now id r) bytes stored = ⊥
 NamesByEvent table limit past next None (Fail now id kind) bytes stored = ⊥
@@ -79,7 +89,8 @@ NamesByEvent table limit past next x (Abandon id) bytes stored = ⊥
 
 -- an item whose reply is no stored response, behind those before it
 abbrev pub NamesFirst : Table → ℕ → List Item → Option ℕ → Option Exchange → Event → Outcome → Type 0
-NamesFirst table limit past next x event (Reply r) = sends_nothing_held (Reply r) ≡ true → NamesByEvent table limit past next x event r.bytes r.stored
+NamesFirst table limit past next x event (Reply r) =
+    sends_nothing_held (Reply r) ≡ true → NamesByEvent table limit past next x event r.bytes r.stored
 NamesFirst table limit past next x event (Forward line bytes) = Unit {0}
 NamesFirst table limit past next x event (Waits leader) = Unit {0}
 NamesFirst table limit past next x event Ended = Unit {0}
@@ -88,5 +99,7 @@ NamesFirst table limit past next x event Ended = Unit {0}
 
 -- Each answer that isn't a stored response names the first rule against one, over what was held and open before it.
 abbrev pub NamesFirstRules : Type 0
-NamesFirstRules = (table : Table) (limit first : ℕ) (item : Item) (past : List Item) → IsGoodHistory table limit first (item ∷ past) →
-    NamesFirst table limit past (next_serial first past) (find_exchange (id_of item.event) (open_exchanges table limit past)) item.event item.outcome
+NamesFirstRules =
+    (table : Table) (limit first : ℕ) (item : Item) (past : List Item) → IsGoodHistory table limit first (item ∷ past) →
+    NamesFirst table limit past (next_serial first past)
+    (find_exchange (id_of item.event) (open_exchanges table limit past)) item.event item.outcome

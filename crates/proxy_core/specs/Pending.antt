@@ -38,7 +38,13 @@ used_by (Remove serial) = Some serial
 used_by (Store e) = None
 
 abbrev pub reply_of : PendingReply → Outcome
-reply_of p = Reply (record { bytes = p.bytes; close = p.close; stored = stored_by p.change; used = used_by p.change; removed = p.removed })
+reply_of p = Reply (record {
+  bytes = p.bytes;
+  close = p.close;
+  stored = stored_by p.change;
+  used = used_by p.change;
+  removed = p.removed;
+})
 
 -- the held responses after a change, and after these serials are gone
 abbrev pub entries_by : ℕ → List ℕ → Change → List Stored → List Stored
@@ -78,7 +84,8 @@ IsNew (Store e) es = holds e.serial es ≡ false
 abbrev pub IsHeld : Change → List Stored → Type 0
 IsHeld Keep es = Unit {0}
 IsHeld (Use serial) es = Unit {0}
-IsHeld (Freshen e) es = (holds e.serial es ≡ true) × ForSome (find_entry e.serial es) (λ old. same_key old.key e.key ≡ true)
+IsHeld (Freshen e) es = (holds e.serial es ≡ true)
+    × ForSome (find_entry e.serial es) (λ old. same_key old.key e.key ≡ true)
 IsHeld (Remove serial) es = Unit {0}
 IsHeld (Store e) es = Unit {0}
 

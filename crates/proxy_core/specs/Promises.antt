@@ -3,7 +3,8 @@
 -- times: how many items of an exchange's id have such an outcome     asked_by: the request of an exchange
 -- invalidates_key: an item that invalidates what is held for a key
 -- TwiceForwardOneReply, NothingInvalidatedIsSent: the promises
-use Rattle.std.specs.Prelude.{◌≡◌, ℕ, ◌+◌, ◌≤◌, ◌==◌, ◌&&◌, ◌||◌, nat_le, not, Bool, true, false, List, [], ◌∷◌, ◌++◌, Option, Some, None, is_none, cond}
+use Rattle.std.specs.Prelude.{◌≡◌, ℕ, ◌+◌, ◌≤◌, ◌==◌, ◌&&◌, ◌||◌, nat_le, not, Bool, true, false, List, [], ◌∷◌, ◌++◌}
+use Rattle.std.specs.Prelude.{Option, Some, None, is_none, cond}
 use Rattle.http.specs.Method.{safe_methods, is_among}
 use Rattle.hx_framing.specs.declared.messages.Response.{Response}
 use Rattle.hx_target.specs.declared.keys.Key.{Key}
@@ -54,15 +55,16 @@ abbrev pub NoneArrives : ℕ → List Item → Type 0
 NoneArrives id [] = Unit {0}
 NoneArrives id (i ∷ items) = ((id_of i.event == id && is_arrival i.event) ≡ false) × NoneArrives id items
 
--- An exchange has the items of its id from its arrival up to the next arrival of that id: at most two of them go forward,
--- and at most one is a reply.
+-- An exchange has the items of its id from its arrival up to the next arrival of that id: at most
+-- two of them go forward, and at most one is a reply.
 abbrev pub TwiceForwardOneReply : List Item → Type 0
 TwiceForwardOneReply trace =
     (later items before : List Item) (arrival : Item) →
     later ++ (items ++ arrival ∷ before) ≡ trace →
     is_arrival arrival.event ≡ true →
     NoneArrives (id_of arrival.event) items →
-    (times goes_forward (id_of arrival.event) (items ++ arrival ∷ []) ≤ 2) × (times is_reply (id_of arrival.event) (items ++ arrival ∷ []) ≤ 1)
+    (times goes_forward (id_of arrival.event) (items ++ arrival ∷ []) ≤ 2)
+    × (times is_reply (id_of arrival.event) (items ++ arrival ∷ []) ≤ 1)
 
 -- the request of the exchange of this id: that of the latest arrival
 abbrev pub asked_at : ℕ → Event → Option Asked → Option Asked
@@ -83,15 +85,17 @@ sends_nothing_held (Forward line bytes) = false
 sends_nothing_held (Waits leader) = false
 sends_nothing_held Ended = false
 
--- an answer of the origin is passed on: it isn't replaced by a stored response, nor by the proxy's own where nobody asked
--- for a 304
+-- an answer of the origin is passed on: it isn't replaced by a stored response, nor by the proxy's
+-- own where nobody asked for a 304
 abbrev pub is_passed_on : Asked → Response → Outcome → Bool
 is_passed_on asked r outcome = sends_nothing_held outcome && not (is_unasked asked r)
 
--- such an answer to an unsafe method, and no error (RFC 9111, section 4.4), invalidates what is held for the request's key
+-- such an answer to an unsafe method, and no error (RFC 9111, section 4.4), invalidates what is
+-- held for the request's key
 abbrev pub key_by_answer : Asked → Response → Outcome → Option Key
 key_by_answer asked r outcome =
-    cond (not (is_among safe_methods asked.method) && ((nat_le 200 r.status && nat_le r.status 399) && is_passed_on asked r outcome)) (Some asked.target.key) None
+    cond (not (is_among safe_methods asked.method)
+    && ((nat_le 200 r.status && nat_le r.status 399) && is_passed_on asked r outcome)) (Some asked.target.key) None
 
 -- the key that a step invalidates, of an exchange with this request
 abbrev pub key_by_step : Option Asked → Event → Outcome → Option Key
@@ -120,8 +124,9 @@ abbrev pub some_invalidates : Key → List Item → List Item → Bool
 some_invalidates key [] past = false
 some_invalidates key (i ∷ items) past = invalidates_key key i (items ++ past) || some_invalidates key items past
 
--- Let an item send the stored response s, and let f be the last going forward, before s was stored, of the exchange that
--- stored s. No item after f and before the sending item invalidates the key of s, which is that of the exchange's request.
+-- Let an item send the stored response s, and let f be the last going forward, before s was stored,
+-- of the exchange that stored s. No item after f and before the sending item invalidates the key of
+-- s, which is that of the exchange's request.
 abbrev pub NothingInvalidatedIsSent : List Item → Type 0
 NothingInvalidatedIsSent trace =
     (later middle between before : List Item) (sending storing f : Item) (s : ℕ) (asked : Asked) →
@@ -132,4 +137,5 @@ NothingInvalidatedIsSent trace =
     id_of f.event ≡ id_of storing.event →
     times goes_forward (id_of storing.event) between ≡ 0 →
     asked_by (id_of storing.event) (f ∷ before) ≡ Some asked →
-    NoneInvalidates asked.target.key middle (storing ∷ (between ++ f ∷ before)) × NoneInvalidates asked.target.key (storing ∷ between) (f ∷ before)
+    NoneInvalidates asked.target.key middle (storing ∷ (between ++ f ∷ before))
+    × NoneInvalidates asked.target.key (storing ∷ between) (f ∷ before)

@@ -1,5 +1,5 @@
--- Answers that were read: each is one that the stream of an origin spells (RFC 9112, sections 4 and 6). A core takes any response; whoever
--- drives it hands it those that were read.
+-- Answers that were read: each is one that the stream of an origin spells (RFC 9112, sections 4 and
+-- 6). A core takes any response; whoever drives it hands it those that were read.
 --
 -- IsRead: a response that some stream spells     IsReadEvent: an event that is no answer, or a read one
 use Rattle.std.specs.Prelude.{ℕ, Bool, List}

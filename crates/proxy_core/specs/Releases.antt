@@ -1,7 +1,8 @@
 -- Where among the exchanges, by the numbers of their arrivals, the released ones stand.
 --
 -- first_released: the number of the first     IsSettled: what is known of them is right
-use Rattle.std.specs.Prelude.{◌≡◌, ℕ, ◌-◌, ◌&&◌, Bool, true, false, nat_le, min, max, List, [], ◌∷◌, Option, Some, None, cond, slice_get}
+use Rattle.std.specs.Prelude.{◌≡◌, ℕ, ◌-◌, ◌&&◌, Bool, true, false, nat_le, min, max, List, [], ◌∷◌, Option, Some, None}
+use Rattle.std.specs.Prelude.{cond, slice_get}
 use Rattle.std.specs.BTreeSet.{BTreeSet, IsEmpty, btree_set_len}
 use Rattle.proxy_core.specs.declared.open.exchange.Exchange.{Exchange}
 use Rattle.proxy_core.specs.declared.open.released.Released.{Released}
@@ -33,10 +34,12 @@ IsWidened old new = (n : ℕ) → is_within old n ≡ true → is_within new n �
 abbrev pub IsWidenedBy : ℕ → ℕ → Released → Type 0
 IsWidenedBy first last r = (n : ℕ) → nat_le first n ≡ true → nat_le n last ≡ true → is_within r n ≡ true
 
--- what is known once those from the one number to the other may be released: no more than the stretch that takes them in
+-- what is known once those from the one number to the other may be released: no more than the
+-- stretch that takes them in
 abbrev pub stretched : ℕ → ℕ → Option ℕ → ℕ → Released
 stretched first last None known_last = record { first = Some first; last = last }
-stretched first last (Some known_first) known_last = record { first = Some (min first known_first); last = max last known_last }
+stretched first last (Some known_first) known_last =
+    record { first = Some (min first known_first); last = max last known_last }
 
 abbrev pub widened : ℕ → ℕ → Released → Released
 widened first last r = stretched first last r.first r.last
@@ -44,7 +47,8 @@ widened first last r = stretched first last r.first r.last
 -- the same of the numbers of a set, which ascend
 pub record IsWidenedTo (set : BTreeSet ℕ) (old new : Released) : Type 0 where
   pub none : IsEmpty set → new ≡ old
-  pub some : (first last : ℕ) → slice_get set.keys 0 ≡ Some first → slice_get set.keys (btree_set_len set - 1) ≡ Some last → new ≡ widened first last old
+  pub some : (first last : ℕ) → slice_get set.keys 0 ≡ Some first
+      → slice_get set.keys (btree_set_len set - 1) ≡ Some last → new ≡ widened first last old
 
 pub record IsSettled (r : Released) (es : List (ℕ × Exchange)) : Type 0 where
   pub first_is : r.first ≡ first_released es

@@ -1,7 +1,9 @@
 -- The bytes of each answer (RFC 9110, section 6; RFC 9111, section 5.1; RFC 9211).
 --
--- stored_text: a stored response, whole or as a 304     passed_text: an answer of the origin     refused_text: the proxy's own
-use Rattle.std.specs.Prelude.{ℕ, ℤ, ◌==◌, ◌||◌, List, [], ◌∷◌, ◌++◌, length, codes, bytes_eq, Bool, true, false, Option, Some, None, cond}
+-- stored_text: a stored response, whole or as a 304     passed_text: an answer of the origin
+-- refused_text: the proxy's own
+use Rattle.std.specs.Prelude.{ℕ, ℤ, ◌==◌, ◌||◌, List, [], ◌∷◌, ◌++◌, length, codes, bytes_eq, Bool, true, false, Option}
+use Rattle.std.specs.Prelude.{Some, None, cond}
 use Rattle.std.specs.Fmt.{decimal}
 use Rattle.hx_fields.specs.declared.field_line.Field.{Field}
 use Rattle.hx_framing.specs.Text.{response_text}
@@ -65,7 +67,8 @@ length_told status length = cond ((status == 204) || (status == 304)) None lengt
 -- a stored response is sent whole
 abbrev pub whole_text : List ℕ → Stored → ℕ → CacheStatusInfo → Asked → List ℕ
 whole_text name e now info asked =
-    response_text e.status (lines_sent name e.status e.fields e now info) (length_told e.status (Some (length e.content))) asked.close
+    response_text e.status (lines_sent name e.status e.fields e now info)
+    (length_told e.status (Some (length e.content))) asked.close
     (content_sent (is_head asked) e.content)
 
 -- the client has it already (RFC 9110, section 15.4.5)
@@ -84,7 +87,8 @@ length_passed head r = length_told r.status (cond head r.announced (Some (length
 
 abbrev pub ttl_passed : Policy → Exchange → ℕ → List Field → ℕ → Bool → Option ℤ
 ttl_passed policy x status fields now false = None
-ttl_passed policy x status fields now true = Some (ttl_of (lifetime_under policy status fields) (age_of (times_of fields x.request_time now) now))
+ttl_passed policy x status fields now true =
+    Some (ttl_of (lifetime_under policy status fields) (age_of (times_of fields x.request_time now) now))
 
 -- and where the line tells it the first storing rule against the answer
 abbrev pub status_passed : Policy → Exchange → ℕ → List Field → ℕ → Bool → Option StoreRule → Status
@@ -103,10 +107,12 @@ abbrev pub lines_passed : Policy → List ℕ → Exchange → ℕ → List Fiel
 lines_passed policy name x status fields now stored rule =
     fields ++ line (codes "Cache-Status") (member_text name (status_passed policy x status fields now stored rule)) ∷ []
 
--- an answer of the origin is passed on, and says whether it was stored, and perhaps why not; the policy is that of its exchange's line
+-- an answer of the origin is passed on, and says whether it was stored, and perhaps why not; the
+-- policy is that of its exchange's line
 abbrev pub passed_text : Policy → List ℕ → Exchange → Response → ℕ → Bool → Option StoreRule → List ℕ
 passed_text policy name x r now stored rule =
-    response_text r.status (lines_passed policy name x r.status (answered_of r now).fields now stored rule) (length_passed (is_head x.asked) r) x.asked.close (content_sent (is_head x.asked) r.content)
+    response_text r.status (lines_passed policy name x r.status (answered_of r now).fields now stored rule)
+    (length_passed (is_head x.asked) r) x.asked.close (content_sent (is_head x.asked) r.content)
 
 abbrev pub lines_refused : List ℕ → List ℕ → List Field
 lines_refused date text = line (codes "Date") date ∷ line (codes "Content-Type") (codes "text/plain") ∷ line (codes "Refusal") text ∷ []
@@ -114,4 +120,5 @@ lines_refused date text = line (codes "Date") date ∷ line (codes "Content-Type
 -- the proxy answers by itself, and names the cause
 abbrev pub refused_text : List ℕ → Cause → Bool → Bool → List ℕ
 refused_text date cause close head =
-    response_text (status_of cause) (lines_refused date (text_of cause)) (Some (length (text_of cause))) close (content_sent head (text_of cause))
+    response_text (status_of cause) (lines_refused date (text_of cause)) (Some (length (text_of cause))) close
+    (content_sent head (text_of cause))

@@ -1,7 +1,8 @@
--- When a request reaches the cache or its origin, and when a stored response is sent: in the words of the RFCs, over what
--- is held and open.
+-- When a request reaches the cache or its origin, and when a stored response is sent: in the words
+-- of the RFCs, over what is held and open.
 --
--- MayBeReused of hx_reuse: what RFC 9111 lets be sent      MayBeSentInstead: what RFC 5861 lets be sent in place of an error
+-- MayBeReused of hx_reuse: what RFC 9111 lets be sent
+-- MayBeSentInstead: what RFC 5861 lets be sent in place of an error
 -- MayBeSentAt: what may be sent at an event                IsThatResponse: what is sent is that response
 -- GoesForward, WaitsForTheFirst: the two ways to an origin's answer
 -- IsReached, IsTurnedAway: what becomes of a request that is allowed, and of one that isn't
@@ -34,7 +35,8 @@ use Rattle.proxy_core.specs.declared.event.Event.TheVariants.{Arrive, Answer, Fa
 use Rattle.proxy_core.specs.Storing.{is_unasked}
 use Rattle.proxy_core.specs.Validating.{condition_at, is_validation, validated}
 use Rattle.proxy_core.specs.Replies.{stored_text}
-use Rattle.proxy_core.specs.Outcomes.{find_exchange, id_of, is_only_if_cached, is_error_status, refused, forward_text, as_hit, forwarded_as, collapsed_as}
+use Rattle.proxy_core.specs.Outcomes.{find_exchange, id_of, is_only_if_cached, is_error_status, refused, forward_text}
+use Rattle.proxy_core.specs.Outcomes.{as_hit, forwarded_as, collapsed_as}
 use Rattle.proxy_core.specs.Leading.{is_get, can_wait, leader_for, NoneLeads, IsFirstToLead}
 use Rattle.proxy_core.specs.State.{used_in, used_form}
 use Rattle.proxy_core.specs.Traces.{Item}
@@ -42,11 +44,14 @@ use Rattle.proxy_core.specs.Histories.{held_entries, open_exchanges, IsGoodHisto
 
 -- the serial is that of the held response that may be sent without asking the origin (RFC 9111, section 4)
 abbrev pub IsReusable : Policy → List Stored → Asked → ℕ → ℕ → Type 0
-IsReusable policy held asked now s = (response : Stored) × MayBeReused policy held asked now response × (response.serial ≡ s)
+IsReusable policy held asked now s =
+    (response : Stored) × MayBeReused policy held asked now response × (response.serial ≡ s)
 
--- In place of an error: the operator lets the request be answered from the store, the response is the chosen one, no rule
--- stands by which the operator, the request or what is held has no response to send, and RFC 5861, section 4 lets it be sent.
-pub record MayBeSentInstead (policy : Policy) (held : List Stored) (asked : Asked) (now : ℕ) (response : Stored) : Type 0 where
+-- In place of an error: the operator lets the request be answered from the store, the response is
+-- the chosen one, no rule stands by which the operator, the request or what is held has no response
+-- to send, and RFC 5861, section 4 lets it be sent.
+pub record MayBeSentInstead (policy : Policy) (held : List Stored) (asked : Asked) (now : ℕ)
+    (response : Stored) : Type 0 where
   pub operator_allows : policy.caches ≡ true
   pub is_chosen : IsChosen held asked response
   pub is_for_the_cache : (rule : ReuseRule) → names_entry rule ≡ false → stands rule policy held asked now ≡ false
@@ -55,18 +60,23 @@ pub record MayBeSentInstead (policy : Policy) (held : List Stored) (asked : Aske
 -- after a failure or an error: one that may be sent anyway, or in place of the error
 abbrev pub IsFallback : Policy → List Stored → Asked → ℕ → ℕ → Type 0
 IsFallback policy held asked now s =
-    IsReusable policy held asked now s ⊎ ((response : Stored) × MayBeSentInstead policy held asked now response × (response.serial ≡ s))
+    IsReusable policy held asked now s
+    ⊎ ((response : Stored) × MayBeSentInstead policy held asked now response × (response.serial ≡ s))
 
--- At an event, of an exchange that is open, the response of this serial may be sent: at an arrival that the table allows;
--- at a 304 to the proxy's conditions, the one that it answers, or where it answers none one that may be sent anyway; at a
--- 304 that nobody asked for, a 500, 502, 503 or 504, and at a failure; and to a request that waited, when it is woken.
+-- At an event, of an exchange that is open, the response of this serial may be sent: at an arrival
+-- that the table allows; at a 304 to the proxy's conditions, the one that it answers, or where it
+-- answers none one that may be sent anyway; at a 304 that nobody asked for, a 500, 502, 503 or 504,
+-- and at a failure; and to a request that waited, when it is woken.
 abbrev pub MayBeSentAt : Table → List Stored → Option Exchange → Event → ℕ → Type 0
 MayBeSentAt table held x (Arrive now id asked) s =
-    (line : ℕ) × (verdict_of table.lines asked.method asked.target ≡ Allowed line) × IsReusable (policy_of table.lines line) held asked now s
+    (line : ℕ) × (verdict_of table.lines asked.method asked.target ≡ Allowed line)
+    × IsReusable (policy_of table.lines line) held asked now s
 MayBeSentAt table held (Some x) (Answer now id r) s =
     ((is_validation x r ≡ true) × ((e : Stored) × (validated held x r now ≡ Some e) × (e.serial ≡ s)))
-    ⊎ (((is_validation x r ≡ true) × (validated held x r now ≡ None) × IsReusable (policy_of table.lines x.line) held x.asked now s)
-    ⊎ ((is_validation x r ≡ false) × ((is_unasked x.asked r || is_error_status r.status) ≡ true) × IsFallback (policy_of table.lines x.line) held x.asked now s))
+    ⊎ (((is_validation x r ≡ true) × (validated held x r now ≡ None)
+    × IsReusable (policy_of table.lines x.line) held x.asked now s)
+    ⊎ ((is_validation x r ≡ false) × ((is_unasked x.asked r || is_error_status r.status) ≡ true)
+    × IsFallback (policy_of table.lines x.line) held x.asked now s))
 MayBeSentAt table held (Some x) (Fail now id kind) s = IsFallback (policy_of table.lines x.line) held x.asked now s
 MayBeSentAt table held (Some x) (Wake now id) s = IsReusable (policy_of table.lines x.line) held x.asked now s
 MayBeSentAt table held None (Answer now id r) s = ⊥
@@ -76,9 +86,11 @@ MayBeSentAt table held x (Abandon id) s = ⊥
 
 -- ---- an item
 
--- By the least rule against a stored response a request goes to the origin of a line: its own text, with conditions where the rule
--- is on a response that has a validator, about that one (RFC 9111, section 4.3.1).
-pub record GoesForward (table : Table) (held : List Stored) (asked : Asked) (now line : ℕ) (rule : ReuseRule) (outcome : Outcome) : Type 0 where
+-- By the least rule against a stored response a request goes to the origin of a line: its own text,
+-- with conditions where the rule is on a response that has a validator, about that one (RFC 9111,
+-- section 4.3.1).
+pub record GoesForward (table : Table) (held : List Stored) (asked : Asked) (now line : ℕ) (rule : ReuseRule)
+    (outcome : Outcome) : Type 0 where
   pub is_least : IsLeast (policy_of table.lines line) held asked now rule
   pub against : Option ℕ
   pub names : NamesTheResponse held asked rule against
@@ -86,11 +98,14 @@ pub record GoesForward (table : Table) (held : List Stored) (asked : Asked) (now
 
 -- a GET that may wait goes forward only where no other is at the origin for its reason
 abbrev pub NobodyLeads : Policy → List Exchange → Asked → ReuseRule → Type 0
-NobodyLeads policy xs asked rule = is_get asked ≡ true → can_wait policy rule ≡ true → NoneLeads policy rule asked.target.key xs
+NobodyLeads policy xs asked rule =
+    is_get asked ≡ true → can_wait policy rule ≡ true → NoneLeads policy rule asked.target.key xs
 
--- A GET for whose key nothing is held, or by the word of its line one for which what is held is stale, and that takes an answer of
--- the origin, waits for the first to arrive of those that are at the origin for that reason (RFC 9111, section 4: collapsed requests).
-pub record WaitsForTheFirst (table : Table) (held : List Stored) (xs : List Exchange) (now : ℕ) (asked : Asked) (line : ℕ) (outcome : Outcome) : Type 0 where
+-- A GET for whose key nothing is held, or by the word of its line one for which what is held is
+-- stale, and that takes an answer of the origin, waits for the first to arrive of those that are at
+-- the origin for that reason (RFC 9111, section 4: collapsed requests).
+pub record WaitsForTheFirst (table : Table) (held : List Stored) (xs : List Exchange) (now : ℕ) (asked : Asked)
+    (line : ℕ) (outcome : Outcome) : Type 0 where
   pub leader : ℕ
   pub takes_others : is_only_if_cached asked ≡ false
   pub gets : is_get asked ≡ true
@@ -100,39 +115,50 @@ pub record WaitsForTheFirst (table : Table) (held : List Stored) (xs : List Exch
   pub first_leads : IsFirstToLead (policy_of table.lines line) rule asked.target.key xs leader
   pub outcome_is : outcome ≡ Waits leader
 
--- A request that is allowed reaches the cache, which sends a stored response, or the origin of that line; or it waits for the
--- answer to another request for its target; or it takes no response but a stored one, and is told the rule against that.
+-- A request that is allowed reaches the cache, which sends a stored response, or the origin of that
+-- line; or it waits for the answer to another request for its target; or it takes no response but a
+-- stored one, and is told the rule against that.
 abbrev pub IsReached : Table → List Stored → List Exchange → ℕ → Asked → ℕ → Outcome → Type 0
 IsReached table held xs now asked line outcome =
     ((s : ℕ) × (used_in outcome ≡ Some s))
-    ⊎ (((rule : ReuseRule) × GoesForward table held asked now line rule outcome × (is_only_if_cached asked ≡ false) × NobodyLeads (policy_of table.lines line) xs asked rule)
+    ⊎ (((rule : ReuseRule) × GoesForward table held asked now line rule outcome × (is_only_if_cached asked ≡ false)
+    × NobodyLeads (policy_of table.lines line) xs asked rule)
     ⊎ (WaitsForTheFirst table held xs now asked line outcome
-    ⊎ ((rule : ReuseRule) × (is_only_if_cached asked ≡ true) × IsLeast (policy_of table.lines line) held asked now rule × (outcome ≡ refused now (OnlyIfCached rule) asked))))
+    ⊎ ((rule : ReuseRule) × (is_only_if_cached asked ≡ true) × IsLeast (policy_of table.lines line) held asked now rule
+    × (outcome ≡ refused now (OnlyIfCached rule) asked))))
 
 -- any other is turned away, by the line that denies it or because none matches
 abbrev pub IsTurnedAway : Table → ℕ → Asked → Outcome → Type 0
 IsTurnedAway table now asked outcome =
-    ((line : ℕ) × (verdict_of table.lines asked.method asked.target ≡ DeniedBy line) × (outcome ≡ refused now (Denied line) asked))
+    ((line : ℕ) × (verdict_of table.lines asked.method asked.target ≡ DeniedBy line)
+    × (outcome ≡ refused now (Denied line) asked))
     ⊎ ((verdict_of table.lines asked.method asked.target ≡ Unmatched) × (outcome ≡ refused now NoLine asked))
 
 -- The word of one that is sent in place of an error: it may be sent anyway, or in that place alone.
 abbrev pub WordAfterError : Policy → List Stored → Asked → ℕ → ℕ → Option Detail → Type 0
 WordAfterError policy held asked now s detail =
-    (IsReusable policy held asked now s → detail ≡ Some ReuseAfterError) × ((IsReusable policy held asked now s → ⊥) → detail ≡ Some StaleIfError)
+    (IsReusable policy held asked now s → detail ≡ Some ReuseAfterError)
+    × ((IsReusable policy held asked now s → ⊥) → detail ≡ Some StaleIfError)
 
--- The word of one that is sent at an answer: none where the 304 answers it; else that the 304 answered none, or that of an error.
+-- The word of one that is sent at an answer: none where the 304 answers it; else that the 304
+-- answered none, or that of an error.
 abbrev pub WordAtAnswer : Policy → List Stored → Exchange → ℕ → Response → ℕ → Option Detail → Type 0
 WordAtAnswer policy held x now r s detail =
     (is_some (validated held x r now) ≡ true → detail ≡ None)
     × (is_validation x r ≡ true → validated held x r now ≡ None → detail ≡ Some ReuseAfter304)
     × (is_validation x r ≡ false → WordAfterError policy held x.asked now s detail)
 
--- what Cache-Status tells of a stored response (RFC 9211): a hit, or why the request had gone forward, what came, and the word of
--- the step
+-- what Cache-Status tells of a stored response (RFC 9211): a hit, or why the request had gone
+-- forward, what came, and the word of the step
 abbrev pub TellsHow : Table → List Stored → Option Exchange → Event → ℕ → CacheStatusInfo → Type 0
-TellsHow table held x (Arrive now id asked) s h = (line : ℕ) × (verdict_of table.lines asked.method asked.target ≡ Allowed line) × (h ≡ as_hit (policy_of table.lines line))
-TellsHow table held (Some x) (Answer now id r) s h = (detail : Option Detail) × (h ≡ forwarded_as (policy_of table.lines x.line) x (Some r.status) detail) × WordAtAnswer (policy_of table.lines x.line) held x now r s detail
-TellsHow table held (Some x) (Fail now id kind) s h = (detail : Option Detail) × (h ≡ forwarded_as (policy_of table.lines x.line) x None detail) × WordAfterError (policy_of table.lines x.line) held x.asked now s detail
+TellsHow table held x (Arrive now id asked) s h = (line : ℕ)
+    × (verdict_of table.lines asked.method asked.target ≡ Allowed line) × (h ≡ as_hit (policy_of table.lines line))
+TellsHow table held (Some x) (Answer now id r) s h = (detail : Option Detail)
+    × (h ≡ forwarded_as (policy_of table.lines x.line) x (Some r.status) detail)
+    × WordAtAnswer (policy_of table.lines x.line) held x now r s detail
+TellsHow table held (Some x) (Fail now id kind) s h = (detail : Option Detail)
+    × (h ≡ forwarded_as (policy_of table.lines x.line) x None detail)
+    × WordAfterError (policy_of table.lines x.line) held x.asked now s detail
 TellsHow table held (Some x) (Wake now id) s h = h ≡ collapsed_as (policy_of table.lines x.line) x
 TellsHow table held None (Answer now id r) s h = ⊥
 TellsHow table held None (Fail now id kind) s h = ⊥
@@ -150,9 +176,10 @@ IsAbout None (Fail t id kind) now asked = ⊥
 IsAbout None (Wake t id) now asked = ⊥
 IsAbout x (Abandon id) now asked = ⊥
 
--- What is sent is the held response of this serial, freshened where the 304 answers it: its content, its head, or its 304 to the
--- client's own conditions, by what `stored_text` says.
-pub record IsThatResponse (table : Table) (held : List Stored) (x : Option Exchange) (event : Event) (outcome : Outcome) (s : ℕ) : Type 0 where
+-- What is sent is the held response of this serial, freshened where the 304 answers it: its
+-- content, its head, or its 304 to the client's own conditions, by what `stored_text` says.
+pub record IsThatResponse (table : Table) (held : List Stored) (x : Option Exchange) (event : Event) (outcome : Outcome)
+    (s : ℕ) : Type 0 where
   pub response : Stored
   pub is_held : find_entry s held ≡ Some response
   pub now : ℕ
@@ -168,42 +195,59 @@ pub record IsThatResponse (table : Table) (held : List Stored) (x : Option Excha
 
 -- A stored response is sent exactly where one is held that may be.
 abbrev pub SendsStoredWhereItMay : Type 0
-SendsStoredWhereItMay = (table : Table) (limit first s : ℕ) (item : Item) (past : List Item) → IsGoodHistory table limit first (item ∷ past) →
-    MayBeSentAt table (held_entries table limit past) (find_exchange (id_of item.event) (open_exchanges table limit past)) item.event s → used_in item.outcome ≡ Some s
+SendsStoredWhereItMay = (table : Table) (limit first s : ℕ) (item : Item) (past : List Item)
+    → IsGoodHistory table limit first (item ∷ past) →
+    MayBeSentAt table (held_entries table limit past)
+    (find_exchange (id_of item.event) (open_exchanges table limit past)) item.event s → used_in item.outcome ≡ Some s
 
 abbrev pub SendsStoredNowhereElse : Type 0
-SendsStoredNowhereElse = (table : Table) (limit first s : ℕ) (item : Item) (past : List Item) → IsGoodHistory table limit first (item ∷ past) →
-    used_in item.outcome ≡ Some s → MayBeSentAt table (held_entries table limit past) (find_exchange (id_of item.event) (open_exchanges table limit past)) item.event s
+SendsStoredNowhereElse = (table : Table) (limit first s : ℕ) (item : Item) (past : List Item)
+    → IsGoodHistory table limit first (item ∷ past) →
+    used_in item.outcome ≡ Some s → MayBeSentAt table (held_entries table limit past)
+    (find_exchange (id_of item.event) (open_exchanges table limit past)) item.event s
 
--- A request that arrives goes to the origin of a line exactly where that is the table's first line that matches and it allows,
--- a rule stands against a stored response, the request takes others too, and there is none for whose answer it waits.
+-- A request that arrives goes to the origin of a line exactly where that is the table's first line
+-- that matches and it allows, a rule stands against a stored response, the request takes others
+-- too, and there is none for whose answer it waits.
 abbrev pub ForwardsWhereAllowed : Type 0
-ForwardsWhereAllowed = (table : Table) (limit first now id line : ℕ) (asked : Asked) (rule : ReuseRule) (item : Item) (past : List Item) →
+ForwardsWhereAllowed =
+    (table : Table) (limit first now id line : ℕ) (asked : Asked) (rule : ReuseRule) (item : Item) (past : List Item) →
     IsGoodHistory table limit first (item ∷ past) → item.event ≡ Arrive now id asked →
-    verdict_of table.lines asked.method asked.target ≡ Allowed line → IsLeast (policy_of table.lines line) (held_entries table limit past) asked now rule → is_only_if_cached asked ≡ false →
+    verdict_of table.lines asked.method asked.target ≡ Allowed line
+    → IsLeast (policy_of table.lines line) (held_entries table limit past) asked now rule
+    → is_only_if_cached asked ≡ false →
     leader_for (policy_of table.lines line) (open_exchanges table limit past) asked rule ≡ None →
     (bytes : List ℕ) × (item.outcome ≡ Forward line bytes)
 
 abbrev pub ForwardsNowhereElse : Type 0
-ForwardsNowhereElse = (table : Table) (limit first now id line : ℕ) (asked : Asked) (bytes : List ℕ) (item : Item) (past : List Item) →
-    IsGoodHistory table limit first (item ∷ past) → item.event ≡ Arrive now id asked → item.outcome ≡ Forward line bytes →
+ForwardsNowhereElse =
+    (table : Table) (limit first now id line : ℕ) (asked : Asked) (bytes : List ℕ) (item : Item) (past : List Item) →
+    IsGoodHistory table limit first (item ∷ past) → item.event ≡ Arrive now id asked
+    → item.outcome ≡ Forward line bytes →
     (verdict_of table.lines asked.method asked.target ≡ Allowed line)
-    × ((rule : ReuseRule) × IsLeast (policy_of table.lines line) (held_entries table limit past) asked now rule × (leader_for (policy_of table.lines line) (open_exchanges table limit past) asked rule ≡ None)) × (is_only_if_cached asked ≡ false)
+    × ((rule : ReuseRule) × IsLeast (policy_of table.lines line) (held_entries table limit past) asked now rule
+    × (leader_for (policy_of table.lines line) (open_exchanges table limit past) asked rule ≡ None))
+    × (is_only_if_cached asked ≡ false)
 
--- A request that the table allows reaches the cache, which sends a stored response, or the origin of that line; or it waits for
--- the answer to another; or it takes no response but a stored one, and is told the rule against that.
+-- A request that the table allows reaches the cache, which sends a stored response, or the origin
+-- of that line; or it waits for the answer to another; or it takes no response but a stored one,
+-- and is told the rule against that.
 abbrev pub ReachesWhereAllowed : Type 0
 ReachesWhereAllowed = (table : Table) (limit first now id line : ℕ) (asked : Asked) (item : Item) (past : List Item) →
     IsGoodHistory table limit first (item ∷ past) → item.event ≡ Arrive now id asked →
-    verdict_of table.lines asked.method asked.target ≡ Allowed line → IsReached table (held_entries table limit past) (open_exchanges table limit past) now asked line item.outcome
+    verdict_of table.lines asked.method asked.target ≡ Allowed line
+    → IsReached table (held_entries table limit past) (open_exchanges table limit past) now asked line item.outcome
 
 -- Any other is refused, by the line that denies it or because none matches.
 abbrev pub RefusesWhereNotAllowed : Type 0
 RefusesWhereNotAllowed = (table : Table) (limit first now id : ℕ) (asked : Asked) (item : Item) (past : List Item) →
     IsGoodHistory table limit first (item ∷ past) → item.event ≡ Arrive now id asked →
-    ((line : ℕ) → verdict_of table.lines asked.method asked.target ≢ Allowed line) → IsTurnedAway table now asked item.outcome
+    ((line : ℕ) → verdict_of table.lines asked.method asked.target ≢ Allowed line)
+    → IsTurnedAway table now asked item.outcome
 
 -- and what is sent is that response
 abbrev pub SendsWhatIsHeld : Type 0
-SendsWhatIsHeld = (table : Table) (limit first s : ℕ) (item : Item) (past : List Item) → IsGoodHistory table limit first (item ∷ past) → used_in item.outcome ≡ Some s →
-    IsThatResponse table (held_entries table limit past) (find_exchange (id_of item.event) (open_exchanges table limit past)) item.event item.outcome s
+SendsWhatIsHeld = (table : Table) (limit first s : ℕ) (item : Item) (past : List Item)
+    → IsGoodHistory table limit first (item ∷ past) → used_in item.outcome ≡ Some s →
+    IsThatResponse table (held_entries table limit past)
+    (find_exchange (id_of item.event) (open_exchanges table limit past)) item.event item.outcome s

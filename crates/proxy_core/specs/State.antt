@@ -2,7 +2,8 @@
 --
 -- State: what contracts see of a core     left_open: the exchanges that an end leaves     after: what a step leaves
 -- Steps: a step that was done             Refuses: one that wasn't
-use Rattle.std.specs.Prelude.{◌≡◌, ◌⊎◌, ℕ, ◌+◌, ◌^◌, ◌≤◌, ◌==◌, nat_lt, not, true, false, List, [], ◌∷◌, ◌++◌, take, filter, map, Option, Some, None, option_map, cond}
+use Rattle.std.specs.Prelude.{◌≡◌, ◌⊎◌, ℕ, ◌+◌, ◌^◌, ◌≤◌, ◌==◌, nat_lt, not, true, false, List, [], ◌∷◌, ◌++◌, take}
+use Rattle.std.specs.Prelude.{filter, map, Option, Some, None, option_map, cond}
 use Rattle.hx_target.specs.declared.keys.Key.{Key}
 use Rattle.hx_target.specs.Keys.{same_key}
 use Rattle.hx_framing.specs.declared.messages.Response.{Response}
@@ -71,7 +72,8 @@ used_form None event e = e
 -- what is used comes first
 abbrev pub used_list : Option Exchange → Event → Option ℕ → List Stored → List Stored
 used_list x event None es = es
-used_list x event (Some serial) es = in_front (option_map (used_form x event) (find_entry serial es)) (without (serial ∷ []) es)
+used_list x event (Some serial) es =
+    in_front (option_map (used_form x event) (find_entry serial es)) (without (serial ∷ []) es)
 
 -- the response that an answer makes
 abbrev pub stored_form : Option Exchange → Event → ℕ → Option Stored
@@ -89,10 +91,12 @@ taken (s ∷ gone) es = without (s ∷ gone) es
 -- what is removed goes; what is stored comes first, and beyond the limit the last one goes
 abbrev pub stored_list : Option Exchange → Event → Option ℕ → List ℕ → ℕ → List Stored → List Stored
 stored_list x event None removed limit es = taken removed es
-stored_list x event (Some serial) removed limit es = take limit (in_front (stored_form x event serial) (without removed es))
+stored_list x event (Some serial) removed limit es =
+    take limit (in_front (stored_form x event serial) (without removed es))
 
 abbrev pub entries_after : ℕ → List Stored → Option Exchange → Event → Outcome → List Stored
-entries_after limit es x event o = stored_list x event (stored_in o) (removed_in o) limit (used_list x event (used_in o) es)
+entries_after limit es x event o =
+    stored_list x event (stored_in o) (removed_in o) limit (used_list x event (used_in o) es)
 
 -- an exchange that waits for the one of this id waits no longer
 abbrev pub release : ℕ → Exchange → Exchange
@@ -166,7 +170,8 @@ placed (Some leader) x = record x { stage = Waiting leader }
 
 -- the request of an exchange goes forward at a moment, with this rule and these conditions of the proxy
 abbrev pub goes_out : ℕ → ReuseRule → Option Condition → Exchange → Exchange
-goes_out now rule condition x = record x { rule = rule; request_time = now; condition = condition; overtaken = false; stage = Forwarded }
+goes_out now rule condition x =
+    record x { rule = rule; request_time = now; condition = condition; overtaken = false; stage = Forwarded }
 
 -- that of an id does
 abbrev pub sent_out : ℕ → ℕ → ReuseRule → Option Condition → Exchange → Exchange
@@ -180,12 +185,14 @@ gone_out id now x = cond (x.id == id) (goes_out now x.rule None x) x
 abbrev pub woken_out : Table → List Stored → ℕ → ℕ → Option Exchange → List Exchange → List Exchange
 woken_out table es id now None xs = xs
 woken_out table es id now (Some x) xs =
-    map (sent_out id now (rule_of (decision_of (policy_of table.lines x.line) es x.asked now)) (condition_at es (named_by (decision_of (policy_of table.lines x.line) es x.asked now)))) xs
+    map (sent_out id now (rule_of (decision_of (policy_of table.lines x.line) es x.asked now))
+    (condition_at es (named_by (decision_of (policy_of table.lines x.line) es x.asked now)))) xs
 
 -- the open exchanges after an event, in the order of arrival
 abbrev pub open_after : Table → List Stored → List Exchange → Event → Outcome → List Exchange
 open_after table es xs (Arrive now id asked) (Forward line bytes) = xs ++ opened table es now id asked line ∷ []
-open_after table es xs (Arrive now id asked) (Waits leader) = xs ++ queued table es now id asked (line_of (verdict_of table.lines asked.method asked.target)) leader ∷ []
+open_after table es xs (Arrive now id asked) (Waits leader) =
+    xs ++ queued table es now id asked (line_of (verdict_of table.lines asked.method asked.target)) leader ∷ []
 open_after table es xs (Arrive now id asked) (Reply r) = xs
 open_after table es xs (Arrive now id asked) Ended = xs
 open_after table es xs (Answer now id r) (Forward line bytes) = map (gone_out id now) xs
@@ -227,7 +234,7 @@ pub record Steps (s : State) (event : Event) (outcome : Outcome) (t : State) : T
   pub outcome_is : outcome ≡ outcome_by s.table s.entries s.exchanges s.next event
   pub leaves : t ≡ after s event outcome
 
--- a step is refused by the least fault that stands, or where none does by want of memory
+-- a step is refused by the least fault that stands, or where none does because memory ran out
 abbrev pub Refuses : State → Event → CoreFault → Type 0
 Refuses s event fault =
     (fault_by s.exchanges event ≡ Some fault) ⊎ ((fault_by s.exchanges event ≡ None) × (fault ≡ OutOfMemory))

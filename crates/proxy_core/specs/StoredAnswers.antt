@@ -1,9 +1,11 @@
--- When an answer of an origin is stored: in the words of RFC 9111, section 3, over the exchange that is open and the answer that
--- came for it. So the facts that the storing rules are handed are said here in the field's terms. And what is then held no longer.
+-- When an answer of an origin is stored: in the words of RFC 9111, section 3, over the exchange
+-- that is open and the answer that came for it. So the facts that the storing rules are handed are
+-- said here in the field's terms. And what is then held no longer.
 --
 -- NamesFields, KeepsItsFields, CanBeReused: what the answer's fields have to say     MayBeStoredAt: all that is asked
 -- IsStoredAnswer: an item that stores it      removed_at: what an item takes away
-use Rattle.std.specs.Prelude.{◌≡◌, ◌⊎◌, ℕ, ◌≤◌, true, false, bytes_eq, List, [], ◌∷◌, length, codes, is_some, All, Option, Some, None, cond}
+use Rattle.std.specs.Prelude.{◌≡◌, ◌⊎◌, ℕ, ◌≤◌, true, false, bytes_eq, List, [], ◌∷◌, length, codes, is_some, All}
+use Rattle.std.specs.Prelude.{Option, Some, None, cond}
 use Rattle.hx_fields.specs.declared.field_line.Field.{Field}
 use Rattle.hx_fields.specs.Lines.{has as has_line}
 use Rattle.hx_fields.specs.Tokens.{is_token}
@@ -35,7 +37,8 @@ use Rattle.proxy_core.specs.Traces.{Item}
 use Rattle.proxy_core.specs.Histories.{IsGoodHistory, held_entries, next_serial, open_exchanges}
 use Rattle.proxy_core.specs.Promises.{key_by_answer}
 
--- each member of Vary is a field name: none is a star, by which no later request would ever match (RFC 9111, section 4.1)
+-- each member of Vary is a field name: none is a star, by which no later request would ever match
+-- (RFC 9111, section 4.1)
 abbrev pub NamesFields : List Field → Type 0
 NamesFields fields = All (λ name. (bytes_eq name (codes "*") ≡ false) × (is_token name ≡ true)) (vary_names fields)
 
@@ -43,8 +46,8 @@ NamesFields fields = All (λ name. (bytes_eq name (codes "*") ≡ false) × (is_
 abbrev pub KeepsItsFields : List Field → Type 0
 KeepsItsFields received = All (λ name. connection_names received name ≡ false) cache_names
 
--- it says how long it is fresh (RFC 9111, section 4.2.1), or has a validator, by which it can be asked about (section 4.3.1), or
--- the operator gives it a lifetime (section 4.2.2)
+-- it says how long it is fresh (RFC 9111, section 4.2.1), or has a validator, by which it can be
+-- asked about (section 4.3.1), or the operator gives it a lifetime (section 4.2.2)
 abbrev pub CanBeReused : Policy → ℕ → List Field → Type 0
 CanBeReused policy status fields =
     (has (occurrences_of fields) SMaxage ≡ true)
@@ -54,9 +57,10 @@ CanBeReused policy status fields =
     ⊎ ((is_some (modified_value fields) ≡ true)
     ⊎ (is_some (given_lifetime policy status) ≡ true)))))
 
--- The answer to an exchange may be stored: by the standard's list, and by what this cache asks besides (own): the operator's line lets
--- it, a GET of the whole asked for it, it could be reused, nothing of its key was invalidated meanwhile, it isn't longer than the
--- operator's limit, and a serial is left.
+-- The answer to an exchange may be stored: by the standard's list, and by what this cache asks
+-- besides (own): the operator's line lets it, a GET of the whole asked for it, it could be reused,
+-- nothing of its key was invalidated meanwhile, it isn't longer than the operator's limit, and a
+-- serial is left.
 pub record MayBeStoredAt (table : Table) (next : Option ℕ) (x : Exchange) (r : Response) (now : ℕ) : Type 0 where
   pub operator_allows : (policy_of table.lines x.line).caches ≡ true
   pub is_storable : IsStorable x.asked (answered_of r now)
@@ -78,12 +82,14 @@ pub record IsStoredAnswer (table : Table) (limit first : ℕ) (item : Item) (pas
   pub event_is : item.event ≡ Answer now id response
   pub is_open : find_exchange id (open_exchanges table limit past) ≡ Some exchange
   pub nothing_is_sent_instead : used_in item.outcome ≡ None
-  pub may_be_stored : IsFinal (answered_of response now) → MayBeStoredAt table (next_serial first past) exchange response now
+  pub may_be_stored : IsFinal (answered_of response now)
+      → MayBeStoredAt table (next_serial first past) exchange response now
 
 -- ---- what is taken away
 
--- a response that a 304 answers and freshens goes, where a storing rule stands against what it becomes (RFC 9111, sections 3 and 4.3.4),
--- or its head has become too long to be sent with what is added (own)
+-- a response that a 304 answers and freshens goes, where a storing rule stands against what it
+-- becomes (RFC 9111, sections 3 and 4.3.4), or its head has become too long to be sent with what is
+-- added (own)
 abbrev pub not_kept : Table → Exchange → ℕ → Response → Option Stored → List ℕ
 not_kept table x now r None = []
 not_kept table x now r (Some e) = cond (is_kept table x r (refreshed x r now e)) [] (e.serial ∷ [])
@@ -96,7 +102,8 @@ held_for held (Some key) others = serials_of key held
 -- By an answer: where it is stored, those go that would answer the same request (section 4.1).
 abbrev pub removed_by_answer : Table → List Stored → Exchange → ℕ → Response → Outcome → List ℕ
 removed_by_answer table held x now r outcome =
-    cond (is_some (stored_in outcome)) (replaced_by held x.asked) (held_for held (key_by_answer x.asked r outcome) (not_kept table x now r (validated held x r now)))
+    cond (is_some (stored_in outcome)) (replaced_by held x.asked)
+    (held_for held (key_by_answer x.asked r outcome) (not_kept table x now r (validated held x r now)))
 
 -- no other event takes anything away
 abbrev pub removed_at : Table → List Stored → Option Exchange → Event → Outcome → List ℕ
@@ -111,17 +118,23 @@ removed_at table held x (Abandon id) outcome = []
 
 -- An answer that may be stored, and in whose place no stored response is sent, is stored, under the next serial.
 abbrev pub StoresWhereItMay : Type 0
-StoresWhereItMay = (table : Table) (limit first now id : ℕ) (x : Exchange) (r : Response) (item : Item) (past : List Item) →
-    IsGoodHistory table limit first (item ∷ past) → item.event ≡ Answer now id r → find_exchange id (open_exchanges table limit past) ≡ Some x →
+StoresWhereItMay =
+    (table : Table) (limit first now id : ℕ) (x : Exchange) (r : Response) (item : Item) (past : List Item) →
+    IsGoodHistory table limit first (item ∷ past) → item.event ≡ Answer now id r
+    → find_exchange id (open_exchanges table limit past) ≡ Some x →
     used_in item.outcome ≡ None → MayBeStoredAt table (next_serial first past) x r now →
     stored_in item.outcome ≡ next_serial first past
 
--- Nothing else is stored. That its status is final is known of each response that was read (law `what_is_read_is_final`).
+-- Nothing else is stored. That its status is final is known of each response that was read (law
+-- `what_is_read_is_final`).
 abbrev pub StoresNowhereElse : Type 0
 StoresNowhereElse = (table : Table) (limit first s : ℕ) (item : Item) (past : List Item) →
-    IsGoodHistory table limit first (item ∷ past) → stored_in item.outcome ≡ Some s → IsStoredAnswer table limit first item past
+    IsGoodHistory table limit first (item ∷ past) → stored_in item.outcome ≡ Some s
+    → IsStoredAnswer table limit first item past
 
 -- what an item takes away
 abbrev pub RemovesJustThat : Type 0
-RemovesJustThat = (table : Table) (limit first : ℕ) (item : Item) (past : List Item) → IsGoodHistory table limit first (item ∷ past) →
-    removed_in item.outcome ≡ removed_at table (held_entries table limit past) (find_exchange (id_of item.event) (open_exchanges table limit past)) item.event item.outcome
+RemovesJustThat =
+    (table : Table) (limit first : ℕ) (item : Item) (past : List Item) → IsGoodHistory table limit first (item ∷ past) →
+    removed_in item.outcome ≡ removed_at table (held_entries table limit past)
+    (find_exchange (id_of item.event) (open_exchanges table limit past)) item.event item.outcome

@@ -3,7 +3,8 @@
 -- facts_of: what the storing rules ask beside the two heads     is_storable: no storing rule stands
 -- made: the stored response                                     replaced_by: those that it takes the place of
 -- is_unasked: a 304 that answers nothing                        invalidates: what is held for its key goes
-use Rattle.std.specs.Prelude.{ℕ, ◌==◌, nat_lt, nat_le, ◌&&◌, ◌||◌, not, List, length, codes, Bool, true, false, Option, Some, None, is_none, cond}
+use Rattle.std.specs.Prelude.{ℕ, ◌==◌, nat_lt, nat_le, ◌&&◌, ◌||◌, not, List, length, codes, Bool, true, false, Option}
+use Rattle.std.specs.Prelude.{Some, None, is_none, cond}
 use Rattle.http.specs.Method.{safe_methods, is_among}
 use Rattle.hx_fields.specs.Lines.{has, without_named}
 use Rattle.hx_framing.specs.declared.messages.Response.{Response}
@@ -52,7 +53,8 @@ is_storable table x r now next = is_none (storage_rule_of x.asked (answered_of r
 -- the first storing rule against an answer, where the line of its exchange tells it (RFC 9211, section 2.8)
 abbrev pub rule_told : Table → Exchange → Response → ℕ → Option ℕ → Option StoreRule
 rule_told table x r now next =
-    cond (policy_of table.lines x.line).explains_storing (storage_rule_of x.asked (answered_of r now) (facts_of table x r now next)) None
+    cond (policy_of table.lines x.line).explains_storing
+    (storage_rule_of x.asked (answered_of r now) (facts_of table x r now next)) None
 
 -- the stored response that an answer to an exchange makes (RFC 9111, sections 3, 3.1 and 4.2.3); its age is told anew
 -- each time that it is sent

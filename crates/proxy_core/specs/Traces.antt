@@ -42,18 +42,20 @@ left start (item ∷ past) = after (left start past) item.event item.outcome
 
 -- An item is what its case gives, over the responses that are held, the exchanges that are open and the next serial:
 -- no fault stood at the event, and its outcome is that of its case.
-pub record Accepts (table : Table) (held : List Stored) (exchanges : List Exchange) (next : Option ℕ) (item : Item) : Type 0 where
+pub record Accepts (table : Table) (held : List Stored) (exchanges : List Exchange) (next : Option ℕ)
+    (item : Item) : Type 0 where
   pub allowed : fault_by exchanges item.event ≡ None
   pub outcome_is : item.outcome ≡ outcome_by table held exchanges next item.event
 
--- each item is what its case gives, over what the items before it leave of a core; `Histories.antt` says the same with no
--- list of the program in it
+-- each item is what its case gives, over what the items before it leave of a core; `Histories.antt`
+-- says the same with no list of the program in it
 abbrev pub IsGood : State → List Item → Type 0
 IsGood start [] = Unit {0}
 IsGood start (item ∷ past) =
-    Accepts start.table (left start past).entries (left start past).exchanges (left start past).next item × IsGood start past
+    Accepts start.table (left start past).entries (left start past).exchanges (left start past).next item
+    × IsGood start past
 
--- the next event is refused: by the least fault that stands at it, or where none does for want of memory
+-- the next event is refused: by the least fault that stands at it, or where none does because memory ran out
 abbrev pub Stops : State → Option Event → CoreFault → Type 0
 Stops s None fault = ⊥
 Stops s (Some event) fault = Refuses s event fault
@@ -75,4 +77,5 @@ LeavesNoTrace Ended = ⊥
 
 -- a denied request leaves no trace
 abbrev pub DeniedLeaveNoTrace : Table → List Item → Type 0
-DeniedLeaveNoTrace table trace = AllByRecursion (λ (item : Item). IsDenied table item.event → LeavesNoTrace item.outcome) trace
+DeniedLeaveNoTrace table trace =
+    AllByRecursion (λ (item : Item). IsDenied table item.event → LeavesNoTrace item.outcome) trace

@@ -31,7 +31,8 @@ IsOver table None (Fail now id kind) line = ⊥
 IsOver table None (Wake now id) line = ⊥
 IsOver table None (Abandon id) line = ⊥
 
--- a request goes forward as the client's own, or where it takes no response but a stored one it is told the operator's rule
+-- a request goes forward as the client's own, or where it takes no response but a stored one it is
+-- told the operator's rule
 abbrev pub IsToldByTheOperator : Table → ℕ → Asked → ℕ → Outcome → Type 0
 IsToldByTheOperator table now asked line outcome =
     ((is_only_if_cached asked ≡ false) × (outcome ≡ Forward line (forward_text table asked None)))
@@ -41,18 +42,24 @@ IsToldByTheOperator table now asked line outcome =
 
 -- an item over a line without cache stores nothing
 abbrev pub StoresNothingOverIt : Type 0
-StoresNothingOverIt = (table : Table) (limit first line : ℕ) (item : Item) (past : List Item) → IsGoodHistory table limit first (item ∷ past) →
-    IsOver table (find_exchange (id_of item.event) (open_exchanges table limit past)) item.event line → (policy_of table.lines line).caches ≡ false →
+StoresNothingOverIt = (table : Table) (limit first line : ℕ) (item : Item) (past : List Item)
+    → IsGoodHistory table limit first (item ∷ past) →
+    IsOver table (find_exchange (id_of item.event) (open_exchanges table limit past)) item.event line
+    → (policy_of table.lines line).caches ≡ false →
     stored_in item.outcome ≡ None
 
 -- and sends nothing that is held
 abbrev pub SendsNothingOverIt : Type 0
-SendsNothingOverIt = (table : Table) (limit first line : ℕ) (item : Item) (past : List Item) → IsGoodHistory table limit first (item ∷ past) →
-    IsOver table (find_exchange (id_of item.event) (open_exchanges table limit past)) item.event line → (policy_of table.lines line).caches ≡ false →
+SendsNothingOverIt = (table : Table) (limit first line : ℕ) (item : Item) (past : List Item)
+    → IsGoodHistory table limit first (item ∷ past) →
+    IsOver table (find_exchange (id_of item.event) (open_exchanges table limit past)) item.event line
+    → (policy_of table.lines line).caches ≡ false →
     used_in item.outcome ≡ None
 
 -- each request that arrives over it goes forward, whatever is held
 abbrev pub GoesForwardOverIt : Type 0
-GoesForwardOverIt = (table : Table) (limit first now id line : ℕ) (asked : Asked) (item : Item) (past : List Item) → IsGoodHistory table limit first (item ∷ past) →
-    item.event ≡ Arrive now id asked → verdict_of table.lines asked.method asked.target ≡ Allowed line → (policy_of table.lines line).caches ≡ false →
+GoesForwardOverIt = (table : Table) (limit first now id line : ℕ) (asked : Asked) (item : Item) (past : List Item)
+    → IsGoodHistory table limit first (item ∷ past) →
+    item.event ≡ Arrive now id asked → verdict_of table.lines asked.method asked.target ≡ Allowed line
+    → (policy_of table.lines line).caches ≡ false →
     IsToldByTheOperator table now asked line item.outcome

@@ -2,7 +2,8 @@
 --
 -- condition_on, condition_at: what a request carries of a held response     is_validation: a 304 to what it carried
 -- is_answered: the 304 answers a held response     refreshed: what that becomes     is_kept: and whether it is kept
-use Rattle.std.specs.Prelude.{ℕ, ◌==◌, nat_lt, ◌&&◌, Bool, false, List, length, codes, Option, Some, None, option_map, is_some, is_none, cond}
+use Rattle.std.specs.Prelude.{ℕ, ◌==◌, nat_lt, ◌&&◌, Bool, false, List, length, codes, Option, Some, None, option_map}
+use Rattle.std.specs.Prelude.{is_some, is_none, cond}
 use Rattle.std.specs.Option.{option_and_then}
 use Rattle.hx_framing.specs.declared.messages.Response.{Response}
 use Rattle.hx_age.specs.Age.{times_of}
@@ -45,7 +46,8 @@ is_validation x r = (r.status == 304) && is_some x.condition
 -- a response to these conditions answers a held response
 abbrev pub is_answered_by : Option Condition → Response → ℕ → Stored → Bool
 is_answered_by None r now e = false
-is_answered_by (Some c) r now e = (r.status == 304) && ((c.serial == e.serial) && answers304 e c.sent (answered_of r now))
+is_answered_by (Some c) r now e = (r.status == 304)
+    && ((c.serial == e.serial) && answers304 e c.sent (answered_of r now))
 
 abbrev pub is_answered : Exchange → Response → ℕ → Stored → Bool
 is_answered x r now e = is_answered_by x.condition r now e
@@ -94,4 +96,5 @@ kept_facts table x r e = record {
 -- No storing rule stands against a freshened response.
 -- own: and its head leaves room for what is added to it where it is sent ("What a 304 brings has a bound")
 abbrev pub is_kept : Table → Exchange → Response → Stored → Bool
-is_kept table x r e = is_none (storage_rule_of (as_get x.asked) (head_of e) (kept_facts table x r e)) && leaves_room e.fields
+is_kept table x r e =
+    is_none (storage_rule_of (as_get x.asked) (head_of e) (kept_facts table x r e)) && leaves_room e.fields

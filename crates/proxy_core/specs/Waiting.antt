@@ -3,9 +3,10 @@
 -- CouldWait: a request that may wait, for the first that leads (`Leading.antt`)
 -- WaitsWhereOneLeads, WaitsNowhereElse, OneGoesForward: who waits, and what for
 -- IsReady: an exchange that may be woken
--- WaitsUntilItsLeaderEnds, WokenOnceBehindItsLeader, ReadyInOrderOfArrival, WokenExactlyWhereReady, WokenIsJudgedAnew: how it ends
--- The laws of `src/laws.rt` prove the statements.
-use Rattle.std.specs.Prelude.{◌≡◌, ◌⊎◌, ℕ, ◌==◌, ◌&&◌, ◌||◌, not, Bool, true, false, List, [], ◌∷◌, ◌++◌, Option, Some, None, option_map, cond}
+-- WaitsUntilItsLeaderEnds, WokenOnceBehindItsLeader, ReadyInOrderOfArrival, WokenExactlyWhereReady,
+-- WokenIsJudgedAnew: how it ends The laws of `src/laws.rt` prove the statements.
+use Rattle.std.specs.Prelude.{◌≡◌, ◌⊎◌, ℕ, ◌==◌, ◌&&◌, ◌||◌, not, Bool, true, false, List, [], ◌∷◌, ◌++◌, Option, Some}
+use Rattle.std.specs.Prelude.{None, option_map, cond}
 use Rattle.std.specs.List.{AllByRecursion}
 use Rattle.hx_target.specs.declared.keys.Key.{Key}
 use Rattle.hx_target.specs.Keys.{same_key}
@@ -25,7 +26,8 @@ use Rattle.proxy_core.specs.declared.event.Event.{Event}
 use Rattle.proxy_core.specs.declared.event.Event.TheVariants.{Arrive, Answer, Fail, Wake, Abandon}
 use Rattle.proxy_core.specs.Moments.{too_late}
 use Rattle.hx_policy.specs.Words.{plain}
-use Rattle.proxy_core.specs.Leading.{is_forwarded, is_released, is_get, is_uri_miss, is_for_others, can_wait, goes_alike, may_lead, leads, ready_ids, IsFirstToLead}
+use Rattle.proxy_core.specs.Leading.{is_forwarded, is_released, is_get, is_uri_miss, is_for_others, can_wait}
+use Rattle.proxy_core.specs.Leading.{goes_alike, may_lead, leads, ready_ids, IsFirstToLead}
 use Rattle.proxy_core.specs.Outcomes.{find_exchange, id_of, fault_by, is_only_if_cached}
 use Rattle.proxy_core.specs.State.{used_in}
 use Rattle.proxy_core.specs.Traces.{Item}
@@ -36,9 +38,11 @@ use Rattle.proxy_core.specs.Sending.{IsReusable}
 
 -- ---- who waits
 
--- A GET that the table allows and that takes an answer of the origin, where by the first rule against what is held it may wait:
--- nothing is held for its key, or its line lets it wait for what is stale. No rule before that one stands.
-pub record CouldWait (table : Table) (limit : ℕ) (past : List Item) (now line : ℕ) (asked : Asked) (rule : ReuseRule) : Type 0 where
+-- A GET that the table allows and that takes an answer of the origin, where by the first rule
+-- against what is held it may wait: nothing is held for its key, or its line lets it wait for what
+-- is stale. No rule before that one stands.
+pub record CouldWait (table : Table) (limit : ℕ) (past : List Item) (now line : ℕ) (asked : Asked)
+    (rule : ReuseRule) : Type 0 where
   pub line_allows : verdict_of table.lines asked.method asked.target ≡ Allowed line
   pub takes_others : is_only_if_cached asked ≡ false
   pub gets : is_get asked ≡ true
@@ -47,9 +51,12 @@ pub record CouldWait (table : Table) (limit : ℕ) (past : List Item) (now line 
 
 -- whoever could wait does, where one leads
 abbrev pub WaitsWhereOneLeads : Type 0
-WaitsWhereOneLeads = (table : Table) (limit first now id line leader : ℕ) (asked : Asked) (rule : ReuseRule) (item : Item) (past : List Item) →
-    IsGoodHistory table limit first (item ∷ past) → item.event ≡ Arrive now id asked → CouldWait table limit past now line asked rule →
-    IsFirstToLead (policy_of table.lines line) rule asked.target.key (open_exchanges table limit past) leader → item.outcome ≡ Waits leader
+WaitsWhereOneLeads = (table : Table) (limit first now id line leader : ℕ) (asked : Asked) (rule : ReuseRule)
+    (item : Item) (past : List Item) →
+    IsGoodHistory table limit first (item ∷ past) → item.event ≡ Arrive now id asked
+    → CouldWait table limit past now line asked rule →
+    IsFirstToLead (policy_of table.lines line) rule asked.target.key (open_exchanges table limit past) leader
+    → item.outcome ≡ Waits leader
 
 -- Whoever waits has just arrived, could wait, and waits for the first that leads.
 pub record IsToWait (table : Table) (limit leader : ℕ) (item : Item) (past : List Item) : Type 0 where
@@ -60,10 +67,12 @@ pub record IsToWait (table : Table) (limit leader : ℕ) (item : Item) (past : L
   pub arrives : item.event ≡ Arrive now id asked
   pub rule : ReuseRule
   pub could : CouldWait table limit past now line asked rule
-  pub first_leads : IsFirstToLead (policy_of table.lines line) rule asked.target.key (open_exchanges table limit past) leader
+  pub first_leads : IsFirstToLead (policy_of table.lines line) rule asked.target.key
+      (open_exchanges table limit past) leader
 
 abbrev pub WaitsNowhereElse : Type 0
-WaitsNowhereElse = (table : Table) (limit first leader : ℕ) (item : Item) (past : List Item) → IsGoodHistory table limit first (item ∷ past) →
+WaitsNowhereElse = (table : Table) (limit first leader : ℕ) (item : Item) (past : List Item)
+    → IsGoodHistory table limit first (item ∷ past) →
     item.outcome ≡ Waits leader → IsToWait table limit leader item past
 
 -- an open exchange of this id ends: by a reply that isn't given at an arrival, or since the client went away
@@ -72,7 +81,8 @@ has_closed id [] = false
 has_closed id (i ∷ items) = (id_of i.event == id && (not (is_arrival i.event) && ends i.outcome)) || has_closed id items
 
 -- a GET for this key arrives and goes forward by this rule
-pub record GoesForTheKey (table : Table) (limit : ℕ) (key : Key) (rule : ReuseRule) (item : Item) (past : List Item) : Type 0 where
+pub record GoesForTheKey (table : Table) (limit : ℕ) (key : Key) (rule : ReuseRule) (item : Item)
+    (past : List Item) : Type 0 where
   pub now : ℕ
   pub id : ℕ
   pub asked : Asked
@@ -84,20 +94,27 @@ pub record GoesForTheKey (table : Table) (limit : ℕ) (key : Key) (rule : Reuse
   pub of_the_key : asked.target.key ≡ key
   pub is_least : IsLeast (policy_of table.lines line) (held_entries table limit past) asked now rule
 
--- Of the GETs that arrive for a key while one of them is at the origin none goes there too for the same reason: before a later one
--- does the earlier has ended. The later one's line lets it wait for that reason, and for an answer to a request like the earlier.
+-- Of the GETs that arrive for a key while one of them is at the origin none goes there too for the
+-- same reason: before a later one does the earlier has ended. The later one's line lets it wait for
+-- that reason, and for an answer to a request like the earlier.
 abbrev pub OneGoesForward : Type 0
-OneGoesForward = (table : Table) (limit first : ℕ) (key other : Key) (rule why : ReuseRule) (later earlier : Item) (between before : List Item) →
-    IsGoodHistory table limit first (later ∷ (between ++ earlier ∷ before)) → same_key key other ≡ true → goes_alike rule why ≡ true →
-    (went : GoesForTheKey table limit other why later (between ++ earlier ∷ before)) → can_wait (policy_of table.lines went.line) why ≡ true →
-    (first_went : GoesForTheKey table limit key rule earlier before) → may_lead (policy_of table.lines went.line) (is_for_others first_went.asked) ≡ true →
+OneGoesForward = (table : Table) (limit first : ℕ) (key other : Key) (rule why : ReuseRule) (later earlier : Item)
+    (between before : List Item) →
+    IsGoodHistory table limit first (later ∷ (between ++ earlier ∷ before)) → same_key key other ≡ true
+    → goes_alike rule why ≡ true →
+    (went : GoesForTheKey table limit other why later (between ++ earlier ∷ before))
+    → can_wait (policy_of table.lines went.line) why ≡ true →
+    (first_went : GoesForTheKey table limit key rule earlier before)
+    → may_lead (policy_of table.lines went.line) (is_for_others first_went.asked) ≡ true →
     has_closed (id_of earlier.event) between ≡ true
 
--- A line without the word lets a GET wait where nothing is held for its key, and nowhere else; and for any that went for that.
+-- A line without the word lets a GET wait where nothing is held for its key, and nowhere else; and
+-- for any that went for that.
 abbrev pub PlainLinesWaitForMisses : Type 0
 PlainLinesWaitForMisses = (caches : Bool) (rule : ReuseRule) (key : Key) (x : Exchange) →
     (can_wait (plain caches) rule ≡ is_uri_miss rule)
-    × (leads (plain caches) UriMiss key x ≡ (same_key x.asked.target.key key && (is_get x.asked && (is_uri_miss x.rule && is_forwarded x.stage))))
+    × (leads (plain caches) UriMiss key x
+    ≡ (same_key x.asked.target.key key && (is_get x.asked && (is_uri_miss x.rule && is_forwarded x.stage))))
 
 -- ---- until when
 
@@ -126,15 +143,19 @@ pub record IsReady (id : ℕ) (xs : List Exchange) : Type 0 where
   pub is_open : find_exchange id xs ≡ Some x
   pub stage : is_released x.stage ≡ true
 
--- Who waits does so until its leader has ended, by a reply or since the client went away, and may be woken from then on.
+-- Who waits does so until its leader has ended, by a reply or since the client went away, and may
+-- be woken from then on.
 abbrev pub WaitsUntilItsLeaderEnds : Type 0
 WaitsUntilItsLeaderEnds = (table : Table) (limit first leader : ℕ) (items before : List Item) (arrival : Item) →
-    IsGoodHistory table limit first (items ++ arrival ∷ before) → arrival.outcome ≡ Waits leader → NoneOf (id_of arrival.event) items →
-    stage_of (find_exchange (id_of arrival.event) (open_exchanges table limit (items ++ arrival ∷ before))) ≡ Some (cond (has_closed leader items) Released (Waiting leader))
+    IsGoodHistory table limit first (items ++ arrival ∷ before) → arrival.outcome ≡ Waits leader
+    → NoneOf (id_of arrival.event) items →
+    stage_of (find_exchange (id_of arrival.event) (open_exchanges table limit (items ++ arrival ∷ before)))
+    ≡ Some (cond (has_closed leader items) Released (Waiting leader))
 
 -- It is woken behind the end of its leader, and once.
 abbrev pub WokenOnceBehindItsLeader : Type 0
-WokenOnceBehindItsLeader = (table : Table) (limit first now leader : ℕ) (items before : List Item) (wake arrival : Item) →
+WokenOnceBehindItsLeader =
+    (table : Table) (limit first now leader : ℕ) (items before : List Item) (wake arrival : Item) →
     IsGoodHistory table limit first (wake ∷ (items ++ arrival ∷ before)) → arrival.outcome ≡ Waits leader →
     wake.event ≡ Wake now (id_of arrival.event) → NoneArrives (id_of arrival.event) items →
     (has_closed leader items ≡ true) × (was_woken (id_of arrival.event) items ≡ false)
@@ -146,18 +167,24 @@ ReadyInOrderOfArrival = (table : Table) (limit first : ℕ) (trace : List Item) 
 
 -- a wake is accepted exactly of those, at a moment that can be told
 abbrev pub WokenExactlyWhereReady : Type 0
-WokenExactlyWhereReady = (table : Table) (limit first now id : ℕ) (trace : List Item) → IsGoodHistory table limit first trace →
-    ((is_in id (ready_ids (open_exchanges table limit trace)) ≡ true) → fault_by (open_exchanges table limit trace) (Wake now id) ≡ too_late now)
-    × (fault_by (open_exchanges table limit trace) (Wake now id) ≡ None → is_in id (ready_ids (open_exchanges table limit trace)) ≡ true)
+WokenExactlyWhereReady =
+    (table : Table) (limit first now id : ℕ) (trace : List Item) → IsGoodHistory table limit first trace →
+    ((is_in id (ready_ids (open_exchanges table limit trace)) ≡ true)
+    → fault_by (open_exchanges table limit trace) (Wake now id) ≡ too_late now)
+    × (fault_by (open_exchanges table limit trace) (Wake now id) ≡ None
+    → is_in id (ready_ids (open_exchanges table limit trace)) ≡ true)
 
--- What it gets is decided anew over what is held then: a stored response that may be reused, or it goes forward by the least rule
--- against that. It doesn't wait again.
+-- What it gets is decided anew over what is held then: a stored response that may be reused, or it
+-- goes forward by the least rule against that. It doesn't wait again.
 pub record IsJudgedAnew (table : Table) (limit now id : ℕ) (item : Item) (past : List Item) : Type 0 where
   pub x : Exchange
   pub is_open : find_exchange id (open_exchanges table limit past) ≡ Some x
-  pub gets : ((s : ℕ) × IsReusable (policy_of table.lines x.line) (held_entries table limit past) x.asked now s × (used_in item.outcome ≡ Some s))
-      ⊎ ((rule : ReuseRule) × (bytes : List ℕ) × IsLeast (policy_of table.lines x.line) (held_entries table limit past) x.asked now rule × (item.outcome ≡ Forward x.line bytes))
+  pub gets : ((s : ℕ) × IsReusable (policy_of table.lines x.line) (held_entries table limit past) x.asked now s
+      × (used_in item.outcome ≡ Some s))
+      ⊎ ((rule : ReuseRule) × (bytes : List ℕ) × IsLeast (policy_of table.lines x.line) (held_entries table limit past)
+      x.asked now rule × (item.outcome ≡ Forward x.line bytes))
 
 abbrev pub WokenIsJudgedAnew : Type 0
-WokenIsJudgedAnew = (table : Table) (limit first now id : ℕ) (item : Item) (past : List Item) → IsGoodHistory table limit first (item ∷ past) →
+WokenIsJudgedAnew = (table : Table) (limit first now id : ℕ) (item : Item) (past : List Item)
+    → IsGoodHistory table limit first (item ∷ past) →
     item.event ≡ Wake now id → IsJudgedAnew table limit now id item past

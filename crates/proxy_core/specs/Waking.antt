@@ -13,7 +13,8 @@ use Rattle.proxy_core.specs.Pending.{reply_of, IsPlain}
 
 -- a reply that sends what is held, or the rule, the conditions and the bytes with which the request goes forward
 abbrev pub IsWoken : Table → List Stored → ℕ → Exchange → Decision → AfterWake → Type 0
-IsWoken table es now x (decision.Hit serial) (Ends p) = (reply_of p ≡ woken table es now x (decision.Hit serial)) × IsPlain p.change
+IsWoken table es now x (decision.Hit serial) (Ends p) =
+    (reply_of p ≡ woken table es now x (decision.Hit serial)) × IsPlain p.change
 IsWoken table es now x (decision.Forward rule against) (GoesOut q condition bytes) =
     (q ≡ rule) × (condition ≡ condition_at es against) × (bytes ≡ forward_text table x.asked (condition_at es against))
 IsWoken table es now x (decision.Hit serial) (GoesOut q condition bytes) = ⊥

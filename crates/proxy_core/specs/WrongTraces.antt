@@ -1,4 +1,5 @@
--- Traces that the headline must not let by: each goes well up to its last item. And what that last item should have been isn't said
+-- Traces that the headline must not let by: each goes well up to its last item. And what that last
+-- item should have been isn't said
 -- here: the law `the_headline_refuses` shows of each that it is refused.
 --
 -- edge: an operator's table     goes_well: these events, latest first, each with the outcome of its case
@@ -27,14 +28,16 @@ edge = record {
   capacity = 2;
   max_body = 1000;
   max_stored = 10;
-  lines = record line_that { path = codes "/admin"; origin = None } ∷ record line_that { path = codes "/raw"; policy = plain false } ∷ line_that ∷ [];
+  lines = record line_that { path = codes "/admin"; origin = None }
+      ∷ record line_that { path = codes "/raw"; policy = plain false } ∷ line_that ∷ [];
 }
 
 abbrev pub goes_well : List Event → List Item
 goes_well [] = []
 goes_well (event ∷ before) = record {
   event = event;
-  outcome = outcome_by edge (held_entries edge 2 (goes_well before)) (open_exchanges edge 2 (goes_well before)) (next_serial 1 (goes_well before)) event;
+  outcome = outcome_by edge (held_entries edge 2 (goes_well before)) (open_exchanges edge 2 (goes_well before))
+      (next_serial 1 (goes_well before)) event;
 } ∷ goes_well before
 
 abbrev pub wrong : List Event → Event → Outcome → List Item
@@ -95,7 +98,8 @@ says bytes = Reply (record { bytes = bytes; close = false; stored = None; used =
 
 -- a reply of these bytes, which is stored as this and takes these away
 abbrev pub replies : List ℕ → Option ℕ → List ℕ → Outcome
-replies bytes stored removed = Reply (record { bytes = bytes; close = false; stored = stored; used = None; removed = removed })
+replies bytes stored removed =
+    Reply (record { bytes = bytes; close = false; stored = stored; used = None; removed = removed })
 
 -- the stored response of this serial, in these bytes
 abbrev pub sends : ℕ → List ℕ → Outcome
@@ -140,10 +144,12 @@ abbrev pub goes_3 : Outcome
 goes_3 = Forward 3 []
 
 abbrev pub thrice_forward : List Item
-thrice_forward = item (Answer 102 1 (answer 304 [])) goes_3 ∷ item (Answer 101 1 (answer 304 [])) goes_3 ∷ item (Arrive 100 1 get_a) goes_3 ∷ []
+thrice_forward = item (Answer 102 1 (answer 304 [])) goes_3 ∷ item (Answer 101 1 (answer 304 [])) goes_3
+    ∷ item (Arrive 100 1 get_a) goes_3 ∷ []
 
 abbrev pub two_replies : List Item
-two_replies = item (Answer 102 1 fresh) (says []) ∷ item (Answer 101 1 fresh) (says []) ∷ item (Arrive 100 1 get_a) goes_3 ∷ []
+two_replies =
+    item (Answer 102 1 fresh) (says []) ∷ item (Answer 101 1 fresh) (says []) ∷ item (Arrive 100 1 get_a) goes_3 ∷ []
 
 -- GET /a was stored as 1, POST /a invalidated it, and it is sent
 abbrev pub invalidated_since_stored : List Item

@@ -77,7 +77,13 @@ impl<S: Shelf> Model for Core<S> {
 
     ghost Value = { State };
 
-    ghost view = { λ c. record { table = c.config; limit = S.limit c.shelf; entries = S.entries c.shelf; exchanges = c.exchanges; next = c.next } };
+    ghost view = { λ c. record {
+      table = c.config;
+      limit = S.limit c.shelf;
+      entries = S.entries c.shelf;
+      exchanges = c.exchanges;
+      next = c.next;
+    } };
 
     ghost invariant = { λ c. NoneFrom c.next (S.entries c.shelf) };
 }
@@ -86,7 +92,8 @@ impl<S: Shelf> Core<S> {
     /// A core with an empty shelf of the configured capacity. Serials begin at `first_serial`, 1 or more.
     pub fn new(alloc: Global, config: Config, shelf: S, first_serial: u64) -> Self
         requires { S.entries shelf ≡ [] }
-        ensures { result ≡ record { table = config; limit = S.limit shelf; entries = []; exchanges = []; next = Some first_serial } }
+        ensures { result
+            ≡ record { table = config; limit = S.limit shelf; entries = []; exchanges = []; next = Some first_serial } }
     {
         Core {
             config,
@@ -110,7 +117,7 @@ impl<S: Shelf> Core<S> {
         self.exchanges.find(id)
     }
 
-    /// The exchanges that waited and may be woken, in the order of arrival. Fails for want of memory alone.
+    /// The exchanges that waited and may be woken, in the order of arrival. Fails only where memory runs out.
     pub fn ready(&self, alloc: Global) -> Result<Ids, AllocError>
         ensures { IfOk result (λ ids. ids ≡ ready_ids self.now.exchanges) }
     {
@@ -125,7 +132,7 @@ impl<S: Shelf> Core<S> {
         self.exchanges.first_ready()
     }
 
-    /// The least fault that stands at an event, want of memory aside.
+    /// The least fault that stands at an event, out of memory aside.
     pub fn fault(&self, event: &Event) -> Option<CoreFault>
         ensures { result ≡ fault_by self.now.exchanges event.now }
     {

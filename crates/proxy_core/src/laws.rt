@@ -1,12 +1,19 @@
 //! What the definitions of a good trace come to, for a reader who has to believe them.
 
-ghost use Rattle.proxy_core.specs.Meaning.{OpenFromArrivalToEnd, OpenByArrivalAlone, HasItsRequest, KeepsItsRule, OvertakenWhereInvalidated, NextIsCounted, StoredHasTheNext, LeavesNoChoice, GoodOverWhatIsHeld, GoodOverTheList, KeepsWhatIsHeld, KeepsWhatIsOpen, KeepsTheNext};
+ghost use Rattle.proxy_core.specs.Meaning.{OpenFromArrivalToEnd, OpenByArrivalAlone, HasItsRequest, KeepsItsRule};
+ghost use Rattle.proxy_core.specs.Meaning.{OvertakenWhereInvalidated, NextIsCounted, StoredHasTheNext, LeavesNoChoice};
+ghost use Rattle.proxy_core.specs.Meaning.{GoodOverWhatIsHeld, GoodOverTheList, KeepsWhatIsHeld, KeepsWhatIsOpen};
+ghost use Rattle.proxy_core.specs.Meaning.{KeepsTheNext};
 ghost use Rattle.proxy_core.specs.Carrying.{CarriesItsArrival, OpenInOrderOfArrival};
 ghost use Rattle.proxy_core.specs.Driving.{PromisesOfADrivenCore};
 ghost use Rattle.proxy_core.specs.Headline.{EveryGoodTraceHasIt, NoOtherTraceHasIt};
 ghost use Rattle.proxy_core.specs.Naming.{NamesFirstRules};
-ghost use Rattle.proxy_core.specs.Sending.{SendsStoredWhereItMay, SendsStoredNowhereElse, SendsWhatIsHeld, ForwardsWhereAllowed, ForwardsNowhereElse, ReachesWhereAllowed, RefusesWhereNotAllowed};
-ghost use Rattle.proxy_core.specs.Waiting.{WaitsWhereOneLeads, WaitsNowhereElse, OneGoesForward, WaitsUntilItsLeaderEnds, WokenOnceBehindItsLeader, ReadyInOrderOfArrival, WokenExactlyWhereReady, WokenIsJudgedAnew, PlainLinesWaitForMisses};
+ghost use Rattle.proxy_core.specs.Sending.{SendsStoredWhereItMay, SendsStoredNowhereElse, SendsWhatIsHeld};
+ghost use Rattle.proxy_core.specs.Sending.{ForwardsWhereAllowed, ForwardsNowhereElse, ReachesWhereAllowed};
+ghost use Rattle.proxy_core.specs.Sending.{RefusesWhereNotAllowed};
+ghost use Rattle.proxy_core.specs.Waiting.{WaitsWhereOneLeads, WaitsNowhereElse, OneGoesForward};
+ghost use Rattle.proxy_core.specs.Waiting.{WaitsUntilItsLeaderEnds, WokenOnceBehindItsLeader, ReadyInOrderOfArrival};
+ghost use Rattle.proxy_core.specs.Waiting.{WokenExactlyWhereReady, WokenIsJudgedAnew, PlainLinesWaitForMisses};
 ghost use Rattle.proxy_core.specs.StoredAnswers.{RemovesJustThat, StoresNowhereElse, StoresWhereItMay};
 ghost use Rattle.proxy_core.specs.Uncached.{StoresNothingOverIt, SendsNothingOverIt, GoesForwardOverIt};
 
@@ -15,8 +22,8 @@ pub(crate) mod headline_cases;
 pub(crate) mod promise_cases;
 pub(crate) mod worked_cases;
 
-/// After a good trace an exchange is open from its arrival to its end and not else, with the request and the rule of its
-/// arrival.
+/// After a good trace an exchange is open from its arrival to its end and not else, with the
+/// request and the rule of its arrival.
 pub fn open_from_arrival_to_end()
     ensures ends { OpenFromArrivalToEnd }
     ensures alone { OpenByArrivalAlone }
@@ -24,9 +31,9 @@ pub fn open_from_arrival_to_end()
     ensures rule { KeepsItsRule }
 {}
 
-/// After a good trace an open exchange goes to the line that allows its request, names the least rule that stood at its
-/// arrival, or when it was woken, and has the conditions and the moment with which it went forward last. Open exchanges stand
-/// in the order of arrival.
+/// After a good trace an open exchange goes to the line that allows its request, names the least
+/// rule that stood at its arrival, or when it was woken, and has the conditions and the moment with
+/// which it went forward last. Open exchanges stand in the order of arrival.
 pub fn an_open_exchange_carries_its_arrival()
     ensures carries { CarriesItsArrival }
     ensures order { OpenInOrderOfArrival }
@@ -71,48 +78,51 @@ pub fn a_request_reaches_cache_or_origin_where_it_is_allowed()
     ensures refused { RefusesWhereNotAllowed }
 {}
 
-/// In a good trace a stored response is sent exactly where one is held that RFC 9111, section 4 lets be reused for that
-/// request then, that a 304 validates, or that RFC 5861, section 4 lets be sent in place of an error. What is sent is that
-/// response.
+/// In a good trace a stored response is sent exactly where one is held that RFC 9111, section 4
+/// lets be reused for that request then, that a 304 validates, or that RFC 5861, section 4 lets be
+/// sent in place of an error. What is sent is that response.
 pub fn a_stored_response_is_sent_where_one_may_be()
     ensures every { SendsStoredWhereItMay }
     ensures only { SendsStoredNowhereElse }
     ensures itself { SendsWhatIsHeld }
 {}
 
-/// In a good trace each answer that isn't a stored response names the first rule against one: the line of the table, the
-/// least reuse rule that stands now with the least error rule, or where the answer is passed on the least that stood at the
-/// arrival, or when the request was woken.
+/// In a good trace each answer that isn't a stored response names the first rule against one: the
+/// line of the table, the least reuse rule that stands now with the least error rule, or where the
+/// answer is passed on the least that stood at the arrival, or when the request was woken.
 pub fn each_answer_names_its_first_rule()
     ensures { NamesFirstRules }
 {}
 
-/// In a good trace nothing that goes over a line without cache is stored, and no request over it is answered from the store:
-/// each goes forward, and one that takes no response but a stored one is told the operator's rule.
+/// In a good trace nothing that goes over a line without cache is stored, and no request over it is
+/// answered from the store: each goes forward, and one that takes no response but a stored one is
+/// told the operator's rule.
 pub fn a_line_without_cache_touches_no_stored_response()
     ensures stores { StoresNothingOverIt }
     ensures sends { SendsNothingOverIt }
     ensures forwards { GoesForwardOverIt }
 {}
 
-/// In a good trace a GET waits exactly where the first rule against a stored response lets it, and a GET for that key is at the
-/// origin for the same reason: for the first of these to arrive. The rule is that nothing is held for its key, or where its line says
-/// so that what is held is stale. So while one that arrived is at the origin for a reason, none that may wait for that goes there for
-/// it. One that another rule sends forward, as a GET with Range, doesn't wait.
+/// In a good trace a GET waits exactly where the first rule against a stored response lets it, and
+/// a GET for that key is at the origin for the same reason: for the first of these to arrive. The
+/// rule is that nothing is held for its key, or where its line says so that what is held is stale.
+/// So while one that arrived is at the origin for a reason, none that may wait for that goes there
+/// for it. One that another rule sends forward, as a GET with Range, doesn't wait.
 pub fn requests_for_one_target_wait_for_the_first()
     ensures waits { WaitsWhereOneLeads }
     ensures only { WaitsNowhereElse }
     ensures one { OneGoesForward }
 {}
 
-/// Over a line that doesn't let them wait for what is stale, GETs wait where nothing is held for their key, and nowhere else; for any
-/// that went forward for that.
+/// Over a line that doesn't let them wait for what is stale, GETs wait where nothing is held for
+/// their key, and nowhere else; for any that went forward for that.
 pub fn a_plain_line_waits_for_what_is_missing_alone()
     ensures { PlainLinesWaitForMisses }
 {}
 
-/// In a good trace a request that waits does so until the exchange that it waits for has ended, and may be woken from then on,
-/// once; those that may be woken stand in the order of arrival. What a woken one gets is decided anew, and it doesn't wait again.
+/// In a good trace a request that waits does so until the exchange that it waits for has ended, and
+/// may be woken from then on, once; those that may be woken stand in the order of arrival. What a
+/// woken one gets is decided anew, and it doesn't wait again.
 pub fn a_waiting_request_is_woken_once_behind_its_leader()
     ensures waits { WaitsUntilItsLeaderEnds }
     ensures once { WokenOnceBehindItsLeader }
@@ -121,16 +131,18 @@ pub fn a_waiting_request_is_woken_once_behind_its_leader()
     ensures anew { WokenIsJudgedAnew }
 {}
 
-/// In a good trace the answer to an open exchange is stored exactly where RFC 9111, section 3 lets it be, with the choices that the
-/// definition marks *own*, and no stored response is sent in its place: under the next serial. What goes with a step is what a stored
-/// answer takes the place of, what an unsafe request invalidates, and what a 304 freshens and may not be kept.
+/// In a good trace the answer to an open exchange is stored exactly where RFC 9111, section 3 lets
+/// it be, with the choices that the definition marks *own*, and no stored response is sent in its
+/// place: under the next serial. What goes with a step is what a stored answer takes the place of,
+/// what an unsafe request invalidates, and what a 304 freshens and may not be kept.
 pub fn an_answer_is_stored_where_it_may_be()
     ensures every { StoresWhereItMay }
     ensures only { StoresNowhereElse }
     ensures removed { RemovesJustThat }
 {}
 
-/// No trace but a good one has the headline, where each answer of an origin has a final status: the record leaves no outcome open.
+/// No trace but a good one has the headline, where each answer of an origin has a final status: the
+/// record leaves no outcome open.
 pub fn no_other_trace_has_the_headline()
     ensures { NoOtherTraceHasIt }
 {}

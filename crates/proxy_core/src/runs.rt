@@ -31,7 +31,7 @@ impl<S: Shelf> Core<S> {
 }
 
 /// The steps of the events in order, up to the first fault. The shelf is empty and has the configured capacity;
-/// serials begin at `first_serial`, 1 or more. Want of memory is one of the faults; the outcomes so far stand.
+/// serials begin at `first_serial`, 1 or more. Out of memory is one of the faults; the outcomes so far stand.
 pub fn run<S: Shelf + Drop>(
     alloc: Global,
     config: Config,
@@ -43,7 +43,8 @@ pub fn run<S: Shelf + Drop>(
     ensures within { length result.outcomes.items ≤ length events.now }
     ensures good { IsGoodHistory config (S.limit shelf) first_serial (trace_of events.now result.outcomes.items) }
     ensures stopped { MatchOption result.stopped (length result.outcomes.items ≡ length events.now)
-        (λ fault. StopsAt (open_exchanges config (S.limit shelf) (trace_of events.now result.outcomes.items)) (slice_get events.now (length result.outcomes.items)) fault) }
+        (λ fault. StopsAt (open_exchanges config (S.limit shelf) (trace_of events.now result.outcomes.items))
+        (slice_get events.now (length result.outcomes.items)) fault) }
     ensures headline { Headline config (S.limit shelf) first_serial (trace_of events.now result.outcomes.items) }
 {
     let mut core = Core::new(alloc, config, shelf, first_serial);

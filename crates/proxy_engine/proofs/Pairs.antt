@@ -601,7 +601,7 @@ paired_accepted (Err e) cs cs1 os xs more same w = subst (λ (ds : List (Option 
 early_by : (now : ℕ) → now < END_OF_TIME → too_late now ≡ None
 early_by now l = ap (λ (b : Bool). cond b None (Some MomentTooLate)) (lt-ltb now END_OF_TIME l)
 
--- an arrival at a free id, in time, is refused for want of memory alone
+-- an arrival at a free id, in time, is refused only where memory runs out
 pub arrival_refused : (xs : List Exchange) (now id : ℕ) (asked : Asked) (fault : CoreFault) → is_some (find_exchange id xs) ≡ false → now < END_OF_TIME
     → (fault_by xs (Arrive now id asked) ≡ Some fault) ⊎ ((fault_by xs (Arrive now id asked) ≡ None) × (fault ≡ OutOfMemory)) → fault ≡ OutOfMemory
 arrival_refused xs now id asked fault free early (inl stands) = refused_by (find_exchange id xs) free stands
@@ -614,7 +614,7 @@ arrival_refused xs now id asked fault free early (inr memory) = memory.1
 not_out : (s : Stage) → is_forwarded s ≡ true → not_forwarded s ≡ None
 not_out s h = ap (λ (b : Bool). cond b None (Some NotForwarded)) h
 
--- what stands on a link of an open exchange is refused for want of memory alone
+-- what stands on a link of an open exchange is refused only where memory runs out
 module _ (xs : List Exchange) (now id : ℕ) (fault : CoreFault) (out_now : forwarded_at id xs ≡ Some true) (early : now < END_OF_TIME) where
   -- so is any event that asks of its exchange to be at the origin
   out_refused : (e : Event) → ((x : Exchange) → fault_of (Some x) e ≡ or_fault (too_late now) (not_forwarded x.stage))

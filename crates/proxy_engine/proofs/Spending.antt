@@ -1,4 +1,4 @@
--- That no link number is left hides behind no want of memory.
+-- Out of memory never hides that no link number is left.
 use Rattle.std.proofs.Common.{◌≡◌, ◌≢◌, ◌⊎◌, inl, inr, ℕ, ◌+◌, ◌<◌, ◌≤◌, ◌^◌, List, length, get_or, refl, sym, ap, ◌∙◌, subst, arith, true, Option, None, Some, nat_le, Contains, Result, Err}
 use Rattle.std.specs.Ordering.{nat_cmp}
 use Rattle.std.specs.BTreeMap.{BTreeMap, get}
@@ -64,7 +64,7 @@ look_stopped e s stops h (Finishes j f) due may seen = by_place (cases_lt j stop
 look_stopped e s stops h (Wakes i) due may seen = absurd (seen stops.place stops.unknown)
 look_stopped e s stops h (Serves i action) due may seen = absurd seen
 
--- the exchange wasn't finished for want of memory
+-- the exchange wasn't finished, because memory ran out
 end_memory : (e new : State) (s : EngineModel) (j : ℕ) (f : Finish) → Represents e s → EndFault (nat_le (2 ^ 64) (e.first + length e.links)) f OutOfMemory → IsDueFirst s (Some (Finishes j f)) → TellsSpent s new
 end_memory e new s j (Gives r) h fault first =
     let few = leb-false (2 ^ 64) (e.first + length e.links) fault in

@@ -197,7 +197,7 @@ pub spent_told : (spent : Bool) (f : Finish) → spent ≡ true → gives f ≡ 
 spent_told spent (Gives r) none may = none
 spent_told spent (Breaks kind) none may = absurd (cc)
 
--- one that isn't finished for want of memory, where a number is left or none is asked for
+-- one that isn't finished because memory ran out, where a number is left or none is asked for
 pub memory_told : (spent : Bool) (f : Finish) → (gives f ≡ true → spent ≡ false) → EndFault spent f OutOfMemory
 memory_told spent (Gives r) left = left refl
 memory_told spent (Breaks kind) left = tt

@@ -58,8 +58,7 @@ abbrev pub gives : Finish → Bool
 gives (Gives r) = true
 gives (Breaks kind) = false
 
--- Why an exchange isn't finished, where no link number is left or one is. That none is left hides behind no want of
--- memory.
+-- Why an exchange isn't finished, where no link number is left or one is. Out of memory never hides that none is left.
 abbrev pub EndFault : Bool → Finish → EngineFault → Type 0
 EndFault spent finish WrongNumber = ⊥
 EndFault spent finish NotAccepted = ⊥

@@ -1,8 +1,8 @@
--- That no link number is left hides behind no want of memory.
+-- Out of memory never hides that no link number is left.
 --
 -- is_unknown, HasThere: nothing is known of an end            StopsAt: a look over the links has found no memory
 -- IsSeen: it is known what is due, and whether it needs a link
--- TellsSpent: want of memory is told only where a number is left
+-- TellsSpent: out of memory is told only where a number is left
 -- HidesNoWake, HidesNoAnswer: what isn't so
 use Rattle.std.specs.Prelude.{◌≡◌, ◌≢◌, ℕ, ◌<◌, ◌≤◌, ◌^◌, List, Bool, true, false, Option, None, Some, slice_index_or}
 use Rattle.proxy_engine.specs.EngineModel.{EngineModel, LinkModel, no_link}

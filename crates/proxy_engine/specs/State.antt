@@ -103,7 +103,7 @@ pub record TakesTo (s : EngineModel) (h : Said) (cs : List (Option Connection)) 
 abbrev pub Takes : EngineModel → Said → State → Type 0
 Takes s h new = TakesTo s h new.connections new.links new.core new.first
 
--- the refusal that stands, or want of memory where none does
+-- the refusal that stands, or out of memory where none does
 abbrev pub IsRefusal : Option EngineFault → EngineFault → Type 0
 IsRefusal None e = e ≡ OutOfMemory
 IsRefusal (Some f) e = e ≡ f
@@ -226,7 +226,7 @@ abbrev pub Did : EngineModel → ℕ → Work → State → Type 0
 Did s now work.Idle new = IsDueFirst s None × Represents new s
 Did s now (work.Did effects) new = (act : Act) × IsDueFirst s (Some act) × Done s now act effects.items new
 
--- no act was done: for want of memory, or since the act that is due may need a link and no number is left
+-- no act was done: because memory ran out, or because the act that is due may need a link and no number is left
 abbrev pub Failed : EngineModel → EngineFault → Type 0
 Failed s WrongNumber = ⊥
 Failed s NotAccepted = ⊥

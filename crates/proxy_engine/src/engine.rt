@@ -76,7 +76,7 @@ impl<S: Shelf> Engine<S> {
         }
     }
 
-    /// Takes what happened. An `Err` changes nothing, and says want of memory only where no other refusal stands.
+    /// Takes what happened. An `Err` changes nothing, and says out of memory only where no other refusal stands.
     pub fn take(&mut self, alloc: Global, happening: Happening<'_>) -> Result<(), EngineFault>
         ensures ok { OnOk result ((s : EngineModel) → Represents self.old s → Takes s (said happening.entry) self.new) }
         ensures fault { IfErr result (λ fault. (s : EngineModel) → Represents self.old s
@@ -165,7 +165,7 @@ impl<S: Shelf> Engine<S> {
     }
 
     /// The ends from which bytes may come: each link that isn't dropped, failed or shut, then each open client without
-    /// an exchange whose input hasn't ended. Its only error is want of memory.
+    /// an exchange whose input hasn't ended. Its only error is out of memory.
     pub fn readable_ends(&self, alloc: Global) -> Result<Vec<End>, AllocError>
         ensures { IfOk result (λ ends. (s : EngineModel) → Represents self.now s → ends.items ≡ ends_read s) }
     {
@@ -177,7 +177,7 @@ impl<S: Shelf> Engine<S> {
         Ok(ends)
     }
 
-    /// The links that have failed and aren't dropped. Its only error is want of memory.
+    /// The links that have failed and aren't dropped. Its only error is out of memory.
     pub fn failed_links(&self, alloc: Global) -> Result<Vec<End>, AllocError>
         ensures { IfOk result (λ ends. (s : EngineModel) → Represents self.now s → ends.items ≡ failed_links s) }
     {

@@ -20,7 +20,7 @@ pub struct Seen<'a> {
     pub origin: &'a [u8],
 }
 
-/// The line about a reply that answers a question. Its only error is want of memory.
+/// The line about a reply that answers a question. Its only error is out of memory.
 pub fn line_about(
     alloc: Global,
     question: Question,

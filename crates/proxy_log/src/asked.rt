@@ -28,7 +28,7 @@ pub struct Asked {
     head: Vec<u8>,
     /// What is asked for by a request whose head has come, and whose content hasn't, or that is refused.
     begun: Option<Question>,
-    /// Nothing more is heard: a piece was lost for want of memory, or a request was refused.
+    /// Nothing more is heard: a piece was lost because memory ran out, or a request was refused.
     over: bool,
 }
 
@@ -63,7 +63,7 @@ fn uri_of(alloc: Global, target: &Target) -> Result<Bytes, AllocError>
     Ok(Bytes::from_vec(text))
 }
 
-/// What a line of the log has as the target of a request. Its only error is want of memory.
+/// What a line of the log has as the target of a request. Its only error is out of memory.
 fn target_of(alloc: Global, request: &Request) -> Result<Bytes, AllocError>
     ensures { IfOk result (λ text. NamesTarget request.now text) }
 {

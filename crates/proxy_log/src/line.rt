@@ -192,7 +192,7 @@ fn push_parts(text: &mut Vec<u8>, line: &Line) -> Result<(), AllocError>
     push_end(text, line)
 }
 
-/// Adds the text of a line, with its LF. Its only error is want of memory, where there is no room for the text.
+/// Adds the text of a line, with its LF. Its only error is out of memory, where there is no room for the text.
 pub(crate) fn push_line(text: &mut Vec<u8>, line: &Line) -> Result<(), AllocError>
     ensures ok { OnOk result (text.new.items ≡ text.old.items ++ line_text line.now) }
     ensures full { OnErr result (vec_capacity text.old < length text.old.items + length (line_text line.now)) }
@@ -202,7 +202,7 @@ pub(crate) fn push_line(text: &mut Vec<u8>, line: &Line) -> Result<(), AllocErro
     push_parts(text, line)
 }
 
-/// The text of a line, with its LF. Its only error is want of memory.
+/// The text of a line, with its LF. Its only error is out of memory.
 pub fn line_text(alloc: Global, line: &Line) -> Result<Bytes, AllocError>
     ensures { IfOk result (λ text. text ≡ line_text line.now) }
 {

@@ -68,7 +68,7 @@ impl Lines {
         self.added
     }
 
-    /// How many lines were lost for want of memory.
+    /// How many lines were lost because memory ran out.
     pub fn lost(&self) -> u64 {
         self.lost
     }

@@ -5,7 +5,7 @@ ghost use Rattle.proxy_log.specs.Seconds.{three_digits, seconds_text};
 use itoa::Buffer;
 use std::alloc::AllocError;
 
-/// Adds milliseconds to a text, as seconds. Its only error is want of memory.
+/// Adds milliseconds to a text, as seconds. Its only error is out of memory.
 pub fn push_seconds(text: &mut Vec<u8>, milliseconds: u64) -> Result<(), AllocError>
     ensures ok { OnOk result (text.new.items ≡ text.old.items ++ seconds_text milliseconds) }
     ensures full { OnErr result (vec_capacity text.old < length text.old.items + length (seconds_text milliseconds)) }

@@ -27,7 +27,7 @@ fn written(alloc: Global, text: String) -> String {
     }
 }
 
-/// The commit; empty where none was written in. Its only error is want of memory.
+/// The commit; empty where none was written in. Its only error is out of memory.
 pub(crate) fn commit_of<R: Files + AllocGlobal>(rt: &R) -> Result<String, AllocError> {
     // A compiler that knows from where on the bytes are taken puts their values into the code, where a tool doesn't
     // find them.

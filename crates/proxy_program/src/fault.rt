@@ -39,7 +39,7 @@ pub(crate) fn words_of(
     format!(in alloc; "{front}{name}{behind}: {error}").ok()
 }
 
-/// What a call of the system that failed is told as: want of memory for what it is, else as this fault.
+/// What a call of the system that failed is told as: out of memory for what it is, else as this fault.
 pub(crate) fn fault_of(error: &io::Error, other: Fault) -> Fault {
     if error.kind() == ErrorKind::OutOfMemory {
         Fault::NoMemory

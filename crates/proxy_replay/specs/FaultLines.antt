@@ -32,7 +32,7 @@ config_line OutOfMemory = codes "no memory"
 config_line (BadCache line) = codes "config fault 11 line " ++ decimal line
 config_line (BadWord line word) = codes "config fault 12 line " ++ (decimal line ++ (codes " key " ++ word_key word))
 
--- an engine's fault; want of memory isn't named as one
+-- an engine's fault; out of memory isn't named as one
 abbrev pub engine_line : EngineFault → List ℕ
 engine_line engine.WrongNumber = codes "engine fault 1"
 engine_line engine.NotAccepted = codes "engine fault 2"

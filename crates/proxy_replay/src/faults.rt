@@ -13,7 +13,7 @@ pub enum ReplayFault {
     /// The line of this number, counted from 1, is none of a script or doesn't stand where it may, or its block
     /// is missing or short. Blocks aren't counted as lines.
     Line(u64),
-    /// The engine refuses a happening, or no number of a link is left. It never names want of memory.
+    /// The engine refuses a happening, or no number of a link is left. It never names out of memory.
     Engine(EngineFault),
     /// The reader failed, or the script is longer than the limit.
     Read,

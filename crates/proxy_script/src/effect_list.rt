@@ -84,7 +84,7 @@ fn room_for(effects: &[Effect]) -> usize {
     room
 }
 
-/// The text of effects, in order. Its only error is want of memory.
+/// The text of effects, in order. Its only error is out of memory.
 pub fn effects_text(alloc: Global, effects: &[Effect]) -> Result<Vec<u8>, AllocError>
     ensures { IfOk result (λ text. text.items ≡ effects_text effects.now) }
 {

@@ -133,7 +133,7 @@ fn push_block_of(text: &mut Vec<u8>, item: Item<'_>) -> Result<(), AllocError>
 }
 
 /// The text of an item, which `read_item` reads as that item. A moment is below 253402300800, and the kind of a link's
-/// failure is one that can happen by itself. Its only error is want of memory.
+/// failure is one that can happen by itself. Its only error is out of memory.
 pub fn item_text(alloc: Global, item: Item<'_>) -> Result<Vec<u8>, AllocError>
     ensures { IfOk result (λ text. text.items ≡ spelled (said item.entry)) }
 {

@@ -475,7 +475,7 @@ fn push_log<R: Net>(
 }
 
 impl<'a, S: Shelf + Drop, R: Net, W: Write + Drop> Server<'a, S, R, W> {
-    /// The page of figures. Its only error is want of memory. Replies are counted where the sockets keep counts.
+    /// The page of figures. Its only error is out of memory. Replies are counted where the sockets keep counts.
     pub fn stats(&self, alloc: Global, about: &About<'_>) -> Result<Vec<u8>, AllocError> {
         let sockets = &self.ends.sockets;
         let listen = sockets.address().to_string(alloc)?;

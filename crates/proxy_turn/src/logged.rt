@@ -66,7 +66,7 @@ impl<K: Sockets + Drop> Logged<K> {
         self.calls.as_slice()
     }
 
-    /// Whether a call isn't in the log, for want of memory.
+    /// Whether a call isn't in the log, because memory ran out.
     pub fn has_lost(&self) -> bool
         ensures { result ≡ self.now.lost }
     {

@@ -10,7 +10,7 @@ pub enum Stop {
     NoMemory,
     /// What is read is no script that plays to its end, or a stream failed.
     Script,
-    /// A call that takes no memory told want of it, or gave something else than it has to.
+    /// A call that takes no memory said that memory ran out, or gave something else than it has to.
     Wrong,
 }
 

@@ -80,9 +80,9 @@ impl Content {
         }
     }
 
-    /// Goes on with the bytes that are there; `closed` says that they end a content until the close, `ended` that no more
-    /// come, so that a content that goes on is cut off. No LF stands in the first `searched` of them. An `Err` changes
-    /// nothing.
+    /// Goes on with the bytes that are there; `closed` says that they end a content until the
+    /// close, `ended` that no more come, so that a content that goes on is cut off. No LF stands in
+    /// the first `searched` of them. An `Err` changes nothing.
     pub(crate) fn read(
         &mut self,
         alloc: Global,

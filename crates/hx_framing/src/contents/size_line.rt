@@ -2,7 +2,8 @@
 ghost use Rattle.std.specs.Prelude.{◌≡◌, ◌≤◌, length};
 ghost use Rattle.std.specs.List.{list_all};
 ghost use Rattle.std.specs.Str.Parse.{digits_value};
-ghost use Rattle.hx_framing.specs.SizeLine.{starts_well, is_line_byte, is_extension, hex_length, is_size, ends_in_cr, but_last, capped, size_at};
+ghost use Rattle.hx_framing.specs.SizeLine.{starts_well, is_line_byte, is_extension, hex_length, is_size, ends_in_cr};
+ghost use Rattle.hx_framing.specs.SizeLine.{but_last, capped, size_at};
 
 use crate::fault::FrameFault;
 use crate::limits::{MOST_EXTENSION_BYTES, MOST_SIZE_DIGITS};

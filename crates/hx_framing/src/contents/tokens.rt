@@ -1,7 +1,8 @@
 //! The tokens of content in chunks: a size line, a run of data, the CRLF behind data, a trailer line.
 //!
 //! `specs/ChunkTokens.antt` says what it means to take one. Nothing here takes memory.
-ghost use Rattle.std.specs.Prelude.{◌≡◌, ◌≤◌, ◌<◌, ◌+◌, ◌-◌, ℕ, List, true, cond, nat_lt, length, take, vec_len, vec_capacity, IfSome, IfNone};
+ghost use Rattle.std.specs.Prelude.{◌≡◌, ◌≤◌, ◌<◌, ◌+◌, ◌-◌, ℕ, List, true, cond, nat_lt, length, take, vec_len};
+ghost use Rattle.std.specs.Prelude.{vec_capacity, IfSome, IfNone};
 ghost use Rattle.hx_framing.specs.declared.contents.tokens.Phase.TheVariants as phase;
 ghost use Rattle.hx_framing.specs.declared.contents.tokens.ChunkToken.TheVariants as token;
 ghost use Rattle.hx_framing.specs.declared.fault.FrameFault.TheVariants as fault;
@@ -228,7 +229,8 @@ pub(crate) fn take_tokens(
     requires within { searched ≤ length bytes.now }
     requires none { has_no_lf (take searched bytes.now) ≡ true }
     requires room { vec_len content.now + length bytes.now ≤ vec_capacity content.now }
-    ensures decodes { Decodes (chunking_of place.old content.old.items) bytes.now (chunking_of place.new content.new.items) result }
+    ensures decodes { Decodes (chunking_of place.old content.old.items) bytes.now
+        (chunking_of place.new content.new.items) result }
     ensures need { NeedsData place.new.phase place.new.need }
 {
     let mut taken = 0;

@@ -1,6 +1,7 @@
 //! Where the head of a message ends. The definitions are in `specs/Places.antt` and `specs/Searching.antt`.
 ghost use Rattle.std.specs.Prelude.{◌≡◌, ◌≤◌, ◌<◌, ◌+◌, ◌++◌, ℕ, List, length, drop, take, slice_index, IfSome};
-ghost use Rattle.hx_framing.specs.Places.{empty_line_at, empty_lines_from, head_end_at, empty_lines_length, head_end_from, head_length};
+ghost use Rattle.hx_framing.specs.Places.{empty_line_at, empty_lines_from, head_end_at, empty_lines_length};
+ghost use Rattle.hx_framing.specs.Places.{head_end_from, head_length};
 ghost use Rattle.hx_framing.specs.Searching.{Reaches, IsSearched};
 
 use crate::slices::{first, rest_from};

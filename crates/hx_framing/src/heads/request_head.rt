@@ -127,7 +127,7 @@ fn head_fault(bytes: &[u8]) -> FrameFault
     }
 }
 
-/// Judges the bytes of a whole head. Only a head is copied, so want of memory hides no fault of other bytes.
+/// Judges the bytes of a whole head. Only a head is copied, so out of memory hides no fault of other bytes.
 pub(crate) fn judge_head(
     alloc: Global,
     bytes: &[u8],

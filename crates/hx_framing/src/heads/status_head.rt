@@ -103,7 +103,7 @@ fn judge_found(
     Ok(Judged::Final(copy_head(alloc, bytes, spans, found)?))
 }
 
-/// Judges the bytes of a whole head. Only that of a final response is copied, so want of memory hides no fault of
+/// Judges the bytes of a whole head. Only that of a final response is copied, so out of memory hides no fault of
 /// other bytes.
 pub(crate) fn judge_head(alloc: Global, bytes: &[u8]) -> Result<Judged, AllocError>
     ensures judged { IfOk result (JudgesAs bytes.now) }

@@ -1,6 +1,7 @@
 //! Start lines that name another version of HTTP. The definitions are in `specs/Version.antt`.
 ghost use Rattle.std.specs.Prelude.{◌≡◌};
-ghost use Rattle.hx_framing.specs.Version.{start_line, without_return, is_other_version, ends_with_other_version, begins_with_other_version};
+ghost use Rattle.hx_framing.specs.Version.{start_line, without_return, is_other_version, ends_with_other_version};
+ghost use Rattle.hx_framing.specs.Version.{begins_with_other_version};
 
 use crate::heads::head_end::empty_lines_length;
 use crate::slices::{before_byte, first, rest_from};

@@ -12,7 +12,8 @@ ghost use Rattle.hx_framing.specs.ResponseReading as response;
 ghost use Rattle.hx_framing.specs.SizeLine.{most_size_digits, most_extension_bytes, most_size_line_bytes};
 ghost use Rattle.hx_framing.specs.StatusHead as responses;
 ghost use Rattle.hx_framing.specs.StatusHead.{status_head_of, status_head_fault};
-ghost use Rattle.hx_framing.specs.Version.{start_line, without_return, begins_with_other_version, ends_with_other_version};
+ghost use Rattle.hx_framing.specs.Version.{start_line, without_return, begins_with_other_version};
+ghost use Rattle.hx_framing.specs.Version.{ends_with_other_version};
 
 /// The numbers of the limits.
 pub fn limits()
@@ -26,13 +27,16 @@ pub fn limits()
 
 /// A head of more than 32,768 bytes is refused, the empty lines in front counted; up to there it waits.
 pub fn long_heads_are_refused()
-    ensures request { (max_body : ℕ) → (ended : Bool) → (told : Bool) → (bytes : List ℕ) → head_length (take 32768 bytes) ≡ None
+    ensures request { (max_body : ℕ) → (ended : Bool) → (told : Bool) → (bytes : List ℕ)
+        → head_length (take 32768 bytes) ≡ None
         → 32768 < length bytes → request.Reads max_body ended told bytes (Faulty fault.Head) }
     ensures request_waits { (max_body : ℕ) → (told : Bool) → (bytes : List ℕ) → head_length (take 32768 bytes) ≡ None
         → length bytes ≤ 32768 → request.Reads max_body false told bytes Incomplete }
-    ensures response { (max_body : ℕ) → (to_head : Bool) → (ended : Bool) → (bytes : List ℕ) → head_length (take 32768 bytes) ≡ None
+    ensures response { (max_body : ℕ) → (to_head : Bool) → (ended : Bool) → (bytes : List ℕ)
+        → head_length (take 32768 bytes) ≡ None
         → 32768 < length bytes → response.Reads max_body to_head ended bytes (Faulty fault.Head) }
-    ensures response_waits { (max_body : ℕ) → (to_head : Bool) → (bytes : List ℕ) → head_length (take 32768 bytes) ≡ None
+    ensures response_waits { (max_body : ℕ) → (to_head : Bool) → (bytes : List ℕ)
+        → head_length (take 32768 bytes) ≡ None
         → length bytes ≤ 32768 → response.Reads max_body to_head false bytes Incomplete }
 {}
 
@@ -40,11 +44,13 @@ pub fn long_heads_are_refused()
 pub fn heads_have_at_most_100_lines()
     ensures request { (bytes : List ℕ) → (head : RequestHead) → ReadsRequest bytes head [] → length head.fields ≤ 100
         → requests.Judges bytes (Ok (head_of head)) }
-    ensures long_request { (bytes : List ℕ) → (head : RequestHead) → ReadsRequest bytes head [] → 100 < length head.fields
+    ensures long_request { (bytes : List ℕ) → (head : RequestHead) → ReadsRequest bytes head []
+        → 100 < length head.fields
         → requests.Judges bytes (Err (head_fault bytes)) }
     ensures response { (bytes : List ℕ) → (head : ResponseHead) → ReadsResponse bytes head [] → length head.fields ≤ 100
         → responses.Judges bytes (Ok (status_head_of head)) }
-    ensures long_response { (bytes : List ℕ) → (head : ResponseHead) → ReadsResponse bytes head [] → 100 < length head.fields
+    ensures long_response { (bytes : List ℕ) → (head : ResponseHead) → ReadsResponse bytes head []
+        → 100 < length head.fields
         → responses.Judges bytes (Err (status_head_fault bytes)) }
 {}
 

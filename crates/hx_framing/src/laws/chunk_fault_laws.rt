@@ -1,4 +1,5 @@
-//! Laws of chunks that are refused or wait: where, by the grammar alone. They hold of the definitions, so each body is empty.
+//! Laws of chunks that are refused or wait: where, by the grammar alone. They hold of the
+//! definitions, so each body is empty.
 ghost use Rattle.std.specs.Prelude.{◌≡◌, ◌++◌, ◌∷◌, [], ℕ, List};
 ghost use Rattle.hx_framing.specs.declared.fault.FrameFault.{FrameFault};
 ghost use Rattle.hx_framing.specs.Body.{Short, Bad};
@@ -44,6 +45,7 @@ pub fn neither_is_short()
 
 /// The beginning of a content in chunks waits for its rest.
 pub fn beginning_is_short()
-    ensures { (max_body : ℕ) → (bytes : List ℕ) → (next : ℕ) → (more : List ℕ) → (body : Chunked) → IsChunked max_body body
+    ensures { (max_body : ℕ) → (bytes : List ℕ) → (next : ℕ) → (more : List ℕ) → (body : Chunked)
+        → IsChunked max_body body
         → bytes ++ next ∷ more ≡ print body [] → chunks max_body bytes ≡ Short }
 {}

@@ -5,7 +5,8 @@ ghost use Rattle.hx_framing.specs.declared.fault.FrameFault.TheVariants as fault
 ghost use Rattle.hx_framing.specs.Body.{Short, Bad, Whole, IsDecided, extended_body};
 ghost use Rattle.hx_framing.specs.ChunkGrammar.{Chunked, IsChunked, print, content};
 ghost use Rattle.hx_framing.specs.Chunking.{Chunking};
-ghost use Rattle.hx_framing.specs.Chunks.{Fail, Go, chunks, chunks_from, start, state_after, trailer_step, most_trailer_bytes};
+ghost use Rattle.hx_framing.specs.Chunks.{Fail, Go, chunks, chunks_from, start, state_after, trailer_step};
+ghost use Rattle.hx_framing.specs.Chunks.{most_trailer_bytes};
 
 /// What spells content in chunks is read, whatever follows it.
 pub fn printed_is_read()
@@ -109,9 +110,11 @@ pub fn chunks_go_on()
         ≡ Some (record { phase = phase.Size; need = 0; left = 4; used = 0; content = codes "hello"; line = codes "4" }) }
     ensures trailers { state_after (codes "0\r\nA: 1\r\nB") (start 9)
         ≡ Some (record { phase = phase.Trailers; need = 0; left = 9; used = 6; content = []; line = codes "B" }) }
-    ensures last_trailer_byte { trailer_step (record (start 9) { phase = phase.Trailers; used = 32766; line = codes "a" }) 98
+    ensures last_trailer_byte { trailer_step
+        (record (start 9) { phase = phase.Trailers; used = 32766; line = codes "a" }) 98
         ≡ Go (record (start 9) { phase = phase.Trailers; used = 32766; line = codes "ab" }) }
-    ensures trailer_past_the_limit { trailer_step (record (start 9) { phase = phase.Trailers; used = 32766; line = codes "ab" }) 99
+    ensures trailer_past_the_limit { trailer_step
+        (record (start 9) { phase = phase.Trailers; used = 32766; line = codes "ab" }) 99
         ≡ Fail fault.Chunk }
     ensures whole { state_after (codes "0\r\n\r\n") (start 9) ≡ None }
     ensures fault { state_after (codes "x\r\n") (start 9) ≡ None }

@@ -1,5 +1,6 @@
-//! Laws on what there is: all bytes are judged, and each stream has a reading and an answer, so that no contract holds for want of
-//! one. That there is one at most is said by the laws on streams. They hold of the definitions, so each body is empty.
+//! Laws on what there is: all bytes are judged, and each stream has a reading and an answer, so
+//! that no contract holds for want of one. That there is one at most is said by the laws on
+//! streams. They hold of the definitions, so each body is empty.
 ghost use Rattle.std.specs.Prelude.{ℕ, Bool, List, Result};
 ghost use Rattle.hx_framing.specs.declared.heads.request_head.Head.{Head};
 ghost use Rattle.hx_framing.specs.declared.heads.status_head.StatusHead.{StatusHead};
@@ -26,7 +27,8 @@ pub fn all_bytes_are_judged()
 pub fn each_request_stream_is_read()
     ensures reading { (max_body : ℕ) → (ended : Bool) → (told : Bool) → (bytes : List ℕ)
         → (reading : Reading Request) × request.Reads max_body ended told bytes reading }
-    ensures answer { (p : Progress Request) → (rest : List ℕ) → request_stream.StreamSpells p.max_body p.stream p.given rest
+    ensures answer { (p : Progress Request) → (rest : List ℕ)
+        → request_stream.StreamSpells p.max_body p.stream p.given rest
         → (answer : Next Request) × request_stream.Answers p answer }
 {}
 

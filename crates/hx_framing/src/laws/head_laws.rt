@@ -32,10 +32,11 @@ pub fn versions_of_requests()
     ensures empty { head_fault (codes "\r\n") ≡ fault.Head }
 {}
 
-/// HTTP-version = "HTTP/" DIGIT "." DIGIT (RFC 9112, section 2.3): what is another version than 1.0 and 1.1 has this form, and
-/// each two digits but theirs are one.
+/// HTTP-version = "HTTP/" DIGIT "." DIGIT (RFC 9112, section 2.3): what is another version than 1.0
+/// and 1.1 has this form, and each two digits but theirs are one.
 pub fn versions_have_two_digits()
-    ensures form { (text : List ℕ) → is_other_version text ≡ true → (major : ℕ) × (minor : ℕ) × (major ≤ 9) × (minor ≤ 9)
+    ensures form { (text : List ℕ) → is_other_version text ≡ true
+        → (major : ℕ) × (minor : ℕ) × (major ≤ 9) × (minor ≤ 9)
         × (text ≡ codes "HTTP/" ++ (48 + major) ∷ 46 ∷ (48 + minor) ∷ []) }
     ensures others { (major : ℕ) → (minor : ℕ) → major ≤ 9 → minor ≤ 9 → ¬ ((major ≡ 1) × (minor ≤ 1))
         → is_other_version (codes "HTTP/" ++ (48 + major) ∷ 46 ∷ (48 + minor) ∷ []) ≡ true }

@@ -4,7 +4,8 @@ ghost use Rattle.hx_fields.specs.Examples.{line};
 ghost use Rattle.hx_framing.specs.declared.fault.FrameFault.TheVariants as fault;
 ghost use Rattle.hx_framing.specs.declared.lengths.framing.Framing.TheVariants as framing;
 ghost use Rattle.hx_framing.specs.Lengths.{announced_of, is_interim, without_lengths};
-ghost use Rattle.hx_framing.specs.LengthExamples.{length_line, coding_line, expect_line, response_head, asks, answers, answers_head, plain, of_length, waiting};
+ghost use Rattle.hx_framing.specs.LengthExamples.{length_line, coding_line, expect_line, response_head, asks, answers};
+ghost use Rattle.hx_framing.specs.LengthExamples.{answers_head, plain, of_length, waiting};
 
 /// A length may be listed more than once, with zeros in front, but with nothing beside the digits.
 pub fn listed_lengths()

@@ -9,7 +9,9 @@ ghost use Rattle.hx_framing.specs.LengthExamples.{coding_line, expect_line, leng
 ghost use Rattle.hx_framing.specs.RequestReading as request;
 ghost use Rattle.hx_framing.specs.ResponseReading as response;
 ghost use Rattle.hx_framing.specs.Reading.{Incomplete, Continue, Over, Spelled, Faulty};
-ghost use Rattle.hx_framing.specs.ReadingExamples.{asks, asks_last, asks_told, answers, answers_last, answers_head, hello_request, hello_asked, hello_response, hello_answered, put, put_with, ok, response_with};
+ghost use Rattle.hx_framing.specs.ReadingExamples.{asks, asks_last, asks_told, answers, answers_last, answers_head};
+ghost use Rattle.hx_framing.specs.ReadingExamples.{hello_request, hello_asked, hello_response, hello_answered, put};
+ghost use Rattle.hx_framing.specs.ReadingExamples.{put_with, ok, response_with};
 
 /// The request of RFC 9110, section 3.9, is read whole, and what follows it is left; without its last byte it waits.
 pub fn a_request_head_is_read()
@@ -23,8 +25,20 @@ pub fn a_request_head_is_read()
 /// Empty lines in front are dropped, lines may end by LF alone, and white space round a value is not of it (RFC 9112,
 /// sections 2.2 and 5).
 pub fn heads_in_other_forms_are_read()
-    ensures line_feeds { asks (codes "\r\n\nGET / HTTP/1.0\nA:\t b \t\n\nx") (Spelled (record { method = codes "GET"; target = codes "/"; minor = 0; fields = line (codes "A") (codes "b") ∷ []; content = None }) (codes "x")) }
-    ensures values { asks (codes "GET * HTTP/1.1\r\na:b:c\r\nA: b c\r\n\r\n") (Spelled (record { method = codes "GET"; target = codes "*"; minor = 1; fields = line (codes "a") (codes "b:c") ∷ line (codes "A") (codes "b c") ∷ []; content = None }) []) }
+    ensures line_feeds { asks (codes "\r\n\nGET / HTTP/1.0\nA:\t b \t\n\nx") (Spelled (record {
+      method = codes "GET";
+      target = codes "/";
+      minor = 0;
+      fields = line (codes "A") (codes "b") ∷ [];
+      content = None;
+    }) (codes "x")) }
+    ensures values { asks (codes "GET * HTTP/1.1\r\na:b:c\r\nA: b c\r\n\r\n") (Spelled (record {
+      method = codes "GET";
+      target = codes "*";
+      minor = 1;
+      fields = line (codes "a") (codes "b:c") ∷ line (codes "A") (codes "b c") ∷ [];
+      content = None;
+    }) []) }
     ensures no_phrase { answers (codes "HTTP/1.0 204\r\n\r\nx") (Spelled (response_with 204 [] [] None) (codes "x")) }
     ensures empty_phrase { answers (codes "\nHTTP/1.1 204 \nX:\n\n") (Spelled (response_with 204 (line (codes "X") [] ∷ []) [] None) []) }
 {}
@@ -50,7 +64,8 @@ pub fn lengths_of_contents_are_read()
     ensures minus { asks (put (codes "Content-Length: -5\r\n")) (Faulty fault.Length) }
     ensures most { asks (put (codes "Content-Length: 1000\r\n")) Incomplete }
     ensures large { asks (put (codes "Content-Length: 1001\r\n")) (Faulty fault.TooLarge) }
-    ensures others_stay { asks (put (codes "A: 1\r\nContent-Length: 2\r\nB: 2\r\n") ++ codes "hi") (Spelled (put_with (line (codes "A") (codes "1") ∷ line (codes "B") (codes "2") ∷ []) (Some (codes "hi"))) []) }
+    ensures others_stay { asks (put (codes "A: 1\r\nContent-Length: 2\r\nB: 2\r\n") ++ codes "hi")
+        (Spelled (put_with (line (codes "A") (codes "1") ∷ line (codes "B") (codes "2") ∷ []) (Some (codes "hi"))) []) }
 {}
 
 /// Transfer-Encoding and Content-Length in one message are refused, whatever they say (RFC 9112, section 6.3, lets them
@@ -89,7 +104,8 @@ pub fn chunked_contents_are_read()
 
 /// Interim responses are passed over, as that of RFC 8297, section 2; 101 is refused.
 pub fn interim_responses_are_passed()
-    ensures early_hints { answers (codes "HTTP/1.1 103 Early Hints\r\nLink: </style.css>; rel=preload; as=style\r\nLink: </script.js>; rel=preload; as=script\r\n\r\n" ++ ok (codes "Content-Length: 2\r\n") ++ codes "hi") (Spelled (response_with 200 [] (codes "hi") None) []) }
+    ensures early_hints { answers (codes "HTTP/1.1 103 Early Hints\r\nLink: </style.css>; rel=preload; as=style\r\nLink: </script.js>; rel=preload; as=script\r\n\r\n" ++ ok (codes "Content-Length: 2\r\n") ++ codes "hi")
+        (Spelled (response_with 200 [] (codes "hi") None) []) }
     ensures two { answers (codes "HTTP/1.1 100 Continue\r\n\r\nHTTP/1.1 199 \r\nContent-Length: x\r\n\r\nHTTP/1.1 204 \r\n\r\n") (Spelled (response_with 204 [] [] None) []) }
     ensures alone { answers (codes "HTTP/1.1 100 Continue\r\n\r\n") Incomplete }
     ensures alone_at_the_end { answers_last (codes "HTTP/1.1 100 Continue\r\n\r\n") (Faulty fault.Truncated) }
@@ -100,11 +116,15 @@ pub fn interim_responses_are_passed()
 /// 6.3).
 pub fn responses_without_content_are_read()
     ensures no_content { answers (codes "HTTP/1.1 204 No Content\r\nContent-Length: 5\r\n\r\n" ++ codes "hello") (Spelled (response_with 204 [] [] None) (codes "hello")) }
-    ensures not_modified { answers (codes "HTTP/1.1 304 Not Modified\r\nETag: \"v\"\r\nContent-Length: x\r\n\r\n" ++ codes "hello") (Spelled (response_with 304 (line (codes "ETag") (codes "\"v\"") ∷ []) [] None) (codes "hello")) }
+    ensures not_modified { answers (codes "HTTP/1.1 304 Not Modified\r\nETag: \"v\"\r\nContent-Length: x\r\n\r\n"
+        ++ codes "hello")
+        (Spelled (response_with 304 (line (codes "ETag") (codes "\"v\"") ∷ []) [] None) (codes "hello")) }
     ensures to_head { answers_head (ok (codes "Content-Length: 5\r\n") ++ codes "hello") (Spelled (response_with 200 [] [] (Some 5)) (codes "hello")) }
-    ensures to_head_coded { answers_head (ok (codes "Transfer-Encoding: chunked\r\n") ++ codes "hello") (Spelled (response_with 200 [] [] None) (codes "hello")) }
+    ensures to_head_coded { answers_head (ok (codes "Transfer-Encoding: chunked\r\n") ++ codes "hello")
+        (Spelled (response_with 200 [] [] None) (codes "hello")) }
     ensures reset { answers (codes "HTTP/1.1 205 \r\nContent-Length: 2\r\n\r\n" ++ codes "hi!") (Spelled (response_with 205 [] (codes "hi") None) (codes "!")) }
-    ensures other_interim_neighbour { answers (codes "HTTP/1.1 303 \r\nContent-Length: 2\r\n\r\n" ++ codes "hi!") (Spelled (response_with 303 [] (codes "hi") None) (codes "!")) }
+    ensures other_interim_neighbour { answers (codes "HTTP/1.1 303 \r\nContent-Length: 2\r\n\r\n" ++ codes "hi!")
+        (Spelled (response_with 303 [] (codes "hi") None) (codes "!")) }
 {}
 
 /// A response without length fields runs until its stream ends (RFC 9112, section 6.3).
@@ -130,11 +150,18 @@ pub fn expectations_are_read()
     ensures waits { asks (put (codes "Expect: 100-continue\r\nContent-Length: 2\r\n")) Continue }
     ensures one_byte { asks (put (codes "Expect: 100-continue\r\nContent-Length: 1\r\n")) Continue }
     ensures content_there { asks (put (codes "Expect: 100-Continue\r\nContent-Length: 2\r\n") ++ codes "hi") Continue }
-    ensures given { asks_told (put (codes "Expect: 100-continue\r\nContent-Length: 2\r\n") ++ codes "hi!") (Spelled (put_with (line (codes "Expect") (codes "100-continue") ∷ []) (Some (codes "hi"))) (codes "!")) }
+    ensures given { asks_told (put (codes "Expect: 100-continue\r\nContent-Length: 2\r\n") ++ codes "hi!")
+        (Spelled (put_with (line (codes "Expect") (codes "100-continue") ∷ []) (Some (codes "hi"))) (codes "!")) }
     ensures given_open { asks_told (put (codes "Expect: 100-continue\r\nContent-Length: 2\r\n") ++ codes "h") Incomplete }
     ensures no_content { asks (put (codes "Expect: 100-continue\r\n")) (Spelled (put_with (line (codes "Expect") (codes "100-continue") ∷ []) None) []) }
     ensures other { asks (put (codes "Expect: x\r\nContent-Length: 2\r\n")) (Faulty fault.Expect) }
-    ensures old { asks (codes "PUT /a HTTP/1.0\r\nExpect: x\r\nContent-Length: 2\r\n\r\n" ++ codes "hi") (Spelled (record { method = codes "PUT"; target = codes "/a"; minor = 0; fields = line (codes "Expect") (codes "x") ∷ []; content = Some (codes "hi") }) []) }
+    ensures old { asks (codes "PUT /a HTTP/1.0\r\nExpect: x\r\nContent-Length: 2\r\n\r\n" ++ codes "hi") (Spelled (record {
+      method = codes "PUT";
+      target = codes "/a";
+      minor = 0;
+      fields = line (codes "Expect") (codes "x") ∷ [];
+      content = Some (codes "hi");
+    }) []) }
 {}
 
 /// A request stream may end before a message, behind empty lines alone too; a response stream may not.
@@ -174,14 +201,20 @@ pub fn judged_requests_are_read()
         ≡ Faulty fault.Chunk }
     ensures large_chunk { request.with_head 1 false false (codes "2\r\n") (Ok (request_head 1 (coding_line (codes "chunked") ∷ [])))
         ≡ Faulty fault.TooLarge }
-    ensures open { request.with_head 9 false false (codes "h") (Ok (request_head 1 (length_line (codes "2") ∷ []))) ≡ Incomplete }
-    ensures cut { request.with_head 9 true false (codes "h") (Ok (request_head 1 (length_line (codes "2") ∷ []))) ≡ Faulty fault.Truncated }
-    ensures waits { request.with_head 9 false false (codes "hi") (Ok (request_head 1 (expect_line (codes "100-continue") ∷ length_line (codes "2") ∷ [])))
+    ensures open { request.with_head 9 false false (codes "h") (Ok (request_head 1 (length_line (codes "2") ∷ [])))
+        ≡ Incomplete }
+    ensures cut { request.with_head 9 true false (codes "h") (Ok (request_head 1 (length_line (codes "2") ∷ [])))
+        ≡ Faulty fault.Truncated }
+    ensures waits { request.with_head 9 false false (codes "hi")
+        (Ok (request_head 1 (expect_line (codes "100-continue") ∷ length_line (codes "2") ∷ [])))
         ≡ Continue }
-    ensures told { request.with_head 9 false true (codes "hi") (Ok (request_head 1 (expect_line (codes "100-continue") ∷ length_line (codes "2") ∷ [])))
+    ensures told { request.with_head 9 false true (codes "hi")
+        (Ok (request_head 1 (expect_line (codes "100-continue") ∷ length_line (codes "2") ∷ [])))
         ≡ Spelled (put_with (expect_line (codes "100-continue") ∷ []) (Some (codes "hi"))) [] }
-    ensures bad_length { request.with_head 9 false false [] (Ok (request_head 1 (length_line (codes "x") ∷ []))) ≡ Faulty fault.Length }
-    ensures large { request.with_head 9 false false [] (Ok (request_head 1 (length_line (codes "10") ∷ []))) ≡ Faulty fault.TooLarge }
+    ensures bad_length { request.with_head 9 false false [] (Ok (request_head 1 (length_line (codes "x") ∷ [])))
+        ≡ Faulty fault.Length }
+    ensures large { request.with_head 9 false false [] (Ok (request_head 1 (length_line (codes "10") ∷ [])))
+        ≡ Faulty fault.TooLarge }
     ensures bad_head { request.with_head 9 false false [] (Err fault.Version) ≡ Faulty fault.Version }
     ensures nothing { request.without_head false [] ≡ Incomplete }
     ensures end { request.without_head true [] ≡ Over }
@@ -194,13 +227,17 @@ pub fn judged_requests_are_read()
 pub fn judged_responses_are_read()
     ensures whole { response.with_head 9 false false (codes "hi!") (Ok (response_head 404 1 (length_line (codes "2") ∷ [])))
         ≡ Spelled (response_with 404 [] (codes "hi") None) (codes "!") }
-    ensures to_head { response.with_head 9 true false (codes "hi") (Ok (response_head 404 1 (length_line (codes "2") ∷ [])))
+    ensures to_head { response.with_head 9 true false (codes "hi")
+        (Ok (response_head 404 1 (length_line (codes "2") ∷ [])))
         ≡ Spelled (response_with 404 [] [] (Some 2)) (codes "hi") }
     ensures open { response.with_head 2 false false (codes "hi") (Ok (response_head 200 1 [])) ≡ Incomplete }
-    ensures closed { response.with_head 2 false true (codes "hi") (Ok (response_head 200 1 [])) ≡ Spelled (response_with 200 [] (codes "hi") None) [] }
+    ensures closed { response.with_head 2 false true (codes "hi") (Ok (response_head 200 1 []))
+        ≡ Spelled (response_with 200 [] (codes "hi") None) [] }
     ensures large { response.with_head 2 false false (codes "hi!") (Ok (response_head 200 1 [])) ≡ Faulty fault.TooLarge }
-    ensures cut { response.with_head 9 false true (codes "h") (Ok (response_head 200 1 (length_line (codes "2") ∷ []))) ≡ Faulty fault.Truncated }
-    ensures bad_status { response.with_head 9 false false [] (Ok (response_head 600 1 (length_line (codes "0") ∷ []))) ≡ Faulty fault.Status }
+    ensures cut { response.with_head 9 false true (codes "h") (Ok (response_head 200 1 (length_line (codes "2") ∷ [])))
+        ≡ Faulty fault.Truncated }
+    ensures bad_status { response.with_head 9 false false [] (Ok (response_head 600 1 (length_line (codes "0") ∷ [])))
+        ≡ Faulty fault.Status }
     ensures bad_head { response.with_head 9 false false [] (Err fault.Version) ≡ Faulty fault.Version }
     ensures begun { response.without_head false (codes "H") ≡ Incomplete }
     ensures cut_head { response.without_head true (codes "H") ≡ Faulty fault.Truncated }

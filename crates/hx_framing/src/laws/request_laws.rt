@@ -72,8 +72,8 @@ pub fn due_stays()
         → Answers (finished p) answer }
 {}
 
-/// What a reader keeps where nothing is due is begun and not whole: at most 32,768 bytes, in which no head ends; of a content in
-/// chunks the begun line, and nothing of another content.
+/// What a reader keeps where nothing is due is begun and not whole: at most 32,768 bytes, in which
+/// no head ends; of a content in chunks the begun line, and nothing of another content.
 pub fn no_reader_keeps_what_is_whole()
     ensures bounded { (s : State) → IsUnfinished s → length s.unread ≤ 32768 }
     ensures head { (s : State) → s.phase ≡ phase.BeforeHead → IsUnfinished s → head_length s.unread ≡ None }
@@ -90,8 +90,8 @@ pub fn no_reader_keeps_what_is_whole()
     ensures fault { (s : State) → (f : FrameFault) → s.phase ≡ phase.Faulty f → ¬ (IsUnfinished s) }
 {}
 
-/// A reader weighs two for each byte that it keeps, for a message and its continue have one at least, and one for a message that
-/// was begun.
+/// A reader weighs two for each byte that it keeps, for a message and its continue have one at
+/// least, and one for a message that was begun.
 pub fn readers_have_weights()
     ensures before { (s : State) → s.phase ≡ phase.BeforeHead → weight s ≡ 2 * length s.unread }
     ensures begun { (s : State) → (head : Head) → (content : Content) → s.phase ≡ phase.InContent head content

@@ -71,19 +71,25 @@ pub fn due_stays()
         → Answers p answer → Answers (finished p) answer }
 {}
 
-/// What is read has a final status, from 200 to 599: interim responses are passed over, and others are refused. Its length fields
-/// are taken out, and what an answer to HEAD announces is told beside them; another answer announces nothing.
+/// What is read has a final status, from 200 to 599: interim responses are passed over, and others
+/// are refused. Its length fields are taken out, and what an answer to HEAD announces is told
+/// beside them; another answer announces nothing.
 pub fn what_is_read_is_final()
-    ensures status { (max_body : ℕ) → (to_head : Bool) → (ended : Bool) → (bytes : List ℕ) → (response : Response) → (rest : List ℕ)
-        → Reads max_body to_head ended bytes (Spelled response rest) → (200 ≤ response.status) × (response.status ≤ 599) }
-    ensures lengths { (max_body : ℕ) → (to_head : Bool) → (ended : Bool) → (bytes : List ℕ) → (response : Response) → (rest : List ℕ)
-        → Reads max_body to_head ended bytes (Spelled response rest) → (fields : List Field) × (response.fields ≡ without_lengths fields) }
+    ensures status { (max_body : ℕ) → (to_head : Bool) → (ended : Bool) → (bytes : List ℕ) → (response : Response)
+        → (rest : List ℕ)
+        → Reads max_body to_head ended bytes (Spelled response rest)
+        → (200 ≤ response.status) × (response.status ≤ 599) }
+    ensures lengths { (max_body : ℕ) → (to_head : Bool) → (ended : Bool) → (bytes : List ℕ) → (response : Response)
+        → (rest : List ℕ)
+        → Reads max_body to_head ended bytes (Spelled response rest)
+        → (fields : List Field) × (response.fields ≡ without_lengths fields) }
     ensures announced { (max_body : ℕ) → (ended : Bool) → (bytes : List ℕ) → (response : Response) → (rest : List ℕ)
         → Reads max_body false ended bytes (Spelled response rest) → response.announced ≡ None }
 {}
 
-/// What a reader keeps where nothing is due is begun and not whole: at most 32,768 bytes, in which no head ends, interim or final;
-/// of a content in chunks the begun line, and nothing of another content.
+/// What a reader keeps where nothing is due is begun and not whole: at most 32,768 bytes, in which
+/// no head ends, interim or final; of a content in chunks the begun line, and nothing of another
+/// content.
 pub fn no_reader_keeps_what_is_whole()
     ensures bounded { (s : State) → IsUnfinished s → length s.unread ≤ 32768 }
     ensures head { (s : State) → s.phase ≡ phase.BeforeHead → IsUnfinished s → head_length s.unread ≡ None }
@@ -95,17 +101,19 @@ pub fn no_reader_keeps_what_is_whole()
         → s.phase ≡ phase.InContent head content.Nothing → IsUnfinished s → s.unread ≡ [] }
     ensures line { (s : State) → (head : StatusHead) → (c : Chunking)
         → s.phase ≡ phase.InContent head (content.Chunked c) → IsUnfinished s → has_no_lf s.unread ≡ true }
-    ensures begun { (s : State) → (head : StatusHead) → (c : Chunking) → s.phase ≡ phase.InContent head (content.Chunked c)
+    ensures begun { (s : State) → (head : StatusHead) → (c : Chunking)
+        → s.phase ≡ phase.InContent head (content.Chunked c)
         → IsUnfinished s → state_after s.unread c ≡ Some (record c { line = s.unread }) }
     ensures given { (s : State) → s.phase ≡ phase.Given → ¬ (IsUnfinished s) }
     ensures fault { (s : State) → (f : FrameFault) → s.phase ≡ phase.Faulty f → ¬ (IsUnfinished s) }
 {}
 
-/// A reader weighs two for each byte before or in its response, two more in it, and one where the stream has ended before it was
-/// given; behind it or a fault it weighs one.
+/// A reader weighs two for each byte before or in its response, two more in it, and one where the
+/// stream has ended before it was given; behind it or a fault it weighs one.
 pub fn readers_have_weights()
     ensures before { (s : State) → s.phase ≡ phase.BeforeHead → s.ended ≡ false → weight s ≡ 2 * length s.unread }
-    ensures before_the_end { (s : State) → s.phase ≡ phase.BeforeHead → s.ended ≡ true → weight s ≡ 2 * length s.unread + 1 }
+    ensures before_the_end { (s : State) → s.phase ≡ phase.BeforeHead → s.ended ≡ true
+        → weight s ≡ 2 * length s.unread + 1 }
     ensures begun { (s : State) → (head : StatusHead) → (content : Content) → s.phase ≡ phase.InContent head content
         → s.ended ≡ false → weight s ≡ 2 * length s.unread + 2 }
     ensures begun_at_the_end { (s : State) → (head : StatusHead) → (content : Content)

@@ -6,7 +6,8 @@ ghost use Rattle.hx_framing.specs.declared.messages.Request.{Request};
 ghost use Rattle.hx_framing.specs.declared.messages.Response.{Response};
 ghost use Rattle.hx_framing.specs.Progress.{Progress, IsDue, cost, fed, finished, moved, needs_memory, next_of, start};
 ghost use Rattle.hx_framing.specs.Reading.{Continue, Faulty, Incomplete, IsSettled, Over, Spelled, extended};
-ghost use Rattle.hx_framing.specs.ReadingExamples.{behind, hello_answered, hello_behind, hi, in_a_row, put_with, waiting};
+ghost use Rattle.hx_framing.specs.ReadingExamples.{behind, hello_answered, hello_behind, hi, in_a_row, put_with};
+ghost use Rattle.hx_framing.specs.ReadingExamples.{waiting};
 ghost use Rattle.hx_framing.specs.RequestStream as request;
 ghost use Rattle.hx_framing.specs.ResponseStream as response;
 
@@ -30,7 +31,8 @@ pub fn a_response_is_given()
     ensures closed { response.Answers (hello_behind true (hello_answered ∷ [])) next.End }
 {}
 
-/// A stream grows by its pieces, ends once, and remembers what was given of it and whether the next message's continue was.
+/// A stream grows by its pieces, ends once, and remembers what was given of it and whether the next
+/// message's continue was.
 pub fn streams_go_on()
     ensures pieces { fed (fed (start 1000 true) (codes "GET")) (codes " /") ≡ waiting true (codes "GET /") false [] false }
     ensures end { finished (waiting false (codes "GET /") false [] false)
@@ -39,7 +41,8 @@ pub fn streams_go_on()
     ensures message { moved (waiting false [] false (hi ∷ []) true) (next.Message (put_with [] (Some [])))
         ≡ waiting false [] false (hi ∷ put_with [] (Some []) ∷ []) false }
     ensures nothing { moved (waiting false [] false (hi ∷ []) true) next.More ≡ waiting false [] false (hi ∷ []) true }
-    ensures still_nothing { moved (waiting false [] false (hi ∷ []) false) next.More ≡ waiting false [] false (hi ∷ []) false }
+    ensures still_nothing { moved (waiting false [] false (hi ∷ []) false) next.More
+        ≡ waiting false [] false (hi ∷ []) false }
     ensures refused { moved (waiting false [] false (hi ∷ []) true) (next.Refused fault.Chunk)
         ≡ waiting false [] false (hi ∷ []) true }
     ensures over { moved (waiting false [] true (hi ∷ []) true) next.End ≡ waiting false [] true (hi ∷ []) true }
@@ -54,7 +57,8 @@ pub fn readings_are_answered()
     ensures faulty { next_of {M = Request} (Faulty fault.Length) ≡ next.Refused fault.Length }
 {}
 
-/// Something is due but where more has to come. Whatever follows, it stays so, but for the end of requests that may go on.
+/// Something is due but where more has to come. Whatever follows, it stays so, but for the end of
+/// requests that may go on.
 pub fn what_is_due()
     ensures more { ¬ (IsDue {M = Request} next.More) }
     ensures told { IsDue {M = Request} next.NeedsContinue }
@@ -86,8 +90,8 @@ pub fn what_answers_cost()
     ensures over { cost {M = Request} next.End ≡ 0 }
 {}
 
-/// Want of memory may stand in place of what is behind a head, which is copied; neither of the end nor of the refusal of bytes
-/// that are no head.
+/// Out of memory may stand in place of what is behind a head, which is copied; neither of the end
+/// nor of the refusal of bytes that are no head.
 pub fn what_needs_memory()
     ensures more { needs_memory {M = Request} next.More ≡ true }
     ensures told { needs_memory {M = Request} next.NeedsContinue ≡ true }
@@ -105,12 +109,16 @@ pub fn what_needs_memory()
     ensures status { needs_memory {M = Request} (next.Refused fault.Status) ≡ true }
 {}
 
-/// So no want of memory hides the end of a stream, nor that what stands there is no head.
+/// So out of memory never hides the end of a stream, nor that what stands there is no head.
 pub fn no_want_of_memory_hides_an_end()
     ensures requests { (p : Progress Request) → request.Answers p next.End → ¬ (request.NeedsMemory p) }
-    ensures no_request { (p : Progress Request) → request.Answers p (next.Refused fault.Head) → ¬ (request.NeedsMemory p) }
-    ensures other_request { (p : Progress Request) → request.Answers p (next.Refused fault.Version) → ¬ (request.NeedsMemory p) }
+    ensures no_request { (p : Progress Request) → request.Answers p (next.Refused fault.Head)
+        → ¬ (request.NeedsMemory p) }
+    ensures other_request { (p : Progress Request) → request.Answers p (next.Refused fault.Version)
+        → ¬ (request.NeedsMemory p) }
     ensures response { (p : Progress Response) → response.Answers p next.End → ¬ (response.NeedsMemory p) }
-    ensures no_response { (p : Progress Response) → response.Answers p (next.Refused fault.Head) → ¬ (response.NeedsMemory p) }
-    ensures other_response { (p : Progress Response) → response.Answers p (next.Refused fault.Version) → ¬ (response.NeedsMemory p) }
+    ensures no_response { (p : Progress Response) → response.Answers p (next.Refused fault.Head)
+        → ¬ (response.NeedsMemory p) }
+    ensures other_response { (p : Progress Response) → response.Answers p (next.Refused fault.Version)
+        → ¬ (response.NeedsMemory p) }
 {}

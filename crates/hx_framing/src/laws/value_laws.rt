@@ -1,4 +1,5 @@
-//! Laws on what a head gives: its fields, names and values, are its lines. They hold of the definitions, so each body is empty.
+//! Laws on what a head gives: its fields, names and values, are its lines. They hold of the
+//! definitions, so each body is empty.
 ghost use Rattle.std.specs.Prelude.{◌≡◌, ◌≤◌, ℕ, Bool, List, Some, Ok, take, false, codes};
 ghost use Rattle.hx_fields.specs.declared.field_line.Field.{Field};
 ghost use Rattle.hx_fields.specs.Lines.{has};
@@ -16,8 +17,8 @@ ghost use Rattle.hx_framing.specs.Reading.{Spelled};
 ghost use Rattle.hx_framing.specs.RequestReading as request;
 ghost use Rattle.hx_framing.specs.ResponseReading as response;
 
-/// The fields of a request's head are its lines, in order, each a name, a colon and a value with white space around it; its
-/// first line is the method, the target and the version.
+/// The fields of a request's head are its lines, in order, each a name, a colon and a value with
+/// white space around it; its first line is the method, the target and the version.
 pub fn request_heads_give_their_lines()
     ensures fields { (bytes : List ℕ) → (head : Head) → requests.Judges bytes (Ok head)
         → GivesFields bytes head.fields }
@@ -33,14 +34,16 @@ pub fn response_heads_give_their_lines()
         → SpellsStatusLine (start_line bytes) head }
 {}
 
-/// What a reader gives of a head are the fields that its lines spell, but for the length fields: of a request at the front of
-/// its stream, of a response behind the interim ones.
+/// What a reader gives of a head are the fields that its lines spell, but for the length fields: of
+/// a request at the front of its stream, of a response behind the interim ones.
 pub fn readers_give_the_lines_of_heads()
-    ensures requests { (max_body : ℕ) → (ended : Bool) → (told : Bool) → (bytes : List ℕ) → (given : Request) → (rest : List ℕ)
+    ensures requests { (max_body : ℕ) → (ended : Bool) → (told : Bool) → (bytes : List ℕ) → (given : Request)
+        → (rest : List ℕ)
         → request.Reads max_body ended told bytes (Spelled given rest)
         → (n : ℕ) × (head_length (take most_head_bytes bytes) ≡ Some n)
         × ((fields : List Field) × GivesFields (take n bytes) fields × (given.fields ≡ without_lengths fields)) }
-    ensures responses { (max_body : ℕ) → (to_head : Bool) → (ended : Bool) → (bytes : List ℕ) → (given : Response) → (rest : List ℕ)
+    ensures responses { (max_body : ℕ) → (to_head : Bool) → (ended : Bool) → (bytes : List ℕ) → (given : Response)
+        → (rest : List ℕ)
         → response.Reads max_body to_head ended bytes (Spelled given rest)
         → (sizes : List ℕ) × (front : List ℕ) × response.Passes bytes sizes front
         × ((n : ℕ) × (head_length (take most_head_bytes front) ≡ Some n)
@@ -49,12 +52,15 @@ pub fn readers_give_the_lines_of_heads()
 
 /// A request that is read is of HTTP/1.0 or HTTP/1.1, and no line of a message speaks of its content's length.
 pub fn what_is_read_is_plain()
-    ensures minor { (max_body : ℕ) → (ended : Bool) → (told : Bool) → (bytes : List ℕ) → (given : Request) → (rest : List ℕ)
+    ensures minor { (max_body : ℕ) → (ended : Bool) → (told : Bool) → (bytes : List ℕ) → (given : Request)
+        → (rest : List ℕ)
         → request.Reads max_body ended told bytes (Spelled given rest) → given.minor ≤ 1 }
-    ensures request { (max_body : ℕ) → (ended : Bool) → (told : Bool) → (bytes : List ℕ) → (given : Request) → (rest : List ℕ)
+    ensures request { (max_body : ℕ) → (ended : Bool) → (told : Bool) → (bytes : List ℕ) → (given : Request)
+        → (rest : List ℕ)
         → request.Reads max_body ended told bytes (Spelled given rest)
         → (has given.fields (codes "content-length") ≡ false) × (has given.fields (codes "transfer-encoding") ≡ false) }
-    ensures response { (max_body : ℕ) → (to_head : Bool) → (ended : Bool) → (bytes : List ℕ) → (given : Response) → (rest : List ℕ)
+    ensures response { (max_body : ℕ) → (to_head : Bool) → (ended : Bool) → (bytes : List ℕ) → (given : Response)
+        → (rest : List ℕ)
         → response.Reads max_body to_head ended bytes (Spelled given rest)
         → (has given.fields (codes "content-length") ≡ false) × (has given.fields (codes "transfer-encoding") ≡ false) }
 {}
@@ -62,6 +68,7 @@ pub fn what_is_read_is_plain()
 /// A line spells one field at most, and the lines of a head give one list of fields.
 pub fn lines_give_one_list()
     ensures line { (line : List ℕ) → (f : Field) → (g : Field) → SpellsField line f → SpellsField line g → f ≡ g }
-    ensures head { (bytes : List ℕ) → (fs : List Field) → (gs : List Field) → GivesFields bytes fs → GivesFields bytes gs
+    ensures head { (bytes : List ℕ) → (fs : List Field) → (gs : List Field) → GivesFields bytes fs
+        → GivesFields bytes gs
         → fs ≡ gs }
 {}

@@ -1,5 +1,6 @@
 //! Laws on what is written: it is read back. They hold of the definitions, so each body is empty.
-ghost use Rattle.std.specs.Prelude.{◌≡◌, ◌<◌, ◌≤◌, ◌^◌, ◌++◌, ◌∷◌, [], ℕ, Bool, List, Some, None, codes, decimal, length, take, drop, true, false};
+ghost use Rattle.std.specs.Prelude.{◌≡◌, ◌<◌, ◌≤◌, ◌^◌, ◌++◌, ◌∷◌, [], ℕ, Bool, List, Some, None, codes, decimal};
+ghost use Rattle.std.specs.Prelude.{length, take, drop, true, false};
 ghost use Rattle.std.specs.Char.{is_ascii_digit};
 ghost use Rattle.std.specs.List.{list_all};
 ghost use Rattle.std.specs.Str.Parse.{digits_value};
@@ -67,8 +68,8 @@ pub fn first_forward_is_writable()
     ensures { IsWritable first_forward }
 {}
 
-/// A response is read back too, by a reader that knows whether it answers a HEAD, and what follows it is left: so a client takes
-/// what is sent for one response.
+/// A response is read back too, by a reader that knows whether it answers a HEAD, and what follows
+/// it is left: so a client takes what is sent for one response.
 pub fn written_response_is_read()
     ensures { (to_head : Bool) → (m : SentResponse) → (max_body : ℕ) → (ended : Bool) → (rest : List ℕ)
         → IsWritableResponse to_head m → length m.content ≤ max_body

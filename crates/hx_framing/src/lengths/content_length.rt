@@ -7,7 +7,8 @@ ghost use Rattle.std.specs.List.{list_all};
 ghost use Rattle.std.specs.Char.{is_ascii_digit};
 ghost use Rattle.std.specs.Str.Parse.{digits_value};
 ghost use Rattle.hx_fields.specs.Lines.{is_named};
-ghost use Rattle.hx_framing.specs.ContentLength.{comma_pieces, is_digits, significant, is_number, length_told, length_up_to, content_length};
+ghost use Rattle.hx_framing.specs.ContentLength.{comma_pieces, is_digits, significant, is_number, length_told};
+ghost use Rattle.hx_framing.specs.ContentLength.{length_up_to, content_length};
 
 use crate::fault::FrameFault;
 use crate::slices::{before_byte, rest_from};

@@ -1,7 +1,11 @@
 //! How long the content behind a head is, by its fields (RFC 9112, section 6). The definitions are
 //! in `specs/Lengths.antt`.
 ghost use Rattle.std.specs.Prelude.{◌≡◌, IfOk};
-ghost use Rattle.hx_framing.specs.Lengths.{announced_or, is_chunked, ends_in_chunks, is_only_chunked, framing_of_only_coding, framing_of_codings, has_both, uncoded, framing_of_request, expectation, has_content, request_body_of, is_interim, is_without_content, framing_of_final, with_status, framing_of_response, announced_of, without_lengths};
+ghost use Rattle.hx_framing.specs.Lengths.{announced_or, is_chunked, ends_in_chunks, is_only_chunked};
+ghost use Rattle.hx_framing.specs.Lengths.{framing_of_only_coding, framing_of_codings, has_both, uncoded};
+ghost use Rattle.hx_framing.specs.Lengths.{framing_of_request, expectation, has_content, request_body_of, is_interim};
+ghost use Rattle.hx_framing.specs.Lengths.{is_without_content, framing_of_final, with_status, framing_of_response};
+ghost use Rattle.hx_framing.specs.Lengths.{announced_of, without_lengths};
 
 use crate::fault::FrameFault;
 use crate::heads::request_head::Head;

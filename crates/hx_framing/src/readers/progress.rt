@@ -13,8 +13,8 @@ pub(crate) struct Rest<'a> {
     pub(crate) bytes: &'a [u8],
 }
 
-/// How far a message has come in unread bytes, from its head on: what is due, and how many of them it takes. H is a head,
-/// M a message.
+/// How far a message has come in unread bytes, from its head on: what is due, and how many of them
+/// it takes. H is a head, M a message.
 #[derive(Drop)]
 pub(crate) enum HeadProgress<H, M> {
     /// Nothing yet; so many bytes of interim responses stand in front.

@@ -127,7 +127,7 @@ impl RequestReader {
         self.ended
     }
 
-    /// What is due behind the messages given. An `Err` changes nothing. Want of memory hides neither the end nor a
+    /// What is due behind the messages given. An `Err` changes nothing. Out of memory hides neither the end nor a
     /// refusal of bytes that are no head; a fault behind a head it may hide, since the head is copied first.
     pub fn next(&mut self, alloc: Global) -> Result<Next<Request>, AllocError>
         ensures answers { IfOk result (λ answer. (p : Progress Request) → StandsFor self.old p
@@ -159,7 +159,8 @@ impl RequestReader {
 
     /// Whether each byte of the stream belongs to a request that was given: nothing of a next one has come.
     pub fn is_between_requests(&self) -> bool
-        ensures { (p : Progress Request) → StandsFor self.now p → result ≡ true → StreamSpells p.max_body p.stream p.given [] }
+        ensures { (p : Progress Request) → StandsFor self.now p → result ≡ true
+            → StreamSpells p.max_body p.stream p.given [] }
     {
         match &self.phase {
             RequestPhase::BeforeHead => self.unread.len() == 0,

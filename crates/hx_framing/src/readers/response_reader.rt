@@ -135,7 +135,7 @@ impl ResponseReader {
         self.ended
     }
 
-    /// What is due: one message, and then the end. An `Err` changes nothing. Want of memory hides neither the end nor
+    /// What is due: one message, and then the end. An `Err` changes nothing. Out of memory hides neither the end nor
     /// a refusal of bytes that are no head; a fault behind the final head it may hide, since that head is copied first.
     pub fn next(&mut self, alloc: Global) -> Result<Next<Response>, AllocError>
         ensures answers { IfOk result (λ answer. (p : Progress Response) → StandsFor self.old p

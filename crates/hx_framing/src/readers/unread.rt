@@ -147,7 +147,8 @@ impl Unread {
         ended: bool,
         closed: bool,
     ) -> Result<ContentProgress, AllocError>
-        ensures reads { IfOk result (λ progress. ReadsOn ended closed self.old.items content.old progress content.new self.new.items) }
+        ensures reads { IfOk result
+            (λ progress. ReadsOn ended closed self.old.items content.old progress content.new self.new.items) }
         ensures room { self.old.spare ≤ self.new.spare }
         ensures err { OnErr result (self.new ≡ self.old) }
         ensures err_content { OnErr result (content.new ≡ content.old) }

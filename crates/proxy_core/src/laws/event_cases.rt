@@ -1,17 +1,19 @@
-//! What the words of the promises say of each kind of event and outcome, and of a trace, computed from them: each function's contract is
-//! the cases, and its body is empty.
+//! What the words of the promises say of each kind of event and outcome, and of a trace, computed
+//! from them: each function's contract is the cases, and its body is empty.
 
 ghost use Rattle.std.specs.Prelude.{◌≡◌, ◌∷◌, [], Some, None, true, false, codes};
 ghost use Rattle.hx_status.specs.declared.cause.FailKind.TheVariants as kinds;
 ghost use Rattle.proxy_core.specs.declared.event.Event.TheVariants.{Arrive, Answer, Fail, Wake, Abandon};
 ghost use Rattle.proxy_core.specs.declared.outcome.Outcome.TheVariants.{Forward, Waits, Ended};
 ghost use Rattle.proxy_core.specs.Traces.{trace_of};
-ghost use Rattle.proxy_core.specs.Promises.{asked_by, ends, goes_forward, is_arrival, is_reply, sends_nothing_held, some_invalidates, times};
+ghost use Rattle.proxy_core.specs.Promises.{asked_by, ends, goes_forward, is_arrival, is_reply, sends_nothing_held};
+ghost use Rattle.proxy_core.specs.Promises.{some_invalidates, times};
 ghost use Rattle.proxy_core.specs.Meaning.{has_ended, number_stored, starts};
 ghost use Rattle.proxy_core.specs.Carrying.{judges};
 ghost use Rattle.proxy_core.specs.Waiting.{has_closed, is_wake, was_woken};
 ghost use Rattle.proxy_core.specs.Cases.{key_of};
-ghost use Rattle.proxy_core.specs.WrongTraces.{fresh, get_a, get_b, goes_3, invalidated_since_stored, item, says, sends, two_replies};
+ghost use Rattle.proxy_core.specs.WrongTraces.{fresh, get_a, get_b, goes_3, invalidated_since_stored, item, says};
+ghost use Rattle.proxy_core.specs.WrongTraces.{sends, two_replies};
 
 /// Which events are arrivals, which are wakes, and which judge a request.
 pub fn what_events_are()
@@ -57,7 +59,8 @@ pub fn what_outcomes_are()
 
 /// What is counted in a trace: by id, and no other's.
 pub fn what_traces_have()
-    ensures latest_first { trace_of (Arrive 1 1 get_a ∷ Arrive 2 2 get_b ∷ []) (goes_3 ∷ says [] ∷ []) ≡ item (Arrive 2 2 get_b) (says []) ∷ item (Arrive 1 1 get_a) goes_3 ∷ [] }
+    ensures latest_first { trace_of (Arrive 1 1 get_a ∷ Arrive 2 2 get_b ∷ []) (goes_3 ∷ says [] ∷ [])
+        ≡ item (Arrive 2 2 get_b) (says []) ∷ item (Arrive 1 1 get_a) goes_3 ∷ [] }
     ensures forwards { times goes_forward 1 two_replies ≡ 1 }
     ensures replies { times is_reply 1 two_replies ≡ 2 }
     ensures of_another { times is_reply 2 two_replies ≡ 0 }

@@ -1,10 +1,12 @@
 //! The open exchanges, in the order of arrival.
 //!
-//! Each has the number of its arrival, and a second map tells the number of an id. So one is found, opened and closed in
-//! the logarithm of how many are open, and each that a close releases costs that too. The first that may be woken is known:
-//! `first_ready` costs that logarithm where there is one, and nothing where there is none (see `released`). `leader` looks
-//! through the GETs of its key up to the one that leads. `ready` and an invalidation go through all of them.
-ghost use Rattle.std.specs.Prelude.{◌≡◌, ◌<◌, ◌++◌, ◌∷◌, [], map, filter, not, ◌==◌, None, IfOk, OnOk, OnErr, option_copied, slice_get, IfSome};
+//! Each has the number of its arrival, and a second map tells the number of an id. So one is found,
+//! opened and closed in the logarithm of how many are open, and each that a close releases costs
+//! that too. The first that may be woken is known: `first_ready` costs that logarithm where there
+//! is one, and nothing where there is none (see `released`). `leader` looks through the GETs of its
+//! key up to the one that leads. `ready` and an invalidation go through all of them.
+ghost use Rattle.std.specs.Prelude.{◌≡◌, ◌<◌, ◌++◌, ◌∷◌, [], map, filter, not, ◌==◌, None, IfOk, OnOk, OnErr};
+ghost use Rattle.std.specs.Prelude.{option_copied, slice_get, IfSome};
 ghost use Rattle.proxy_core.specs.Waiting.{IsReady};
 ghost use Rattle.std.specs.List.{All};
 ghost use Rattle.std.specs.Ordering.{nat_cmp};
@@ -71,7 +73,8 @@ impl Model for Exchanges {
 
     ghost view = { λ x. values x.by_arrival };
 
-    ghost invariant = { λ x. AreKept x.by_arrival.entries (λ id. get nat_cmp x.arrivals id) x.waiting x.released x.gets };
+    ghost invariant = { λ x. AreKept x.by_arrival.entries (λ id. get nat_cmp x.arrivals id) x.waiting
+        x.released x.gets };
 }
 
 impl Exchanges {
@@ -122,8 +125,9 @@ impl Exchanges {
         }
     }
 
-    /// The first exchange to arrive for whose answer GETs of this key wait that go forward by this rule, over a line of this
-    /// policy. It looks through the open GETs of that key up to that one, which mostly is the first of them.
+    /// The first exchange to arrive for whose answer GETs of this key wait that go forward by this
+    /// rule, over a line of this policy. It looks through the open GETs of that key up to that one,
+    /// which mostly is the first of them.
     pub(crate) fn leader(&self, policy: Policy, rule: ReuseRule, key: &Key) -> Option<u64>
         ensures { result ≡ leader policy rule key.now self.now }
     {
@@ -141,7 +145,7 @@ impl Exchanges {
         Some(self.by_arrival.get(&self.released.first()?)?.id)
     }
 
-    /// Those that may be woken, in the order of arrival. Fails for want of memory alone.
+    /// Those that may be woken, in the order of arrival. Fails only where memory runs out.
     pub(crate) fn ready(&self, alloc: Global) -> Result<Ids, AllocError>
         ensures { IfOk result (λ ids. ids ≡ ready_ids self.now) }
     {
@@ -241,7 +245,7 @@ impl Exchanges {
 }
 
 /// The number of the next arrival: one more than that of the last exchange. Where there is none left, that counts as
-/// want of memory: 2^64 exchanges would have to arrive and at no time all be closed.
+/// out of memory: 2^64 exchanges would have to arrive and at no time all be closed.
 fn arrival_after(by_arrival: &BTreeMap<u64, Exchange>) -> Result<u64, AllocError>
     ensures { IfOk result (λ n. All (λ k. k < n) (keys by_arrival.now)) }
 {
@@ -251,7 +255,7 @@ fn arrival_after(by_arrival: &BTreeMap<u64, Exchange>) -> Result<u64, AllocError
     }
 }
 
-/// Puts an exchange behind the others, and into the index of GETs. Want of memory changes nothing.
+/// Puts an exchange behind the others, and into the index of GETs. Out of memory changes nothing.
 fn push(
     by_arrival: &mut BTreeMap<u64, Exchange>,
     gets: &mut GetIndex,
@@ -277,7 +281,7 @@ fn push(
     }
 }
 
-/// Puts an exchange behind the others, and into the indexes of GETs and of those that wait. Want of memory changes
+/// Puts an exchange behind the others, and into the indexes of GETs and of those that wait. Out of memory changes
 /// nothing.
 fn enter(
     by_arrival: &mut BTreeMap<u64, Exchange>,
@@ -318,7 +322,8 @@ fn remove(
 )
     ensures entries { by_arrival.new.entries ≡ remove_entry (is_at (nat_cmp arrival)) by_arrival.old.entries }
     ensures left { ForSome (get nat_cmp by_arrival.old arrival) (λ x. HasLeft x.stage arrival waiting.old waiting.new) }
-    ensures asks_no_more { ForSome (get nat_cmp by_arrival.old arrival) (λ x. GetHasLeft x.asked arrival gets.old gets.new) }
+    ensures asks_no_more { ForSome (get nat_cmp by_arrival.old arrival)
+        (λ x. GetHasLeft x.asked arrival gets.old gets.new) }
     ensures waits_still { ForNone (get nat_cmp by_arrival.old arrival) (IsSameIndex waiting.old waiting.new) }
     ensures asks_still { ForNone (get nat_cmp by_arrival.old arrival) (AreSame gets.old gets.new) }
     ensures trim_waits { IsTrim waiting.old → IsTrim waiting.new }

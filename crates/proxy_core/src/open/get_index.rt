@@ -5,7 +5,8 @@ ghost use Rattle.std.specs.Prelude.{◌≡◌, ℕ, false, IfOk, OnOk, OnErr, op
 ghost use Rattle.std.specs.Bool.{OnFalse, OnTrue};
 ghost use Rattle.std.specs.BTreeMap.{get};
 ghost use Rattle.hx_target.specs.KeyOrder.{key_cmp};
-ghost use Rattle.proxy_core.specs.Gets.{gets_in, AreNone, IsPut, IsPutIf, IsTaken, IsGetEntered, GetHasLeft, AreSame, AreTrim, AreTrimBeside};
+ghost use Rattle.proxy_core.specs.Gets.{gets_in, AreNone, IsPut, IsPutIf, IsTaken, IsGetEntered, GetHasLeft, AreSame};
+ghost use Rattle.proxy_core.specs.Gets.{AreTrim, AreTrimBeside};
 
 use crate::open::leading::is_get;
 use hx_hop::Asked;
@@ -48,7 +49,7 @@ impl GetIndex {
         self.arrivals.get(key)
     }
 
-    /// Enters an arrival, if it is a GET. Want of memory changes nothing.
+    /// Enters an arrival, if it is a GET. Out of memory changes nothing.
     pub(crate) fn enter(&mut self, asked: &Asked, arrival: u64) -> Result<(), AllocError>
         ensures ok { OnOk result (IsGetEntered asked.now arrival self.old self.new) }
         ensures err { OnErr result (AreSame self.old self.new) }

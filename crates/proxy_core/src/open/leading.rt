@@ -1,7 +1,8 @@
 //! Which open exchange others wait for.
 ghost use Rattle.std.specs.Prelude.{◌≡◌};
 ghost use Rattle.hx_directives.specs.Occurrences.{occurrences_of};
-ghost use Rattle.proxy_core.specs.Leading.{is_forwarded, is_released, waits_for, is_get, is_uri_miss, has_expired, can_wait, goes_alike, is_for_others, may_lead, leads};
+ghost use Rattle.proxy_core.specs.Leading.{is_forwarded, is_released, waits_for, is_get, is_uri_miss, has_expired};
+ghost use Rattle.proxy_core.specs.Leading.{can_wait, goes_alike, is_for_others, may_lead, leads};
 
 use crate::open::exchange::Exchange;
 use crate::open::stage::Stage;
@@ -97,8 +98,8 @@ fn may_lead(policy: Policy, for_others: bool) -> bool
     !policy.waits_for_stale || for_others
 }
 
-/// Whether GETs of this key that go forward by this rule, over a line of this policy, wait for it: it is one itself, and went
-/// forward for the same reason.
+/// Whether GETs of this key that go forward by this rule, over a line of this policy, wait for it:
+/// it is one itself, and went forward for the same reason.
 pub(crate) fn leads(exchange: &Exchange, policy: Policy, rule: ReuseRule, key: &Key) -> bool
     ensures { result ≡ leads policy rule key.now exchange.now }
 {

@@ -1,13 +1,14 @@
 //! Where among the open exchanges the released ones stand.
 //!
-//! The first of them is known, so nothing is looked for where it is asked for. It is looked for anew where it goes: from there
-//! on, and no farther than the last. So those that one close releases cost one walk over what stands between them, however
-//! many they are.
+//! The first of them is known, so nothing is looked for where it is asked for. It is looked for
+//! anew where it goes: from there on, and no farther than the last. So those that one close
+//! releases cost one walk over what stands between them, however many they are.
 ghost use Rattle.std.specs.Prelude.{◌≡◌, ℕ, true, Some, if◌then◌else◌};
 ghost use Rattle.std.specs.Ordering.{nat_cmp};
 ghost use Rattle.std.specs.BTreeSet.{contains};
 ghost use Rattle.proxy_core.specs.Leading.{is_released as is_free};
-ghost use Rattle.proxy_core.specs.Releases.{first_released, is_between, is_within, widened, ReleasedPass, IsSettled, IsNone, IsWidened, IsWidenedBy, IsWidenedTo};
+ghost use Rattle.proxy_core.specs.Releases.{first_released, is_between, is_within, widened, ReleasedPass, IsSettled};
+ghost use Rattle.proxy_core.specs.Releases.{IsNone, IsWidened, IsWidenedBy, IsWidenedTo};
 
 use crate::open::exchange::Exchange;
 use crate::open::leading::is_released;

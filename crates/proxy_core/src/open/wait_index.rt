@@ -4,7 +4,8 @@
 ghost use Rattle.std.specs.Prelude.{◌≡◌, ℕ, false, IfOk, OnOk, OnErr};
 ghost use Rattle.std.specs.Bool.{OnFalse, OnTrue};
 ghost use Rattle.proxy_core.specs.declared.open.stage.Stage.TheVariants as staged;
-ghost use Rattle.proxy_core.specs.Waiters.{waits_in, set_has, IsEntered, IsEnteredIf, HasLeft, IsEmptied, IsSameIndex, IsTrim, IsTrimBeside, HasNone, HasAll};
+ghost use Rattle.proxy_core.specs.Waiters.{waits_in, set_has, IsEntered, IsEnteredIf, HasLeft, IsEmptied, IsSameIndex};
+ghost use Rattle.proxy_core.specs.Waiters.{IsTrim, IsTrimBeside, HasNone, HasAll};
 
 use crate::open::stage::Stage;
 use std::alloc::{AllocError, Global};
@@ -38,7 +39,7 @@ impl WaitIndex {
         }
     }
 
-    /// Enters an arrival, if its exchange waits. Want of memory changes nothing.
+    /// Enters an arrival, if its exchange waits. Out of memory changes nothing.
     pub(crate) fn enter(&mut self, stage: Stage, arrival: u64) -> Result<(), AllocError>
         ensures ok { OnOk result (IsEntered stage arrival self.old self.new) }
         ensures err { OnErr result (IsSameIndex self.old self.new) }

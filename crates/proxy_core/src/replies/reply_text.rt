@@ -3,7 +3,8 @@ ghost use Rattle.std.specs.Prelude.{◌≡◌, ◌<◌, length, IfOk, Some, None
 ghost use Rattle.hx_framing.specs.Text.{response_text};
 ghost use Rattle.hx_hop.specs.Answering.{answered_of};
 ghost use Rattle.hx_hop.specs.Moments.{date_text_of};
-ghost use Rattle.proxy_core.specs.Replies.{passed_text, lines_passed, length_passed, ttl_passed, refused_text, lines_refused, content_sent, is_head, length_told};
+ghost use Rattle.proxy_core.specs.Replies.{passed_text, lines_passed, length_passed, ttl_passed, refused_text};
+ghost use Rattle.proxy_core.specs.Replies.{lines_refused, content_sent, is_head, length_told};
 
 use crate::replies::origin_answer::OriginAnswer;
 use hx_age::{Times, current_age, ttl};
@@ -58,7 +59,8 @@ fn ttl_passed(
     head: &Answered,
     told: PassedOn,
 ) -> Result<Option<i64>, AllocError>
-    ensures { IfOk result (λ left. left ≡ ttl_passed told.policy answer.now.exchange.now head.now.status head.now.fields answer.now.response_time told.stored) }
+    ensures { IfOk result (λ left. left ≡ ttl_passed told.policy answer.now.exchange.now head.now.status head.now.fields
+        answer.now.response_time told.stored) }
 {
     if !told.stored {
         return Ok(None);
@@ -79,7 +81,8 @@ fn lines_passed(
     head: &Answered,
     told: PassedOn,
 ) -> Result<Fields, AllocError>
-    ensures { IfOk result (λ lines. lines ≡ lines_passed told.policy name.now answer.now.exchange.now head.now.status head.now.fields answer.now.response_time told.stored told.rule) }
+    ensures { IfOk result (λ lines. lines ≡ lines_passed told.policy name.now answer.now.exchange.now head.now.status
+        head.now.fields answer.now.response_time told.stored told.rule) }
 {
     let status = Status {
         how: How::Fwd(answer.exchange.rule),
@@ -116,7 +119,8 @@ pub(crate) fn passed_text(
     told: PassedOn,
 ) -> Result<Bytes, AllocError>
     requires { head.now ≡ answered_of answer.now.response.now answer.now.response_time }
-    ensures { IfOk result (λ text. text ≡ passed_text told.policy name.now answer.now.exchange.now answer.now.response.now answer.now.response_time told.stored told.rule) }
+    ensures { IfOk result (λ text. text ≡ passed_text told.policy name.now answer.now.exchange.now
+        answer.now.response.now answer.now.response_time told.stored told.rule) }
 {
     let asked = &answer.exchange.asked;
     let response = answer.response;

@@ -4,7 +4,8 @@ ghost use Rattle.hx_age.specs.Age.{age_of};
 ghost use Rattle.hx_framing.specs.Text.{response_text};
 ghost use Rattle.hx_status.specs.Member.{member_text};
 ghost use Rattle.proxy_core.specs.Outcomes.{forwarded_as, collapsed_as};
-ghost use Rattle.proxy_core.specs.Replies.{status_sent, stored_text, whole_text, not_modified_text, lines_sent, fwd_status_of};
+ghost use Rattle.proxy_core.specs.Replies.{status_sent, stored_text, whole_text, not_modified_text, lines_sent};
+ghost use Rattle.proxy_core.specs.Replies.{fwd_status_of};
 
 use crate::open::exchange::Exchange;
 use crate::replies::reply_text::{content_sent, is_head, length_told};
@@ -81,7 +82,8 @@ pub(crate) struct StoredReply<'a> {
 impl StoredReply<'_> {
     /// Its bytes: the whole response, or a 304 to a client that has it already.
     pub(crate) fn text(&self, alloc: Global) -> Result<Bytes, AllocError>
-        ensures { IfOk result (λ text. text ≡ stored_text self.now.name.now self.now.entry.now self.now.sent_at self.now.info self.now.asked.now) }
+        ensures { IfOk result (λ text. text
+            ≡ stored_text self.now.name.now self.now.entry.now self.now.sent_at self.now.info self.now.asked.now) }
     {
         if client_wants_304(self.asked, self.entry) {
             self.not_modified_text(alloc)
@@ -91,7 +93,8 @@ impl StoredReply<'_> {
     }
 
     fn whole_text(&self, alloc: Global) -> Result<Bytes, AllocError>
-        ensures { IfOk result (λ text. text ≡ whole_text self.now.name.now self.now.entry.now self.now.sent_at self.now.info self.now.asked.now) }
+        ensures { IfOk result (λ text. text
+            ≡ whole_text self.now.name.now self.now.entry.now self.now.sent_at self.now.info self.now.asked.now) }
     {
         let entry = self.entry;
         let length = length_told(entry.status, Some(entry.content.len() as u64));
@@ -100,7 +103,8 @@ impl StoredReply<'_> {
     }
 
     fn not_modified_text(&self, alloc: Global) -> Result<Bytes, AllocError>
-        ensures { IfOk result (λ text. text ≡ not_modified_text self.now.name.now self.now.entry.now self.now.sent_at self.now.info self.now.asked.now) }
+        ensures { IfOk result (λ text. text ≡ not_modified_text self.now.name.now self.now.entry.now self.now.sent_at
+            self.now.info self.now.asked.now) }
     {
         let fields = not_modified(alloc, self.entry)?;
         self.written(alloc, 304, &fields, None, &[])
@@ -109,7 +113,8 @@ impl StoredReply<'_> {
     /// What Cache-Status tells under a status, of a response of this age in seconds.
     fn member(&self, alloc: Global, status: u16, age: u32) -> Result<Bytes, AllocError>
         requires { age ≡ age_of self.now.entry.now.times self.now.sent_at }
-        ensures { IfOk result (λ text. text ≡ member_text self.now.name.now (status_sent status self.now.entry.now self.now.sent_at self.now.info)) }
+        ensures { IfOk result (λ text. text
+            ≡ member_text self.now.name.now (status_sent status self.now.entry.now self.now.sent_at self.now.info)) }
     {
         let entry = self.entry;
         let policy = self.info.policy;
@@ -136,7 +141,8 @@ impl StoredReply<'_> {
         length: Option<u64>,
         content: &[u8],
     ) -> Result<Bytes, AllocError>
-        ensures { IfOk result (λ text. text ≡ response_text status (lines_sent self.now.name.now status fields.now self.now.entry.now self.now.sent_at self.now.info) length self.now.asked.now.close content.now) }
+        ensures { IfOk result (λ text. text ≡ response_text status (lines_sent self.now.name.now status fields.now
+            self.now.entry.now self.now.sent_at self.now.info) length self.now.asked.now.close content.now) }
     {
         let entry = self.entry;
         let age = current_age(&entry.times, self.sent_at);

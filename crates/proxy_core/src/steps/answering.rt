@@ -6,7 +6,8 @@ ghost use Rattle.hx_reuse.specs.Rules.{decision_of};
 ghost use Rattle.hx_vary.specs.Vary.{kept_values};
 ghost use Rattle.proxy_core.specs.Replies.{passed_text};
 ghost use Rattle.proxy_core.specs.Storing.{rule_told};
-ghost use Rattle.proxy_core.specs.Outcomes.{is_error_status, passed, passed_unless, fallback_for, answered, stored_serial};
+ghost use Rattle.proxy_core.specs.Outcomes.{is_error_status, passed, passed_unless, fallback_for, answered};
+ghost use Rattle.proxy_core.specs.Outcomes.{stored_serial};
 ghost use Rattle.proxy_core.specs.declared.event.Event.TheVariants.{Answer};
 ghost use Rattle.proxy_core.specs.State.{Steps, Refuses};
 ghost use Rattle.proxy_core.specs.Pending.{reply_of, IsNext, Makes, outcome_after, AfterLeaves, AfterFits};
@@ -46,7 +47,8 @@ impl<S: Shelf> Core<S> {
         stored: bool,
     ) -> Result<Bytes, AllocError>
         requires { head.now ≡ answered_of answer.now.response.now answer.now.response_time }
-        ensures { IfOk result (λ text. text ≡ passed_text (policy_of self.now.table.lines answer.now.exchange.now.line) self.now.table.name answer.now.exchange.now answer.now.response.now answer.now.response_time stored rule) }
+        ensures { IfOk result (λ text. text ≡ passed_text (policy_of self.now.table.lines answer.now.exchange.now.line)
+            self.now.table.name answer.now.exchange.now answer.now.response.now answer.now.response_time stored rule) }
     {
         let policy = self.config.policy(answer.exchange.line);
         let told = PassedOn {
@@ -66,7 +68,8 @@ impl<S: Shelf> Core<S> {
         rule: Option<StoreRule>,
     ) -> Result<PendingReply, AllocError>
         requires { head.now ≡ answered_of answer.now.response.now answer.now.response_time }
-        ensures outcome { IfOk result (λ pending. reply_of pending ≡ passed self.now.table self.now.entries answer.now.response_time answer.now.exchange.now answer.now.response.now rule None) }
+        ensures outcome { IfOk result (λ pending. reply_of pending ≡ passed self.now.table self.now.entries
+            answer.now.response_time answer.now.exchange.now answer.now.response.now rule None) }
         ensures change { IfOk result (λ pending. pending.change ≡ Change.Keep) }
     {
         Ok(PendingReply {
@@ -88,9 +91,11 @@ impl<S: Shelf> Core<S> {
     ) -> Result<PendingReply, AllocError>
         requires head { head ≡ answered_of answer.now.response.now answer.now.response_time }
         requires nominated { new_entry.nominated ≡ kept_values head.fields answer.now.exchange.now.asked.fields }
-        ensures outcome { IfOk result (λ pending. reply_of pending ≡ passed self.now.table self.now.entries answer.now.response_time answer.now.exchange.now answer.now.response.now rule (Some new_entry.serial)) }
+        ensures outcome { IfOk result (λ pending. reply_of pending ≡ passed self.now.table self.now.entries
+            answer.now.response_time answer.now.exchange.now answer.now.response.now rule (Some new_entry.serial)) }
         ensures next { IfOk result (λ pending. IsNext (Some new_entry.serial) pending.change) }
-        ensures makes { IfOk result (λ pending. Makes answer.now.exchange.now answer.now.response.now answer.now.response_time pending.change) }
+        ensures makes { IfOk result
+            (λ pending. Makes answer.now.exchange.now answer.now.response.now answer.now.response_time pending.change) }
     {
         let asked = &answer.exchange.asked;
         let bytes = self.passed_text(alloc, answer, &head, rule, true)?;
@@ -107,9 +112,16 @@ impl<S: Shelf> Core<S> {
     /// Passes on an answer, and stores it where it may be.
     fn pass_on(&self, alloc: Global, answer: &OriginAnswer<'_>) -> Result<PendingReply, AllocError>
         requires { answer.now.response_time < 253_402_300_800 }
-        ensures outcome { IfOk result (λ pending. reply_of pending ≡ passed self.now.table self.now.entries answer.now.response_time answer.now.exchange.now answer.now.response.now (rule_told self.now.table answer.now.exchange.now answer.now.response.now answer.now.response_time self.now.next) (stored_serial self.now.table answer.now.exchange.now answer.now.response.now answer.now.response_time self.now.next)) }
+        ensures outcome { IfOk result (λ pending. reply_of pending
+            ≡ passed self.now.table self.now.entries answer.now.response_time answer.now.exchange.now
+            answer.now.response.now
+            (rule_told self.now.table answer.now.exchange.now answer.now.response.now answer.now.response_time
+            self.now.next)
+            (stored_serial self.now.table answer.now.exchange.now answer.now.response.now answer.now.response_time
+            self.now.next)) }
         ensures next { IfOk result (λ pending. IsNext self.now.next pending.change) }
-        ensures makes { IfOk result (λ pending. Makes answer.now.exchange.now answer.now.response.now answer.now.response_time pending.change) }
+        ensures makes { IfOk result
+            (λ pending. Makes answer.now.exchange.now answer.now.response.now answer.now.response_time pending.change) }
     {
         let head = answer.head(alloc)?;
         let Admission { rule, new_entry } = self.admit(alloc, answer, &head)?;
@@ -126,9 +138,15 @@ impl<S: Shelf> Core<S> {
         answer: &OriginAnswer<'_>,
     ) -> Result<PendingReply, AllocError>
         requires { answer.now.response_time < 253_402_300_800 }
-        ensures outcome { IfOk result (λ pending. reply_of pending ≡ passed_unless self.now.table self.now.entries answer.now.response_time answer.now.exchange.now answer.now.response.now self.now.next (is_error_status answer.now.response.now.status) (fallback_for (policy_of self.now.table.lines answer.now.exchange.now.line) self.now.entries answer.now.exchange.now.asked answer.now.response_time (decision_of (policy_of self.now.table.lines answer.now.exchange.now.line) self.now.entries answer.now.exchange.now.asked answer.now.response_time))) }
+        ensures outcome { IfOk result (λ pending. reply_of pending
+            ≡ passed_unless self.now.table self.now.entries answer.now.response_time answer.now.exchange.now
+            answer.now.response.now self.now.next (is_error_status answer.now.response.now.status)
+            (fallback_for (policy_of self.now.table.lines answer.now.exchange.now.line) self.now.entries
+            answer.now.exchange.now.asked answer.now.response_time (decision_of (policy_of self.now.table.lines
+            answer.now.exchange.now.line) self.now.entries answer.now.exchange.now.asked answer.now.response_time))) }
         ensures next { IfOk result (λ pending. IsNext self.now.next pending.change) }
-        ensures makes { IfOk result (λ pending. Makes answer.now.exchange.now answer.now.response.now answer.now.response_time pending.change) }
+        ensures makes { IfOk result
+            (λ pending. Makes answer.now.exchange.now answer.now.response.now answer.now.response_time pending.change) }
     {
         let status = answer.response.status;
         if !is_error_status(status) {
@@ -154,8 +172,12 @@ impl<S: Shelf> Core<S> {
         answer: &OriginAnswer<'_>,
     ) -> Result<AfterAnswer, AllocError>
         requires { answer.now.response_time < 253_402_300_800 }
-        ensures outcome { IfOk result (λ after. outcome_after answer.now.exchange.now after ≡ answered self.now.table self.now.entries answer.now.response_time answer.now.exchange.now answer.now.response.now self.now.next (decision_of (policy_of self.now.table.lines answer.now.exchange.now.line) self.now.entries answer.now.exchange.now.asked answer.now.response_time)) }
-        ensures leaves { IfOk result (λ after. AfterLeaves self.now.limit self.now.entries answer.now.exchange.now (Answer answer.now.response_time answer.now.exchange.now.id answer.now.response.now) after) }
+        ensures outcome { IfOk result (λ after. outcome_after answer.now.exchange.now after
+            ≡ answered self.now.table self.now.entries answer.now.response_time answer.now.exchange.now
+            answer.now.response.now self.now.next (decision_of (policy_of self.now.table.lines
+            answer.now.exchange.now.line) self.now.entries answer.now.exchange.now.asked answer.now.response_time)) }
+        ensures leaves { IfOk result (λ after. AfterLeaves self.now.limit self.now.entries answer.now.exchange.now
+            (Answer answer.now.response_time answer.now.exchange.now.id answer.now.response.now) after) }
         ensures fits { IfOk result (λ after. AfterFits self.now.next self.now.entries after) }
     {
         if answer.is_validation() {

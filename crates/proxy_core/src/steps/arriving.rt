@@ -5,7 +5,8 @@ ghost use Rattle.hx_allow.specs.Matching.{policy_of, verdict_of};
 ghost use Rattle.hx_allow.specs.declared.verdicts.Verdict.TheVariants.{Allowed};
 ghost use Rattle.hx_reuse.specs.Rules.{decision_of};
 ghost use Rattle.proxy_core.specs.Leading.{leader_for};
-ghost use Rattle.proxy_core.specs.Outcomes.{as_hit, find_exchange, refused, allowed, sent_on, forward_text, is_only_if_cached};
+ghost use Rattle.proxy_core.specs.Outcomes.{as_hit, find_exchange, refused, allowed, sent_on, forward_text};
+ghost use Rattle.proxy_core.specs.Outcomes.{is_only_if_cached};
 ghost use Rattle.proxy_core.specs.declared.event.Event.TheVariants.{Arrive};
 ghost use Rattle.proxy_core.specs.declared.open.stage.Stage.TheVariants.{Forwarded};
 ghost use Rattle.proxy_core.specs.State.{Steps, Refuses, after, placed};
@@ -106,7 +107,8 @@ impl<S: Shelf> Core<S> {
         requires early { now < 253_402_300_800 }
         requires free { find_exchange id self.old.exchanges ≡ None }
         requires line { verdict_of self.old.table.lines asked.now.method asked.now.target ≡ Allowed line }
-        ensures outcome { IfOk result (λ outcome. outcome ≡ allowed self.old.table self.old.entries self.old.exchanges line now asked.now (decision_of (policy_of self.old.table.lines line) self.old.entries asked.now now)) }
+        ensures outcome { IfOk result (λ outcome. outcome ≡ allowed self.old.table self.old.entries self.old.exchanges
+            line now asked.now (decision_of (policy_of self.old.table.lines line) self.old.entries asked.now now)) }
         ensures after { IfOk result (λ outcome. self.new ≡ after self.old (Arrive now id asked.now) outcome) }
         ensures unchanged { OnErr result (self.new ≡ self.old) }
     {
@@ -159,8 +161,12 @@ impl<S: Shelf> Core<S> {
     ) -> Result<Outcome, AllocError>
         requires free { find_exchange exchange.id self.old.exchanges ≡ None }
         requires stage { exchange.stage ≡ Forwarded }
-        ensures outcome { IfOk result (λ outcome. outcome ≡ sent_on self.old.table exchange.line exchange.asked exchange.condition (leader_for policy self.old.exchanges exchange.asked exchange.rule)) }
-        ensures after { OnOk result (self.new ≡ record self.old { exchanges = self.old.exchanges ++ placed (leader_for policy self.old.exchanges exchange.asked exchange.rule) exchange ∷ [] }) }
+        ensures outcome { IfOk result (λ outcome. outcome ≡ sent_on self.old.table exchange.line exchange.asked
+            exchange.condition (leader_for policy self.old.exchanges exchange.asked exchange.rule)) }
+        ensures after { OnOk result (self.new ≡ record self.old {
+          exchanges = self.old.exchanges
+              ++ placed (leader_for policy self.old.exchanges exchange.asked exchange.rule) exchange ∷ [];
+        }) }
         ensures unchanged { OnErr result (self.new ≡ self.old) }
     {
         match self.leader_for(policy, &exchange.asked, exchange.rule) {
@@ -177,7 +183,8 @@ impl<S: Shelf> Core<S> {
     /// A request goes forward, and its exchange opens.
     fn forward(&mut self, alloc: Global, exchange: Exchange) -> Result<Outcome, AllocError>
         requires { find_exchange exchange.id self.old.exchanges ≡ None }
-        ensures outcome { IfOk result (λ outcome. outcome ≡ Outcome.Forward exchange.line (forward_text self.old.table exchange.asked exchange.condition)) }
+        ensures outcome { IfOk result (λ outcome. outcome
+            ≡ Outcome.Forward exchange.line (forward_text self.old.table exchange.asked exchange.condition)) }
         ensures after { OnOk result (self.new ≡ record self.old { exchanges = self.old.exchanges ++ exchange ∷ [] }) }
         ensures unchanged { OnErr result (self.new ≡ self.old) }
     {

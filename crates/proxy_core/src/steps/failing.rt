@@ -12,8 +12,8 @@ use hx_store::Shelf;
 use std::alloc::Global;
 
 impl<S: Shelf> Core<S> {
-    /// The origin failed: a held response is sent where no reuse rule stands now, or where one on that response does and
-    /// no error rule, else 502 or 504. `now` is in Unix seconds.
+    /// The origin failed: a held response is sent where no reuse rule stands now, or where one on
+    /// that response does and no error rule, else 502 or 504. `now` is in Unix seconds.
     pub fn fail(
         &mut self,
         alloc: Global,

@@ -64,7 +64,8 @@ pub(crate) fn fallback_for<S: Shelf>(
     now: u64,
     policy: Policy,
 ) -> Result<Fallback, AllocError>
-    ensures { IfOk result (λ fallback. fallback ≡ fallback_for policy (S.entries shelf.now) asked.now now (decision_of policy (S.entries shelf.now) asked.now now)) }
+    ensures { IfOk result (λ fallback. fallback ≡ fallback_for policy (S.entries shelf.now) asked.now now
+        (decision_of policy (S.entries shelf.now) asked.now now)) }
 {
     let directives = Directives::of(alloc, &asked.fields)?;
     match judge_by(alloc, shelf, asked, &directives, now, policy)? {
@@ -88,7 +89,10 @@ impl<S: Shelf> Core<S> {
         now: u64,
     ) -> Result<PendingReply, AllocError>
         requires { now < 253_402_300_800 }
-        ensures outcome { IfOk result (λ pending. reply_of pending ≡ failed self.now.table self.now.entries now exchange.now kind came (fallback_for (policy_of self.now.table.lines exchange.now.line) self.now.entries exchange.now.asked now (decision_of (policy_of self.now.table.lines exchange.now.line) self.now.entries exchange.now.asked now))) }
+        ensures outcome { IfOk result (λ pending. reply_of pending
+            ≡ failed self.now.table self.now.entries now exchange.now kind came
+            (fallback_for (policy_of self.now.table.lines exchange.now.line) self.now.entries exchange.now.asked now
+            (decision_of (policy_of self.now.table.lines exchange.now.line) self.now.entries exchange.now.asked now))) }
         ensures plain { IfOk result (λ pending. IsPlain pending.change) }
     {
         let asked = &exchange.asked;

@@ -16,7 +16,8 @@ use std::alloc::AllocError;
 /// Stores an entry. What is evicted is let go.
 fn put_in<S: Shelf>(shelf: &mut S, entry: Entry, removed: &[u64]) -> Result<(), AllocError>
     requires { holds entry.serial (S.entries shelf.old) ≡ false }
-    ensures ok { OnOk result (S.entries shelf.new ≡ take (S.limit shelf.old) (entry ∷ without removed.now (S.entries shelf.old))) }
+    ensures ok { OnOk result (S.entries shelf.new
+        ≡ take (S.limit shelf.old) (entry ∷ without removed.now (S.entries shelf.old))) }
     ensures err { OnErr result (S.entries shelf.new ≡ S.entries shelf.old) }
     ensures limit { S.limit shelf.new ≡ S.limit shelf.old }
 {
@@ -40,7 +41,8 @@ fn remove_each<S: Shelf>(shelf: &mut S, removed: &[u64])
 fn change_shelf<S: Shelf>(shelf: &mut S, change: Change, removed: &[u64]) -> Result<(), AllocError>
     requires new { IsNew change (S.entries shelf.old) }
     requires held { IsHeld change (S.entries shelf.old) }
-    ensures ok { OnOk result (S.entries shelf.new ≡ entries_by (S.limit shelf.old) removed.now change (S.entries shelf.old)) }
+    ensures ok { OnOk result (S.entries shelf.new
+        ≡ entries_by (S.limit shelf.old) removed.now change (S.entries shelf.old)) }
     ensures err { OnErr result (S.entries shelf.new ≡ S.entries shelf.old) }
     ensures limit { S.limit shelf.new ≡ S.limit shelf.old }
 {
@@ -88,8 +90,8 @@ impl<S: Shelf> Core<S> {
         Outcome::Forward(line, bytes)
     }
 
-    /// Does what a pending reply says, and ends the exchange of an id. Where a key was invalidated, its other exchanges are
-    /// overtaken.
+    /// Does what a pending reply says, and ends the exchange of an id. Where a key was invalidated,
+    /// its other exchanges are overtaken.
     pub(crate) fn finish(
         &mut self,
         id: u64,

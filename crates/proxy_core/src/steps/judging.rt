@@ -10,8 +10,8 @@ use hx_reuse::{Decision, decide};
 use hx_store::Shelf;
 use std::alloc::{AllocError, Global};
 
-/// Whether a held response may be sent, and which, or the first rule against it. The request's directives and the policy
-/// of its line are handed in.
+/// Whether a held response may be sent, and which, or the first rule against it. The request's
+/// directives and the policy of its line are handed in.
 pub(crate) fn judge_by<S: Shelf>(
     alloc: Global,
     shelf: &S,

@@ -27,7 +27,8 @@ impl<S: Shelf> Core<S> {
         info: CacheStatusInfo,
         asked: &Asked,
     ) -> Result<PendingReply, AllocError>
-        ensures outcome { IfOk result (λ pending. reply_of pending ≡ sent self.now.table self.now.entries serial now info asked.now) }
+        ensures outcome { IfOk result (λ pending. reply_of pending
+            ≡ sent self.now.table self.now.entries serial now info asked.now) }
         ensures change { IfOk result (λ pending. pending.change ≡ Change.Use serial) }
     {
         let bytes = match self.shelf.peek(serial) {

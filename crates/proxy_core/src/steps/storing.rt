@@ -57,7 +57,8 @@ impl NewEntry {
     ) -> Result<Entry, AllocError>
         requires head { head ≡ answered_of answer.now.response.now answer.now.response_time }
         requires nominated { self.nominated ≡ kept_values head.fields answer.now.exchange.now.asked.fields }
-        ensures { IfOk result (λ entry. entry ≡ made self.serial answer.now.exchange.now answer.now.response.now answer.now.response_time) }
+        ensures { IfOk result (λ entry. entry
+            ≡ made self.serial answer.now.exchange.now answer.now.response.now answer.now.response_time) }
     {
         let NewEntry { serial, nominated } = self;
         let Answered { status, mut fields } = head;
@@ -104,7 +105,8 @@ impl<S: Shelf> Core<S> {
         requires head { head.now ≡ answered_of answer.now.response.now answer.now.response_time }
         requires directives { directives.now ≡ occurrences_of head.now.fields }
         requires nomination { nomination.now ≡ nominated_of head.now.fields answer.now.exchange.now.asked.fields }
-        ensures { result ≡ facts_of self.now.table answer.now.exchange.now answer.now.response.now answer.now.response_time self.now.next }
+        ensures { result ≡ facts_of self.now.table answer.now.exchange.now answer.now.response.now
+            answer.now.response_time self.now.next }
     {
         let response = answer.response;
         let policy = self.config.policy(answer.exchange.line);
@@ -131,7 +133,9 @@ impl<S: Shelf> Core<S> {
     ) -> Result<Option<StoreRule>, AllocError>
         requires head { head.now ≡ answered_of answer.now.response.now answer.now.response_time }
         requires nomination { nomination.now ≡ nominated_of head.now.fields answer.now.exchange.now.asked.fields }
-        ensures { IfOk result (λ rule. rule ≡ storage_rule_of answer.now.exchange.now.asked head.now (facts_of self.now.table answer.now.exchange.now answer.now.response.now answer.now.response_time self.now.next)) }
+        ensures { IfOk result (λ rule. rule ≡ storage_rule_of answer.now.exchange.now.asked head.now
+            (facts_of self.now.table answer.now.exchange.now answer.now.response.now answer.now.response_time
+            self.now.next)) }
     {
         let asked = &answer.exchange.asked;
         let directives = Directives::of(alloc, &head.fields)?;
@@ -143,8 +147,11 @@ impl<S: Shelf> Core<S> {
 
     /// What is told of the storing rule that stands against an answer.
     fn rule_told(&self, answer: &OriginAnswer<'_>, rule: Option<StoreRule>) -> Option<StoreRule>
-        requires { rule ≡ storage_rule_of answer.now.exchange.now.asked (answered_of answer.now.response.now answer.now.response_time) (facts_of self.now.table answer.now.exchange.now answer.now.response.now answer.now.response_time self.now.next) }
-        ensures { result ≡ rule_told self.now.table answer.now.exchange.now answer.now.response.now answer.now.response_time self.now.next }
+        requires { rule ≡ storage_rule_of answer.now.exchange.now.asked
+            (answered_of answer.now.response.now answer.now.response_time) (facts_of self.now.table
+            answer.now.exchange.now answer.now.response.now answer.now.response_time self.now.next) }
+        ensures { result ≡ rule_told self.now.table answer.now.exchange.now answer.now.response.now
+            answer.now.response_time self.now.next }
     {
         if self.config.policy(answer.exchange.line).explains_storing {
             rule
@@ -153,8 +160,8 @@ impl<S: Shelf> Core<S> {
         }
     }
 
-    /// Whether an answer is stored: the serial and the nominated values of the stored response that it makes, or what is told
-    /// of why it isn't.
+    /// Whether an answer is stored: the serial and the nominated values of the stored response that
+    /// it makes, or what is told of why it isn't.
     pub(crate) fn admit(
         &self,
         alloc: Global,
@@ -162,9 +169,12 @@ impl<S: Shelf> Core<S> {
         head: &Answered,
     ) -> Result<Admission, AllocError>
         requires { head.now ≡ answered_of answer.now.response.now answer.now.response_time }
-        ensures rule { IfOk result (λ admission. admission.rule ≡ rule_told self.now.table answer.now.exchange.now answer.now.response.now answer.now.response_time self.now.next) }
-        ensures serial { IfOk result (λ admission. option_map (λ n. n.serial) admission.new_entry ≡ stored_serial self.now.table answer.now.exchange.now answer.now.response.now answer.now.response_time self.now.next) }
-        ensures nominated { IfOk result (λ admission. IfSome admission.new_entry (λ n. n.nominated ≡ kept_values head.now.fields answer.now.exchange.now.asked.fields)) }
+        ensures rule { IfOk result (λ admission. admission.rule ≡ rule_told self.now.table answer.now.exchange.now
+            answer.now.response.now answer.now.response_time self.now.next) }
+        ensures serial { IfOk result (λ admission. option_map (λ n. n.serial) admission.new_entry ≡ stored_serial
+            self.now.table answer.now.exchange.now answer.now.response.now answer.now.response_time self.now.next) }
+        ensures nominated { IfOk result (λ admission. IfSome admission.new_entry
+            (λ n. n.nominated ≡ kept_values head.now.fields answer.now.exchange.now.asked.fields)) }
     {
         let nomination = Nominated::of(alloc, &head.fields, &answer.exchange.asked.fields)?;
         let rule = self.rule_against(alloc, answer, head, &nomination)?;
@@ -204,7 +214,8 @@ pub(crate) fn removed_unstored<S: Shelf>(
     shelf: &S,
     answer: &OriginAnswer<'_>,
 ) -> Result<Serials, AllocError>
-    ensures { IfOk result (λ removed. removed ≡ removed_by (S.entries shelf.now) answer.now.exchange.now answer.now.response.now None) }
+    ensures { IfOk result (λ removed. removed
+        ≡ removed_by (S.entries shelf.now) answer.now.exchange.now answer.now.response.now None) }
 {
     if answer.invalidates() {
         shelf.find(alloc, &answer.exchange.asked.target.key)

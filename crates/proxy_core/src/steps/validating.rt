@@ -7,7 +7,8 @@ ghost use Rattle.hx_reuse.specs.Rules.{decision_of};
 ghost use Rattle.proxy_core.specs.declared.event.Event.TheVariants.{Answer};
 ghost use Rattle.proxy_core.specs.Outcomes.{sent_refreshed, revalidated};
 ghost use Rattle.proxy_core.specs.Pending.{reply_of, outcome_after, AfterLeaves, AfterFits, IsPlainAfter, IsRefresh};
-ghost use Rattle.proxy_core.specs.Validating.{is_answered, asked_about, validated, refreshed, as_get, head_of, kept_facts, is_kept};
+ghost use Rattle.proxy_core.specs.Validating.{is_answered, asked_about, validated, refreshed, as_get, head_of};
+ghost use Rattle.proxy_core.specs.Validating.{kept_facts, is_kept};
 
 use crate::core_state::Core;
 use crate::open::exchange::Exchange;
@@ -62,7 +63,8 @@ fn validated<'a, S: Shelf>(
     head: &Answered,
 ) -> Option<&'a Entry>
     requires { head.now ≡ answered_of answer.now.response.now answer.now.response_time }
-    ensures { option_copied result ≡ validated (S.entries shelf.now) answer.now.exchange.now answer.now.response.now answer.now.response_time }
+    ensures { option_copied result
+        ≡ validated (S.entries shelf.now) answer.now.exchange.now answer.now.response.now answer.now.response_time }
 {
     match asked_about(shelf, answer.exchange) {
         Some(entry) if is_answered(answer, head, entry) => Some(entry),
@@ -78,7 +80,8 @@ fn refreshed(
     entry: &Entry,
 ) -> Result<Entry, AllocError>
     requires { head.now ≡ answered_of answer.now.response.now answer.now.response_time }
-    ensures { IfOk result (λ fresh. fresh ≡ refreshed answer.now.exchange.now answer.now.response.now answer.now.response_time entry.now) }
+    ensures { IfOk result (λ fresh. fresh
+        ≡ refreshed answer.now.exchange.now answer.now.response.now answer.now.response_time entry.now) }
 {
     let exchange = answer.exchange;
     let times = Times::of(&head.fields, exchange.request_time, answer.response_time);
@@ -137,7 +140,8 @@ fn is_star(alloc: Global, asked: &Asked, entry: &Entry) -> Result<bool, AllocErr
     }
 }
 
-/// Whether a freshened response is kept: its head leaves room for what is added to it, and no storing rule stands against it.
+/// Whether a freshened response is kept: its head leaves room for what is added to it, and no
+/// storing rule stands against it.
 fn is_kept(
     alloc: Global,
     config: &Config,
@@ -188,8 +192,10 @@ impl<S: Shelf> Core<S> {
         answer: &OriginAnswer<'_>,
         entry: Entry,
     ) -> Result<PendingReply, AllocError>
-        ensures outcome { IfOk result (λ pending. reply_of pending ≡ sent_refreshed self.now.table answer.now.exchange.now answer.now.response.now answer.now.response_time entry) }
-        ensures change { IfOk result (λ pending. IsRefresh (is_kept self.now.table answer.now.exchange.now answer.now.response.now entry) entry pending.change) }
+        ensures outcome { IfOk result (λ pending. reply_of pending ≡ sent_refreshed self.now.table
+            answer.now.exchange.now answer.now.response.now answer.now.response_time entry) }
+        ensures change { IfOk result (λ pending. IsRefresh
+            (is_kept self.now.table answer.now.exchange.now answer.now.response.now entry) entry pending.change) }
     {
         let exchange = answer.exchange;
         let response = answer.response;
@@ -219,8 +225,13 @@ impl<S: Shelf> Core<S> {
         answer: &OriginAnswer<'_>,
     ) -> Result<AfterAnswer, AllocError>
         requires { answer.now.response_time < 253_402_300_800 }
-        ensures outcome { IfOk result (λ after. outcome_after answer.now.exchange.now after ≡ revalidated self.now.table self.now.entries answer.now.response_time answer.now.exchange.now answer.now.response.now (validated self.now.entries answer.now.exchange.now answer.now.response.now answer.now.response_time) (decision_of (policy_of self.now.table.lines answer.now.exchange.now.line) self.now.entries answer.now.exchange.now.asked answer.now.response_time)) }
-        ensures leaves { IfOk result (λ after. AfterLeaves self.now.limit self.now.entries answer.now.exchange.now (Answer answer.now.response_time answer.now.exchange.now.id answer.now.response.now) after) }
+        ensures outcome { IfOk result (λ after. outcome_after answer.now.exchange.now after
+            ≡ revalidated self.now.table self.now.entries answer.now.response_time answer.now.exchange.now
+            answer.now.response.now (validated self.now.entries answer.now.exchange.now answer.now.response.now
+            answer.now.response_time) (decision_of (policy_of self.now.table.lines answer.now.exchange.now.line)
+            self.now.entries answer.now.exchange.now.asked answer.now.response_time)) }
+        ensures leaves { IfOk result (λ after. AfterLeaves self.now.limit self.now.entries answer.now.exchange.now
+            (Answer answer.now.response_time answer.now.exchange.now.id answer.now.response.now) after) }
         ensures fits { IfOk result (λ after. AfterFits self.now.next self.now.entries after) }
     {
         let head = answer.head(alloc)?;
@@ -241,7 +252,10 @@ impl<S: Shelf> Core<S> {
         alloc: Global,
         answer: &OriginAnswer<'_>,
     ) -> Result<AfterAnswer, AllocError>
-        ensures outcome { IfOk result (λ after. outcome_after answer.now.exchange.now after ≡ revalidated self.now.table self.now.entries answer.now.response_time answer.now.exchange.now answer.now.response.now None (decision_of (policy_of self.now.table.lines answer.now.exchange.now.line) self.now.entries answer.now.exchange.now.asked answer.now.response_time)) }
+        ensures outcome { IfOk result (λ after. outcome_after answer.now.exchange.now after
+            ≡ revalidated self.now.table self.now.entries answer.now.response_time answer.now.exchange.now
+            answer.now.response.now None (decision_of (policy_of self.now.table.lines answer.now.exchange.now.line)
+            self.now.entries answer.now.exchange.now.asked answer.now.response_time)) }
         ensures plain { IfOk result IsPlainAfter }
     {
         let exchange = answer.exchange;

@@ -41,7 +41,9 @@ impl<S: Shelf> Core<S> {
         exchange: &Exchange,
         now: u64,
     ) -> Result<AfterWake, AllocError>
-        ensures { IfOk result (λ after. IsWoken self.now.table self.now.entries now exchange.now (decision_of (policy_of self.now.table.lines exchange.now.line) self.now.entries exchange.now.asked now) after) }
+        ensures { IfOk result (λ after. IsWoken self.now.table self.now.entries now exchange.now
+            (decision_of (policy_of self.now.table.lines exchange.now.line) self.now.entries exchange.now.asked now)
+            after) }
     {
         let asked = &exchange.asked;
         let policy = self.config.policy(exchange.line);
@@ -59,8 +61,8 @@ impl<S: Shelf> Core<S> {
         }
     }
 
-    /// The exchange that a request waited for has ended: a stored response is sent where no reuse rule stands now, else the
-    /// request goes forward. `now` is in Unix seconds.
+    /// The exchange that a request waited for has ended: a stored response is sent where no reuse
+    /// rule stands now, else the request goes forward. `now` is in Unix seconds.
     pub fn wake(&mut self, alloc: Global, now: u64, id: u64) -> Result<Outcome, CoreFault>
         ensures ok { IfOk result (λ outcome. Steps self.old (Wake now id) outcome self.new) }
         ensures err { IfErr result (λ fault. Refuses self.old (Wake now id) fault) }

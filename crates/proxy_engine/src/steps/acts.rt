@@ -89,7 +89,7 @@ impl<S: Shelf> Engine<S> {
     }
 
     /// Does the first act that is due, and at most one step of the core. `now` is in Unix seconds, up to the end of the
-    /// year 9999. After an `Err` the engine stands for the models that it stood for. Want of memory hides no `Spent`,
+    /// year 9999. After an `Err` the engine stands for the models that it stood for. Out of memory hides no `Spent`,
     /// where looks have found that an answer or a waiting request is due. A request that arrives is judged before that,
     /// which takes memory.
     pub fn work(&mut self, alloc: Global, now: u64) -> Result<Work, EngineFault>

@@ -1,4 +1,4 @@
-//! Whole engines with ample memory: what a clause can refuse for want of memory alone is found here.
+//! Whole engines with ample memory: what a clause can refuse only where memory runs out is found here.
 ghost use Rattle.std.specs.Prelude.{◌<◌};
 
 use hx_allow::Config;
