@@ -120,8 +120,8 @@ impl Bytes {
         }
     }
 
-    /// The bytes of a vector. Where they are many, their copies and parts share them, and no more memory is kept than they need;
-    /// where memory for that runs out they are whole all the same.
+    /// The bytes of a vector. Where they are many, their copies and parts share them, and no more
+    /// memory is kept than they need. Where memory for that runs out, they are copied as few are.
     pub fn shared_from_vec(alloc: Global, bytes: Vec<u8>) -> Bytes
         ensures { result ≡ bytes.items }
     {

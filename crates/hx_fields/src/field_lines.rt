@@ -136,7 +136,7 @@ impl Fields {
     pub fn remove_named(&mut self, name: &[u8])
         ensures { self.new ≡ without_named self.old name.now }
     {
-        // Mostly no line has the name, and a look at the lines costs less than to go through them with leave to move them.
+        // Mostly no line has the name, and to look costs less than to go through lines that may move.
         if self.has(name) {
             retain_others(&mut self.lines, name);
         }

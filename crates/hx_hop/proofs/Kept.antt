@@ -43,7 +43,7 @@ kept_at_once fields =
     let host : Field → Bool = λ line. not (is_named (codes "Host") line) in
     let expect : Field → Bool = λ line. not (is_named (codes "Expect") line) in
     sym (
-      ap (filter expect) (filter_both goes host fields)
-      ∙ filter_both (λ line. goes line && host line) expect fields
-      ∙ ap (λ p. filter p fields) (λ i line. order (is_hop_name line.name) (connection_names fields line.name) (is_named (codes "Host") line) (is_named (codes "Expect") line) i)
-      )
+    ap (filter expect) (filter_both goes host fields)
+    ∙ filter_both (λ line. goes line && host line) expect fields
+    ∙ ap (λ p. filter p fields) (λ i line. order (is_hop_name line.name) (connection_names fields line.name) (is_named (codes "Host") line) (is_named (codes "Expect") line) i)
+    )

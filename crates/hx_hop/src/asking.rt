@@ -6,8 +6,8 @@ ghost use Rattle.hx_hop.specs.Asking.{kept_fields, closes, asked_of, asked_by, I
 ghost use Rattle.hx_hop.specs.Kept.{is_kept};
 
 use crate::Asked;
-use crate::request_view::copy_content;
 use crate::named_lines::{has_many_members, strip_many};
+use crate::request_view::copy_content;
 use crate::stripping::{connection_names, is_among, is_hop_name};
 use hx_fields::{Field, Fields, Members, is_same_name};
 use hx_framing::Request;

@@ -1,5 +1,6 @@
 -- An index from keys to serials, each beside the mark of its entry.
-use Rattle.std.specs.Prelude.{◌≡◌, ℕ, Bool, true, false, not, ◌||◌, ◌==◌, List, [], ◌∷◌, if◌then◌else◌, IfSome, unwrap_or, Option, Some, None}
+use Rattle.std.specs.Prelude.{◌≡◌, ℕ, Bool, true, false, not, ◌||◌, ◌==◌, List, [], ◌∷◌, if◌then◌else◌, IfSome}
+use Rattle.std.specs.Prelude.{unwrap_or, Option, Some, None}
 use Rattle.std.specs.List.{filter}
 use Rattle.std.specs.Map.{keys_of, remove_entry, set_value}
 use Rattle.std.specs.Option.{ForSome}
@@ -42,15 +43,18 @@ but s (x ∷ xs) = if x == s then xs else x ∷ but s xs
 -- was taken out there
 abbrev pub IsPutIn : KeyIndex → Key → ℕ → Mark → KeyIndex → Type 0
 IsPutIn old key s mark new =
-    (q : Key) → marks_at new q ≡ (if same_key key q then insert_entry nat_cmp (marks_at old q) s mark else marks_at old q)
+    (q : Key) → marks_at new q
+    ≡ (if same_key key q then insert_entry nat_cmp (marks_at old q) s mark else marks_at old q)
 
 abbrev pub IsMarkedAnew : KeyIndex → Key → ℕ → Mark → KeyIndex → Type 0
 IsMarkedAnew old key s mark new =
-    (q : Key) → marks_at new q ≡ (if same_key key q then set_value (is_at (nat_cmp s)) (marks_at old q) mark else marks_at old q)
+    (q : Key) → marks_at new q
+    ≡ (if same_key key q then set_value (is_at (nat_cmp s)) (marks_at old q) mark else marks_at old q)
 
 abbrev pub IsTakenOut : KeyIndex → Key → ℕ → KeyIndex → Type 0
 IsTakenOut old key s new =
-    (q : Key) → marks_at new q ≡ (if same_key key q then remove_entry (is_at (nat_cmp s)) (marks_at old q) else marks_at old q)
+    (q : Key) → marks_at new q
+    ≡ (if same_key key q then remove_entry (is_at (nat_cmp s)) (marks_at old q) else marks_at old q)
 
 abbrev pub IsSameIndex : KeyIndex → KeyIndex → Type 0
 IsSameIndex old new = (q : Key) → marks_at new q ≡ marks_at old q
@@ -66,7 +70,8 @@ IsTrim index = (q : Key) → ForSome (get same_key index.serials q) (λ marks. m
 
 -- the same of each key but this one
 abbrev pub IsTrimBeside : Key → KeyIndex → Type 0
-IsTrimBeside key index = (q : Key) → same_key key q ≡ false → ForSome (get same_key index.serials q) (λ marks. marks ≡ [] → ⊥)
+IsTrimBeside key index =
+    (q : Key) → same_key key q ≡ false → ForSome (get same_key index.serials q) (λ marks. marks ≡ [] → ⊥)
 
 -- the index has the serials of these entries at each key
 abbrev pub IsIndexOf : List Stored → KeyIndex → Type 0

@@ -76,15 +76,9 @@ impl EntryCache {
         self.entries.peek(&serial)
     }
 
-<<<<<<< HEAD
-    /// Those of some serials whose entries nominate what the request has. Mostly all do, and no other list is made. Fails for
-    /// want of memory alone.
-    fn matching(
-=======
     /// Those of some serials whose entries nominate what the request has. Mostly all do, and no
     /// other list is made. Fails for want of memory alone.
-    pub(crate) fn matching(
->>>>>>> 703fcf0c93666da5cab6d2086c162d267c0a5236
+    fn matching(
         &self,
         alloc: Global,
         serials: Serials,
@@ -143,8 +137,8 @@ impl EntryCache {
         }
     }
 
-    /// Those of the serials of one key whose entries nominate what the request has. Where there are several, an entry is looked at
-    /// only where its mark may match. Fails only where memory runs out.
+    /// Those of the serials of one key whose entries nominate what the request has. Where there are
+    /// several, an entry is looked at only where its mark may match. Fails only where memory runs out.
     pub(crate) fn matching_of(
         &self,
         alloc: Global,
@@ -153,7 +147,8 @@ impl EntryCache {
         seed: u64,
     ) -> Result<Serials, AllocError>
         requires { AreMarks seed self.now marks.now }
-        ensures { IfOk result (λ found. found ≡ filter (λ s. is_match request.now (find_entry s self.now)) (keys_of marks.now)) }
+        ensures { IfOk result (λ found. found
+            ≡ filter (λ s. is_match request.now (find_entry s self.now)) (keys_of marks.now)) }
     {
         if !marks.is_several() {
             let found = marks.list(alloc)?;

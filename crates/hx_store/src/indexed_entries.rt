@@ -2,11 +2,13 @@
 //!
 //! A call costs at most the logarithm of what is held, and no entry is moved. There is no bound of its own.
 
-ghost use Rattle.std.specs.Prelude.{◌≡◌, ◌≤◌, ◌+◌, ◌-◌, ◌==◌, ◌∷◌, [], false, true, not, length, take, slice_get, option_copied, IfOk, IfErr, OnErr, OnOk, Some};
+ghost use Rattle.std.specs.Prelude.{◌≡◌, ◌≤◌, ◌+◌, ◌-◌, ◌==◌, ◌∷◌, [], false, true, not, length, take, slice_get};
+ghost use Rattle.std.specs.Prelude.{option_copied, IfOk, IfErr, OnErr, OnOk, Some};
 ghost use Rattle.std.specs.Option.{ForSome};
 ghost use Rattle.hx_target.specs.Keys.{same_key};
 ghost use Rattle.hx_store.specs.Serials.{Distinct};
-ghost use Rattle.hx_store.specs.Shelf.{holds, find_entry, without, serials, serials_of, matching_serials, promoted, without_key};
+ghost use Rattle.hx_store.specs.Shelf.{holds, find_entry, without, serials, serials_of, matching_serials, promoted};
+ghost use Rattle.hx_store.specs.Shelf.{without_key};
 ghost use Rattle.hx_store.specs.Index.{without_others};
 
 use crate::entries::Entry;
@@ -50,7 +52,8 @@ impl Model for IndexedEntries {
 
     ghost view = { λ s. s.entries };
 
-    ghost invariant = { λ s. (Distinct (serials s.entries) × IsIndexOf s.entries s.index) × IsTrim s.index × IsMarked s.seed s.entries s.index };
+    ghost invariant = { λ s. (Distinct (serials s.entries) × IsIndexOf s.entries s.index) × IsTrim s.index
+        × IsMarked s.seed s.entries s.index };
 }
 
 impl IndexedEntries {
@@ -122,9 +125,7 @@ impl IndexedEntries {
         ensures distinct { Distinct (serials self.now) }
     {
         match self.index.at(key) {
-            Some(marks) => self
-                .entries
-                .matching_of(alloc, marks, request, self.seed),
+            Some(marks) => self.entries.matching_of(alloc, marks, request, self.seed),
             None => Ok(Serials::new(alloc)),
         }
     }

@@ -1,5 +1,6 @@
-//! A shelf whose entries are found by hashes of their serials and keys. What a call costs goes by what it hands back or takes
-//! out, and by the variants of one key, not by what is held; and it moves no entry.
+//! A shelf whose entries are found by hashes of their serials and keys. What a call costs goes by
+//! what it hands back or takes out, and by the variants of one key, not by what is held. It moves no
+//! entry.
 
 ghost use Rattle.std.specs.Prelude.{◌≡◌, [], IfOk};
 
@@ -48,9 +49,9 @@ impl IndexedShelf {
         IndexedShelf::seeded(alloc, capacity, 0)
     }
 
-    /// The same, with a seed for the hashes by which entries are found, and variants told apart before they are looked at. It
-    /// changes no answer; where nobody knows it, nobody can choose requests that cost more than others. Fails only where memory
-    /// runs out.
+    /// The same, with a seed for the hashes by which entries are found, and variants told apart before
+    /// they are looked at. It changes no answer. Where nobody knows it, nobody can choose requests that
+    /// cost more than others. Fails only where memory runs out.
     pub fn seeded(alloc: Global, capacity: usize, seed: u64) -> Result<IndexedShelf, AllocError>
         ensures { IfOk result (λ shelf. shelf ≡ record { limit = capacity; entries = []; room = 0 }) }
     {

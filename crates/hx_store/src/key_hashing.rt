@@ -1,5 +1,5 @@
-//! How the keys of a shelf are hashed: by `DefaultHasher`, which is made for keys that strangers choose, behind a seed that each
-//! shelf is given.
+//! How the keys of a shelf are hashed: by `DefaultHasher`, which is made for keys that strangers
+//! choose, behind a seed that each shelf is given.
 
 ghost use Rattle.std.specs.Hash.{u64 as writes_of};
 ghost use Rattle.std.specs.Hash.DefaultHasher.{initial, write};

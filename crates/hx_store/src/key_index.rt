@@ -1,7 +1,7 @@
 //! Serials by the keys of their entries, ascending at each key, each beside the mark of its entry.
 //!
-//! A key is found by its hash, whatever is held, and among its serials by the logarithm of how many they are. `find` also costs
-//! what it finds, and `find_marked` a comparison of numbers for each serial at the key.
+//! A key is found by its hash, whatever is held, and a serial among those of its key by the
+//! logarithm of how many they are.
 
 ghost use Rattle.std.specs.Prelude.{◌≡◌, ◌==◌, [], not, length, option_copied, IfOk, OnOk, OnErr, slice_get};
 ghost use Rattle.std.specs.Bool.{OnFalse, OnTrue};
@@ -9,7 +9,8 @@ ghost use Rattle.hx_target.specs.declared.keys.Key.{Key as StoreKey};
 ghost use Rattle.std.specs.HashMap.{get};
 ghost use Rattle.hx_target.specs.Keys.{same_key};
 ghost use Rattle.std.specs.Ordering.{nat_cmp};
-ghost use Rattle.hx_store.specs.Index.{indexed, marks_at, IsMarkedAnew, IsPutIn, IsPutInIf, IsTakenOut, IsSameIndex, IsTrim, IsTrimBeside};
+ghost use Rattle.hx_store.specs.Index.{indexed, marks_at, IsMarkedAnew, IsPutIn, IsPutInIf, IsTakenOut, IsSameIndex};
+ghost use Rattle.hx_store.specs.Index.{IsTrim, IsTrimBeside};
 
 use crate::key_hashing::KeyHashing;
 use crate::key_marks::KeyMarks;
