@@ -25,5 +25,5 @@ pub use crate::turn_cases::{
     a_turn_refuses_what_is_not_done, in_which_order_steps_stand, what_is_called,
     what_reads_are_taken_as,
 };
-pub use crate::turns::turn;
+pub use crate::turns::{turn, turn_through};
 pub use proxy_engine::End;

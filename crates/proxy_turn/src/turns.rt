@@ -94,7 +94,10 @@ fn read_all<S: Shelf, K: Sockets>(
     engine: &mut Engine<S>,
     sockets: &mut K,
     alloc: Global,
+    buf: &mut [u8],
 ) -> Result<(u64, u64), TurnFault>
+    requires { length buf.old ≡ 4096 }
+    ensures length { length buf.new ≡ length buf.old }
     ensures few { IfOk result (λ counts. counts.1 < 2 ^ 63) }
     ensures reads { (s : EngineModel) → Represents engine.old s
         → ReadsAll s engine.new (λ made. K.Did sockets.old made sockets.new)
@@ -105,10 +108,9 @@ fn read_all<S: Shelf, K: Sockets>(
     let Ok(ends) = engine.readable_ends(alloc) else {
         return Err(TurnFault::NoMemory);
     };
-    let mut buf = [0u8; PIECE];
     let mut faults = 0u64;
     for end in &ends {
-        match read_one(engine, sockets, alloc, *end, &mut buf) {
+        match read_one(engine, sockets, alloc, *end, buf) {
             Ok(more) => faults = faults.saturating_add(more),
             Err(fault) => return Err(fault),
         }
@@ -174,12 +176,32 @@ pub fn turn<S: Shelf, K: Sockets>(
         (calls (K.accepts sockets.old) (K.reads sockets.old) (K.failures sockets.old))
         (calls (K.accepts sockets.new) (K.reads sockets.new) (K.failures sockets.new)) result }
 {
+    let mut buf = [0u8; PIECE];
+    turn_through(engine, sockets, alloc, now, &mut buf)
+}
+
+/// The same by a buffer of 4,096 bytes, into which each read goes. Who serves many turns clears it once.
+pub fn turn_through<S: Shelf, K: Sockets>(
+    engine: &mut Engine<S>,
+    sockets: &mut K,
+    alloc: Global,
+    now: u64,
+    buf: &mut [u8],
+) -> Result<Report, TurnFault>
+    requires early { now < END_OF_TIME }
+    requires piece { length buf.old ≡ 4096 }
+    ensures length { length buf.new ≡ length buf.old }
+    ensures turns { (s : EngineModel) → Represents engine.old s → IsOrderly s
+        → TurnsAndCalls now s engine.new (λ made. K.Did sockets.old made sockets.new)
+        (calls (K.accepts sockets.old) (K.reads sockets.old) (K.failures sockets.old))
+        (calls (K.accepts sockets.new) (K.reads sockets.new) (K.failures sockets.new)) result }
+{
     effects_name_open_ends();
     let accepted = match accept(engine, sockets, alloc) {
         Ok(accepted) => accepted,
         Err(fault) => return Err(fault),
     };
-    let (reads, unread) = match read_all(engine, sockets, alloc) {
+    let (reads, unread) = match read_all(engine, sockets, alloc, buf) {
         Ok(counts) => counts,
         Err(fault) => return Err(fault),
     };

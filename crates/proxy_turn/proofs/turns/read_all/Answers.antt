@@ -6,7 +6,7 @@ use Rattle.proxy_turn.proofs.There.{read_there}
 use Rattle.proxy_turn.proofs.turns.read_all.Goals as goal
 
 pub loop-end-init : goal.loop-end-init
-loop-end-init g c = record { done = λ s stands. so_far_none s c.args.engine.now _ _ stands (g.met.K.Sockets.none _); few = omega arith }
+loop-end-init g c = record { done = λ s stands. so_far_none s c.args.engine.now _ _ stands (g.met.K.Sockets.none _); few = omega arith; piece = c.requires }
 
 pub returns-in_default-clause-reads : goal.returns-in_default-clause-reads
 returns-in_default-clause-reads g c = λ s stands. read_not s c.args.engine.now _ _ _ refl stands (g.met.K.Sockets.none _)
@@ -42,4 +42,5 @@ loop-end-preserved g c =
           (so_far_later c.what_ends_stays_ended.ensures.takes s es i (get_or es i Listener) c.loop-end.engine _ _ _ c.loop-end.faults at within (subst (AreThere s) (sym is) (read_there s)) done))
           (λ x y p q. g.met.K.Sockets.joined _ _ _ x y p q));
       few = omega (arith, few, one, sum);
+      piece = c.in-Ok-read_one.ensures.length ∙ c.loop-end.invariant.piece;
     }

@@ -1,4 +1,4 @@
-use Rattle.std.proofs.Common.{◌≤◌, take}
+use Rattle.std.proofs.Common.{◌≡◌, ◌≤◌, take, length}
 use Rattle.proxy_engine.specs.EngineModel.{EngineModel}
 use Rattle.proxy_engine.specs.State.{Represents}
 use Rattle.proxy_turn.specs.Counts.{calls}
@@ -11,4 +11,5 @@ invariant-loop-end g l = record {
   done : (s : EngineModel) → Represents l.fn.engine s → SoFar s (take l.end-index l.end-items) l.engine (λ made. g.K.Sockets.Did l.fn.sockets made l.sockets)
       (calls (g.K.Sockets.accepts l.fn.sockets) (g.K.Sockets.reads l.fn.sockets) (g.K.Sockets.failures l.fn.sockets)) (calls (g.K.Sockets.accepts l.sockets) (g.K.Sockets.reads l.sockets) (g.K.Sockets.failures l.sockets)) l.faults;
   few : l.faults ≤ l.end-index;
+  piece : length l.buf ≡ 4096;
 }

@@ -1,26 +1,26 @@
 use Rattle.std.proofs.Common.{◌≡◌, ◌+◌, refl, rules}
 use Rattle.proxy_turn.proofs.Whole.{asks_alone, reads_last, works_last, read_orderly, whole, few_works}
-use Rattle.proxy_turn.proofs.turns.turn.Goals as goal
+use Rattle.proxy_turn.proofs.turns.turn_through.Goals as goal
 
-pub returns-in-Err : goal.returns-in-Err
-returns-in-Err g c = λ s stands h. asks_alone c.args.now s c.accept.new.engine _ _ _ c.in-Err.fault (c.in-Err.ensures s stands)
+pub returns-in-Err-clause-turns : goal.returns-in-Err-clause-turns
+returns-in-Err-clause-turns g c = λ s stands h. asks_alone c.args.now s c.accept.new.engine _ _ _ c.in-Err.fault (c.in-Err.ensures s stands)
 
-pub returns-in-Err-read_all : goal.returns-in-Err-read_all
-returns-in-Err-read_all g c = λ s stands h.
+pub returns-in-Err-read_all-clause-turns : goal.returns-in-Err-read_all-clause-turns
+returns-in-Err-read_all-clause-turns g c = λ s stands h.
     let first = c.in-Ok.ensures s stands in
     reads_last c.args.now s c.accept.new.engine _ _ _ _ first c.read_all.new.engine _ _ c.in-Err-read_all.fault (c.in-Err-read_all.ensures.reads first.begun first.stands) _
     (λ x y p q. g.met.K.Sockets.joined _ _ _ x y p q)
 
-pub returns-in-Err-work_all : goal.returns-in-Err-work_all
-returns-in-Err-work_all g c = λ s stands h.
+pub returns-in-Err-work_all-clause-turns : goal.returns-in-Err-work_all-clause-turns
+returns-in-Err-work_all-clause-turns g c = λ s stands h.
     let first = c.in-Ok.ensures s stands in
     let second = c.in-Ok-read_all.ensures.reads first.begun first.stands in
     let still = read_orderly c.args.now s c.accept.new.engine _ _ _ c.in-Ok.accepted first c.read_all.new.engine _ _ c.in-Ok-read_all.counts second c.effects_name_open_ends.ensures.takes h in
     works_last c.args.now s c.accept.new.engine _ _ _ c.in-Ok.accepted first c.read_all.new.engine _ _ c.in-Ok-read_all.counts second c.work_all.new.engine _ _ c.in-Err-work_all.fault (c.in-Err-work_all.ensures second.some.last second.some.stands still)
     (λ made. g.K.Sockets.Did c.accept.new.sockets made c.work_all.new.sockets) _ (λ x y p q. g.met.K.Sockets.joined _ _ _ x y p q) (λ x y p q. g.met.K.Sockets.joined _ _ _ x y p q)
 
-pub returns : goal.returns
-returns g c = λ s stands h.
+pub returns-clause-turns : goal.returns-clause-turns
+returns-clause-turns g c = λ s stands h.
     let first = c.in-Ok.ensures s stands in
     let second = c.in-Ok-read_all.ensures.reads first.begun first.stands in
     let still = read_orderly c.args.now s c.accept.new.engine _ _ _ c.in-Ok.accepted first c.read_all.new.engine _ _ c.in-Ok-read_all.counts second c.effects_name_open_ends.ensures.takes h in
