@@ -149,12 +149,12 @@ def parts_of_a_document():
 
 
 def a_table_may_move(stand):
-    """The tables of two pages in a third one, in another order: all has the same words, and another place."""
+    """The tables of three pages in another one, in another order: all has the same words, and another place."""
     folder = f"{stand.folder}/moved"
     shutil.copytree(f"{ROOT}/docs", f"{folder}/docs")
     os.symlink(f"{ROOT}/crates", f"{folder}/crates")
     parts = []
-    for name in ("RULES.md", "OPERATIONS.md"):
+    for name in ("RULES.md", "REASONS.md", "OPERATIONS.md"):
         with open(f"{folder}/docs/{name}", encoding="utf-8") as it:
             parts += re.split(r"(?m)^(?=## )", it.read())
         os.remove(f"{folder}/docs/{name}")

@@ -1,7 +1,7 @@
 """What is to be said of one rule, fault, refusal or parameter: its rows in docs/, and where it is defined."""
 import re
 
-from explained.documents import codes_in, sections_of
+from explained.documents import codes_in, plain, sections_of
 
 PLAIN, CHANGE = "In plain words", "What can be changed"
 # Who can change something, as a part of an entry, and as the cells of that column begin.
@@ -174,13 +174,13 @@ NAMES_OF_CAUSES |= {"Frame": "refused", "Target": "refused"}
 
 
 def row_of_words(rows, documents):
-    """The row of plain words that stands in the same section as a rule's row."""
+    """The row of plain words that stands under the same heading as a rule's row, perhaps on another page."""
     table, row = rows
     if not table:
         return {}
     column = "Rule" if "Rule" in table.heads else "Fault"
     for it in documents.with_heads(column, PLAIN, CHANGE):
-        if (it.page, it.section) == (table.page, table.section):
+        if plain(it.section) == plain(table.section):
             return next((one for one in it.rows if one[column] == row[column]), {})
     return {}
 

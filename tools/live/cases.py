@@ -1,4 +1,5 @@
 """Cases of examples/ as the scripts that they spell: examples/README.md has their form."""
+import glob
 import os
 import re
 from email.utils import formatdate
@@ -92,11 +93,22 @@ def effects_of_case(text):
     return out
 
 
+def paths(ending):
+    """Name -> path of the files of examples/ that end so. Each folder there is a subject; a name stands in one of them alone."""
+    found = {}
+    for path in sorted(glob.glob(f"{EXAMPLES}/*/*.{ending}"), key=os.path.basename):
+        name = os.path.basename(path).removesuffix(f".{ending}")
+        if name in found:
+            raise ValueError(f"two examples have the name {name}: {found[name]} and {path}")
+        found[name] = path
+    return found
+
+
 def effects_of(name):
     """The text of the effects of an example that ends well."""
     for ending, spelled in (("effects", None), ("case", effects_of_case)):
-        path = f"{EXAMPLES}/{name}.{ending}"
-        if os.path.exists(path):
+        path = paths(ending).get(name)
+        if path:
             with open(path, "rb") as it:
                 return spelled(it.read().decode()) if spelled else it.read()
     return None
@@ -104,13 +116,13 @@ def effects_of(name):
 
 def examples():
     """Name -> script of each example: scripts as they stand, and those that cases spell."""
+    scripts, cases, refusals = paths("script"), paths("case"), paths("refusal")
     found = {}
-    for file in sorted(os.listdir(EXAMPLES)):
-        name, _, ending = file.rpartition(".")
-        if ending == "script":
-            with open(f"{EXAMPLES}/{file}", "rb") as it:
+    for name in sorted({*scripts, *cases}):
+        if name in scripts:
+            with open(scripts[name], "rb") as it:
                 found[name] = it.read()
-        elif ending == "case" and name not in found and not os.path.exists(f"{EXAMPLES}/{name}.refusal"):
-            with open(f"{EXAMPLES}/{file}", encoding="utf-8") as it:
+        elif name not in refusals:
+            with open(cases[name], encoding="utf-8") as it:
                 found[name] = script_of_case(it.read())
     return found

@@ -1,5 +1,4 @@
 """Scenarios of other programs as clients and origin, of the command line, and of the record itself."""
-import glob
 import http.client
 import os
 import pty
@@ -10,6 +9,7 @@ import subprocess
 import sys
 import urllib.request
 
+from live.cases import paths
 from live.client import PATIENCE
 from live.expect import Skipped, Unexpected, expect, expect_answer
 from live.origin import Origin, whole
@@ -298,8 +298,8 @@ def replay(stage, script, **more):
 
 def example(name, ending, default=None):
     """What examples/ has under this name, or what stands for it."""
-    path = f"{TOOLS}/../examples/{name}.{ending}"
-    if default is not None and not os.path.exists(path):
+    path = paths(ending).get(name)
+    if path is None and default is not None:
         return default
     with open(path, "rb") as it:
         return it.read()
@@ -308,7 +308,7 @@ def example(name, ending, default=None):
 @scenario
 def a_replay_ends_by_its_status(stage):
     """The exit status of a script that plays, of each example that is at fault, of a word too many, and of an output that is full."""
-    names = [os.path.basename(it).removesuffix(".status") for it in glob.glob(f"{TOOLS}/../examples/*.status")]
+    names = list(paths("status"))
     expect("of the examples at fault", 10, len(names))
     for it in ["first_run", *names]:
         ended = int(example(it, "status", b"0")), example(it, "effects"), example(it, "stderr", b"")

@@ -1,4 +1,4 @@
-//! What the programs that test have in common: the texts of cases and of scripts' items, and the files of a folder.
+//! What the programs that test have in common: the texts of cases and of scripts' items, and what lies in a folder.
 //!
 //! The text of a case is bytes as people write them, with escapes for what a line of text can't hold.
 //!
@@ -11,7 +11,7 @@ mod items;
 mod reading;
 mod showing;
 
-pub use folder::stems_ending;
+pub use folder::{folders, stems_ending, stems_in};
 pub use items::{failure_word, push_item};
 pub use reading::{TextFault, push_bytes};
 pub use showing::push_shown;

@@ -1,8 +1,8 @@
-//! The rows and cases of a folder, or those that are named.
+//! The rows and cases of the folders that lie here, or those that are named.
 
 use crate::cases::{Spelled, judge};
 use crate::rows::{self, Row};
-use case_text::stems_ending;
+use case_text::{folders, stems_in};
 use std::io;
 use std::rt::Files;
 
@@ -75,27 +75,38 @@ fn play_case<R: Files + Print + AllocGlobal>(rt: &R, name: &str) -> io::Result<b
     Ok(holds)
 }
 
-fn play_rows<R: Files + Print + AllocGlobal + Clone + Drop>(rt: &R) -> io::Result<bool> {
+fn play_rows<R: Files + Print + AllocGlobal + Clone + Drop>(
+    rt: &R,
+    folder: &str,
+) -> io::Result<bool> {
     let mut all = true;
-    for name in &stems_ending(rt, ".script")? {
+    for stem in &stems_in(rt, folder, ".script")? {
+        let name = format!(in rt.alloc(); "{folder}/{stem}")?;
         all &= play_row(rt, name.as_str())?;
     }
     Ok(all)
 }
 
-fn play_cases<R: Files + Print + AllocGlobal + Clone + Drop>(rt: &R) -> io::Result<bool> {
+fn play_cases<R: Files + Print + AllocGlobal + Clone + Drop>(
+    rt: &R,
+    folder: &str,
+) -> io::Result<bool> {
     let mut all = true;
-    for name in &stems_ending(rt, ".case")? {
+    for stem in &stems_in(rt, folder, ".case")? {
+        let name = format!(in rt.alloc(); "{folder}/{stem}")?;
         all &= play_case(rt, name.as_str())?;
     }
     Ok(all)
 }
 
-/// Plays each row and each case of this folder, and tells whether all hold.
+/// Plays each row and each case of the folders that lie here, and tells whether all hold.
 pub fn play_all<R: Files + Print + AllocGlobal + Clone + Drop>(rt: &R) -> io::Result<bool> {
-    let rows = play_rows(rt)?;
-    let cases = play_cases(rt)?;
-    Ok(rows && cases)
+    let mut all = true;
+    for folder in &folders(rt)? {
+        all &= play_rows(rt, folder.as_str())?;
+        all &= play_cases(rt, folder.as_str())?;
+    }
+    Ok(all)
 }
 
 /// Whether a file belongs to a row or a case beside it. `rt try` hands a program only the files that its arguments

@@ -1,9 +1,10 @@
-//! Plays rows and cases: those that lie where it runs, or those that its arguments name.
+//! Plays rows and cases: those of the folders that lie where it runs, or those that its arguments name.
 //!
 //! A row NAME is a script, NAME.script, and the text of its effects, NAME.effects. Where the replay is to end by a
 //! fault, NAME.stderr has its line and NAME.status the exit status. A case NAME.case has both in one, written for
 //! people; data/README.md has its form. Each is played once more with all bytes one at a time, and over a shelf that is
-//! a list: the text is to be the same. A line a row and a case is printed, in the order of names.
+//! a list: the text is to be the same. A line a row and a case is printed, folder by folder in the order of names: the
+//! rows of a folder first, and then its cases.
 #![tactic(auto)]
 
 mod case_lines;
@@ -21,7 +22,7 @@ use std::process::ExitCode;
 use std::rt::{Env, Files};
 use std::{env, io};
 
-/// Plays what the arguments name, or all that lies here, and tells whether all hold.
+/// Plays what the arguments name, or what lies in the folders here, and tells whether all hold.
 fn run<R: Env + Files + Print + AllocGlobal + Clone + Drop>(rt: &R) -> io::Result<bool> {
     let mut all = true;
     let mut is_named = false;
