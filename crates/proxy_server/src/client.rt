@@ -15,7 +15,7 @@ use crate::telling::Reply;
 use hx_fields::Bytes;
 use mio::net::TcpStream;
 use proxy_log::{Asked, Seen, line_about};
-use proxy_turn::Received;
+use proxy_turn::{PIECE, Received};
 use std::alloc::{AllocError, Global};
 use std::io;
 use std::net::SocketAddr;
@@ -291,7 +291,7 @@ impl<S: Stream + Drop> Client<S> {
     pub(crate) fn hear_early(&mut self, now: u64) -> Heard
         ensures takes_first { 0 < length self.old.peer.unsent.bytes → (self.new ≡ self.old) × (result ≡ Heard.Nothing) }
     {
-        let mut buf = [0u8; 4096];
+        let mut buf = [0u8; PIECE];
         match self.read_on(&mut buf, now) {
             Ok(Received::Nothing) => Heard::Nothing,
             Ok(Received::Bytes(n)) => {

@@ -13,7 +13,7 @@ use crate::clients::Clients;
 use crate::limits::LINGERING;
 use crate::lines::Line;
 use crate::stream::Stream;
-use proxy_turn::Received;
+use proxy_turn::{PIECE, Received};
 
 /// How many pieces are read and dropped at a time.
 const PIECES: u8 = 16;
@@ -27,7 +27,7 @@ enum Stays {
 
 /// Reads and drops what a client still sends.
 fn drop_input<S: Stream + Drop>(client: &mut Client<S>, now: u64) -> Stays {
-    let mut buf = [0u8; 4096];
+    let mut buf = [0u8; PIECE];
     for _piece in 0..PIECES {
         match client.read_on(&mut buf, now) {
             Ok(Received::Bytes(_)) => {}

@@ -19,7 +19,8 @@ use hx_store::Shelf;
 use proxy_engine::Engine;
 use proxy_log::Lines;
 use proxy_turn::{
-    End, Report, TurnFault, a_turn_is_served_behind_losses, engines_live_on, loss, turn,
+    End, PIECE, Report, TurnFault, a_turn_is_served_behind_losses, engines_live_on, loss,
+    turn_through,
 };
 use std::alloc::Global;
 use std::io::{ErrorKind, Write};
@@ -60,6 +61,8 @@ pub struct Server<'a, S: Shelf + Drop, R: Net, W: Write + Drop> {
     engine: Engine<S>,
     pub(crate) ends: Recording<LiveSockets<'a, R>, W>,
     pace: Pace,
+    /// What the reads of each turn go into.
+    piece: [u8; PIECE],
 }
 
 impl<'a, S: Shelf + Drop, R: Net, W: Write + Drop> Model for Server<'a, S, R, W> {
@@ -138,6 +141,7 @@ impl<'a, S: Shelf + Drop, R: Net, W: Write + Drop> Server<'a, S, R, W> {
                 settled: true,
                 sweeping: false,
             },
+            piece: [0; PIECE],
         }
     }
 
@@ -239,7 +243,13 @@ impl<'a, S: Shelf + Drop, R: Net, W: Write + Drop> Server<'a, S, R, W> {
         engines_live_on();
         a_turn_is_served_behind_losses();
         self.hand_in();
-        turn(&mut self.engine, &mut self.ends, self.alloc, now)
+        turn_through(
+            &mut self.engine,
+            &mut self.ends,
+            self.alloc,
+            now,
+            &mut self.piece,
+        )
     }
 
     /// Whether the next turn has to wait, by what this one told.

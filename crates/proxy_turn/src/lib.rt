@@ -17,7 +17,7 @@ mod turns;
 
 pub use crate::happenings::{arrival, ending, loss};
 pub use crate::laws::{a_turn_is_served_behind_losses, engines_live_on, turns_are_lived};
-pub use crate::limits::MOST_WORKS;
+pub use crate::limits::{MOST_WORKS, PIECE};
 pub use crate::logged::{Gave, Logged, LoggedCall, turn_with_log};
 pub use crate::report::{Report, TurnFault};
 pub use crate::sockets::{Received, SocketFailed, Sockets};

@@ -4,7 +4,7 @@
 pub(crate) const MOST_OPEN: usize = 256;
 
 /// Bytes of one read.
-pub(crate) const PIECE: usize = 4096;
+pub const PIECE: usize = 4096;
 
 /// Acts of a turn. After as many, more may be due.
 pub const MOST_WORKS: u64 = 1000;
