@@ -22,8 +22,10 @@ use Rattle.hx_reuse.specs.Rules.{Standing, against, decision_of}
 use Rattle.hx_reuse.specs.ErrorRules.{against_on_error, standing_on, error_rule_on}
 use Rattle.hx_reuse.specs.OnError.{staleness_at}
 use Rattle.hx_reuse.specs.declared.rule.ReuseRule.{ReuseRule}
-use Rattle.hx_reuse.specs.declared.rule.ReuseRule.TheVariants.{RequestNoCache, AboveMaxAge, BelowMinFresh, StaleNoCache}
-use Rattle.hx_reuse.specs.declared.rule.ReuseRule.TheVariants.{StaleMaxAge, StaleMinFresh}
+use Rattle.hx_reuse.specs.declared.rule.ReuseRule.TheVariants.{Operator, Method, Content, Range, Precondition, UriMiss}
+use Rattle.hx_reuse.specs.declared.rule.ReuseRule.TheVariants.{VaryMiss, ResponseNoCache, RequestNoCache, AboveMaxAge}
+use Rattle.hx_reuse.specs.declared.rule.ReuseRule.TheVariants.{BelowMinFresh, MustRevalidate, NoLifetime, StaleNoCache}
+use Rattle.hx_reuse.specs.declared.rule.ReuseRule.TheVariants.{NoMaxStale, PastMaxStale, StaleMaxAge, StaleMinFresh}
 use Rattle.hx_reuse.specs.declared.rule.ErrorRule.TheVariants as on_error
 
 -- ---- a lifetime
@@ -48,13 +50,24 @@ GivenLifetimeCounts = (policy : Policy) (status : ℕ) (fields : List Field) (n 
 
 -- the rules on its no-cache, max-age and min-fresh (RFC 9111, sections 5.2.1.1, 5.2.1.3 and 5.2.1.4)
 abbrev pub asks_advice : ReuseRule → Bool
+asks_advice Operator = false
+asks_advice Method = false
+asks_advice Content = false
+asks_advice Range = false
+asks_advice Precondition = false
+asks_advice UriMiss = false
+asks_advice VaryMiss = false
+asks_advice ResponseNoCache = false
 asks_advice RequestNoCache = true
 asks_advice AboveMaxAge = true
 asks_advice BelowMinFresh = true
+asks_advice MustRevalidate = false
+asks_advice NoLifetime = false
 asks_advice StaleNoCache = true
+asks_advice NoMaxStale = false
+asks_advice PastMaxStale = false
 asks_advice StaleMaxAge = true
 asks_advice StaleMinFresh = true
-asks_advice rule = false
 
 abbrev pub IgnoredAdviceNeverStands : Type 0
 IgnoredAdviceNeverStands = (rule : ReuseRule) (s : Standing) →

@@ -85,6 +85,10 @@ plain_against_chosen which e asked now =
     plain_against which (lifetime_of e.fields) (age_of e.times now) (occurrences_of e.fields)
     (occurrences_of asked.fields)
 
+abbrev pub plain_stands_on_chosen : ReuseRule → List Stored → Asked → ℕ → Bool
+plain_stands_on_chosen which held asked now =
+    is_some_and (λ e. plain_against_chosen which e asked now) (chosen_of held asked)
+
 abbrev pub plain_stands : ReuseRule → Bool → List Stored → Asked → ℕ → Bool
 plain_stands Operator caches held asked now = not caches
 plain_stands Method caches held asked now = not (bytes_eq asked.method (codes "GET") || bytes_eq asked.method (codes "HEAD"))
@@ -93,8 +97,17 @@ plain_stands Range caches held asked now = asks_for_range asked
 plain_stands Precondition caches held asked now = has_precondition asked
 plain_stands UriMiss caches held asked now = length (of_key held asked) == 0
 plain_stands VaryMiss caches held asked now = is_none (chosen_of held asked)
-plain_stands which caches held asked now =
-    is_some_and (λ e. plain_against_chosen which e asked now) (chosen_of held asked)
+plain_stands ResponseNoCache caches held asked now = plain_stands_on_chosen ResponseNoCache held asked now
+plain_stands RequestNoCache caches held asked now = plain_stands_on_chosen RequestNoCache held asked now
+plain_stands AboveMaxAge caches held asked now = plain_stands_on_chosen AboveMaxAge held asked now
+plain_stands BelowMinFresh caches held asked now = plain_stands_on_chosen BelowMinFresh held asked now
+plain_stands MustRevalidate caches held asked now = plain_stands_on_chosen MustRevalidate held asked now
+plain_stands NoLifetime caches held asked now = plain_stands_on_chosen NoLifetime held asked now
+plain_stands StaleNoCache caches held asked now = plain_stands_on_chosen StaleNoCache held asked now
+plain_stands NoMaxStale caches held asked now = plain_stands_on_chosen NoMaxStale held asked now
+plain_stands PastMaxStale caches held asked now = plain_stands_on_chosen PastMaxStale held asked now
+plain_stands StaleMaxAge caches held asked now = plain_stands_on_chosen StaleMaxAge held asked now
+plain_stands StaleMinFresh caches held asked now = plain_stands_on_chosen StaleMinFresh held asked now
 
 unfoldable pub plain_decision_of : Bool → List Stored → Asked → ℕ → Decision
 plain_decision_of caches held asked now =

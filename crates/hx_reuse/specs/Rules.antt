@@ -123,6 +123,11 @@ against Precondition s = false
 against UriMiss s = false
 against VaryMiss s = false
 
+-- a rule on the chosen response: one is chosen, and the condition of the rule holds of it
+abbrev pub stands_on_chosen : ReuseRule → Policy → List Stored → Asked → ℕ → Bool
+stands_on_chosen rule policy held asked now =
+    is_some_and (λ e. against rule (standing policy e asked now)) (chosen_of held asked)
+
 -- the condition of each rule, under what the operator's line says of caching
 abbrev pub stands : ReuseRule → Policy → List Stored → Asked → ℕ → Bool
 -- own: what the operator keeps from the store
@@ -140,7 +145,17 @@ stands UriMiss policy held asked now = length (of_key held asked) == 0
 -- RFC 9111, section 4.1
 stands VaryMiss policy held asked now = is_none (chosen_of held asked)
 -- those on the chosen response
-stands rule policy held asked now = is_some_and (λ e. against rule (standing policy e asked now)) (chosen_of held asked)
+stands ResponseNoCache policy held asked now = stands_on_chosen ResponseNoCache policy held asked now
+stands RequestNoCache policy held asked now = stands_on_chosen RequestNoCache policy held asked now
+stands AboveMaxAge policy held asked now = stands_on_chosen AboveMaxAge policy held asked now
+stands BelowMinFresh policy held asked now = stands_on_chosen BelowMinFresh policy held asked now
+stands MustRevalidate policy held asked now = stands_on_chosen MustRevalidate policy held asked now
+stands NoLifetime policy held asked now = stands_on_chosen NoLifetime policy held asked now
+stands StaleNoCache policy held asked now = stands_on_chosen StaleNoCache policy held asked now
+stands NoMaxStale policy held asked now = stands_on_chosen NoMaxStale policy held asked now
+stands PastMaxStale policy held asked now = stands_on_chosen PastMaxStale policy held asked now
+stands StaleMaxAge policy held asked now = stands_on_chosen StaleMaxAge policy held asked now
+stands StaleMinFresh policy held asked now = stands_on_chosen StaleMinFresh policy held asked now
 
 -- the rules by their numbers
 abbrev pub request_rules : List ReuseRule
@@ -170,7 +185,17 @@ names_entry Range = false
 names_entry Precondition = false
 names_entry UriMiss = false
 names_entry VaryMiss = false
-names_entry rule = true
+names_entry ResponseNoCache = true
+names_entry RequestNoCache = true
+names_entry AboveMaxAge = true
+names_entry BelowMinFresh = true
+names_entry MustRevalidate = true
+names_entry NoLifetime = true
+names_entry StaleNoCache = true
+names_entry NoMaxStale = true
+names_entry PastMaxStale = true
+names_entry StaleMaxAge = true
+names_entry StaleMinFresh = true
 
 -- where no rule stands a response is chosen, so the last case never comes (law `a_hit_is_held`)
 abbrev pub decided : Option ReuseRule → Option ℕ → Decision

@@ -22,7 +22,7 @@ fn response_limit(response: &Directives) -> Option<u32>
 {
     match response.seconds(Directive::StaleIfError) {
         Seconds::Value(most) => Some(most),
-        _ => None,
+        Seconds::Absent | Seconds::Bad | Seconds::Repeated => None,
     }
 }
 
