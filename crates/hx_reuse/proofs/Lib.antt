@@ -10,3 +10,4 @@ pub mod OnErrorLemmas
 pub mod PromiseLemmas
 pub mod WordLemmas
 pub mod LineLemmas
+pub mod TableLemmas

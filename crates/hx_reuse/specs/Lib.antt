@@ -9,4 +9,5 @@ pub mod OnError
 pub mod Promises
 pub mod PlainLines
 pub mod LineWords
+pub mod Tables
 pub mod Cases

@@ -19,6 +19,9 @@ ghost use Rattle.hx_reuse.specs.LineWords.{IgnoredAdviceDecidesNothing, Operator
 ghost use Rattle.hx_reuse.specs.LineWords.{StatedLimitStays};
 ghost use Rattle.hx_reuse.specs.Promises.{SendsNoOtherRequestsVariant, SendsNoOtherVariant, NeverSendsStaleAgainst};
 ghost use Rattle.hx_reuse.specs.Promises.{NeverOutlastsWhatItStates, NeverSendsUnvalidated, NeverSendsOnError};
+ghost use Rattle.hx_reuse.specs.Tables.{RulesAreInOrder, EachRuleIsListed, RulesAreInGroups};
+ghost use Rattle.hx_reuse.specs.Tables.{EntryRulesNameTheResponse, EntryRulesStandOnTheChosen, OthersAreAgainstNone};
+ghost use Rattle.hx_reuse.specs.Tables.{ErrorRulesAreInOrder, EachErrorRuleIsListed};
 
 use hx_vary::kept_is_enough;
 
@@ -133,6 +136,19 @@ pub fn the_operators_stale_if_error_counts()
     ensures within { OperatorsLimitAllows }
     ensures past { OperatorsLimitEnds }
     ensures stated { StatedLimitStays }
+{}
+
+/// Each rule is listed once, in the order of the numbers. Those on the chosen response are named with it, and each of
+/// them stands by its own condition; no other rule has a condition on a response.
+pub fn the_tables_of_the_rules_agree()
+    ensures numbers { RulesAreInOrder }
+    ensures listed { EachRuleIsListed }
+    ensures groups { RulesAreInGroups }
+    ensures named { EntryRulesNameTheResponse }
+    ensures chosen { EntryRulesStandOnTheChosen }
+    ensures others { OthersAreAgainstNone }
+    ensures error_numbers { ErrorRulesAreInOrder }
+    ensures error_listed { EachErrorRuleIsListed }
 {}
 
 /// No two reuse rules have the same reason and detail, and no two rules after an error the same word.

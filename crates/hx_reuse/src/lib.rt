@@ -25,7 +25,8 @@ pub use crate::laws::{
     nothing_is_reused_against_the_operator, reasons_of_the_rules, sent_on_error_where_it_may_be,
     sent_where_it_may_be_reused, sent_where_no_rule_stands, the_latest_that_matches_is_chosen,
     the_least_error_rule_is_named, the_operators_stale_if_error_counts,
-    what_has_to_be_validated_is, words_of_the_error_rules, words_tell_the_rule,
+    the_tables_of_the_rules_agree, what_has_to_be_validated_is, words_of_the_error_rules,
+    words_tell_the_rule,
 };
 pub use crate::lifetimes::lifetime_under;
 pub use crate::on_error::may_serve_on_error;
