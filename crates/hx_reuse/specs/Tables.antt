@@ -14,19 +14,19 @@ use Rattle.hx_reuse.specs.declared.rule.ErrorRule.{ErrorRule}
 
 -- ---- the reuse rules
 
--- each number stands once, in its place
-abbrev pub RulesStandByNumber : Type 0
-RulesStandByNumber =
+-- the rules are listed by their numbers, each of which occurs once
+abbrev pub RulesAreInOrder : Type 0
+RulesAreInOrder =
     map number_of reuse_rules
     ≡ 0 ∷ 1 ∷ 2 ∷ 3 ∷ 4 ∷ 5 ∷ 6 ∷ 7 ∷ 8 ∷ 9 ∷ 10 ∷ 11 ∷ 12 ∷ 13 ∷ 14 ∷ 15 ∷ 16 ∷ 17 ∷ []
 
--- and no rule is left out
+-- and none is left out
 abbrev pub EachRuleIsListed : Type 0
 EachRuleIsListed = (rule : ReuseRule) → find (λ other. number_of other == number_of rule) reuse_rules ≡ Some rule
 
 -- the three groups, behind the operator's
-abbrev pub RulesStandInGroups : Type 0
-RulesStandInGroups = reuse_rules ≡ Operator ∷ (request_rules ++ (UriMiss ∷ VaryMiss ∷ entry_rules))
+abbrev pub RulesAreInGroups : Type 0
+RulesAreInGroups = reuse_rules ≡ Operator ∷ (request_rules ++ (UriMiss ∷ VaryMiss ∷ entry_rules))
 
 -- those of the last group, and no others, are named with the chosen response
 abbrev pub EntryRulesNameTheResponse : Type 0
@@ -44,8 +44,8 @@ OthersAreAgainstNone = (rule : ReuseRule) (s : Standing) → names_entry rule �
 
 -- ---- the rules after an error
 
-abbrev pub ErrorRulesStandByNumber : Type 0
-ErrorRulesStandByNumber = map error_number_of error_rules ≡ 1 ∷ 2 ∷ 3 ∷ 4 ∷ 5 ∷ 6 ∷ []
+abbrev pub ErrorRulesAreInOrder : Type 0
+ErrorRulesAreInOrder = map error_number_of error_rules ≡ 1 ∷ 2 ∷ 3 ∷ 4 ∷ 5 ∷ 6 ∷ []
 
 abbrev pub EachErrorRuleIsListed : Type 0
 EachErrorRuleIsListed =

@@ -19,9 +19,9 @@ ghost use Rattle.hx_reuse.specs.LineWords.{IgnoredAdviceDecidesNothing, Operator
 ghost use Rattle.hx_reuse.specs.LineWords.{StatedLimitStays};
 ghost use Rattle.hx_reuse.specs.Promises.{SendsNoOtherRequestsVariant, SendsNoOtherVariant, NeverSendsStaleAgainst};
 ghost use Rattle.hx_reuse.specs.Promises.{NeverOutlastsWhatItStates, NeverSendsUnvalidated, NeverSendsOnError};
-ghost use Rattle.hx_reuse.specs.Tables.{RulesStandByNumber, EachRuleIsListed, RulesStandInGroups};
+ghost use Rattle.hx_reuse.specs.Tables.{RulesAreInOrder, EachRuleIsListed, RulesAreInGroups};
 ghost use Rattle.hx_reuse.specs.Tables.{EntryRulesNameTheResponse, EntryRulesStandOnTheChosen, OthersAreAgainstNone};
-ghost use Rattle.hx_reuse.specs.Tables.{ErrorRulesStandByNumber, EachErrorRuleIsListed};
+ghost use Rattle.hx_reuse.specs.Tables.{ErrorRulesAreInOrder, EachErrorRuleIsListed};
 
 use hx_vary::kept_is_enough;
 
@@ -138,16 +138,16 @@ pub fn the_operators_stale_if_error_counts()
     ensures stated { StatedLimitStays }
 {}
 
-/// Each rule stands once in its list, in the place of its number. Those on the chosen response are named with it, stand
-/// by their own conditions, and no other rule has one on a response.
+/// Each rule is listed once, in the order of the numbers. Those on the chosen response are named with it, and each of
+/// them stands by its own condition; no other rule has a condition on a response.
 pub fn the_tables_of_the_rules_agree()
-    ensures numbers { RulesStandByNumber }
+    ensures numbers { RulesAreInOrder }
     ensures listed { EachRuleIsListed }
-    ensures groups { RulesStandInGroups }
+    ensures groups { RulesAreInGroups }
     ensures named { EntryRulesNameTheResponse }
     ensures chosen { EntryRulesStandOnTheChosen }
     ensures others { OthersAreAgainstNone }
-    ensures error_numbers { ErrorRulesStandByNumber }
+    ensures error_numbers { ErrorRulesAreInOrder }
     ensures error_listed { EachErrorRuleIsListed }
 {}
 

@@ -3,3 +3,4 @@ pub mod LeastRule
 pub mod LineLemmas
 pub mod StorableLemmas
 pub mod WordLemmas
+pub mod TableLemmas

@@ -3,3 +3,4 @@ pub mod Storable
 pub mod LineWords
 pub mod Cases
 pub mod Words
+pub mod Tables

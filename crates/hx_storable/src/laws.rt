@@ -2,6 +2,7 @@
 //! worked cases: each function's contract is a law, and its body is empty.
 ghost use Rattle.std.specs.Prelude.{◌≡◌, ◌∷◌, [], codes, Some, None, true, false};
 ghost use Rattle.hx_fields.specs.Examples.{line};
+ghost use Rattle.hx_storable.specs.Tables.{RulesAreInOrder, EachRuleIsListed, WordsComeLast};
 ghost use Rattle.hx_storable.specs.Words.{WordsTellStoringRulesApart};
 ghost use Rattle.hx_storable.specs.Rules.{storage_rule_of};
 ghost use Rattle.hx_storable.specs.Storable.{StoresNothingElse, StoresWhatMayBeStored, NamesTheLeast};
@@ -153,6 +154,13 @@ pub fn line_without_cache()
 pub fn status_alone_allows_storing()
     ensures not_found { storage_rule_of (get []) (answer 404 []) lasting ≡ None }
     ensures found { storage_rule_of (get []) (answer 302 []) lasting ≡ Some StoreRule.NothingAllows }
+{}
+
+/// Each rule is listed once, in the order of the numbers, and those of the line's words come last.
+pub fn the_tables_of_the_storing_rules_agree()
+    ensures numbers { RulesAreInOrder }
+    ensures listed { EachRuleIsListed }
+    ensures words { WordsComeLast }
 {}
 
 /// The word of a rule tells it from each other.
