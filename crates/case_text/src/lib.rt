@@ -16,7 +16,7 @@ mod tables;
 
 pub use effects::{Effect, first_shown, number_of, read_effect};
 pub use folder::{folders, stems_ending, stems_in};
-pub use items::{failure_word, push_item};
+pub use items::{block_of, failure_word, push_item};
 pub use reading::{TextFault, push_bytes};
 pub use showing::push_shown;
 pub use tables::{FIRST_TABLE, table_text};
