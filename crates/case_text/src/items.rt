@@ -36,7 +36,7 @@ fn line_of(alloc: Global, item: Item<'_>) -> Result<String, AllocError> {
 }
 
 /// The block behind the line of an item, where one follows.
-fn block_of(item: Item<'_>) -> Option<&[u8]> {
+pub fn block_of(item: Item<'_>) -> Option<&[u8]> {
     match item {
         Item::Config(table) => Some(table),
         Item::Happens(Happening::Client(_, bytes)) => Some(bytes),

@@ -1,4 +1,5 @@
-//! What the programs that test have in common: the texts of cases and of scripts' items, and what lies in a folder.
+//! What the programs that test have in common: the texts of cases, of scripts' items, of effects and of operators'
+//! tables, and what lies in a folder.
 //!
 //! The text of a case is bytes as people write them, with escapes for what a line of text can't hold.
 //!
@@ -6,12 +7,16 @@
 //! `\.` nothing at all. Every other character stands for its bytes in UTF-8.
 #![tactic(auto)]
 
+mod effects;
 mod folder;
 mod items;
 mod reading;
 mod showing;
+mod tables;
 
+pub use effects::{Effect, first_shown, number_of, read_effect};
 pub use folder::{folders, stems_ending, stems_in};
-pub use items::{failure_word, push_item};
+pub use items::{block_of, failure_word, push_item};
 pub use reading::{TextFault, push_bytes};
 pub use showing::push_shown;
+pub use tables::{FIRST_TABLE, table_text};

@@ -124,19 +124,10 @@ impl<'a> Player<'a> {
 
     fn play(&mut self, alloc: Global, report: &mut String, block: &Block<'a>) -> Result<(), Fault> {
         let (label, answer) = labelled(block.head)?;
-        let input = block.body.as_slice();
+        let own = [label];
+        let mut input = block.body.as_slice();
         if input.is_empty() {
-            let input = [label];
-            let input = input.as_slice();
-            return self.judge(
-                alloc,
-                report,
-                &Case {
-                    label,
-                    answer,
-                    input,
-                },
-            );
+            input = own.as_slice();
         }
         self.judge(
             alloc,

@@ -1,7 +1,7 @@
 //! Scripts: the item at the front of a text, and whole replays.
 
 use crate::words::push_shown_in_brackets;
-use case_text::failure_word;
+use case_text::{block_of, failure_word};
 use proxy_replay::{ReplayFault, replay};
 use proxy_script::{Front, Happening, Item, read_item};
 use std::alloc::AllocError;
@@ -28,19 +28,9 @@ fn write_words(text: &mut String, item: Item<'_>) -> Result<(), AllocError> {
     }
 }
 
-/// The bytes of an item, where it has some.
-fn bytes_of(item: Item<'_>) -> Option<&[u8]> {
-    match item {
-        Item::Config(bytes) => Some(bytes),
-        Item::Happens(Happening::Client(_, bytes)) => Some(bytes),
-        Item::Happens(Happening::Link(_, bytes)) => Some(bytes),
-        _ => None,
-    }
-}
-
 fn write_item(text: &mut String, item: Item<'_>) -> Result<(), AllocError> {
     write_words(text, item)?;
-    match bytes_of(item) {
+    match block_of(item) {
         Some(bytes) => {
             text.push(' ')?;
             push_shown_in_brackets(text, bytes)

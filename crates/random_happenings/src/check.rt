@@ -18,7 +18,6 @@
 
 use crate::clients::{Client, clients_of, place};
 use crate::counts::Counts;
-use crate::effects::{Effect, read_effect};
 use crate::fields::{id_of, id_of_request};
 use crate::log::{Log, Step, Told};
 use crate::past_store::{is_claimed, is_told};
@@ -29,6 +28,7 @@ use crate::requests::Asked;
 use crate::tables::{Table, is_address, is_past_the_store, lets_wait_for_stale};
 use crate::waiting::{Arrival, Exchange, Now, Suspect, Waiter, Woken, beside, found, reason_of};
 use crate::words::{Said, said_of};
+use case_text::{Effect, read_effect};
 use std::alloc::{AllocError, Global};
 
 /// What doesn't hold, with the connection or link at which it doesn't.
@@ -714,6 +714,8 @@ impl<'a> Check<'a> {
             Effect::Forward(number, address, request) => self.forward(number, address, request),
             Effect::Close(number) => self.close(number),
             Effect::Drop(number) => self.drop_link(number),
+            // The text of a replay that ended well tells of no stop.
+            Effect::Stop(_) => Err(Wrong::Rule("a text is no effect", 0)),
         }
     }
 

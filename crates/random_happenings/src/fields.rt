@@ -1,6 +1,7 @@
 //! Heads of messages, as the clients and origins of the trial read them.
 
 use bstr::ByteSlice;
+use case_text::number_of;
 
 /// The head of a message with its start line, and its content, where an empty line stands.
 pub fn parts(message: &[u8]) -> Option<(&[u8], &[u8])> {
@@ -18,27 +19,6 @@ pub fn last_value<'a>(head: &'a [u8], name: &[u8]) -> Option<&'a [u8]> {
         }
     }
     value
-}
-
-/// A decimal number without leading zeros.
-pub fn number_of(digits: &[u8]) -> Option<u64> {
-    match digits {
-        [] => None,
-        [b'0'] => Some(0),
-        [b'0', ..] => None,
-        _ => {
-            let mut value = 0u64;
-            for digit in digits {
-                if !digit.is_ascii_digit() {
-                    return None;
-                }
-                value = value
-                    .checked_mul(10)?
-                    .checked_add(u64::from(*digit & 0x0f))?;
-            }
-            Some(value)
-        }
-    }
 }
 
 /// The connection and the ordinal that the field X-Id of a head names.

@@ -12,7 +12,6 @@ mod check;
 mod clients;
 mod counts;
 mod dice;
-mod effects;
 mod fields;
 mod log;
 mod past_store;

@@ -1,9 +1,10 @@
 //! What a reply says of itself.
 
 use crate::check::Wrong;
-use crate::fields::{last_value, number_of, parts};
+use crate::fields::{last_value, parts};
 use crate::requests::Asked;
 use bstr::ByteSlice;
+use case_text::number_of;
 use std::alloc::{AllocError, Global};
 
 /// Whether the head of an answer has a status from 200 to 399.

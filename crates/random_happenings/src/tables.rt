@@ -1,6 +1,9 @@
 //! The operator's tables of the trials, which requests the second sends past the store, and which lines of the third
 //! have which words.
 
+use case_text::table_text;
+use std::alloc::{AllocError, Global};
+
 /// The table of a trial.
 #[derive(Clone, Copy, Debug, PartialEq, Eq)]
 pub enum Table {
@@ -13,125 +16,62 @@ pub enum Table {
 }
 
 impl Table {
-    /// Its text.
-    pub fn text(self) -> &'static [u8] {
+    /// Its text. Few entries, so that some are evicted, and contents of 1,000 bytes at most.
+    pub fn text(self, alloc: Global) -> Result<String, AllocError> {
         match self {
-            Table::WithCache => WITH_CACHE,
-            Table::PartlyWithout => PARTLY_WITHOUT,
-            Table::WithWords => WITH_WORDS,
+            Table::WithCache => table_text(alloc, 1, 4, 500, &WITH_CACHE),
+            Table::PartlyWithout => table_text(alloc, 2, 4, 500, &PARTLY_WITHOUT),
+            Table::WithWords => table_text(alloc, 3, 4, 500, &WITH_WORDS),
         }
     }
 }
 
-/// The table of the first trial: few entries, so that some are evicted, and contents of 1,000 bytes at most.
-const WITH_CACHE: &[u8] = b"version = 1
-name = \"edge\"
-capacity = 4
-max_body = 1000
-max_stored = 500
+/// The lines of the first trial.
+static WITH_CACHE: [[&str; 5]; 3] = [
+    ["*", "*", "/denied", "deny", ""],
+    ["i", "*", "/", "127.0.0.1:8082", ""],
+    ["*", "*", "/", "127.0.0.1:8081", ""],
+];
 
-[[line]]
-host = \"*\"
-methods = [\"*\"]
-path = \"/denied\"
-origin = \"deny\"
-
-[[line]]
-host = \"i\"
-methods = [\"*\"]
-path = \"/\"
-origin = \"127.0.0.1:8082\"
-
-[[line]]
-host = \"*\"
-methods = [\"*\"]
-path = \"/\"
-origin = \"127.0.0.1:8081\"
-";
-
-/// The table of the second trial: the same with lines without cache, which have an origin of their own. One stands
+/// The lines of the second trial: the same with lines without cache, which have an origin of their own. One stands
 /// beside a line for GET, so that requests over it ask for what is stored; another has all requests for its path.
-const PARTLY_WITHOUT: &[u8] = b"version = 2
-name = \"edge\"
-capacity = 4
-max_body = 1000
-max_stored = 500
+static PARTLY_WITHOUT: [[&str; 5]; 5] = [
+    ["*", "*", "/denied", "deny", ""],
+    [
+        "*",
+        "HEAD, POST",
+        "/a",
+        "127.0.0.1:8083",
+        "cache = \"off\"\n",
+    ],
+    ["i", "*", "/b", "127.0.0.1:8083", "cache = \"off\"\n"],
+    ["i", "*", "/", "127.0.0.1:8082", "cache = \"on\"\n"],
+    ["*", "*", "/", "127.0.0.1:8081", ""],
+];
 
-[[line]]
-host = \"*\"
-methods = [\"*\"]
-path = \"/denied\"
-origin = \"deny\"
-
-[[line]]
-host = \"*\"
-methods = [\"HEAD\", \"POST\"]
-path = \"/a\"
-origin = \"127.0.0.1:8083\"
-cache = \"off\"
-
-[[line]]
-host = \"i\"
-methods = [\"*\"]
-path = \"/b\"
-origin = \"127.0.0.1:8083\"
-cache = \"off\"
-
-[[line]]
-host = \"i\"
-methods = [\"*\"]
-path = \"/\"
-origin = \"127.0.0.1:8082\"
-cache = \"on\"
-
-[[line]]
-host = \"*\"
-methods = [\"*\"]
-path = \"/\"
-origin = \"127.0.0.1:8081\"
-";
-
-/// The table of the third trial: the line of one host gives a lifetime and a staleness and ignores what requests want,
+/// The lines of the third trial: that of one host gives a lifetime and a staleness and ignores what requests want,
 /// those of the others store no cookies and no errors and tell why an answer isn't stored. That host's line and the one
 /// of /a let requests wait for what is stale.
-const WITH_WORDS: &[u8] = b"version = 3
-name = \"edge\"
-capacity = 4
-max_body = 1000
-max_stored = 500
+static WITH_WORDS: [[&str; 5]; 4] = [
+    ["*", "*", "/denied", "deny", ""],
+    ["i", "*", "/", "127.0.0.1:8082", WORDS_OF_I],
+    ["*", "*", "/a", "127.0.0.1:8081", WORDS_OF_A],
+    ["*", "*", "/", "127.0.0.1:8081", WORDS_OF_OTHERS],
+];
 
-[[line]]
-host = \"*\"
-methods = [\"*\"]
-path = \"/denied\"
-origin = \"deny\"
-
-[[line]]
-host = \"i\"
-methods = [\"*\"]
-path = \"/\"
-origin = \"127.0.0.1:8082\"
-lifetime = 30
+const WORDS_OF_I: &str = "lifetime = 30
 stale-if-error = 100
 request-directives = \"ignored\"
 wait = \"missing-or-stale\"
+";
 
-[[line]]
-host = \"*\"
-methods = [\"*\"]
-path = \"/a\"
-origin = \"127.0.0.1:8081\"
-set-cookie = \"not-stored\"
+const WORDS_OF_A: &str = "set-cookie = \"not-stored\"
 errors = \"not-stored\"
 wait = \"missing-or-stale\"
 explain = \"storing\"
+";
 
-[[line]]
-host = \"*\"
-methods = [\"*\"]
-path = \"/\"
-origin = \"127.0.0.1:8081\"
-set-cookie = \"not-stored\"
+const WORDS_OF_OTHERS: &str = "set-cookie = \"not-stored\"
 errors = \"not-stored\"
 explain = \"storing\"
 ";

@@ -176,18 +176,7 @@ pub struct World {
 
 impl Drop for World {
     fn drop(self) {
-        let World {
-            alloc: _,
-            dice: _,
-            engine: _,
-            now: _,
-            callers: _,
-            links: _,
-            accepted: _,
-            forwarded: _,
-            sender: _,
-            log: _,
-        } = self;
+        drop(self.into_log());
     }
 }
 
@@ -225,14 +214,14 @@ fn late(
 impl World {
     /// Nothing has happened yet; the script has its table.
     pub fn new(alloc: Global, table: Table, beginning: u64) -> Result<Self, Stopped> {
-        let text = table.text();
-        let config = match Config::read(alloc, text) {
+        let text = table.text(alloc)?;
+        let config = match Config::read(alloc, text.as_bytes()) {
             Ok(config) => config,
             Err(_) => return Err(Stopped::Refused),
         };
         let shelf = ListShelf::new(alloc, config.capacity());
         let mut log = Log::new(alloc, table);
-        push_item(&mut log.script, Item::Config(text))?;
+        push_item(&mut log.script, Item::Config(text.as_bytes()))?;
         Ok(World {
             alloc,
             dice: Dice::new(beginning),

@@ -5,13 +5,12 @@
 //! it stands, and one that nobody expects is a difference.
 
 use crate::case_lines::entries;
-use crate::effects::{Effect, first_shown};
 use crate::form::{CaseFault, FormFault};
 use crate::pieces::byte_by_byte;
 use crate::played::Played;
 use crate::scenario::{Said, scenario};
 use crate::statements::Statement;
-use case_text::push_item;
+use case_text::{Effect, first_shown, push_item};
 use proxy_script::Item;
 use std::alloc::{AllocError, Global};
 use std::str;

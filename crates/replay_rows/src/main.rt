@@ -9,7 +9,6 @@
 
 mod case_lines;
 mod cases;
-mod effects;
 mod folder;
 mod form;
 mod pieces;

@@ -1,25 +1,11 @@
 //! A case as a whole: what happens in it, and what is expected behind each of it.
 
 use crate::case_lines::Entry;
-use crate::effects::Effect;
 use crate::form::{CaseFault, FormFault};
 use crate::statements::{Statement, read_statement};
+use case_text::{Effect, FIRST_TABLE};
 use proxy_script::Item;
 use std::alloc::{AllocError, Global};
-
-/// The table of a case that has none of its own, that of the first run.
-const USUAL_TABLE: &[u8] = b"version = 1
-name = \"edge\"
-capacity = 2
-max_body = 1000
-max_stored = 1000
-
-[[line]]
-host = \"*\"
-methods = [\"GET\", \"HEAD\", \"POST\"]
-path = \"/\"
-origin = \"127.0.0.1:8081\"
-";
 
 /// A statement, and its line.
 #[derive(Clone, Copy)]
@@ -40,7 +26,7 @@ fn happens(statement: Statement<'_>) -> bool {
     matches!(statement, Statement::Plays(_))
 }
 
-/// Adds a statement, the usual table in front of the first where that is none.
+/// Adds a statement, the table of the first run in front of the first where that is none.
 fn add<'a>(said: &mut Vec<Said<'a>>, next: Said<'a>) -> Result<(), FormFault> {
     match said.last() {
         Some(before) if is_stop(before.statement) => return Err(FormFault::Late),
@@ -50,7 +36,7 @@ fn add<'a>(said: &mut Vec<Said<'a>>, next: Said<'a>) -> Result<(), FormFault> {
         None => {
             let table = Said {
                 line: next.line,
-                statement: Statement::Plays(Item::Config(USUAL_TABLE)),
+                statement: Statement::Plays(Item::Config(FIRST_TABLE.as_bytes())),
             };
             said.push(table).map_err(AllocError::from)?;
         }

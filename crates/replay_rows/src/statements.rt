@@ -1,8 +1,8 @@
 //! What a line of a case says.
 
 use crate::case_lines::{Entry, number_of};
-use crate::effects::Effect;
 use crate::form::FormFault;
+use case_text::Effect;
 use hx_fields::END_OF_TIME;
 use hx_status::FailKind;
 use proxy_script::{Happening, Item};

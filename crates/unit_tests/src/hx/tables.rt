@@ -1,40 +1,26 @@
 //! The operator's table, through its calls.
 
+use case_text::table_text;
 use hx_allow::{Config, ConfigFault, LineWord};
 use hx_policy::Policy;
+use std::alloc::Global;
 use std::test::Fail;
 
+fn config_of(alloc: Global, version: u64, lines: &[[&str; 5]]) -> Result<Config, Fail> {
+    let table = table_text(alloc, version, 2, 10, lines)?;
+    Ok(Config::read(alloc, table.as_bytes()).ok().ok_or("a table")?)
+}
+
 /// A line without cache, one that says that it has one, and one that says nothing.
-const TABLE: &[u8] = b"version = 2
-name = \"edge\"
-capacity = 2
-max_body = 1000
-max_stored = 10
-
-[[line]]
-host = \"*\"
-methods = [\"*\"]
-path = \"/live\"
-origin = \"127.0.0.1:8081\"
-cache = \"off\"
-
-[[line]]
-host = \"*\"
-methods = [\"GET\"]
-path = \"/shop\"
-origin = \"127.0.0.1:8081\"
-cache = \"on\"
-
-[[line]]
-host = \"*\"
-methods = [\"GET\"]
-path = \"/\"
-origin = \"127.0.0.1:8081\"
-";
+static LINES: [[&str; 5]; 3] = [
+    ["*", "*", "/live", "127.0.0.1:8081", "cache = \"off\"\n"],
+    ["*", "GET", "/shop", "127.0.0.1:8081", "cache = \"on\"\n"],
+    ["*", "GET", "/", "127.0.0.1:8081", ""],
+];
 
 #[test]
 fn each_line_tells_whether_it_has_a_cache(rt: HostRuntime) -> Result<(), Fail> {
-    let config = Config::read(rt.alloc(), TABLE).ok().ok_or("a table")?;
+    let config = config_of(rt.alloc(), 2, &LINES)?;
     assert!(rt; !config.policy(1).caches);
     assert!(rt; config.policy(2) == Policy::plain(true));
     assert!(rt; config.policy(3) == Policy::plain(true));
@@ -42,36 +28,25 @@ fn each_line_tells_whether_it_has_a_cache(rt: HostRuntime) -> Result<(), Fail> {
     Ok(())
 }
 
-/// A line with each word of the third version, and one without.
-const WORDS: &[u8] = b"version = 3
-name = \"edge\"
-capacity = 2
-max_body = 1000
-max_stored = 10
-
-[[line]]
-host = \"*\"
-methods = [\"GET\"]
-path = \"/shop\"
-origin = \"127.0.0.1:8081\"
-lifetime = 60
+/// Each word of the third version.
+const WORDS: &str = "lifetime = 60
 stale-if-error = 600
 set-cookie = \"not-stored\"
 errors = \"not-stored\"
 request-directives = \"ignored\"
 wait = \"missing-or-stale\"
 explain = \"storing\"
-
-[[line]]
-host = \"*\"
-methods = [\"GET\"]
-path = \"/\"
-origin = \"127.0.0.1:8081\"
 ";
+
+/// A line with all of them, and one without.
+static WORDED: [[&str; 5]; 2] = [
+    ["*", "GET", "/shop", "127.0.0.1:8081", WORDS],
+    ["*", "GET", "/", "127.0.0.1:8081", ""],
+];
 
 #[test]
 fn each_line_tells_its_words(rt: HostRuntime) -> Result<(), Fail> {
-    let config = Config::read(rt.alloc(), WORDS).ok().ok_or("a table")?;
+    let config = config_of(rt.alloc(), 3, &WORDED)?;
     let policy = config.policy(1);
     assert!(rt; policy.caches);
     assert!(rt; policy.lifetime == Some(60));
@@ -88,60 +63,25 @@ fn each_line_tells_its_words(rt: HostRuntime) -> Result<(), Fail> {
 
 #[test]
 fn a_word_that_cannot_stand_is_told_with_its_line(rt: HostRuntime) -> Result<(), Fail> {
-    let text = b"version = 3
-name = \"edge\"
-capacity = 2
-max_body = 1000
-max_stored = 10
-
-[[line]]
-host = \"*\"
-methods = [\"GET\"]
-path = \"/admin\"
-origin = \"deny\"
-errors = \"stored\"
-";
-    match Config::read(rt.alloc(), text) {
+    let line = ["*", "GET", "/admin", "deny", "errors = \"stored\"\n"];
+    let table = table_text(rt.alloc(), 3, 2, 10, &[line])?;
+    match Config::read(rt.alloc(), table.as_bytes()) {
         Err(ConfigFault::BadWord(1, LineWord::Errors)) => Ok(()),
         _ => Err("no fault of the word".into()),
     }
 }
 
 /// A line for everything in front of a denial, one for another method, and one that the first takes in part alone.
-const SHADOWED: &[u8] = b"version = 1
-name = \"edge\"
-capacity = 2
-max_body = 1000
-max_stored = 10
-
-[[line]]
-host = \"*\"
-methods = [\"GET\", \"HEAD\"]
-path = \"/\"
-origin = \"127.0.0.1:8081\"
-
-[[line]]
-host = \"*\"
-methods = [\"GET\"]
-path = \"/admin\"
-origin = \"deny\"
-
-[[line]]
-host = \"*\"
-methods = [\"GET\", \"POST\"]
-path = \"/admin\"
-origin = \"deny\"
-
-[[line]]
-host = \"shop.example\"
-methods = [\"POST\"]
-path = \"/admin/users\"
-origin = \"127.0.0.1:8082\"
-";
+static SHADOWED: [[&str; 5]; 4] = [
+    ["*", "GET, HEAD", "/", "127.0.0.1:8081", ""],
+    ["*", "GET", "/admin", "deny", ""],
+    ["*", "GET, POST", "/admin", "deny", ""],
+    ["shop.example", "POST", "/admin/users", "127.0.0.1:8082", ""],
+];
 
 #[test]
 fn lines_that_are_never_reached_are_told(rt: HostRuntime) -> Result<(), Fail> {
-    let config = Config::read(rt.alloc(), SHADOWED).ok().ok_or("a table")?;
+    let config = config_of(rt.alloc(), 1, &SHADOWED)?;
     assert!(rt; config.taken_by(1) == None);
     assert!(rt; config.taken_by(2) == Some(1));
     assert!(rt; config.taken_by(3) == None);

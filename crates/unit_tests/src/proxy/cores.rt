@@ -1,33 +1,34 @@
 //! What the tests of cores share.
 
+use case_text::table_text;
 use http::Method;
 use hx_allow::Config;
 use hx_fields::{Bytes, Fields};
 use hx_framing::{Request, Response};
 use hx_hop::{Asked, ask};
 use hx_store::ListShelf;
-use proxy_core::{Core, CoreFault, Outcome};
+use proxy_core::{Core, CoreFault, Event, Outcome, Run, run};
 use std::alloc::Global;
 use std::test::Fail;
 
-/// A store of two responses of at most 10 bytes of content.
-pub(super) const TABLE: &str = "version = 1
-name = \"edge\"
-capacity = 2
-max_body = 1000
-max_stored = 10
-
-[[line]]
-host = \"*\"
-methods = [\"GET\", \"POST\"]
-path = \"/\"
-origin = \"127.0.0.1:8081\"
-";
+/// A table with a store of two responses of at most 10 bytes of content.
+fn config(alloc: Global) -> Result<Config, Fail> {
+    let line = ["*", "GET, POST", "/", "127.0.0.1:8081", ""];
+    let table = table_text(alloc, 1, 2, 10, &[line])?;
+    Ok(Config::read(alloc, table.as_bytes()).ok().ok_or("a table")?)
+}
 
 pub(super) fn core(alloc: Global, first_serial: u64) -> Result<Core<ListShelf>, Fail> {
-    let config = Config::read(alloc, TABLE.as_bytes()).ok().ok_or("a table")?;
+    let config = config(alloc)?;
     let shelf = ListShelf::new(alloc, config.capacity());
     Ok(Core::new(alloc, config, shelf, first_serial))
+}
+
+/// The run of these events.
+pub(super) fn ran(alloc: Global, events: &[Event]) -> Result<Run, Fail> {
+    let config = config(alloc)?;
+    let shelf = ListShelf::new(alloc, config.capacity());
+    Ok(run(alloc, config, shelf, 1, events))
 }
 
 pub(super) fn request(alloc: Global, method: Method, path: &str) -> Result<Asked, Fail> {

@@ -1,28 +1,13 @@
 //! Whole engines with ample memory: what a clause can refuse only where memory runs out is found here.
 ghost use Rattle.std.specs.Prelude.{◌<◌};
 
-use hx_allow::Config;
+use super::first_run::{ASK, engine};
 use hx_store::ListShelf;
 use proxy_engine::{Engine, EngineFault, Happening, Work};
 use proxy_script::effects_text;
 use std::alloc::Global;
 use std::process::Abort;
 use std::test::Fail;
-
-const TABLE: &[u8] = b"version = 1
-name = \"edge\"
-capacity = 2
-max_body = 1000
-max_stored = 1000
-
-[[line]]
-host = \"*\"
-methods = [\"GET\", \"HEAD\", \"POST\"]
-path = \"/\"
-origin = \"127.0.0.1:8081\"
-";
-
-const ASK: &[u8] = b"GET /a HTTP/1.1\r\nHost: h\r\n\r\n";
 
 const FORWARDED: &[u8] = b"forward 1 127.0.0.1:8081 62
 GET /a HTTP/1.1\r
@@ -32,12 +17,6 @@ Connection: close\r
 \r
 
 ";
-
-fn engine(alloc: Global, first_link: u64) -> Result<Engine<ListShelf>, Fail> {
-    let config = Config::read(alloc, TABLE).ok().ok_or("a table")?;
-    let shelf = ListShelf::new(alloc, config.capacity());
-    Ok(Engine::new(alloc, config, shelf, 1, first_link))
-}
 
 fn take(
     alloc: Global,

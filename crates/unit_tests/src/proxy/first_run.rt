@@ -1,20 +1,31 @@
 //! The first run, as a script and its effects.
 
+use case_text::FIRST_TABLE;
+use hx_allow::Config;
+use hx_store::ListShelf;
+use proxy_engine::Engine;
+use std::alloc::{AllocError, Global};
+use std::test::Fail;
+
+/// An engine by the table of the first run, whose first link has this number.
+pub(super) fn engine(alloc: Global, first_link: u64) -> Result<Engine<ListShelf>, Fail> {
+    let config = Config::read(alloc, FIRST_TABLE.as_bytes())
+        .ok()
+        .ok_or("a table")?;
+    let shelf = ListShelf::new(alloc, config.capacity());
+    Ok(Engine::new(alloc, config, shelf, 1, first_link))
+}
+
+/// The request of the first run.
+pub(super) const ASK: &[u8] = b"GET /a HTTP/1.1\r\nHost: h\r\n\r\n";
+
 /// The first run: a request goes forward, its answer is stored, and the next request is answered by it.
-pub(super) const FIRST_RUN: &str = "config 165
-version = 1
-name = \"edge\"
-capacity = 2
-max_body = 1000
-max_stored = 1000
+pub(super) fn first_script(alloc: Global) -> Result<String, AllocError> {
+    format!(in alloc; "config 165\n{FIRST_TABLE}\n{HAPPENINGS}")
+}
 
-[[line]]
-host = \"*\"
-methods = [\"GET\", \"HEAD\", \"POST\"]
-path = \"/\"
-origin = \"127.0.0.1:8081\"
-
-at 100
+/// What happens in the first run.
+const HAPPENINGS: &str = "at 100
 accept 1
 client 1 28
 GET /a HTTP/1.1\r

@@ -100,7 +100,7 @@ impl MemorySockets {
 }
 
 /// Fills the front of a buffer, if there is room for all.
-fn give(buf: &mut [u8], bytes: &[u8]) -> Received
+pub(super) fn give(buf: &mut [u8], bytes: &[u8]) -> Received
     ensures within { IsReceived (length buf.old) result }
     ensures length { length buf.new ≡ length buf.old }
 {

@@ -2,10 +2,10 @@
 ghost use Rattle.std.specs.Prelude.{◌≡◌, ◌<◌, length, IfOk};
 ghost use Rattle.proxy_turn.specs.Received.{IsReceived};
 
-use hx_allow::Config;
+use super::first_run::engine;
+use super::memory_sockets::give;
+use case_text::FIRST_TABLE;
 use hx_fields::Bytes;
-use hx_store::ListShelf;
-use proxy_engine::Engine;
 use proxy_replay::replayed;
 use proxy_script::{Effect, Happening, effects_text};
 use proxy_server::{RecordFault, Recorder, Recording};
@@ -14,19 +14,6 @@ use std::alloc::{AllocError, Global};
 use std::io;
 use std::io::{ErrorKind, Write};
 use std::test::Fail;
-
-const TABLE: &[u8] = b"version = 1
-name = \"edge\"
-capacity = 2
-max_body = 1000
-max_stored = 1000
-
-[[line]]
-host = \"*\"
-methods = [\"GET\", \"HEAD\", \"POST\"]
-path = \"/\"
-origin = \"127.0.0.1:8081\"
-";
 
 /// What each client sends, a piece a read.
 const PIECES: [&[u8]; 4] = [
@@ -68,19 +55,6 @@ struct Crowd {
 
 fn bytes_of(alloc: Global, bytes: &[u8]) -> Result<Bytes, AllocError> {
     Bytes::copy_of(alloc, bytes)
-}
-
-/// Fills the front of a buffer, if there is room for all.
-fn give(buf: &mut [u8], bytes: &[u8]) -> Received
-    ensures within { IsReceived (length buf.old) result }
-    ensures length { length buf.new ≡ length buf.old }
-{
-    if bytes.len() <= buf.len() {
-        buf[..bytes.len()].copy_from_slice(bytes);
-        Received::Bytes(bytes.len())
-    } else {
-        Received::Nothing
-    }
 }
 
 /// The piece of this number from an end.
@@ -200,9 +174,7 @@ impl Sockets for Crowd {
 
 /// Serves the crowd turn by turn, a second each; what went out, as text.
 fn serve<W: Write + Drop>(alloc: Global, ends: &mut Recording<Crowd, W>) -> Result<(), Fail> {
-    let config = Config::read(alloc, TABLE).ok().ok_or("a table")?;
-    let shelf = ListShelf::new(alloc, config.capacity());
-    let mut engine = Engine::new(alloc, config, shelf, 1, 1);
+    let mut engine = engine(alloc, 1)?;
     let mut settled = true;
     for now in 100..300u64 {
         let now = ends.begin(now, settled).min(1000);
@@ -218,7 +190,7 @@ fn serve<W: Write + Drop>(alloc: Global, ends: &mut Recording<Crowd, W>) -> Resu
 fn a_record_replays_what_was_done(rt: HostRuntime) -> Result<(), Fail> {
     let alloc = rt.alloc();
     let mut script = Vec::new(alloc);
-    let record = Recorder::begin(alloc, &mut script, TABLE)
+    let record = Recorder::begin(alloc, &mut script, FIRST_TABLE.as_bytes())
         .ok()
         .ok_or("a record")?;
     let mut ends = Recording::new(Crowd::new(alloc), Some(record));
@@ -267,7 +239,9 @@ fn nothing_is_done_that_is_not_recorded(rt: HostRuntime) -> Result<(), Fail> {
             text: &mut script,
             writes,
         };
-        let record = Recorder::begin(alloc, sink, TABLE).ok().ok_or("a record")?;
+        let record = Recorder::begin(alloc, sink, FIRST_TABLE.as_bytes())
+            .ok()
+            .ok_or("a record")?;
         let mut ends = Recording::new(Crowd::new(alloc), Some(record));
         serve(alloc, &mut ends)?;
         assert!(rt; ends.fault() == Some(RecordFault::Write));
@@ -286,7 +260,7 @@ fn nothing_is_done_that_is_not_recorded(rt: HostRuntime) -> Result<(), Fail> {
 fn a_record_ends_within_the_limit(rt: HostRuntime) -> Result<(), Fail> {
     let alloc = rt.alloc();
     let mut script = Vec::new(alloc);
-    let mut record = Recorder::begin(alloc, &mut script, TABLE)
+    let mut record = Recorder::begin(alloc, &mut script, FIRST_TABLE.as_bytes())
         .ok()
         .ok_or("a record")?;
     let piece = Vec::from_elem(alloc, b'x', 1_000_000)?;

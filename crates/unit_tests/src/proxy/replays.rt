@@ -1,8 +1,9 @@
 //! A script over memory. Which line names a fault, and with which exit status, is a contract.
 
-use super::first_run::{FIRST_EFFECTS, FIRST_RUN};
+use super::first_run::{FIRST_EFFECTS, first_script};
 use proxy_replay::{ReplayFault, replayed};
 use std::alloc::Global;
+use std::test::Fail;
 
 /// The call over memory, as the test takes it.
 fn whole(alloc: Global, script: &[u8]) -> Result<Vec<u8>, ReplayFault> {
@@ -10,11 +11,13 @@ fn whole(alloc: Global, script: &[u8]) -> Result<Vec<u8>, ReplayFault> {
 }
 
 #[test]
-fn first_run(rt: HostRuntime) {
-    match whole(rt.alloc(), FIRST_RUN.as_bytes()) {
+fn first_run(rt: HostRuntime) -> Result<(), Fail> {
+    let script = first_script(rt.alloc())?;
+    match whole(rt.alloc(), script.as_bytes()) {
         Ok(text) => assert!(rt; text.as_slice() == FIRST_EFFECTS.as_bytes()),
         Err(_) => assert!(rt; false),
     }
+    Ok(())
 }
 
 /// A script in memory can't fail to be read, so its fault is its own.

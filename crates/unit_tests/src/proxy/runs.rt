@@ -1,11 +1,9 @@
 //! Whole runs, and where they stop.
 
-use super::cores::{TABLE, request, response};
+use super::cores::{ran, request, response};
 use http::Method;
-use hx_allow::Config;
 use hx_status::FailKind;
-use hx_store::ListShelf;
-use proxy_core::{CoreFault, Event, Outcome, Run, run};
+use proxy_core::{CoreFault, Event, Outcome, Run};
 use std::alloc::Global;
 use std::process::Abort;
 use std::test::Fail;
@@ -27,12 +25,6 @@ fn answers(alloc: Global, events: &mut Vec<Event>, now: u64, id: u64) -> Result<
     let given = response(alloc, 200, b"max-age=60", b"hi")?;
     events.push(Event::Answer(now, id, given))?;
     Ok(())
-}
-
-fn ran(alloc: Global, events: &[Event]) -> Result<Run, Fail> {
-    let config = Config::read(alloc, TABLE.as_bytes()).ok().ok_or("a table")?;
-    let shelf = ListShelf::new(alloc, config.capacity());
-    Ok(run(alloc, config, shelf, 1, events))
 }
 
 fn stops(rt: &impl Abort, ran: &Run, count: usize, fault: Option<CoreFault>) {

@@ -1,29 +1,14 @@
 //! Turns over sockets in memory: which bytes go out, and what each failing call comes to.
 ghost use Rattle.std.specs.Prelude.{◌<◌};
 
+use super::first_run::{ASK, engine};
 use super::memory_sockets::{Call, MemorySockets};
-use hx_allow::Config;
 use hx_store::ListShelf;
 use proxy_engine::Engine;
 use proxy_turn::{End, Gave, Logged, LoggedCall, Sockets, TurnFault, turn, turn_with_log};
 use std::alloc::Global;
 use std::process::Abort;
 use std::test::Fail;
-
-const TABLE: &[u8] = b"version = 1
-name = \"edge\"
-capacity = 2
-max_body = 1000
-max_stored = 1000
-
-[[line]]
-host = \"*\"
-methods = [\"GET\", \"HEAD\", \"POST\"]
-path = \"/\"
-origin = \"127.0.0.1:8081\"
-";
-
-const ASK: &[u8] = b"GET /a HTTP/1.1\r\nHost: h\r\n\r\n";
 
 const ANSWER: &[u8] =
     b"HTTP/1.1 200 OK\r\nDate: Thu, 01 Jan 1970 00:01:41 GMT\r\nCache-Control: max-age=60\r\nETag: \"v1\"\r\nContent-Length: 2\r\n\r\nhi";
@@ -43,12 +28,6 @@ const A_HIT: &[u8] = b"Cache-Status: edge;hit;ttl=";
 const REFUSED: &[u8] = b"Refusal: origin refused;fwd=uri-miss\r\n";
 
 const CLOSED: &[u8] = b"Refusal: origin closed;fwd=uri-miss\r\n";
-
-fn engine(alloc: Global) -> Result<Engine<ListShelf>, Fail> {
-    let config = Config::read(alloc, TABLE).ok().ok_or("a table")?;
-    let shelf = ListShelf::new(alloc, config.capacity());
-    Ok(Engine::new(alloc, config, shelf, 1, 1))
-}
 
 fn contains(text: &[u8], part: &[u8]) -> bool {
     text.windows(part.len().max(1)).any(|w| w == part)
@@ -83,7 +62,7 @@ fn one_turn(
 
 /// A client asks at 100, is answered at 101, and another asks for the same at 130.
 fn converse(rt: &impl Abort, alloc: Global, sockets: &mut MemorySockets) -> Result<(), Fail> {
-    let mut engine = engine(alloc)?;
+    let mut engine = engine(alloc, 1)?;
     sockets.waiting = 1;
     one_turn(rt, alloc, &mut engine, sockets, 100);
     for _ in 0..4u8 {
@@ -171,7 +150,7 @@ fn stored_though_the_write_failed(rt: HostRuntime) -> Result<(), Fail> {
 #[test]
 fn calls_are_logged(rt: HostRuntime) -> Result<(), Fail> {
     let alloc = rt.alloc();
-    let mut engine = engine(alloc)?;
+    let mut engine = engine(alloc, 1)?;
     let mut below = MemorySockets::new(alloc, 0, ASK, ANSWER);
     below.waiting = 1;
     let mut sockets = Logged::new(below, alloc);

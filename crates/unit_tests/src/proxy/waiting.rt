@@ -1,11 +1,10 @@
 //! Requests that wait: where a run stops at one, and which are ready.
 
-use super::cores::{TABLE, answer, arrive, core, request, response};
+use super::cores::{answer, arrive, core, ran, request, response};
 use http::Method;
-use hx_allow::Config;
 use hx_status::FailKind;
 use hx_store::ListShelf;
-use proxy_core::{Core, CoreFault, Event, Outcome, Run, run};
+use proxy_core::{Core, CoreFault, Event, Outcome};
 use std::alloc::Global;
 use std::process::Abort;
 use std::test::Fail;
@@ -24,12 +23,6 @@ fn answers(alloc: Global, events: &mut Vec<Event>, id: u64) -> Result<(), Fail> 
     let given = response(alloc, 200, b"max-age=60", b"hi")?;
     events.push(Event::Answer(101, id, given))?;
     Ok(())
-}
-
-fn ran(alloc: Global, events: &[Event]) -> Result<Run, Fail> {
-    let config = Config::read(alloc, TABLE.as_bytes()).ok().ok_or("a table")?;
-    let shelf = ListShelf::new(alloc, config.capacity());
-    Ok(run(alloc, config, shelf, 1, events))
 }
 
 /// The run of the two and this event stops at it.

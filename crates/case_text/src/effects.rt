@@ -1,9 +1,8 @@
 //! What a proxy does: its text, as a replay writes it, and its words in a case.
 
+use crate::showing::push_shown;
 use bstr::ByteSlice;
-use case_text::push_shown;
 use std::alloc::{AllocError, Global};
-use std::str;
 
 /// What a proxy does.
 #[derive(Clone, Copy)]
@@ -18,9 +17,25 @@ pub enum Effect<'a> {
     Stop(&'a [u8]),
 }
 
-/// The number that a text has.
-fn number_of(text: &[u8]) -> Option<u64> {
-    str::from_utf8(text).ok()?.parse::<u64>().ok()
+/// A decimal number without leading zeros.
+pub fn number_of(digits: &[u8]) -> Option<u64> {
+    match digits {
+        [] => None,
+        [b'0'] => Some(0),
+        [b'0', ..] => None,
+        _ => {
+            let mut value = 0u64;
+            for digit in digits {
+                if !digit.is_ascii_digit() {
+                    return None;
+                }
+                value = value
+                    .checked_mul(10)?
+                    .checked_add(u64::from(*digit & 0x0f))?;
+            }
+            Some(value)
+        }
+    }
 }
 
 /// So many bytes and the LF behind them, and what follows.
@@ -62,7 +77,7 @@ fn effect_of<'a>(word: &[u8], line: &'a [u8], rest: &'a [u8]) -> Option<(Effect<
 }
 
 /// The first effect of a text, and what follows it.
-fn effect_at(text: &[u8]) -> Option<(Effect<'_>, &[u8])> {
+pub fn read_effect(text: &[u8]) -> Option<(Effect<'_>, &[u8])> {
     let (line, rest) = text.split_once_str(b"\n")?;
     let (word, behind) = line.split_once_str(b" ")?;
     if word == b"stops".as_slice() {
@@ -136,7 +151,7 @@ pub fn first_shown(alloc: Global, text: &[u8]) -> Result<String, AllocError> {
     let mut line = String::new(alloc);
     if text.is_empty() {
         line.push_str("nothing")?;
-    } else if let Some((effect, _)) = effect_at(text) {
+    } else if let Some((effect, _)) = read_effect(text) {
         effect.push_shown(&mut line)?;
     } else {
         line.push_str("a text that is no effect: ")?;
